@@ -1,0 +1,4 @@
+mod Simple
+mod FirstValue
+mod Ranges
+mod TakenLemmas

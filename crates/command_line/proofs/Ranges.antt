@@ -1,0 +1,70 @@
+-- Of a parse that succeeds, the numbers at `--digits` and `--trial`.
+use Rattle.std.proofs.Common.{◌≡◌, ◌∙◌, ◌⊎◌, inl, inr, refl, ap, ℕ, Bool, true, false, arith, [], Option, Some, None, IfSome, codes, rules}
+use Rattle.std.specs.Prelude.{pos}
+use Rattle.std.specs.Str.Parse.{IsNumeral, starts_with_minus, without_leading_plus}
+use Rattle.std.proofs.lemmas.Int.{ints}
+use Rattle.clap.specs.Facts.{IsParsed}
+use Rattle.clap.specs.Simple.{app_of, built, is_buildable}
+use Rattle.clap.specs.Values.{IsSignedIn}
+use Rattle.clap.specs.Walk.{Text, first_of, rows_of}
+use Rattle.clap.specs.declared.builder.command.Command.{Command}
+use Rattle.clap.specs.declared.builder.command.Command.TheViews.{out-Command}
+use Rattle.clap.specs.declared.builder.value_parser.ValueParser.TheVariants as vp
+use Rattle.clap.specs.declared.parser.matches.Found.{Found}
+use Rattle.command_line.specs.Definition.{units_app}
+use Rattle.command_line.specs.Numbers.{IsUpTo}
+use Rattle.command_line.proofs.FirstValue.{HasParser, first_accepted}
+
+-- a number from 1 on is written with no minus
+IsUpTo-from_signed : (high : ℕ) (text : Text) → IsSignedIn (pos 1) (pos high) text → IsUpTo high text
+IsUpTo-from_signed high text passed = go (starts_with_minus text) refl
+  where
+    go : (minus : Bool) → starts_with_minus text ≡ minus → IsUpTo high text
+    go true is =
+        let low = rw is at passed.2 in
+        absurd (omega (arith, ints))
+    go false is =
+        let numeral : IsNumeral 10 (without_leading_plus text) = rw is at passed.0 in
+        let low = rw is at passed.2 in
+        let top = rw is at passed.3 in
+        (numeral, omega (arith, ints), omega (arith, ints))
+
+-- the number at an option of the program's command, which was unbuilt before the parse
+pub number_in_range : (old new : Command) (f : Found) (has_subcommand : Bool) (id : Text) (high : ℕ)
+    → (id ≡ [] → ⊥) → app_of old ≡ units_app
+    → HasParser id (vp.Signed (pos 1) (pos high)) units_app.top.rules
+    → HasParser id (vp.Signed (pos 1) (pos high)) (built units_app).top.rules
+    → ((app_of new ≡ app_of old) ⊎ (is_buildable (app_of old) ≡ true → app_of new ≡ built (app_of old)))
+    → ((out-Command new).has_globals ≡ false → IsParsed new f has_subcommand)
+    → IfSome (first_of id (rows_of f)) (IsUpTo high)
+number_in_range old new f has_subcommand id high named is before after built_or parsed =
+    go (first_of id (rows_of f)) refl
+  where
+    at : (text : Text) → first_of id (rows_of f) ≡ Some text → IsUpTo high text
+    at text first = elim built_or [
+      | inl same ↦
+          let unbuilt : app_of new ≡ units_app = same ∙ is in
+          IsUpTo-from_signed high text
+          (first_accepted new f has_subcommand units_app id text _ unbuilt refl before named parsed first)
+      | inr whole ↦
+          let made : app_of new ≡ built units_app = whole (ap is_buildable is ∙ refl) ∙ ap built is in
+          IsUpTo-from_signed high text
+          (first_accepted new f has_subcommand (built units_app) id text _ made refl after named parsed first)
+    ]
+
+    go : (o : Option Text) → first_of id (rows_of f) ≡ o → IfSome o (IsUpTo high)
+    go None e = tt
+    go (Some text) e = at text e
+
+-- the program's rules have these parsers, unbuilt and built
+pub digits_parser : HasParser (codes "digits") (vp.Signed (pos 1) (pos 36)) units_app.top.rules
+digits_parser = search rules
+
+pub trial_parser : HasParser (codes "trial") (vp.Signed (pos 1) (pos 20000)) units_app.top.rules
+trial_parser = search rules
+
+pub built_digits_parser : HasParser (codes "digits") (vp.Signed (pos 1) (pos 36)) (built units_app).top.rules
+built_digits_parser = search rules
+
+pub built_trial_parser : HasParser (codes "trial") (vp.Signed (pos 1) (pos 20000)) (built units_app).top.rules
+built_trial_parser = search rules

@@ -1,0 +1,13 @@
+-- The command of this program is one of those of which clap's definitions give the matches.
+use Rattle.std.proofs.Common.{◌≡◌, true, refl}
+use Rattle.clap.specs.Words.{is_simple, is_simple_and_free}
+use Rattle.clap.proofs.OnLiterals.{clap_on_literals}
+use Rattle.command_line.specs.Definition.{units_app}
+
+pub units_app-is_simple : is_simple units_app ≡ true
+unfolding clap_on_literals
+units_app-is_simple = refl
+
+pub units_app-is_free : is_simple_and_free units_app ≡ true
+unfolding clap_on_literals
+units_app-is_free = refl

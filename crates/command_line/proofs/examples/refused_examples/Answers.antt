@@ -1,0 +1,31 @@
+use Rattle.std.proofs.Common.{refl}
+use Rattle.std.specs.Str.{is_utf8}
+use Rattle.clap.proofs.OnLiterals.{clap_on_literals}
+use Rattle.command_line.specs.Fields.{command_line_of}
+use Rattle.command_line.specs.Taken.{are_parsed, are_taken}
+use Rattle.command_line.proofs.examples.refused_examples.Goals as goal
+
+pub returns : goal.returns
+unfolding clap_on_literals is_utf8 command_line_of are_parsed are_taken
+returns c = record {
+  digits_zero = refl;
+  digits_beyond = refl;
+  digits_below = refl;
+  digits_empty = refl;
+  trial_zero = refl;
+  trial_beyond = refl;
+  quiet_twice = refl;
+  file_twice = refl;
+  file_absent = refl;
+  flag_with_value = refl;
+  name_in_part = refl;
+  help = refl;
+  help_letter = refl;
+  version = refl;
+  version_letter = refl;
+  three_operands = refl;
+  check_of_from = refl;
+  trial_of_from = refl;
+  check_of_trial = refl;
+  no_text = refl;
+}

@@ -1,0 +1,24 @@
+use Rattle.std.proofs.Common.{refl}
+use Rattle.std.specs.Str.{is_utf8}
+use Rattle.clap.proofs.OnLiterals.{clap_on_literals}
+use Rattle.command_line.specs.Fields.{command_line_of}
+use Rattle.command_line.specs.Taken.{are_parsed, are_taken}
+use Rattle.command_line.proofs.examples.taken_examples.Goals as goal
+
+pub returns : goal.returns
+unfolding clap_on_literals is_utf8 command_line_of are_parsed are_taken
+returns c = record {
+  no_words = (refl, refl);
+  exact_file = (refl, refl);
+  letters_together = (refl, refl);
+  digits_after_equals = (refl, refl);
+  digits_after_zero = (refl, refl);
+  digits_after_plus = (refl, refl);
+  trial_after_zeros = (refl, refl);
+  checked_locale = (refl, refl);
+  all_flags_of_a_reply = (refl, refl);
+  minus_after_dashes = (refl, refl);
+  flag_after_from = (refl, refl);
+  empty_from = (refl, refl);
+  help_as_from = (refl, refl);
+}

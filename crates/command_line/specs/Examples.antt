@@ -1,0 +1,92 @@
+-- Some command lines, and what becomes of them.
+use Rattle.std.specs.Prelude.{◌≡◌, ◌∷◌, List, [], Some, None, codes, true, false}
+use Rattle.clap.specs.Words.{Text}
+use Rattle.command_line.specs.Fields.{command_line_of}
+use Rattle.command_line.specs.Taken.{are_taken}
+use Rattle.command_line.specs.declared.fields.CommandLine.{CommandLine}
+
+-- the command line of no words
+abbrev pub no_line : CommandLine
+no_line = record {
+  digits = None;
+  exact = false;
+  one_line = false;
+  compact = false;
+  terse = false;
+  quiet = false;
+  strict = false;
+  round = false;
+  verbose = false;
+  check = false;
+  file = None;
+  locale = None;
+  trial = None;
+  from = None;
+  to = None;
+}
+
+-- the words are this command line
+abbrev pub AreLine : List Text → CommandLine → Type 0
+AreLine words line = (are_taken words ≡ true) × (command_line_of words ≡ line)
+
+-- command lines, each with its fields
+pub record TakesExamples : Type 0 where
+  pub no_words : AreLine [] no_line
+  pub exact_file : AreLine
+      (codes "--exact" ∷ codes "-f" ∷ codes "first.units" ∷ codes "yd" ∷ codes "m" ∷ [])
+      (record no_line {
+        exact = true;
+        file = Some (codes "first.units");
+        from = Some (codes "yd");
+        to = Some (codes "m");
+      })
+  pub letters_together : AreLine (codes "-qd12" ∷ codes "a" ∷ [])
+      (record no_line { digits = Some 12; quiet = true; from = Some (codes "a") })
+  pub digits_after_equals : AreLine (codes "--digits=36" ∷ [])
+      (record no_line { digits = Some 36 })
+  pub digits_after_zero : AreLine (codes "-d" ∷ codes "08" ∷ [])
+      (record no_line { digits = Some 8 })
+  pub digits_after_plus : AreLine (codes "-d" ∷ codes "+8" ∷ [])
+      (record no_line { digits = Some 8 })
+  pub trial_after_zeros : AreLine (codes "--trial" ∷ codes "007" ∷ [])
+      (record no_line { trial = Some 7 })
+  pub checked_locale : AreLine (codes "-c" ∷ codes "-l" ∷ codes "en_GB" ∷ [])
+      (record no_line { check = true; locale = Some (codes "en_GB") })
+  pub all_flags_of_a_reply : AreLine (codes "-1trsv" ∷ codes "--compact" ∷ [])
+      (record no_line {
+        one_line = true;
+        compact = true;
+        terse = true;
+        strict = true;
+        round = true;
+        verbose = true;
+      })
+  pub minus_after_dashes : AreLine (codes "--" ∷ codes "-5" ∷ [])
+      (record no_line { from = Some (codes "-5") })
+  pub flag_after_from : AreLine (codes "m" ∷ codes "-q" ∷ codes "ft" ∷ [])
+      (record no_line { quiet = true; from = Some (codes "m"); to = Some (codes "ft") })
+  pub empty_from : AreLine (codes "" ∷ []) (record no_line { from = Some [] })
+  pub help_as_from : AreLine (codes "help" ∷ []) (record no_line { from = Some (codes "help") })
+
+-- words that are no command line
+pub record RefusesExamples : Type 0 where
+  pub digits_zero : are_taken (codes "-d" ∷ codes "0" ∷ codes "m" ∷ codes "ft" ∷ []) ≡ false
+  pub digits_beyond : are_taken (codes "-d" ∷ codes "37" ∷ []) ≡ false
+  pub digits_below : are_taken (codes "-d" ∷ codes "-1" ∷ []) ≡ false
+  pub digits_empty : are_taken (codes "--digits=" ∷ []) ≡ false
+  pub trial_zero : are_taken (codes "--trial" ∷ codes "0" ∷ []) ≡ false
+  pub trial_beyond : are_taken (codes "--trial" ∷ codes "20001" ∷ []) ≡ false
+  pub quiet_twice : are_taken (codes "-q" ∷ codes "-q" ∷ codes "m" ∷ codes "ft" ∷ []) ≡ false
+  pub file_twice : are_taken (codes "-f" ∷ codes "a" ∷ codes "-f" ∷ codes "a" ∷ []) ≡ false
+  pub file_absent : are_taken (codes "-f" ∷ []) ≡ false
+  pub flag_with_value : are_taken (codes "--quiet=true" ∷ []) ≡ false
+  pub name_in_part : are_taken (codes "--quie" ∷ []) ≡ false
+  pub help : are_taken (codes "--help" ∷ []) ≡ false
+  pub help_letter : are_taken (codes "-h" ∷ []) ≡ false
+  pub version : are_taken (codes "--version" ∷ []) ≡ false
+  pub version_letter : are_taken (codes "-V" ∷ []) ≡ false
+  pub three_operands : are_taken (codes "m" ∷ codes "ft" ∷ codes "yd" ∷ []) ≡ false
+  pub check_of_from : are_taken (codes "--check" ∷ codes "m" ∷ []) ≡ false
+  pub trial_of_from : are_taken (codes "--trial" ∷ codes "9" ∷ codes "m" ∷ []) ≡ false
+  pub check_of_trial : are_taken (codes "-c" ∷ codes "--trial" ∷ codes "9" ∷ []) ≡ false
+  pub no_text : are_taken ((255 ∷ []) ∷ []) ≡ false

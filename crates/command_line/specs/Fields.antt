@@ -1,0 +1,45 @@
+-- What the words of a command line ask for.
+use Rattle.std.specs.Prelude.{ℕ, Bool, IfSome, List, Option, codes, false, option_map}
+use Rattle.std.specs.Option.{option_map_or}
+use Rattle.std.specs.Str.{bytes_eq}
+use Rattle.clap.specs.Words.{Row, Text, first_of, matches_of}
+use Rattle.command_line.specs.Definition.{units_app}
+use Rattle.command_line.specs.Numbers.{IsUpTo, number_of}
+use Rattle.command_line.specs.declared.fields.CommandLine.{CommandLine}
+
+-- the flag stands among the words
+abbrev pub has_flag : Text → List Row → Bool
+has_flag name rows =
+    option_map_or (λ text. bytes_eq text (codes "true")) (first_of name rows) false
+
+-- the number at an option, if it stands among the words
+abbrev pub number_at : Text → List Row → Option ℕ
+number_at name rows = option_map number_of (first_of name rows)
+
+-- the option, where it stands, writes a whole number from 1 to high
+abbrev pub HasNumberUpTo : Text → ℕ → List Row → Type 0
+HasNumberUpTo name high rows = IfSome (first_of name rows) (IsUpTo high)
+
+-- the fields, each from the row of its argument
+abbrev pub fields_of : List Row → CommandLine
+fields_of rows = record {
+  digits = number_at (codes "digits") rows;
+  exact = has_flag (codes "exact") rows;
+  one_line = has_flag (codes "one-line") rows;
+  compact = has_flag (codes "compact") rows;
+  terse = has_flag (codes "terse") rows;
+  quiet = has_flag (codes "quiet") rows;
+  strict = has_flag (codes "strict") rows;
+  round = has_flag (codes "round") rows;
+  verbose = has_flag (codes "verbose") rows;
+  check = has_flag (codes "check") rows;
+  file = first_of (codes "file") rows;
+  locale = first_of (codes "locale") rows;
+  trial = number_at (codes "trial") rows;
+  from = first_of (codes "from") rows;
+  to = first_of (codes "to") rows;
+}
+
+-- what the words ask for, by clap's definition of their matches
+unfoldable pub command_line_of : List Text → CommandLine
+command_line_of words = fields_of (matches_of units_app words)

@@ -1,0 +1,54 @@
+-- The kinds of argument that the program's command has.
+use Rattle.std.specs.Prelude.{◌∷◌, ℕ, List, [], Option, Some, None, codes, true, pos}
+use Rattle.clap.specs.Words.{App, Rule, Text, new_rule, with_rule}
+use Rattle.clap.specs.Simple.{new_shape}
+use Rattle.clap.specs.declared.builder.action.ArgAction.TheVariants.{Set, SetTrue}
+use Rattle.clap.specs.declared.builder.value_parser.ValueParser.{ValueParser}
+use Rattle.clap.specs.declared.builder.value_parser.ValueParser.TheVariants as vp
+
+-- a flag, by its name and its letter
+abbrev pub flag_rule : Text → Option ℕ → Rule
+flag_rule name short =
+    record (new_rule name) { long = Some name; short = short; action = Some SetTrue }
+
+-- an option with one value, by its name and its letter
+abbrev pub option_rule : Text → Option ℕ → Option ValueParser → Rule
+option_rule name short parser = record (new_rule name) {
+  long = Some name;
+  short = short;
+  action = Some Set;
+  parser = parser;
+}
+
+-- a word that stands for itself
+abbrev pub operand_rule : Text → Rule
+operand_rule name = record (new_rule name) { action = Some Set }
+
+-- the letter of an option
+abbrev pub letter : Text → Option ℕ
+letter [] = None
+letter (code ∷ rest) = Some code
+
+-- any text
+abbrev pub any_text : Option ValueParser
+any_text = None
+
+-- a whole number from 1 to high
+abbrev pub number_up_to : ℕ → Option ValueParser
+number_up_to high = Some (vp.Signed (pos 1) (pos high))
+
+-- the command without arguments, which takes no word for help or the version
+abbrev pub bare_app : App
+bare_app = record {
+  top = record (new_shape (codes "units")) {
+    no_binary_name = true;
+    disable_help_flag = true;
+    disable_version_flag = true;
+  };
+  subs = [];
+}
+
+-- the command with each of these arguments added in turn
+abbrev pub with_rules : App → List Rule → App
+with_rules app [] = app
+with_rules app (rule ∷ rest) = with_rules (with_rule app rule) rest

@@ -1,0 +1,34 @@
+//! Why words are not read.
+
+use std::alloc::{AllocError, AllocFailed};
+
+/// Why the words of a command line give no `CommandLine`.
+#[derive(Debug, Drop, PartialEq, Eq, Clone, Copy)]
+pub enum WordsFault {
+    /// The words are not a command line of this program.
+    Usage,
+    /// There was no memory left to read them.
+    OutOfMemory,
+}
+
+impl From<AllocError> for WordsFault {
+    ghost use Rattle.std.specs.Prelude.{◌≡◌};
+    ghost use Rattle.command_line.specs.declared.fault.WordsFault.TheVariants.{OutOfMemory};
+
+    ghost from_gives = { λ _ fault. fault ≡ OutOfMemory };
+
+    fn from(_error: AllocError) -> WordsFault {
+        WordsFault::OutOfMemory
+    }
+}
+
+impl<T: Drop> From<AllocFailed<T>> for WordsFault {
+    ghost use Rattle.std.specs.Prelude.{◌≡◌};
+    ghost use Rattle.command_line.specs.declared.fault.WordsFault.TheVariants.{OutOfMemory};
+
+    ghost from_gives = { λ _ fault. fault ≡ OutOfMemory };
+
+    fn from(_failed: AllocFailed<T>) -> WordsFault {
+        WordsFault::OutOfMemory
+    }
+}

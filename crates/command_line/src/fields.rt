@@ -1,0 +1,130 @@
+//! What the words of a command line ask for, field by field.
+ghost use Rattle.std.specs.Prelude.{◌≡◌, ◌≤◌, IfOk, IfSome, codes, option_map};
+ghost use Rattle.clap.specs.Words.{rows_of, found_of, first_of};
+ghost use Rattle.command_line.specs.Numbers.{IsUpTo, number_of};
+ghost use Rattle.command_line.specs.Fields.{HasNumberUpTo, has_flag, number_at, fields_of};
+
+use clap::ArgMatches;
+use std::alloc::{AllocError, Global};
+use units_io::Text;
+
+/// What the words of the command line ask for.
+#[derive(Drop)]
+pub struct CommandLine {
+    /// Significant digits, 1 to 36, where `-d` stands.
+    pub digits: Option<u8>,
+    /// Numbers are written as integers or fractions.
+    pub exact: bool,
+    /// Only the forward line of a conversion is written.
+    pub one_line: bool,
+    /// No tab and no signs are written, and the parts of a list are joined by `;`.
+    pub compact: bool,
+    /// Strict, quiet, one-line and compact together.
+    pub terse: bool,
+    /// No banner, messages or prompts are written.
+    pub quiet: bool,
+    /// There is no reciprocal conversion.
+    pub strict: bool,
+    /// The last unit of a list is rounded.
+    pub round: bool,
+    /// The two texts of a conversion stand in its reply.
+    pub verbose: bool,
+    /// The definitions are checked.
+    pub check: bool,
+    /// The definition file.
+    pub file: Option<Text>,
+    /// The locale.
+    pub locale: Option<Text>,
+    /// The size of a trial, 1 to 20,000.
+    pub trial: Option<u16>,
+    /// What is to be converted.
+    pub from: Option<Text>,
+    /// What it is converted to.
+    pub to: Option<Text>,
+}
+
+/// The command line of clap's matches.
+pub fn command_line_from(alloc: Global, matches: &ArgMatches<'_>) -> Result<CommandLine, AllocError>
+    requires digits { HasNumberUpTo (codes "digits") 36 (rows_of (found_of matches.now)) }
+    requires trial { HasNumberUpTo (codes "trial") 20000 (rows_of (found_of matches.now)) }
+    ensures fields { IfOk result (λ line. line ≡ fields_of (rows_of (found_of matches.now))) }
+    ensures digits { IfOk result (λ line. IfSome line.digits (λ n. (1 ≤ n) × (n ≤ 36))) }
+    ensures trial { IfOk result (λ line. IfSome line.trial (λ n. (1 ≤ n) × (n ≤ 20000))) }
+{
+    let file = text_of(alloc, matches, "file")?;
+    let locale = text_of(alloc, matches, "locale")?;
+    let from = text_of(alloc, matches, "from")?;
+    let to = text_of(alloc, matches, "to")?;
+    Ok(CommandLine {
+        digits: digits_of(matches),
+        exact: flag_of(matches, "exact"),
+        one_line: flag_of(matches, "one-line"),
+        compact: flag_of(matches, "compact"),
+        terse: flag_of(matches, "terse"),
+        quiet: flag_of(matches, "quiet"),
+        strict: flag_of(matches, "strict"),
+        round: flag_of(matches, "round"),
+        verbose: flag_of(matches, "verbose"),
+        check: flag_of(matches, "check"),
+        file,
+        locale,
+        trial: trial_of(matches),
+        from,
+        to,
+    })
+}
+
+fn digits_of(matches: &ArgMatches<'_>) -> Option<u8>
+    requires { HasNumberUpTo (codes "digits") 36 (rows_of (found_of matches.now)) }
+    ensures value { result ≡ number_at (codes "digits") (rows_of (found_of matches.now)) }
+    ensures range { IfSome result (λ n. (1 ≤ n) × (n ≤ 36)) }
+{
+    match value_of(matches, "digits") {
+        Some(text) => Some(number_in(text) as u8),
+        None => None,
+    }
+}
+
+fn trial_of(matches: &ArgMatches<'_>) -> Option<u16>
+    requires { HasNumberUpTo (codes "trial") 20000 (rows_of (found_of matches.now)) }
+    ensures value { result ≡ number_at (codes "trial") (rows_of (found_of matches.now)) }
+    ensures range { IfSome result (λ n. (1 ≤ n) × (n ≤ 20000)) }
+{
+    match value_of(matches, "trial") {
+        Some(text) => Some(number_in(text)),
+        None => None,
+    }
+}
+
+fn number_in(text: &str) -> u16
+    requires { IsUpTo 65535 text.now }
+    ensures { result ≡ number_of text.now }
+{
+    text.parse::<u16>().unwrap()
+}
+
+fn flag_of(matches: &ArgMatches<'_>, name: &str) -> bool
+    ensures { result ≡ has_flag name.now (rows_of (found_of matches.now)) }
+{
+    match value_of(matches, name) {
+        Some(text) => text == "true",
+        None => false,
+    }
+}
+
+fn text_of(alloc: Global, matches: &ArgMatches<'_>, name: &str) -> Result<Option<Text>, AllocError>
+    ensures { IfOk result (λ text. text ≡ first_of name.now (rows_of (found_of matches.now))) }
+{
+    match value_of(matches, name) {
+        Some(text) => Ok(Some(Text::from_bytes(alloc, text.as_bytes())?)),
+        None => Ok(None),
+    }
+}
+
+/// The value of an argument, if it has one.
+fn value_of<'a>(matches: &ArgMatches<'a>, name: &str) -> Option<&'a str>
+    ensures { option_map (λ text. text.now) result
+        ≡ first_of name.now (rows_of (found_of matches.now)) }
+{
+    matches.get_str(name)
+}

@@ -1,0 +1,56 @@
+//! The words of the command line, read.
+ghost use Rattle.std.specs.Prelude.{◌≡◌, ◌≤◌, IfOk, IfSome, true, false};
+ghost use Rattle.command_line.specs.Taken.{are_taken, are_parsed, work_count};
+ghost use Rattle.command_line.specs.Taken.{one_if as one_if_stands};
+ghost use Rattle.command_line.specs.Fields.{command_line_of};
+
+use crate::fault::WordsFault;
+use crate::fields::{CommandLine, command_line_from};
+use crate::parse::{parse, texts_of};
+use std::alloc::Global;
+use units_io::Text;
+
+/// Reads the words that stand after the program's name.
+///
+/// The answer is `Usage` where the words are not a command line of this program, and `OutOfMemory`
+/// where there is no memory to tell.
+pub fn read_words(alloc: Global, words: &[Text]) -> Result<CommandLine, WordsFault>
+    ensures taken { IfOk result (λ _. are_taken words.now ≡ true) }
+    ensures read { IfOk result (λ line. line ≡ command_line_of words.now) }
+    ensures usage { result ≡ Err WordsFault.Usage → are_taken words.now ≡ false }
+    ensures digits { IfOk result (λ line. IfSome line.digits (λ n. (1 ≤ n) × (n ≤ 36))) }
+    ensures trial { IfOk result (λ line. IfSome line.trial (λ n. (1 ≤ n) × (n ≤ 20000))) }
+    ensures work { IfOk result (λ line. work_count line ≤ 1) }
+{
+    let line = parsed_line(alloc, words)?;
+    if count_of_work(&line) > 1 {
+        return Err(WordsFault::Usage);
+    }
+    Ok(line)
+}
+
+/// The words as clap reads them, before the test between FROM, `--check` and `--trial`.
+fn parsed_line(alloc: Global, words: &[Text]) -> Result<CommandLine, WordsFault>
+    ensures parsed { IfOk result (λ _. are_parsed words.now ≡ true) }
+    ensures read { IfOk result (λ line. line ≡ command_line_of words.now) }
+    ensures usage { result ≡ Err WordsFault.Usage → are_parsed words.now ≡ false }
+    ensures digits { IfOk result (λ line. IfSome line.digits (λ n. (1 ≤ n) × (n ≤ 36))) }
+    ensures trial { IfOk result (λ line. IfSome line.trial (λ n. (1 ≤ n) × (n ≤ 20000))) }
+{
+    let texts = texts_of(alloc, words)?;
+    let matches = parse(alloc, texts.as_slice())?;
+    Ok(command_line_from(alloc, &matches)?)
+}
+
+/// How many of FROM, `--check` and `--trial` stand.
+fn count_of_work(line: &CommandLine) -> u8
+    ensures { result ≡ work_count line.now }
+{
+    one_if(line.from.is_some()) + one_if(line.check) + one_if(line.trial.is_some())
+}
+
+fn one_if(stands: bool) -> u8
+    ensures { result ≡ one_if_stands stands }
+{
+    if stands { 1 } else { 0 }
+}

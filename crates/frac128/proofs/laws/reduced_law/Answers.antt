@@ -1,0 +1,5 @@
+use Rattle.frac128.proofs.Reduced as laws
+use Rattle.frac128.proofs.laws.reduced_law.Goals as goal
+
+pub returns : goal.returns
+returns c = laws.reduced_law

@@ -1,0 +1,26 @@
+-- The greatest common divisor, by Euclid's steps.
+use Rattle.std.specs.Prelude.{◌≡◌, ℕ, suc, zero, ◌%◌, ◌/◌, ◌^◌, ◌≤◌, ◌⊎◌}
+use Rattle.std.specs.Int.{IsGcd}
+
+-- Euclid's steps, at most so many: b steps are enough, since the second number falls with each
+unfoldable pub gcd_within : ℕ → ℕ → ℕ → ℕ
+gcd_within steps a zero = a
+gcd_within zero a (suc b) = a
+gcd_within (suc steps) a (suc b) = gcd_within steps (suc b) (a % suc b)
+
+-- the greatest common divisor of two numbers
+unfoldable pub gcd : ℕ → ℕ → ℕ
+gcd a b = gcd_within b a b
+
+-- law: it divides both, and each number that divides both divides it
+abbrev pub GcdLaw : Type 0
+GcdLaw = (a b : ℕ) → IsGcd a b (gcd a b)
+
+-- top / bottom is a / b in lowest terms
+pub record IsLowest (a b top bottom : ℕ) : Type 0 where
+  pub top_is : a / gcd a b ≡ top
+  pub bottom_is : b / gcd a b ≡ bottom
+
+-- in lowest terms a / b has a part of more than 128 bits
+abbrev pub IsWide : ℕ → ℕ → Type 0
+IsWide a b = (2 ^ 128 ≤ a / gcd a b) ⊎ (2 ^ 128 ≤ b / gcd a b)

@@ -1,0 +1,31 @@
+-- Fractions: reduced pairs of whole numbers without bound.
+use Rattle.std.specs.Prelude.{◌≤◌, ◌<◌, ◌-◌, ◌*ℤ◌, ◌^◌, ◌&&◌, ◌≡◌, ℕ, ℤ, pos, unsigned_abs, nat_le, Bool}
+use Rattle.std.specs.Int.{IsGcd}
+
+-- a numerator and a denominator
+pub record Fraction : Type 0 where
+  pub num : ℤ
+  pub den : ℕ
+
+-- the denominator is at least 1, and no number but 1 divides both
+pub record IsReduced (x : Fraction) : Type 0 where
+  pub positive : 0 < x.den
+  pub lowest : IsGcd (unsigned_abs x.num) x.den 1
+
+-- two fractions have one value: their cross products are equal
+abbrev pub SameValue : Fraction → Fraction → Type 0
+SameValue x y = x.num *ℤ pos y.den ≡ y.num *ℤ pos x.den
+
+-- the largest numerator and denominator
+abbrev pub most : ℕ
+most = 2 ^ 127 - 1
+
+-- the numerator is in -most..most and the denominator at most `most`
+abbrev pub fits : Fraction → Bool
+fits x = nat_le (unsigned_abs x.num) most && nat_le x.den most
+
+-- what is known of each fraction of the program
+pub record IsKept (x : Fraction) : Type 0 where
+  pub reduced : IsReduced x
+  pub num_fits : unsigned_abs x.num ≤ most
+  pub den_fits : x.den ≤ most

@@ -1,0 +1,108 @@
+//! Fractions in lowest terms.
+
+ghost use Rattle.std.specs.Prelude.{◌≡◌, ◌<◌, ◌↔◌, pos, int_lt, unsigned_abs, IsTrue};
+ghost use Rattle.std.specs.Int.{IsGcd};
+ghost use Rattle.frac128.specs.Fraction.{IsKept};
+ghost use Rattle.frac128.specs.Sign.{signed as signed_of};
+ghost use Rattle.frac128.specs.Steps.{fitting, ratio};
+
+use crate::divisors::gcd;
+use crate::fault::FracFault;
+use crate::sign::{differ, signed};
+use std::marker::Model;
+
+/// The largest numerator and denominator.
+const MOST: u128 = (1 << 127) - 1;
+
+/// A fraction in lowest terms, whose numerator and denominator have at most 127 bits.
+#[derive(Clone, Copy, Debug, PartialEq, Eq)]
+pub struct Frac {
+    num: i128,
+    den: u128,
+}
+
+impl Model for Frac {
+    ghost use Rattle.frac128.specs.Fraction.{Fraction, IsKept};
+
+    ghost Value = { Fraction };
+
+    ghost view = { λ x. record { num = x.num; den = x.den } };
+
+    ghost invariant = { λ x. IsKept (record { num = x.num; den = x.den }) };
+
+    ghost inverse = { λ x. record { num = x.num; den = x.den } };
+}
+
+impl Frac {
+    /// n over d in lowest terms. `DivisionByZero` where d is 0, and else `Overflow` where
+    /// the reduced fraction does not fit.
+    pub fn new(n: i128, d: i128) -> Result<Frac, FracFault>
+        ensures { result ≡ ratio n d }
+    {
+        if d == 0 {
+            return Err(FracFault::DivisionByZero);
+        }
+        let top = n.unsigned_abs();
+        let bottom = d.unsigned_abs();
+        let divisor = gcd(top, bottom);
+        Frac::fitting(differ(n < 0, d < 0), top / divisor, bottom / divisor)
+    }
+
+    /// The numerator, which has the fraction's sign.
+    pub fn num(&self) -> i128
+        ensures { result ≡ self.now.num }
+    {
+        self.num
+    }
+
+    /// The denominator, which is at least 1. The fraction is in lowest terms and fits.
+    pub fn den(&self) -> i128
+        ensures value { result ≡ pos self.now.den }
+        ensures kept { IsKept self.now }
+    {
+        self.den as i128
+    }
+
+    /// Whether the fraction is 0.
+    pub fn is_zero(&self) -> bool
+        ensures { IsTrue result ↔ (self.now.num ≡ pos 0) }
+    {
+        self.num == 0
+    }
+
+    // Whether the fraction is below 0.
+    pub(crate) fn is_negative(&self) -> bool
+        ensures { result ≡ int_lt self.now.num (pos 0) }
+    {
+        self.num < 0
+    }
+
+    // The magnitude of the numerator.
+    pub(crate) fn top(&self) -> u128
+        ensures is { result ≡ unsigned_abs self.now.num }
+        ensures lowest { IsGcd result self.now.den 1 }
+    {
+        self.num.unsigned_abs()
+    }
+
+    // The denominator, by its magnitude.
+    pub(crate) fn bottom(&self) -> u128
+        ensures is { result ≡ self.now.den }
+        ensures some { 0 < result }
+    {
+        self.den
+    }
+
+    // The fraction with this sign and these magnitudes, which are in lowest terms.
+    pub(crate) fn fitting(negative: bool, top: u128, bottom: u128) -> Result<Frac, FracFault>
+        requires some { 0 < bottom }
+        requires lowest { IsGcd top bottom 1 }
+        ensures { result ≡ fitting (record { num = signed_of negative top; den = bottom }) }
+    {
+        if top > MOST || bottom > MOST {
+            return Err(FracFault::Overflow);
+        }
+        let num = signed(negative, top);
+        Ok(Frac { num, den: bottom })
+    }
+}

@@ -1,0 +1,56 @@
+//! Products and quotients, reduced crosswise before they are made.
+
+ghost use Rattle.std.specs.Prelude.{◌≡◌, ◌<◌, ◌*◌, IfSome, IfNone};
+ghost use Rattle.std.specs.Int.{IsGcd};
+ghost use Rattle.frac128.specs.Divisors.{IsLowest, IsWide};
+ghost use Rattle.frac128.specs.Steps.{times, over};
+
+use crate::divisors::gcd;
+use crate::fault::FracFault;
+use crate::fraction::Frac;
+use crate::sign::differ;
+
+impl Frac {
+    /// The product. `Overflow` where it does not fit in lowest terms.
+    pub fn mul(&self, other: &Frac) -> Result<Frac, FracFault>
+        ensures { result ≡ times self.now other.now }
+    {
+        let negative = differ(self.is_negative(), other.is_negative());
+        match lowest_product(self.top(), self.bottom(), other.top(), other.bottom()) {
+            Some((top, bottom)) => Frac::fitting(negative, top, bottom),
+            None => Err(FracFault::Overflow),
+        }
+    }
+
+    /// The quotient. `DivisionByZero` where the other is 0, and else `Overflow` where the
+    /// quotient does not fit in lowest terms.
+    pub fn div(&self, other: &Frac) -> Result<Frac, FracFault>
+        ensures { result ≡ over self.now other.now }
+    {
+        if other.is_zero() {
+            return Err(FracFault::DivisionByZero);
+        }
+        let negative = differ(self.is_negative(), other.is_negative());
+        match lowest_product(self.top(), self.bottom(), other.bottom(), other.top()) {
+            Some((top, bottom)) => Frac::fitting(negative, top, bottom),
+            None => Err(FracFault::Overflow),
+        }
+    }
+}
+
+// The numerator and the denominator of the product of a / b and c / d in lowest terms, or none
+// where one of them has more than 128 bits.
+fn lowest_product(a: u128, b: u128, c: u128, d: u128) -> Option<(u128, u128)>
+    requires some_b { 0 < b }
+    requires some_d { 0 < d }
+    requires lowest_ab { IsGcd a b 1 }
+    requires lowest_cd { IsGcd c d 1 }
+    ensures found { IfSome result (λ x. IsLowest (a * c) (b * d) x.0 x.1) }
+    ensures wide { IfNone result (IsWide (a * c) (b * d)) }
+{
+    let left = gcd(a, d);
+    let right = gcd(c, b);
+    let top = (a / left).checked_mul(c / right)?;
+    let bottom = (b / right).checked_mul(d / left)?;
+    Some((top, bottom))
+}

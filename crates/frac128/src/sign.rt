@@ -1,0 +1,24 @@
+//! Numbers by sign and magnitude.
+
+ghost use Rattle.std.specs.Prelude.{◌≡◌, ◌≤◌};
+ghost use Rattle.frac128.specs.Fraction.{most};
+ghost use Rattle.frac128.specs.Sign.{signed as signed_of, differ as differ_of};
+
+// Whether two signs differ.
+pub(crate) fn differ(a: bool, b: bool) -> bool
+    ensures { result ≡ differ_of a b }
+{
+    a != b
+}
+
+// The number of this sign and magnitude.
+pub(crate) fn signed(negative: bool, magnitude: u128) -> i128
+    requires { magnitude ≤ most }
+    ensures { result ≡ signed_of negative magnitude }
+{
+    if negative {
+        -(magnitude as i128)
+    } else {
+        magnitude as i128
+    }
+}

@@ -1,0 +1,54 @@
+//! Converts between units by a file of definitions.
+#![tactic(auto)]
+
+mod environment;
+mod first;
+mod plan;
+mod run;
+mod status;
+#[cfg(test)]
+mod tests;
+
+ghost use Rattle.std.specs.Prelude.{◌≡◌, ◌<◌};
+
+use environment::{collect_vars, collect_words};
+use run::units_main;
+use status::Status;
+use std::marker::Brand;
+use std::process::ExitCode;
+use std::sync::ledger::{Blank, Ledger};
+use units_io::{DirFiles, StdSink, StdSource, Steps, Texts, Vars};
+
+// The run on the system's streams and files, with a count of steps that nobody reads.
+fn run_on<L: Ledger>(rt: HostRuntime, words: &Texts, vars: &Vars, blank: Blank) -> Status
+    requires name { blank.name ≡ L.name }
+    requires parts { blank.parts ≡ L.parts }
+    requires some { 0 < blank.parts }
+{
+    let mut steps: Steps<L> = Steps::new(blank);
+    let mut source = StdSource::new(rt.stdin());
+    let mut out = StdSink::new(rt.stdout());
+    let mut err = StdSink::new(rt.stderr());
+    let mut files = DirFiles::new(rt);
+    units_main(
+        rt.alloc(),
+        words.as_slice(),
+        vars,
+        &mut source,
+        &mut out,
+        &mut err,
+        &mut files,
+        &mut steps,
+    )
+}
+
+fn main(rt: HostRuntime) -> ExitCode {
+    let Ok(words) = collect_words(&rt, rt.alloc()) else {
+        return ExitCode::from(Status::NoMemory.code());
+    };
+    let Ok(vars) = collect_vars(&rt, rt.alloc()) else {
+        return ExitCode::from(Status::NoMemory.code());
+    };
+    let status = run_on::<Brand>(rt, &words, &vars, Blank::new(1));
+    ExitCode::from(status.code())
+}

@@ -1,0 +1,42 @@
+//! How a run ends.
+ghost use Rattle.std.specs.Prelude.{◌≡◌};
+ghost use Rattle.units.specs.Endings.{code_of};
+
+/// The ending of a run.
+#[derive(Clone, Copy, Debug, PartialEq, Eq)]
+pub enum Status {
+    /// The run came to its end.
+    Done,
+    /// The reply is a refusal.
+    Refused,
+    /// The words are not taken.
+    Usage,
+    /// The definition file is absent or too long.
+    NoFile,
+    /// The files failed, and have counted it.
+    ReadFault,
+    /// A sink failed, and has counted it.
+    WriteFault,
+    /// There was not enough memory.
+    NoMemory,
+    /// What is asked for is not built yet.
+    Unsupported,
+}
+
+impl Status {
+    /// The number that the process ends with.
+    pub fn code(self) -> u8
+        ensures { result ≡ code_of self }
+    {
+        match self {
+            Status::Done => 0,
+            Status::Refused => 1,
+            Status::Usage => 2,
+            Status::NoFile => 3,
+            Status::ReadFault => 4,
+            Status::WriteFault => 5,
+            Status::NoMemory => 6,
+            Status::Unsupported => 8,
+        }
+    }
+}

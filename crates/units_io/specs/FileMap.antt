@@ -1,0 +1,39 @@
+-- Files by their names.
+use Rattle.std.specs.Prelude.{ℕ, List, Vec, map as mapped}
+use Rattle.std.specs.Ordering.{nat_cmp}
+use Rattle.std.specs.Cmp.Lexicographic.{slice_cmp}
+use Rattle.std.specs.FinMap as map
+use Rattle.std.specs.Coded.{Coded, coded_list, coded_ℕ}
+use Rattle.std.specs.declared.option.Option.{Option}
+
+-- the bytes of each file, by its name
+abbrev pub FileMap : Type 0
+FileMap = map.FinMap (slice_cmp nat_cmp) (List ℕ)
+
+-- the longest file that is read
+abbrev pub longest_file : ℕ
+longest_file = 16777216
+
+-- the bytes of the file of this name
+abbrev pub file_of : FileMap → List ℕ → Option (List ℕ)
+file_of files name = map.get files name
+
+-- the files of a list, of which the first of a name stands
+abbrev pub files_of : List (List ℕ × List ℕ) → FileMap
+files_of entries = map.from_entries entries
+
+-- the files of a table's entries, each name as its bytes
+abbrev pub table_of : {Y : Type 0} → List (Vec ℕ Y × List ℕ) → FileMap
+table_of entries = files_of (mapped (λ entry. (entry.0.items, entry.1)) entries)
+
+-- the files with this one added, or put in the place of that of its name
+abbrev pub with_file : FileMap → List ℕ → List ℕ → FileMap
+with_file files name bytes = map.insert files name bytes
+
+-- no file at all
+abbrev pub no_files : FileMap
+no_files = map.empty
+
+-- a map of files is stored as its entries
+abbrev pub file_map_code : Coded FileMap
+file_map_code = map.code (coded_list coded_ℕ) (coded_list coded_ℕ)

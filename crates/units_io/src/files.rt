@@ -1,0 +1,104 @@
+//! Files by their names.
+ghost use Rattle.std.specs.Prelude.{◌≡◌, ◌≤◌, ℕ, length, IfOk, IfSome};
+ghost use Rattle.std.specs.declared.option.Option.{Option};
+
+use crate::text::Text;
+use std::alloc::{AllocError, AllocFailed, Global};
+use thiserror::Error;
+
+/// The most bytes that a file has where it is fetched or stored.
+pub const LONGEST_FILE: usize = 16_777_216;
+
+/// Why a file was not fetched.
+#[derive(Clone, Copy, Debug, PartialEq, Eq, Error)]
+pub enum FetchFault {
+    #[error("no such file")]
+    Absent,
+    #[error("the file is longer than the limit")]
+    TooLong,
+    #[error("the file could not be read")]
+    Failed,
+    #[error("out of memory")]
+    OutOfMemory,
+}
+
+impl From<AllocError> for FetchFault {
+    ghost use Rattle.units_io.specs.declared.files.FetchFault.TheVariants.{OutOfMemory};
+
+    ghost from_gives = { λ _ fault. fault ≡ OutOfMemory };
+
+    fn from(_: AllocError) -> Self {
+        FetchFault::OutOfMemory
+    }
+}
+
+impl<T: Drop> From<AllocFailed<T>> for FetchFault {
+    ghost use Rattle.units_io.specs.declared.files.FetchFault.TheVariants.{OutOfMemory};
+
+    ghost from_gives = { λ _ fault. fault ≡ OutOfMemory };
+
+    fn from(_: AllocFailed<T>) -> Self {
+        FetchFault::OutOfMemory
+    }
+}
+
+/// Why a file was not stored.
+#[derive(Clone, Copy, Debug, PartialEq, Eq, Error)]
+pub enum StoreFault {
+    #[error("the file could not be written")]
+    Failed,
+    #[error("out of memory")]
+    OutOfMemory,
+}
+
+impl From<AllocError> for StoreFault {
+    ghost use Rattle.units_io.specs.declared.files.StoreFault.TheVariants.{OutOfMemory};
+
+    ghost from_gives = { λ _ fault. fault ≡ OutOfMemory };
+
+    fn from(_: AllocError) -> Self {
+        StoreFault::OutOfMemory
+    }
+}
+
+impl<T: Drop> From<AllocFailed<T>> for StoreFault {
+    ghost use Rattle.units_io.specs.declared.files.StoreFault.TheVariants.{OutOfMemory};
+
+    ghost from_gives = { λ _ fault. fault ≡ OutOfMemory };
+
+    fn from(_: AllocFailed<T>) -> Self {
+        StoreFault::OutOfMemory
+    }
+}
+
+/// Files to read and to write.
+pub trait Files {
+    ghost use Rattle.units_io.specs.Fetching.{FileMap, IsFetched, FailsWithCause, longest_file};
+    ghost use Rattle.units_io.specs.Storing.{IsStored, StoreHasCause};
+
+    /// The bytes of each file, where they are told.
+    ghost files: { Self → Option FileMap };
+
+    /// How often a fetch has failed, up to `u64::MAX`.
+    ghost faults: { Self → ℕ };
+
+    /// How often a store has failed, up to `u64::MAX`.
+    ghost store_faults: { Self → ℕ };
+
+    /// The bytes of the file of this name. `Absent` where there is none, `TooLong` where it has more than
+    /// `LONGEST_FILE` bytes, and `Failed` only where the count of failed fetches rose.
+    fn fetch(&mut self, alloc: Global, name: &[u8]) -> Result<Text, FetchFault>
+        ensures told { IfSome (files self.old) (λ m. IsFetched m name.now result) }
+        ensures within { IfOk result (λ text. length text ≤ longest_file) }
+        ensures kept { files self.new ≡ files self.old }
+        ensures cause { FailsWithCause (faults self.old) (faults self.new) result }
+        ensures stores { store_faults self.new ≡ store_faults self.old };
+
+    /// Gives the file of this name these bytes. `Failed` comes only where the count of failed stores rose,
+    /// and may leave this file as anything, but no other. Where memory is wanting nothing changes.
+    fn store(&mut self, alloc: Global, name: &[u8], bytes: &[u8]) -> Result<(), StoreFault>
+        requires { length bytes.now ≤ longest_file }
+        ensures told { IsStored (files self.old) (files self.new) name.now bytes.now result }
+        ensures cause { StoreHasCause (store_faults self.old) (store_faults self.new) result }
+        ensures fetches { faults self.new ≡ faults self.old };
+}

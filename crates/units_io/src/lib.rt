@@ -1,0 +1,25 @@
+//! Texts and lists of them, and what a program reads from and writes to: sources, sinks and files, of the system and in memory.
+#![tactic(auto)]
+
+mod files;
+mod memory;
+mod sink;
+mod source;
+mod steps;
+mod system;
+mod text;
+mod texts;
+mod vars;
+
+pub use files::{FetchFault, Files, LONGEST_FILE, StoreFault};
+pub use memory::{MemFiles, MemSink, MemSource};
+pub use sink::{Sink, put_all};
+pub use source::{Failed, Source};
+pub use steps::Steps;
+pub use system::{DirFiles, StdSink, StdSource};
+pub use text::Text;
+pub use texts::Texts;
+pub use vars::Vars;
+
+#[cfg(test)]
+mod tests;

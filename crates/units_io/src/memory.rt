@@ -1,0 +1,12 @@
+//! Sources, sinks and files in memory, with calls that fail.
+mod files;
+mod sink;
+mod source;
+mod table;
+
+pub use files::MemFiles;
+pub use sink::MemSink;
+pub use source::MemSource;
+
+#[cfg(test)]
+mod tests;

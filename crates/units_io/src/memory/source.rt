@@ -1,0 +1,109 @@
+//! Bytes in memory as a source.
+ghost use Rattle.std.specs.Prelude.{◌≡◌, ◌≤◌, ◌<◌, ◌+◌, ◌-◌, ◌^◌, ◌++◌, ◌↔◌, [], length, take, min, IfOk, OnErr, IsErr, MatchResult, Some, Contains};
+ghost use Rattle.units_io.specs.Faults.{HasCause, next};
+
+use crate::source::{Failed, Source};
+use std::alloc::{AllocError, Global};
+use std::marker::Model;
+
+/// Bytes in memory to read, some at a time, with calls that fail.
+#[derive(Drop)]
+pub struct MemSource {
+    bytes: Vec<u8>,
+    at: usize,
+    piece: usize,
+    fails: Vec<u64>,
+    calls: u64,
+    taken: u64,
+    faults: u64,
+}
+
+impl Model for MemSource {
+    ghost use Rattle.std.specs.Prelude.{◌<◌, ◌≤◌, drop, length};
+    ghost use Rattle.units_io.specs.Memory.{SourceState};
+
+    ghost Value = { SourceState };
+
+    ghost view = { λ s. record {
+      left = drop s.at s.bytes.items;
+      piece = s.piece;
+      fails = s.fails.items;
+      calls = s.calls;
+      taken = s.taken;
+      faults = s.faults;
+    } };
+
+    ghost invariant = { λ s. (s.at ≤ length s.bytes.items) × (0 < s.piece) };
+}
+
+impl MemSource {
+    /// Gives `content`, at most `piece` bytes a call. `fails` lists the calls that fail, counted from 1.
+    pub fn new(
+        alloc: Global,
+        content: &[u8],
+        piece: usize,
+        fails: &[u64],
+    ) -> Result<MemSource, AllocError>
+        requires { 0 < piece }
+        ensures { IfOk result (λ s. s ≡ record {
+          left = content.now;
+          piece = piece;
+          fails = fails.now;
+          calls = 0;
+          taken = 0;
+          faults = 0;
+        }) }
+    {
+        let bytes = Vec::from_slice(alloc, content)?;
+        let fails = Vec::from_slice(alloc, fails)?;
+        Ok(MemSource {
+            bytes,
+            at: 0,
+            piece,
+            fails,
+            calls: 0,
+            taken: 0,
+            faults: 0,
+        })
+    }
+}
+
+impl Source for MemSource {
+    ghost left = { λ s. Some s.left };
+
+    ghost taken = { λ s. s.taken };
+
+    ghost faults = { λ s. s.faults };
+
+    fn take(&mut self, buf: &mut [u8]) -> Result<usize, Failed>
+        requires { 0 < length buf.old }
+        ensures within { IfOk result (λ n. n ≤ length buf.new) }
+        ensures bytes { IfOk result (λ n. self.old.left ≡ take n buf.new ++ self.new.left) }
+        ensures most { IfOk result (λ n.
+            n ≡ min self.old.piece (min (length buf.old) (length self.old.left))) }
+        ensures end { IfOk result (λ n. n ≡ 0 → self.old.left ≡ []) }
+        ensures kept { OnErr result (self.new.left ≡ self.old.left) }
+        ensures count { MatchResult result
+            (λ n. self.new.taken ≡ min (self.old.taken + n) (2 ^ 64 - 1))
+            (λ _. self.new.taken ≡ self.old.taken) }
+        ensures cause { HasCause self.old.faults self.new.faults result }
+        ensures listed { IsErr result ↔ Contains self.old.fails (next self.old.calls) }
+        ensures counted { MatchResult result (λ _. self.new.faults ≡ self.old.faults)
+            (λ _. self.new.faults ≡ next self.old.faults) }
+        ensures calls { self.new.calls ≡ next self.old.calls }
+        ensures rest { (self.new.piece ≡ self.old.piece) × (self.new.fails ≡ self.old.fails) }
+    {
+        self.calls = self.calls.saturating_add(1);
+        if self.fails.contains(&self.calls) {
+            self.faults = self.faults.saturating_add(1);
+            return Err(Failed);
+        }
+        let room = buf.len().min(self.piece);
+        let n = room.min(self.bytes.len() - self.at);
+        let end = self.at + n;
+        buf[..n].copy_from_slice(&self.bytes[self.at..end]);
+        self.at = end;
+        self.taken = self.taken.saturating_add(n as u64);
+        Ok(n)
+    }
+}

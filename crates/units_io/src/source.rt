@@ -1,0 +1,36 @@
+//! Where bytes come from.
+ghost use Rattle.std.specs.Prelude.{◌≡◌, ◌≤◌, ◌<◌, ◌+◌, ◌-◌, ◌^◌, List, ℕ, length, take, min, IfOk, OnErr, MatchResult};
+ghost use Rattle.std.specs.declared.option.Option.{Option};
+ghost use Rattle.units_io.specs.Faults.{HasCause};
+ghost use Rattle.units_io.specs.Bytes.{Loses, IsNoneLeft};
+
+use thiserror::Error;
+
+/// A read or a write failed, and the end that failed has counted it.
+#[derive(Clone, Copy, Debug, PartialEq, Eq, Error)]
+#[error("a read or a write failed")]
+pub struct Failed;
+
+/// Bytes to read.
+pub trait Source {
+    /// The bytes that are left, where they are told.
+    ghost left: { Self → Option (List ℕ) };
+
+    /// How many bytes were taken, up to `u64::MAX`.
+    ghost taken: { Self → ℕ };
+
+    /// How often a read has failed, up to `u64::MAX`.
+    ghost faults: { Self → ℕ };
+
+    /// Takes the next bytes to the front of `buf`, and none only where none is left. A failure takes none.
+    fn take(&mut self, buf: &mut [u8]) -> Result<usize, Failed>
+        requires { 0 < length buf.old }
+        ensures within { IfOk result (λ n. n ≤ length buf.new) }
+        ensures bytes { IfOk result (λ n. Loses (left self.old) (left self.new) (take n buf.new)) }
+        ensures end { IfOk result (λ n. n ≡ 0 → IsNoneLeft (left self.old)) }
+        ensures kept { OnErr result (left self.new ≡ left self.old) }
+        ensures count { MatchResult result
+            (λ n. taken self.new ≡ min (taken self.old + n) (2 ^ 64 - 1))
+            (λ _. taken self.new ≡ taken self.old) }
+        ensures cause { HasCause (faults self.old) (faults self.new) result };
+}

@@ -1,0 +1,76 @@
+//! How a file of the system is written: as a new file beside it, which then takes its place. A fault leaves
+//! the file as it was, and the new one is removed, unless the system refuses that too.
+use crate::files::StoreFault;
+use std::alloc::{AllocError, Global};
+use std::fs::{File, OpenFile, Permissions};
+use std::io::{ErrorKind, Write};
+use std::rt::Files;
+use std::{fs, io};
+
+// How many names of a new file are tried, each of which a run that was cut off may have left.
+const MOST_NAMES: u32 = 1000;
+
+// Gives the file at this path these bytes, whole or not at all.
+pub(super) fn save_file<H: Files>(
+    rt: &H,
+    alloc: Global,
+    path: &str,
+    bytes: &[u8],
+) -> Result<(), StoreFault> {
+    let permissions = match fs::metadata(rt, path) {
+        Ok(old) if old.is_file() => Some(old.permissions()),
+        Err(e) if e.kind() == ErrorKind::NotFound => None,
+        _ => return Err(StoreFault::Failed),
+    };
+    for number in 0..MOST_NAMES {
+        let beside = name_beside(alloc, path, number)?;
+        match File::create_new(rt, beside.as_str()) {
+            Ok(file) => {
+                let written = write_whole(file, permissions, bytes);
+                return put_in_place(rt, beside.as_str(), path, written);
+            }
+            Err(e) if e.kind() == ErrorKind::AlreadyExists => {}
+            Err(_) => return Err(StoreFault::Failed),
+        }
+    }
+    Err(StoreFault::Failed)
+}
+
+// The name of a new file in the folder of this path.
+fn name_beside(alloc: Global, path: &str, number: u32) -> Result<String, AllocError> {
+    match path.rsplit_once('/') {
+        Some((folder, _)) => format!(in alloc; "{folder}/.units-save-{number}"),
+        None => format!(in alloc; ".units-save-{number}"),
+    }
+}
+
+// Writes the bytes to the disk, under the permissions of the file to be replaced, and closes the file.
+fn write_whole<F: Write + OpenFile + Drop>(
+    mut file: F,
+    permissions: Option<Permissions>,
+    bytes: &[u8],
+) -> io::Result<()> {
+    if let Some(permissions) = permissions {
+        file.set_permissions(permissions)?;
+    }
+    file.write_all(bytes)?;
+    file.sync_all()
+}
+
+// Renames a file that was written whole, and removes it where it was not or cannot be renamed.
+fn put_in_place<H: Files>(
+    rt: &H,
+    beside: &str,
+    path: &str,
+    written: io::Result<()>,
+) -> Result<(), StoreFault> {
+    let renamed = match written {
+        Ok(()) => fs::rename(rt, beside, path),
+        Err(e) => Err(e),
+    };
+    if renamed.is_ok() {
+        return Ok(());
+    }
+    let _ = fs::remove_file(rt, beside);
+    Err(StoreFault::Failed)
+}

@@ -1,0 +1,174 @@
+//! Readers and writers that fail, and files of the folder that the test runs in.
+use crate::{DirFiles, Failed, FetchFault, Files, Sink, Source, StdSink, StdSource, StoreFault};
+use std::io::{ErrorKind, Read, Write};
+use std::test::Fail;
+use std::{fs, io};
+
+// A reader and a writer of one byte a call, whose second call ends in this error.
+#[derive(Drop)]
+struct Hindered {
+    calls: u64,
+    error: ErrorKind,
+}
+
+impl Hindered {
+    fn new(error: ErrorKind) -> Hindered {
+        Hindered { calls: 0, error }
+    }
+
+    fn call(&mut self) -> io::Result<()> {
+        self.calls = self.calls.saturating_add(1);
+        if self.calls == 2 {
+            return Err(io::Error::from(self.error));
+        }
+        Ok(())
+    }
+}
+
+impl Read for Hindered {
+    fn read(&mut self, buf: &mut [u8]) -> io::Result<usize> {
+        self.call()?;
+        if buf.is_empty() {
+            return Ok(0);
+        }
+        buf[0] = b'x';
+        Ok(1)
+    }
+}
+
+impl Write for Hindered {
+    fn write(&mut self, buf: &[u8]) -> io::Result<usize> {
+        self.call()?;
+        Ok(buf.len().min(1))
+    }
+
+    fn flush(&mut self) -> io::Result<()> {
+        Ok(())
+    }
+}
+
+#[test]
+fn only_an_interrupted_read_is_tried_again(rt: HostRuntime) {
+    for (error, want) in [
+        (ErrorKind::Interrupted, [Ok(1), Ok(1), Ok(1)]),
+        (ErrorKind::BrokenPipe, [Ok(1), Err(Failed), Ok(1)]),
+    ] {
+        let mut source = StdSource::new(Hindered::new(error));
+        let mut sink = StdSink::new(Hindered::new(error));
+        let mut buf = [0u8; 4];
+        for answer in want {
+            assert_eq!(rt; source.take(&mut buf), answer);
+            assert_eq!(rt; sink.put(b"ab"), answer);
+        }
+    }
+}
+
+#[test]
+fn no_byte_read_is_the_end_and_none_written_a_failure(rt: HostRuntime) {
+    let mut source = StdSource::new(b"abcde".as_slice());
+    let mut buf = [0u8; 4];
+    for (want, byte) in [(Ok(4), b'a'), (Ok(1), b'e'), (Ok(0), b'e'), (Ok(0), b'e')] {
+        assert_eq!(rt; source.take(&mut buf), want);
+        assert_eq!(rt; buf[0], byte);
+    }
+    let mut room = [0u8; 3];
+    let mut sink = StdSink::new(room.as_mut_slice());
+    for want in [Ok(2), Ok(1), Err(Failed), Err(Failed)] {
+        assert_eq!(rt; sink.put(b"ab"), want);
+    }
+}
+
+// An empty folder of a test's own. Each test removes its folder at its end.
+fn empty_folder(rt: &HostRuntime, name: &str) -> io::Result<()> {
+    let _ = fs::remove_dir_all(rt, name);
+    fs::create_dir(rt, name)
+}
+
+#[test]
+fn files_that_cannot_be_read(rt: HostRuntime) -> Result<(), Fail> {
+    let alloc = rt.alloc();
+    empty_folder(&rt, "test-read")?;
+    fs::write(&rt, "test-read/plain", b"m !")?;
+    let mut files = DirFiles::new(&rt);
+    for (name, want) in [
+        (b"".as_slice(), FetchFault::Absent),
+        (b"test-read/none", FetchFault::Absent),
+        (b"test-read/none/none", FetchFault::Absent),
+        (b"test-read/plain\xFF", FetchFault::Absent),
+        (b"test-read", FetchFault::Failed),
+        (b"test-read/plain\x00", FetchFault::Failed),
+        (b"test-read/plain/none", FetchFault::Failed),
+    ] {
+        assert!(rt; files.fetch(alloc, name).err() == Some(want));
+    }
+    fs::remove_dir_all(&rt, "test-read")?;
+    Ok(())
+}
+
+#[test]
+fn the_longest_file_is_read(rt: HostRuntime) -> Result<(), Fail> {
+    let alloc = rt.alloc();
+    empty_folder(&rt, "test-long")?;
+    let mut bytes = Vec::new(alloc);
+    bytes.resize(16_777_216, b'x')?;
+    fs::write(&rt, "test-long/file", bytes.as_slice())?;
+    let mut files = DirFiles::new(&rt);
+    let text = files.fetch(alloc, b"test-long/file")?;
+    assert!(rt; text.as_bytes() == bytes.as_slice());
+    bytes.push(b'x')?;
+    fs::write(&rt, "test-long/file", bytes.as_slice())?;
+    assert!(rt; files.fetch(alloc, b"test-long/file").err() == Some(FetchFault::TooLong));
+    fs::remove_dir_all(&rt, "test-long")?;
+    Ok(())
+}
+
+#[test]
+fn a_stored_file_is_read_back(rt: HostRuntime) -> Result<(), Fail> {
+    let alloc = rt.alloc();
+    empty_folder(&rt, "test-saved")?;
+    fs::write(&rt, "test-saved/.units-save-0", b"left by another run")?;
+    let mut files = DirFiles::new(&rt);
+    for (name, bytes) in [
+        (b"test-saved-beside".as_slice(), b"no folder".as_slice()),
+        (b"test-saved/new", b"m !"),
+        (b"test-saved/new", b"m !\ng 3 m\n"),
+        (b"./test-saved/new", b""),
+    ] {
+        assert_eq!(rt; files.store(alloc, name, bytes), Ok(()));
+        assert_eq!(rt; files.fetch(alloc, name)?.as_bytes(), bytes);
+    }
+    let left = files.fetch(alloc, b"test-saved/.units-save-0")?;
+    assert_eq!(rt; left.as_bytes(), b"left by another run".as_slice());
+    assert_eq!(rt; fs::read_dir(&rt, "test-saved")?.count(), 2);
+    assert!(rt; files.fetch(alloc, b".units-save-0").err() == Some(FetchFault::Absent));
+    fs::remove_file(&rt, "test-saved-beside")?;
+    fs::remove_dir_all(&rt, "test-saved")?;
+    Ok(())
+}
+
+#[test]
+fn a_failed_store_leaves_nothing(rt: HostRuntime) -> Result<(), Fail> {
+    let alloc = rt.alloc();
+    empty_folder(&rt, "test-failed")?;
+    fs::create_dir(&rt, "test-failed/inner")?;
+    fs::write(&rt, "test-failed/plain", b"m !")?;
+    let mut files = DirFiles::new(&rt);
+    for name in [
+        b"test-failed/inner".as_slice(),
+        b"test-failed/inner/",
+        b"test-failed/none/new",
+        b"test-failed/plain/new",
+        b"test-failed/new\xFF",
+        b"test-failed/new\x00",
+        b"test-failed/",
+        b"",
+    ] {
+        assert_eq!(rt; files.store(alloc, name, b"g 3 m"), Err(StoreFault::Failed));
+    }
+    let plain = files.fetch(alloc, b"test-failed/plain")?;
+    assert_eq!(rt; plain.as_bytes(), b"m !".as_slice());
+    assert_eq!(rt; fs::read_dir(&rt, "test-failed")?.count(), 2);
+    assert_eq!(rt; fs::read_dir(&rt, "test-failed/inner")?.count(), 0);
+    fs::remove_dir_all(&rt, "test-failed")?;
+    Ok(())
+}

@@ -1,0 +1,52 @@
+//! A text is a list of bytes, which need not be UTF-8.
+ghost use Rattle.std.specs.Prelude.{◌≡◌, List, ℕ, IfOk};
+
+use std::alloc::{AllocError, Global};
+use std::marker::Model;
+
+/// Bytes of its own, which need not be UTF-8.
+#[derive(Clone, Drop)]
+pub struct Text {
+    bytes: Vec<u8>,
+}
+
+impl Model for Text {
+    ghost Value = { List ℕ };
+
+    ghost view = { λ text. text.bytes.items };
+}
+
+impl Text {
+    /// A text of these bytes, which are copied.
+    pub fn from_bytes(alloc: Global, bytes: &[u8]) -> Result<Text, AllocError>
+        ensures { IfOk result (λ text. text ≡ bytes.now) }
+    {
+        let bytes = Vec::from_slice(alloc, bytes)?;
+        Ok(Text { bytes })
+    }
+
+    /// The bytes.
+    pub fn as_bytes(&self) -> &[u8]
+        ensures { result.now ≡ self.now }
+    {
+        self.bytes.as_slice()
+    }
+
+    /// A second text of the same bytes.
+    pub fn copy(&self) -> Result<Text, AllocError>
+        ensures { IfOk result (λ text. text ≡ self.now) }
+    {
+        Ok(Text {
+            bytes: self.bytes.clone()?,
+        })
+    }
+}
+
+/// Takes the bytes over, with no copy.
+impl From<Vec<u8>> for Text {
+    ghost from_gives = { λ bytes text. text ≡ bytes.items };
+
+    fn from(bytes: Vec<u8>) -> Self {
+        Text { bytes }
+    }
+}
