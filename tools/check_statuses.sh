@@ -44,6 +44,9 @@ usage=$'units: usage: units [options] [FROM [TO]]\n'
 unsupported=$'units: unsupported\n'
 expect 0 $'\t* 1143|1250\n\t/ 1250|1143\n' '' --exact -f first.units yd m
 expect 0 $'\t* 36\n\t/ 1|36\n' '' yd in --file=first.units --exact
+expect 0 $'\t* 1143|1250\n\t/ 1250|1143\n' '' -d 3 --exact -f first.units yd m
+expect 0 $'\t* 0.9144\n\t/ 1.0936133\n' '' -f first.units yd m
+expect 0 $'\t* 0.914\n\t/ 1.09\n' '' -d 3 -f first.units yd m
 expect 1 $'unknown unit: kg\n' '' --exact -f first.units yd kg
 expect 2 '' "$usage" -d 0 m ft
 expect 2 '' "$usage" --check m
@@ -54,7 +57,7 @@ expect 3 '' $'units: file too long: long.units\n' --exact -f long.units yd m
 expect 4 '' '' --exact -f . yd m
 expect 4 '' '' --exact -f first.units/m yd m
 expect 8 '' "$unsupported" --exact -f blank.units yd m
-expect 8 '' "$unsupported" -f first.units yd m
+expect 8 '' "$unsupported" -1 -f first.units yd m
 expect 8 '' "$unsupported"
 
 # Where the modes of files do not bind, as for root, a file whose read fails stands in for one that may not be read.

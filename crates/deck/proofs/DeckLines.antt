@@ -1,16 +1,15 @@
 -- The lines of a deck: what an index map says of them, and the definitions that they show.
-use Rattle.std.proofs.Common.{◌≡◌, ◌<◌, ◌≤◌, ◌+◌, ℕ, zero, suc, Bool, true, false, not, cond, nat_lt, List, [], ◌∷◌, ◌++◌, length, map, reverse, Option, Some, None, Vec, is_some, option_map, unwrap_or, position, refl, sym, ap, ap₂, subst, ◌∙◌, arith}
+use Rattle.std.proofs.Common.{◌≡◌, ◌<◌, ◌+◌, ℕ, suc, Bool, true, false, not, cond, nat_lt, List, [], ◌∷◌, length, Option, Some, None, Vec, is_some, option_map, unwrap_or, position, refl, sym, ap, ◌∙◌, arith}
 use Rattle.std.specs.Prelude.{slice_get, MatchOption}
 use Rattle.deck.proofs.Parts.{nat_lt-suc, list_any-position, position-found}
 use Rattle.std.specs.Map.{lookup, keys_of}
-use Rattle.std.specs.List.{position_or_len, AllByRecursion}
+use Rattle.std.specs.List.{position_or_len}
 use Rattle.std.specs.Str.{bytes_eq}
 use Rattle.std.proofs.lemmas.Slice.Eq.{bytes_eq-Decides}
 use Rattle.std.proofs.lemmas.Bool.Decides.{nat_tests}
-use Rattle.std.proofs.lemmas.List.{reverse-append, map-append, length-map}
+use Rattle.std.proofs.lemmas.List.{length-map}
 use Rattle.std.proofs.lemmas.Option.{slice_get-map}
-use Rattle.deck.specs.FirstFile.{Definition, Scale, definition_in, is_defined, RefersTo, IsLinked}
-use Rattle.deck.specs.FirstDeck.{by_bytes, Line, names_of, name_at, scale_of, line_in, shown, definitions_of, IsPlaceWithin, IsKept}
+use Rattle.deck.specs.FirstDeck.{by_bytes, Line, names_of, name_at, line_in}
 use Rattle.deck.specs.declared.first_file.lines.Multiple.{Multiple}
 
 -- the test that a look-up by a slice makes of a key

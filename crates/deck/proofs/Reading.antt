@@ -1,5 +1,5 @@
 -- The lines of a file, taken one by one into a deck.
-use Rattle.std.proofs.Common.{◌≡◌, ◌<◌, ◌≤◌, ◌+◌, ◌⊎◌, inl, inr, ℕ, zero, suc, Bool, true, false, cond, ◌&&◌, nat_lt, nat_le, List, [], ◌∷◌, ◌++◌, length, map, Option, Some, None, option_map, if◌then◌else◌, refl, sym, ap, ap₂, subst, ◌∙◌, arith}
+use Rattle.std.proofs.Common.{◌≡◌, ◌<◌, ◌≤◌, ◌+◌, inl, inr, ℕ, Bool, true, false, cond, ◌&&◌, nat_lt, nat_le, List, [], ◌∷◌, ◌++◌, length, map, Option, Some, None, option_map, if◌then◌else◌, refl, sym, ap, ap₂, subst, ◌∙◌, arith}
 use Rattle.std.specs.Option.{option_and_then}
 use Rattle.std.specs.List.{list_any, before_first, after_first, slice_split}
 use Rattle.std.proofs.Math.Bool.{and-false}
@@ -8,7 +8,7 @@ use Rattle.std.proofs.lemmas.List.{append-nil}
 use Rattle.std.proofs.lemmas.Option.{same_Some}
 use Rattle.deck.specs.FirstLines.{is_line_feed, nonempty, words_of, lines_of}
 use Rattle.deck.specs.FirstFile.{Definition, definition_of, definitions_below, most_lines, first_file}
-use Rattle.deck.specs.FirstReading.{grown_by, GrowsBy, TakesLine}
+use Rattle.deck.specs.FirstReading.{TakesLine}
 use Rattle.deck.proofs.Parts.{slice_split-found, slice_split-whole}
 
 -- a list is kept or dropped whatever stands behind it

@@ -6,7 +6,7 @@ use Rattle.std.specs.Str.{bytes_eq}
 use Rattle.std.proofs.lemmas.Option.{same_Some}
 use Rattle.std.proofs.lemmas.Slice.Eq.{bytes_eq-Decides}
 use Rattle.std.proofs.lemmas.List.{reverse-append, map-append, length-map, length-reverse}
-use Rattle.deck.specs.FirstFile.{Definition, Scale, definition_in, is_defined, RefersTo, IsLinked}
+use Rattle.deck.specs.FirstFile.{Definition, definition_in, is_defined, RefersTo, IsLinked}
 use Rattle.frac128.specs.Fraction.{Fraction}
 use Rattle.deck.specs.FirstValues.{multiple, outcome_of, height_of}
 use Rattle.deck.proofs.Linked.{scaled-follows}

@@ -1,5 +1,5 @@
 -- The words of a line, taken one by one.
-use Rattle.std.proofs.Common.{◌≡◌, ℕ, Bool, true, false, not, cond, ◌+◌, suc, List, [], ◌∷◌, refl, sym, ap, ◌∙◌, ◌==◌, length, take, arith}
+use Rattle.std.proofs.Common.{◌≡◌, ℕ, true, false, not, cond, ◌+◌, suc, List, [], ◌∷◌, refl, sym, ap, ◌∙◌, ◌==◌, length, take, arith}
 use Rattle.std.proofs.lemmas.Bool.Decides.{Decides-eqb}
 use Rattle.std.specs.List.{list_any, position_or_len, before_first, after_first, slice_split, onto_first}
 use Rattle.deck.specs.FirstLines.{words_of, nonempty, is_space, IsWordFirst}

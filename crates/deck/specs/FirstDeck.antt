@@ -1,5 +1,5 @@
 -- How a deck keeps the definitions of a first file: the oldest first, each earlier name by its place.
-use Rattle.std.specs.Prelude.{◌≡◌, ◌<◌, ◌∷◌, [], ℕ, ℤ, List, Option, Some, None, Vec, map, reverse, length, option_map, unwrap_or, slice_get, if◌then◌else◌, ⊤, refl}
+use Rattle.std.specs.Prelude.{◌<◌, ◌∷◌, [], ℕ, ℤ, List, Option, Some, None, Vec, map, reverse, length, option_map, unwrap_or, slice_get, if◌then◌else◌, ⊤, refl}
 use Rattle.std.specs.Str.{bytes_eq}
 use Rattle.std.specs.List.{AllByRecursion}
 use Rattle.std.specs.Coded.{Coded, code_by, coded×, coded_list, coded_option, coded_ℕ, coded_ℤ}

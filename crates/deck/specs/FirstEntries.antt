@@ -1,6 +1,6 @@
 -- What looking up an entry answers.
 use Rattle.std.specs.Prelude.{◌≡◌, ◌<◌, ℕ, List, Option, Some, None, Ok, option_map}
-use Rattle.deck.specs.FirstFile.{Definition, definition_in}
+use Rattle.deck.specs.FirstFile.{Definition}
 use Rattle.deck.specs.FirstValues.{one, multiple, outcome_of, height_of}
 use Rattle.deck.specs.declared.first_file.deck.FirstEntry.{FirstEntry}
 use Rattle.deck.specs.declared.first_file.deck.FirstEntry.TheVariants.{Primitive, Scaled}

@@ -1,5 +1,5 @@
 -- First files: one primitive, and then names that are scaled from names above.
-use Rattle.std.specs.Prelude.{◌≡◌, ◌&&◌, ◌∷◌, [], ℕ, List, Bool, not, true, false, if◌then◌else◌, Option, Some, None, codes, length, nat_lt, nat_le, option_map, is_some, ⊤, refl}
+use Rattle.std.specs.Prelude.{◌≡◌, ◌&&◌, ◌∷◌, [], ℕ, List, Bool, not, true, false, if◌then◌else◌, Option, Some, None, codes, length, nat_lt, nat_le, option_map, is_some, ⊤}
 use Rattle.std.specs.Option.{option_and_then}
 use Rattle.std.specs.Str.{bytes_eq}
 use Rattle.frac128.specs.Fraction.{Fraction}

@@ -1,10 +1,9 @@
 -- What loading a first file and reading an entry answer.
-use Rattle.std.specs.Prelude.{◌≡◌, ◌≤◌, ◌<◌, ℕ, List, Option, Some, None, Result, Ok, Err, ⊤, option_map, IsErrOf}
+use Rattle.std.specs.Prelude.{◌≡◌, ◌≤◌, ℕ, List, Option, Some, None, Result, Ok, Err, ⊤, IsErrOf}
 use Rattle.units_io.specs.Faults.{Rose}
 use Rattle.units_io.specs.declared.files.FetchFault.{FetchFault}
 use Rattle.units_io.specs.declared.files.FetchFault.TheVariants as fetch
-use Rattle.frac128.specs.Fraction.{Fraction}
-use Rattle.deck.specs.FirstFile.{Definition, Scale, first_file}
+use Rattle.deck.specs.FirstFile.{Definition, first_file}
 use Rattle.deck.specs.declared.first_file.load.FirstFault.{FirstFault}
 use Rattle.deck.specs.declared.first_file.load.FirstFault.TheVariants.{Absent, TooLong, ReadFailed, Unsupported, OutOfMemory}
 

@@ -1,5 +1,5 @@
 -- The names and the fractions of a first file.
-use Rattle.std.specs.Prelude.{◌&&◌, ◌||◌, ◌==◌, ◌∷◌, [], ℕ, List, Bool, not, if◌then◌else◌, Option, Some, None, Result, Ok, Err, codes, length, nat_lt, nat_le, pos}
+use Rattle.std.specs.Prelude.{◌&&◌, ◌==◌, ◌∷◌, [], ℕ, List, Bool, not, if◌then◌else◌, Option, Some, None, Result, Ok, Err, codes, length, nat_lt, nat_le, pos}
 use Rattle.std.specs.List.{list_all, list_any, before_first, after_first}
 use Rattle.std.specs.Char.{is_ascii_alphabetic}
 use Rattle.std.specs.Str.{bytes_eq, all_ascii_digits}

@@ -1,5 +1,5 @@
 -- The values of the names of a first file.
-use Rattle.std.specs.Prelude.{◌≡◌, ◌<◌, ◌+◌, ◌∷◌, [], ℕ, List, if◌then◌else◌, Option, Some, None, Result, Ok, Err, length, option_map, pos}
+use Rattle.std.specs.Prelude.{◌+◌, ◌∷◌, [], ℕ, List, if◌then◌else◌, Option, Some, None, Result, Ok, Err, length, option_map, pos}
 use Rattle.std.specs.Str.{bytes_eq}
 use Rattle.frac128.specs.Fraction.{Fraction}
 use Rattle.frac128.specs.Steps.{times}

@@ -11,9 +11,11 @@ use Rattle.frac128.proofs.Euclid.{gcd_is, gcd-mul}
 pub record IsCoprime (a b : ℕ) : Type 0 where
   pub one : gcd a b ≡ 1
 
+-- coprime numbers by what divides both
 pub coprime_is : (a b : ℕ) → IsGcd a b 1 → IsCoprime a b
 coprime_is a b h = record { one = same_from_IsGcd a b _ _ (gcd_is a b) h }
 
+-- what divides both of two coprime numbers
 pub is_coprime : (a b : ℕ) → IsCoprime a b → IsGcd a b 1
 is_coprime a b h = subst (λ g. IsGcd a b g) h.one (gcd_is a b)
 
@@ -34,6 +36,7 @@ coprime-mul a b c h k = coprime_is a (b * c) (
       (is_coprime a c k).2 d p (euclid_lemma a b c d h (dvd-mul_right_of_dvd d p c) q),
 )
 
+-- the order of two coprime numbers is free
 pub coprime-swap : (a b : ℕ) → IsCoprime a b → IsCoprime b a
 coprime-swap a b h = coprime_is b a (IsGcd-swap a b 1 (is_coprime a b h))
 

@@ -58,8 +58,34 @@ lowest_by a b c d g h p q some_b some_d ab cd = rw (p, q) (lowest-crosswise a b 
 pub lowest_gcd : (a b top bottom : ℕ) → 0 < b → IsLowest a b top bottom → IsGcd top bottom 1
 lowest_gcd a b top bottom some low = rw (← low.top_is, ← low.bottom_is) (is_coprime _ _ (coprime-quotients a b (gcd_some a b some)))
 
+-- a denominator in lowest terms is above 0
 pub lowest_some : (a b top bottom : ℕ) → 0 < b → IsLowest a b top bottom → 0 < bottom
 lowest_some a b top zero some low =
     let none : gcd a b * 0 ≡ b = ap (λ n. gcd a b * n) (sym low.bottom_is) ∙ mul-div_cancel' (gcd a b) (gcd_is a b).1 in
     absurd (omega (arith, mul-zero (gcd a b)))
 lowest_some a b top (suc bottom) some low = omega arith
+
+-- coprime numbers whose ratio is a / d are a / d in lowest terms
+pub lowest-cross : (a d p q : ℕ) → 0 < d → 0 < q → IsCoprime p q → p * d ≡ a * q → IsLowest a d p q
+lowest-cross a d p q some some_q coprime cross =
+    let g = gcd a d in
+    let some_g : 0 < g = gcd_some a d some in
+    let whole : d ≡ q * g =
+    sym (mul-one d) ∙ ap (λ n. d * n) (sym coprime.one) ∙ sym (gcd-mul d p q)
+    ∙ ap (λ n. gcd n (d * q)) (mul_comm d p ∙ cross ∙ mul_comm a q) ∙ ap (λ n. gcd (q * a) n) (mul_comm d q) ∙ gcd-mul q a d in
+    let bottom : d / g ≡ q = ap (λ n. n / g) (whole ∙ mul_comm q g) ∙ mul-div_cancel_left q some_g in
+    let even : q * a ≡ q * (g * p) = mul_comm q a ∙ sym cross ∙ ap (λ n. p * n) whole ∙ mul_comm p (q * g) ∙ mul_assoc q g p in
+    let top_times : a ≡ g * p = sym (mul-div_cancel_left a some_q) ∙ ap (λ n. n / q) even ∙ mul-div_cancel_left (g * p) some_q in
+    record { top_is = ap (λ n. n / g) top_times ∙ mul-div_cancel_left p some_g; bottom_is = bottom }
+
+-- what is in lowest terms has the cross product of the ratio
+pub cross-lowest : (a d p q : ℕ) → IsLowest a d p q → p * d ≡ a * q
+cross-lowest a d p q low =
+    let g = gcd a d in
+    let a_is : g * p ≡ a = ap (λ n. g * n) (sym low.top_is) ∙ mul-div_cancel' g (gcd_is a d).0 in
+    let d_is : g * q ≡ d = ap (λ n. g * n) (sym low.bottom_is) ∙ mul-div_cancel' g (gcd_is a d).1 in
+    ap (λ n. p * n) (sym d_is) ∙ sym (mul_assoc p g q) ∙ ap (λ n. n * q) (mul_comm p g ∙ a_is)
+
+-- coprime numbers are in lowest terms
+pub lowest_self : (a b : ℕ) → 0 < b → IsCoprime a b → IsLowest a b a b
+lowest_self a b some h = lowest-cross a b a b some some h refl

@@ -2,39 +2,16 @@
 use Rattle.std.proofs.Common.{◌≡◌, ◌*◌, ◌/◌, ◌<◌, ◌*ℤ◌, ℕ, ℤ, pos, false, unsigned_abs, refl, sym, ap, ◌∙◌}
 use Rattle.std.specs.Prelude.{int_lt}
 use Rattle.std.proofs.lemmas.Int.{unsigned_abs-mul}
-use Rattle.std.proofs.Math.Nat.{mul_comm, mul_assoc, mul-div_cancel', mul-div_cancel_left, mul-one}
 use Rattle.frac128.specs.Divisors.{IsLowest, gcd}
 use Rattle.frac128.specs.Fraction.{Fraction, IsReduced, SameValue}
 use Rattle.frac128.specs.Sign.{signed, differ}
 use Rattle.frac128.specs.Steps.{ReducedLaw, reduced}
-use Rattle.frac128.proofs.Euclid.{gcd_is, gcd-mul, gcd_some}
-use Rattle.frac128.proofs.Coprime.{IsCoprime, coprime_is}
-use Rattle.frac128.proofs.Lowest.{lowest_gcd, lowest_some}
+use Rattle.frac128.proofs.Coprime.{coprime_is}
+use Rattle.frac128.proofs.Lowest.{cross-lowest, lowest-cross, lowest_gcd, lowest_some}
 use Rattle.frac128.proofs.Signs.{abs-signed, mul-signed, reduced-signed, sign_kept, signed_is}
 
--- coprime numbers whose ratio is a / d are a / d in lowest terms
-lowest-cross : (a d p q : ℕ) → 0 < d → 0 < q → IsCoprime p q → p * d ≡ a * q → IsLowest a d p q
-lowest-cross a d p q some some_q coprime cross =
-    let g = gcd a d in
-    let some_g : 0 < g = gcd_some a d some in
-    let whole : d ≡ q * g =
-    sym (mul-one d) ∙ ap (λ n. d * n) (sym coprime.one) ∙ sym (gcd-mul d p q)
-    ∙ ap (λ n. gcd n (d * q)) (mul_comm d p ∙ cross ∙ mul_comm a q) ∙ ap (λ n. gcd (q * a) n) (mul_comm d q) ∙ gcd-mul q a d in
-    let bottom : d / g ≡ q = ap (λ n. n / g) (whole ∙ mul_comm q g) ∙ mul-div_cancel_left q some_g in
-    let even : q * a ≡ q * (g * p) = mul_comm q a ∙ sym cross ∙ ap (λ n. p * n) whole ∙ mul_comm p (q * g) ∙ mul_assoc q g p in
-    let top_times : a ≡ g * p = sym (mul-div_cancel_left a some_q) ∙ ap (λ n. n / q) even ∙ mul-div_cancel_left (g * p) some_q in
-    record { top_is = ap (λ n. n / g) top_times ∙ mul-div_cancel_left p some_g; bottom_is = bottom }
-
--- what is in lowest terms has the cross product of the ratio
-cross-lowest : (a d p q : ℕ) → IsLowest a d p q → p * d ≡ a * q
-cross-lowest a d p q low =
-    let g = gcd a d in
-    let a_is : g * p ≡ a = ap (λ n. g * n) (sym low.top_is) ∙ mul-div_cancel' g (gcd_is a d).0 in
-    let d_is : g * q ≡ d = ap (λ n. g * n) (sym low.bottom_is) ∙ mul-div_cancel' g (gcd_is a d).1 in
-    ap (λ n. p * n) (sym d_is) ∙ sym (mul_assoc p g q) ∙ ap (λ n. n * q) (mul_comm p g ∙ a_is)
-
 -- the sign and the magnitude of the numerator, and the denominator
-reduced_is : (n : ℤ) (d : ℕ) → reduced n d ≡ record { num = signed (int_lt n (pos 0)) (unsigned_abs n / gcd (unsigned_abs n) d); den = d / gcd (unsigned_abs n) d }
+pub reduced_is : (n : ℤ) (d : ℕ) → reduced n d ≡ record { num = signed (int_lt n (pos 0)) (unsigned_abs n / gcd (unsigned_abs n) d); den = d / gcd (unsigned_abs n) d }
 reduced_is n d = ap (λ z. reduced z d) (signed_is n) ∙ reduced-signed _ _ d _ _ (record { top_is = refl; bottom_is = refl })
 
 -- it is reduced
@@ -59,7 +36,7 @@ reduced-value n d =
     )
 
 -- no other reduced fraction has the value
-reduced_only : (n : ℤ) (d : ℕ) (x : Fraction) → 0 < d → IsReduced x → SameValue x (record { num = n; den = d }) → x ≡ reduced n d
+pub reduced_only : (n : ℤ) (d : ℕ) (x : Fraction) → 0 < d → IsReduced x → SameValue x (record { num = n; den = d }) → x ≡ reduced n d
 reduced_only n d x some is same =
     let cross : unsigned_abs x.num * d ≡ unsigned_abs n * x.den =
     sym (unsigned_abs-mul x.num (pos d)) ∙ ap unsigned_abs same ∙ unsigned_abs-mul n (pos x.den) in
@@ -70,5 +47,6 @@ reduced_only n d x some is same =
     ap (λ z. record { num = z; den = x.den }) num
     ∙ sym (reduced-signed (int_lt n (pos 0)) (unsigned_abs n) d _ _ low) ∙ ap (λ z. reduced z d) (sym (signed_is n))
 
+-- all three
 pub reduced_law : ReducedLaw
 reduced_law n d some = (reduced_reduced n d some, reduced-value n d, λ x is same. reduced_only n d x some is same)

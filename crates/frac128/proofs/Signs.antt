@@ -2,36 +2,41 @@
 use Rattle.std.proofs.Common.{◌≡◌, ◌*◌, ◌/◌, ◌<◌, ◌≤◌, ℕ, suc, zero, ℤ, pos, negsuc, neg_ℤ, ◌*ℤ◌, Bool, true, false, not, arith, refl, sym, ap, ◌∙◌, unsigned_abs}
 use Rattle.std.specs.Prelude.{int_lt, int_div}
 use Rattle.std.proofs.lemmas.Int.{ints, unsigned_abs-mul}
-use Rattle.std.proofs.lemmas.Bool.Decides.{nat_tests}
 use Rattle.std.proofs.Math.IntN.{*ℤ_comm, pos-*ℤ-negsuc, negsuc-*ℤ-pos}
 use Rattle.std.proofs.Math.Nat.{zero-div, mul-zero, zero-mul, mul-pos}
 use Rattle.frac128.specs.Divisors.{gcd, IsLowest, IsWide}
 use Rattle.frac128.specs.Fraction.{Fraction, most}
 use Rattle.frac128.specs.declared.fault.FracFault.TheVariants.{Overflow}
-use Rattle.std.specs.Prelude.{Err, nat_le, ◌⊎◌, ◌&&◌, ◌^◌}
+use Rattle.std.specs.Prelude.{Err, nat_le, ◌⊎◌, ◌^◌}
 use Rattle.std.proofs.Common.{inl, inr}
 use Rattle.frac128.specs.Sign.{signed, differ, signs_differ}
 use Rattle.frac128.specs.Steps.{fitting, ratio, reduced, times, over}
+use Rattle.frac128.proofs.Comparisons.{and-false, le-false}
 
+-- the magnitude of a number with a sign
 pub abs-signed : (s : Bool) (a : ℕ) → unsigned_abs (signed s a) ≡ a
 abs-signed false a = refl
 abs-signed true zero = refl
 abs-signed true (suc a) = refl
 
+-- a quotient keeps the sign
 div-signed : (s : Bool) (a g : ℕ) → int_div (signed s a) (pos g) ≡ signed s (a / g)
 div-signed false a g = refl
 div-signed true zero g = ap pos (zero-div g) ∙ ap (λ n. neg_ℤ (pos n)) (sym (zero-div g))
 div-signed true (suc a) g = refl
 
+-- a number with a sign over one above 0, in lowest terms
 pub reduced-signed : (s : Bool) (a b top bottom : ℕ) → IsLowest a b top bottom → reduced (signed s a) b ≡ record { num = signed s top; den = bottom }
 unfolding reduced
 reduced-signed s a b top bottom low =
     rw (abs-signed s a, div-signed s a (gcd a b), low.top_is, low.bottom_is) refl
 
+-- each number is its magnitude with its sign
 pub signed_is : (n : ℤ) → n ≡ signed (int_lt n (pos 0)) (unsigned_abs n)
 signed_is (pos n) = let plus : int_lt (pos n) (pos 0) ≡ false = grind (arith, ints) in rw plus refl
 signed_is (negsuc n) = refl
 
+-- a product is minus where the signs differ
 pub mul-signed : (s t : Bool) (a c : ℕ) → signed s a *ℤ signed t c ≡ signed (differ s t) (a * c)
 mul-signed false false a c = refl
 mul-signed false true a zero = rw (mul-zero a) refl
@@ -45,15 +50,32 @@ mul-signed true true zero c = zero_times (neg_ℤ (pos c)) ∙ ap pos (sym (zero
 mul-signed true true (suc a) zero = rw (mul-zero (suc a)) refl
 mul-signed true true (suc a) (suc c) = refl
 
+-- the number with the other sign
 pub neg-signed : (s : Bool) (a : ℕ) → neg_ℤ (signed s a) ≡ signed (not s) a
 neg-signed false a = refl
 neg-signed true zero = refl
 neg-signed true (suc a) = refl
 
+-- the other sign keeps the magnitude
+pub abs-neg : (z : ℤ) → unsigned_abs (neg_ℤ z) ≡ unsigned_abs z
+abs-neg (pos zero) = refl
+abs-neg (pos (suc n)) = refl
+abs-neg (negsuc n) = refl
+
 -- the ratio of a number with a sign and one above zero
-ratio-signed : (s : Bool) (a b top bottom : ℕ) → 0 < b → IsLowest a b top bottom → ratio (signed s a) (pos b) ≡ fitting (record { num = signed s top; den = bottom })
+pub ratio-signed : (s : Bool) (a b top bottom : ℕ) → 0 < b → IsLowest a b top bottom → ratio (signed s a) (pos b) ≡ fitting (record { num = signed s top; den = bottom })
 ratio-signed s a zero top bottom some low = absurd (omega arith)
 ratio-signed s a (suc b) top bottom some low = ap fitting (reduced-signed s a (suc b) top bottom low)
+
+-- a sign against plus
+pub differ-false : (s : Bool) → differ s false ≡ s
+differ-false true = refl
+differ-false false = refl
+
+-- a sign against minus
+differ-true : (s : Bool) → differ s true ≡ not s
+differ-true true = refl
+differ-true false = refl
 
 -- the ratio of two numbers
 pub ratio_is : (n d : ℤ) (top bottom : ℕ) → 0 < unsigned_abs d → IsLowest (unsigned_abs n) (unsigned_abs d) top bottom
@@ -62,17 +84,9 @@ ratio_is n (pos zero) top bottom some low = absurd (omega arith)
 ratio_is n (pos (suc d)) top bottom some low =
     let plus : int_lt (pos (suc d)) (pos 0) ≡ false = grind (arith, ints) in
     ap (λ z. ratio z (pos (suc d))) (signed_is n) ∙ ratio-signed _ _ (suc d) top bottom some low ∙ ap (λ s. fitting (record { num = signed s top; den = bottom })) (sym (ap (differ _) plus ∙ differ-false _))
-  where
-    differ-false : (s : Bool) → differ s false ≡ s
-    differ-false true = refl
-    differ-false false = refl
 ratio_is n (negsuc d) top bottom some low =
     ap (λ z. ratio z (negsuc d)) (signed_is n) ∙ ap (λ z. fitting (reduced z (suc d))) (neg-signed (int_lt n (pos 0)) (unsigned_abs n))
     ∙ ap fitting (reduced-signed _ _ (suc d) top bottom low) ∙ ap (λ s. fitting (record { num = signed s top; den = bottom })) (sym (differ-true _))
-  where
-    differ-true : (s : Bool) → differ s true ≡ not s
-    differ-true true = refl
-    differ-true false = refl
 
 -- the product of two fractions
 pub times_is : (x y : Fraction) (top bottom : ℕ) → 0 < x.den → 0 < y.den → IsLowest (unsigned_abs x.num * unsigned_abs y.num) (x.den * y.den) top bottom
@@ -83,26 +97,25 @@ times_is x y top bottom some_x some_y low =
     product_is : (m n : ℤ) → m *ℤ n ≡ signed (signs_differ m n) (unsigned_abs m * unsigned_abs n)
     product_is m n = ap (λ z. z *ℤ n) (signed_is m) ∙ ap (λ z. signed _ (unsigned_abs m) *ℤ z) (signed_is n) ∙ mul-signed _ _ (unsigned_abs m) (unsigned_abs n)
 
-not_le : (a m : ℕ) → m < a → nat_le a m ≡ false
-not_le a m h = grind (arith, nat_tests)
-
-and-false : (b : Bool) → (b && false) ≡ false
-and-false true = refl
-and-false false = refl
-
 -- a fraction with a part of more than 128 bits does not fit
-wide_over : (s : Bool) (top bottom : ℕ) → (2 ^ 128 ≤ top) ⊎ (2 ^ 128 ≤ bottom) → fitting (record { num = signed s top; den = bottom }) ≡ Err Overflow
-wide_over s top bottom (inl h) = rw (abs-signed s top, not_le top most (omega arith)) refl
-wide_over s top bottom (inr h) = rw (not_le bottom most (omega arith), and-false (nat_le (unsigned_abs (signed s top)) most)) refl
+pub wide_over : (s : Bool) (top bottom : ℕ) → (2 ^ 128 ≤ top) ⊎ (2 ^ 128 ≤ bottom) → fitting (record { num = signed s top; den = bottom }) ≡ Err Overflow
+wide_over s top bottom (inl h) = rw (abs-signed s top, le-false top most (omega arith)) refl
+wide_over s top bottom (inr h) = rw (le-false bottom most (omega arith), and-false (nat_le (unsigned_abs (signed s top)) most)) refl
 
+-- a product that is too wide
 pub times_wide : (x y : Fraction) → 0 < x.den → 0 < y.den → IsWide (unsigned_abs x.num * unsigned_abs y.num) (x.den * y.den) → times x y ≡ Err Overflow
 times_wide x y some_x some_y wide = times_is x y _ _ some_x some_y (record { top_is = refl; bottom_is = refl }) ∙ wide_over _ _ _ wide
 
--- a part of 128 bits or less that is too large
+-- a numerator that is too large
 pub top_over : (s : Bool) (top bottom : ℕ) → most < top → fitting (record { num = signed s top; den = bottom }) ≡ Err Overflow
-top_over s top bottom h = rw (abs-signed s top, not_le top most h) refl
+top_over s top bottom h = rw (abs-signed s top, le-false top most h) refl
 
-not_below : (n : ℕ) → int_lt (pos n) (pos 0) ≡ false
+-- a denominator that is too large
+pub bottom_over : (s : Bool) (top bottom : ℕ) → most < bottom → fitting (record { num = signed s top; den = bottom }) ≡ Err Overflow
+bottom_over s top bottom h = rw (le-false bottom most h, and-false (nat_le (unsigned_abs (signed s top)) most)) refl
+
+-- no natural number is below 0
+pub not_below : (n : ℕ) → int_lt (pos n) (pos 0) ≡ false
 not_below n = grind (arith, ints)
 
 -- a factor above 0 keeps the sign
@@ -115,6 +128,7 @@ sign_kept (negsuc n) (suc d) some = below (suc n * suc d) (mul-pos {m = suc n} {
     below zero h = absurd (omega arith)
     below (suc m) h = refl
 
+-- also on the left
 sign_kept_left : (z : ℤ) (d : ℕ) → 0 < d → int_lt (pos d *ℤ z) (pos 0) ≡ int_lt z (pos 0)
 sign_kept_left z d some = ap (λ m. int_lt m (pos 0)) (*ℤ_comm (pos d) z) ∙ sign_kept z d some
 
@@ -128,6 +142,7 @@ over_is x y top bottom some_x some_y some low =
     ∙ ap (λ s. fitting (record { num = signed s top; den = bottom }))
     (ap (λ s. differ s (int_lt (pos x.den *ℤ y.num) (pos 0))) (sign_kept x.num y.den some_y) ∙ ap (differ (int_lt x.num (pos 0))) (sign_kept_left y.num x.den some_x))
 
+-- a quotient that is too wide
 pub over_wide : (x y : Fraction) → 0 < x.den → 0 < y.den → 0 < unsigned_abs y.num → IsWide (unsigned_abs x.num * y.den) (x.den * unsigned_abs y.num) → over x y ≡ Err Overflow
 over_wide x y some_x some_y some wide = over_is x y _ _ some_x some_y some (record { top_is = refl; bottom_is = refl }) ∙ wide_over _ _ _ wide
 

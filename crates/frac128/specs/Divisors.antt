@@ -1,6 +1,6 @@
 -- The greatest common divisor, by Euclid's steps.
-use Rattle.std.specs.Prelude.{◌≡◌, ℕ, suc, zero, ◌%◌, ◌/◌, ◌^◌, ◌≤◌, ◌⊎◌}
-use Rattle.std.specs.Int.{IsGcd}
+use Rattle.std.specs.Prelude.{◌≡◌, ℕ, suc, zero, ◌%◌, ◌/◌, ◌*◌, ◌<◌, ◌^◌, ◌≤◌, ◌⊎◌}
+use Rattle.std.specs.Int.{◌∣◌, IsGcd}
 
 -- Euclid's steps, at most so many: b steps are enough, since the second number falls with each
 unfoldable pub gcd_within : ℕ → ℕ → ℕ → ℕ
@@ -15,6 +15,20 @@ gcd a b = gcd_within b a b
 -- law: it divides both, and each number that divides both divides it
 abbrev pub GcdLaw : Type 0
 GcdLaw = (a b : ℕ) → IsGcd a b (gcd a b)
+
+-- m is the least common multiple of a and b: both divide it, and it divides each other one
+pub record IsLcm (a b m : ℕ) : Type 0 where
+  pub first : a ∣ m
+  pub second : b ∣ m
+  pub least : (n : ℕ) → a ∣ n → b ∣ n → m ∣ n
+
+-- the least common multiple of two numbers
+unfoldable pub lcm : ℕ → ℕ → ℕ
+lcm a b = a / gcd a b * b
+
+-- law: that is the least common multiple
+abbrev pub LcmLaw : Type 0
+LcmLaw = (a b : ℕ) → 0 < b → IsLcm a b (lcm a b)
 
 -- top / bottom is a / b in lowest terms
 pub record IsLowest (a b top bottom : ℕ) : Type 0 where

@@ -1,5 +1,5 @@
 -- Fractions: reduced pairs of whole numbers without bound.
-use Rattle.std.specs.Prelude.{◌≤◌, ◌<◌, ◌-◌, ◌*ℤ◌, ◌^◌, ◌&&◌, ◌≡◌, ℕ, ℤ, pos, unsigned_abs, nat_le, Bool}
+use Rattle.std.specs.Prelude.{◌≤◌, ◌<◌, ◌-◌, ◌*ℤ◌, ◌^◌, ◌&&◌, ◌≡◌, ℕ, ℤ, pos, neg_ℤ, unsigned_abs, nat_le, Bool}
 use Rattle.std.specs.Int.{IsGcd}
 
 -- a numerator and a denominator
@@ -15,6 +15,14 @@ pub record IsReduced (x : Fraction) : Type 0 where
 -- two fractions have one value: their cross products are equal
 abbrev pub SameValue : Fraction → Fraction → Type 0
 SameValue x y = x.num *ℤ pos y.den ≡ y.num *ℤ pos x.den
+
+-- a whole number
+abbrev pub whole : ℤ → Fraction
+whole n = record { num = n; den = 1 }
+
+-- the fraction with the other sign
+abbrev pub negated : Fraction → Fraction
+negated x = record { num = neg_ℤ x.num; den = x.den }
 
 -- the largest numerator and denominator
 abbrev pub most : ℕ

@@ -11,13 +11,16 @@ fitting x = if fits x then Ok x else Err Overflow
 
 -- n over d in lowest terms
 unfoldable pub reduced : ℤ → ℕ → Fraction
-reduced n d = record { num = int_div n (pos (gcd (unsigned_abs n) d)); den = d / gcd (unsigned_abs n) d }
+reduced n d =
+    let divisor = gcd (unsigned_abs n) d in
+    record { num = int_div n (pos divisor); den = d / divisor }
 
 -- law: it is reduced, and each reduced fraction of the value n over d is this one
 abbrev pub ReducedLaw : Type 0
 ReducedLaw = (n : ℤ) (d : ℕ) → 0 < d
     → IsReduced (reduced n d) × SameValue (reduced n d) (record { num = n; den = d })
-    × ((x : Fraction) → IsReduced x → SameValue x (record { num = n; den = d }) → x ≡ reduced n d)
+    × ((x : Fraction) → IsReduced x → SameValue x (record { num = n; den = d })
+    → x ≡ reduced n d)
 
 -- the quotient of two whole numbers in lowest terms
 abbrev pub ratio : ℤ → ℤ → Result Fraction FracFault

@@ -1,8 +1,8 @@
 //! Fractions in lowest terms.
 
-ghost use Rattle.std.specs.Prelude.{◌≡◌, ◌<◌, ◌↔◌, pos, int_lt, unsigned_abs, IsTrue};
+ghost use Rattle.std.specs.Prelude.{◌≡◌, ◌<◌, ◌≤◌, ◌↔◌, pos, int_lt, unsigned_abs, IsTrue};
 ghost use Rattle.std.specs.Int.{IsGcd};
-ghost use Rattle.frac128.specs.Fraction.{IsKept};
+ghost use Rattle.frac128.specs.Fraction.{IsKept, most, negated, whole};
 ghost use Rattle.frac128.specs.Sign.{signed as signed_of};
 ghost use Rattle.frac128.specs.Steps.{fitting, ratio};
 
@@ -11,8 +11,8 @@ use crate::fault::FracFault;
 use crate::sign::{differ, signed};
 use std::marker::Model;
 
-/// The largest numerator and denominator.
-const MOST: u128 = (1 << 127) - 1;
+// The largest numerator and denominator.
+pub(crate) const MOST: u128 = (1 << 127) - 1;
 
 /// A fraction in lowest terms, whose numerator and denominator have at most 127 bits.
 #[derive(Clone, Copy, Debug, PartialEq, Eq)]
@@ -70,6 +70,16 @@ impl Frac {
         self.num == 0
     }
 
+    /// The fraction with the other sign.
+    pub fn negate(&self) -> Frac
+        ensures { result ≡ negated self.now }
+    {
+        Frac {
+            num: -self.num,
+            den: self.den,
+        }
+    }
+
     // Whether the fraction is below 0.
     pub(crate) fn is_negative(&self) -> bool
         ensures { result ≡ int_lt self.now.num (pos 0) }
@@ -81,6 +91,7 @@ impl Frac {
     pub(crate) fn top(&self) -> u128
         ensures is { result ≡ unsigned_abs self.now.num }
         ensures lowest { IsGcd result self.now.den 1 }
+        ensures fits { result ≤ most }
     {
         self.num.unsigned_abs()
     }
@@ -89,8 +100,17 @@ impl Frac {
     pub(crate) fn bottom(&self) -> u128
         ensures is { result ≡ self.now.den }
         ensures some { 0 < result }
+        ensures fits { result ≤ most }
     {
         self.den
+    }
+
+    // The whole number as a fraction.
+    pub(crate) fn whole(n: i128) -> Frac
+        requires { unsigned_abs n ≤ most }
+        ensures { result ≡ whole n }
+    {
+        Frac { num: n, den: 1 }
     }
 
     // The fraction with this sign and these magnitudes, which are in lowest terms.

@@ -1,6 +1,10 @@
 //! Laws of the definitions that the contracts cite.
 
-ghost use Rattle.frac128.specs.Divisors.{GcdLaw};
+ghost use Rattle.frac128.specs.Decimals.{DigitsLaw};
+ghost use Rattle.frac128.specs.Divisors.{GcdLaw, LcmLaw};
+ghost use Rattle.frac128.specs.Floor.{FloorLaw};
+ghost use Rattle.frac128.specs.Order.{OrderLaw};
+ghost use Rattle.frac128.specs.Roots.{RootLaw};
 ghost use Rattle.frac128.specs.Steps.{ReducedLaw};
 
 /// The greatest common divisor divides both numbers, and each number that divides both
@@ -9,7 +13,33 @@ pub fn gcd_law()
     ensures { GcdLaw }
 {}
 
+/// The least common multiple is a multiple of both numbers, and each other one is a multiple
+/// of it.
+pub fn lcm_law()
+    ensures { LcmLaw }
+{}
+
 /// A quotient in lowest terms is reduced, and is the only reduced fraction of its value.
 pub fn reduced_law()
     ensures { ReducedLaw }
+{}
+
+/// The order is total, and reduced fractions that stand equal are equal.
+pub fn order_law()
+    ensures { OrderLaw }
+{}
+
+/// No fraction has two roots of one degree.
+pub fn root_law()
+    ensures { RootLaw }
+{}
+
+/// Digits alone are a numeral, and its value is the whole number that they write.
+pub fn digits_law()
+    ensures { DigitsLaw }
+{}
+
+/// The whole part is the greatest whole number that is at most the fraction.
+pub fn floor_law()
+    ensures { FloorLaw }
 {}

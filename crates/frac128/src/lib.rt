@@ -3,13 +3,24 @@
 
 mod divisors;
 mod fault;
+mod floor;
 mod fraction;
 mod laws;
+mod numeral;
+mod order;
+mod power;
 mod product;
+mod reading;
+mod root;
 mod sign;
+mod spelling;
+mod sum;
 #[cfg(test)]
 mod tests;
 
 pub use fault::FracFault;
 pub use fraction::Frac;
-pub use laws::{gcd_law, reduced_law};
+pub use laws::{digits_law, floor_law, gcd_law, lcm_law, order_law, reduced_law, root_law};
+pub use numeral::{Numeral, NumeralFault};
+pub use reading::read_numeral;
+pub use spelling::numeral_len;

@@ -1,3 +1,4 @@
+pub mod Style
 pub mod Request
 pub mod Factors
 pub mod Reply

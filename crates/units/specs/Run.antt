@@ -30,7 +30,7 @@ answered reply = record { out = reply.text; err = []; status = if reply.refused 
 
 -- the run over the definitions of a first file, or over another file
 abbrev pub run_over : Request → Option (List Definition) → Run
-run_over request (Some definitions) = answered (reply_of definitions request.from request.to)
+run_over request (Some definitions) = answered (reply_of definitions request.style request.from request.to)
 run_over request None = unsupported
 
 -- the run over a file that is there, or is not

@@ -6,6 +6,7 @@ mod first;
 mod plan;
 mod run;
 mod status;
+mod style;
 #[cfg(test)]
 mod tests;
 

@@ -6,6 +6,7 @@ ghost use Rattle.command_line.specs.Taken.{are_taken};
 ghost use Rattle.units.specs.Run.{unsupported, complaint, answered, run_on, run_of, requested, declined};
 ghost use Rattle.units.specs.Reply.{line_of};
 ghost use Rattle.units.specs.Endings.{IsStated};
+ghost use Rattle.units.specs.Style.{IsStyle};
 ghost use Rattle.units.specs.declared.plan.Halt.TheVariants.{NoMemory};
 
 use crate::first::reply::{Reply, first_reply};
@@ -113,8 +114,9 @@ fn plan_request<F: Files>(
     request: &FirstRequest<'_>,
     files: &mut F,
 ) -> Result<Plan, Halt>
+    requires { IsStyle request.now.style }
     ensures told { IfSome (F.files files.old) (λ m. IfOk result (λ plan.
-        plan ≡ run_on (record { file = request.now.file.now; from = request.now.from.now; to = request.now.to.now }) (file_of m request.now.file.now))) }
+        plan ≡ run_on (record { file = request.now.file.now; from = request.now.from.now; to = request.now.to.now; style = request.now.style }) (file_of m request.now.file.now))) }
     ensures taken { IfOk result (λ plan. plan.status ≢ Status.Usage) }
     ensures later { F.faults files.old ≤ F.faults files.new }
     ensures cause { IfErr result (λ e. e ≡ Halt.ReadFault → Rose (F.faults files.old) (F.faults files.new)) }
@@ -123,7 +125,7 @@ fn plan_request<F: Files>(
 {
     match Deck::load_first(alloc, files, request.file) {
         Ok(deck) => {
-            let reply = first_reply(alloc, &deck, request.from, request.to)?;
+            let reply = first_reply(alloc, &deck, request.style, request.from, request.to)?;
             Ok(reply_plan(alloc, reply)?)
         }
         Err(FirstFault::Absent) => Ok(no_file_plan(alloc, b"units: no file: ", request.file)?),

@@ -84,7 +84,7 @@ const UNSUPPORTED: &[u8] = b"units: unsupported\n";
 #[test]
 fn answers_words(rt: HostRuntime) -> Result<(), Fail> {
     let largest = b"m !\na 170141183460469231731687303715884105727|1 m\nb 2|1 a\n";
-    let cases: [Case; 21] = [
+    let cases: [Case; 25] = [
         (
             b"--exact -f f yd m",
             FIRST,
@@ -155,7 +155,35 @@ fn answers_words(rt: HostRuntime) -> Result<(), Fail> {
             b"",
             UNSUPPORTED,
         ),
-        (b"-f f yd m", FIRST, Status::Unsupported, b"", UNSUPPORTED),
+        (
+            b"-f f yd m",
+            FIRST,
+            Status::Done,
+            b"\t* 0.9144\n\t/ 1.0936133\n",
+            b"",
+        ),
+        (
+            b"-d 3 -f f yd m",
+            FIRST,
+            Status::Done,
+            b"\t* 0.914\n\t/ 1.09\n",
+            b"",
+        ),
+        (
+            b"-d 3 --exact -f f yd m",
+            FIRST,
+            Status::Done,
+            b"\t* 1143|1250\n\t/ 1250|1143\n",
+            b"",
+        ),
+        (
+            b"--digits=36 -f f m yd",
+            FIRST,
+            Status::Done,
+            b"\t* 1.09361329833770778652668416447944007\n\t/ 0.9144\n",
+            b"",
+        ),
+        (b"-f f b m", largest, Status::Refused, b"overflow\n", b""),
         (
             b"--exact -f f yd",
             FIRST,

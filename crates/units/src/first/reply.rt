@@ -1,10 +1,11 @@
 //! The reply to two names of a first file.
-ghost use Rattle.std.specs.Prelude.{◌≡◌, ◌++◌, IfOk, codes, string_bytes};
-ghost use Rattle.std.specs.Fmt.{signed_decimal};
+ghost use Rattle.std.specs.Prelude.{◌≡◌, ◌++◌, IfOk, OnOk};
 ghost use Rattle.deck.specs.FirstValues.{outcome_of};
-ghost use Rattle.units.specs.Reply.{exact_text as exact_text_of, refusal, fault_text as fault_text_of, unknown_text, linear, reply_to, reply_of};
+ghost use Rattle.units.specs.Style.{IsStyle, number_text as number_text_of};
+ghost use Rattle.units.specs.Reply.{line_of, refusal, fault_text as fault_text_of, unknown_text, linear, reply_to, reply_of};
 
 use super::value::value_of;
+use crate::style::{Style, number_text};
 use deck::Deck;
 use frac128::{Frac, FracFault};
 use std::alloc::{AllocError, Global};
@@ -15,24 +16,6 @@ use units_io::Text;
 pub struct Reply {
     pub text: Text,
     pub refused: bool,
-}
-
-// A fraction that is no whole number.
-fn ratio_text(alloc: Global, num: i128, den: i128) -> Result<String, AllocError>
-    ensures { IfOk result (λ text. string_bytes text ≡ signed_decimal num ++ (codes "|" ++ signed_decimal den)) }
-{
-    format!(in alloc; "{num}|{den}")
-}
-
-// A fraction as `n`, or as `n|d` where the denominator is above 1.
-fn exact_text(alloc: Global, x: &Frac) -> Result<String, AllocError>
-    ensures { IfOk result (λ text. string_bytes text ≡ exact_text_of x.now) }
-{
-    if x.den() == 1 {
-        x.num().to_string(alloc)
-    } else {
-        ratio_text(alloc, x.num(), x.den())
-    }
 }
 
 fn fault_text(fault: FracFault) -> &'static [u8]
@@ -70,28 +53,59 @@ fn unknown_reply(alloc: Global, name: &[u8]) -> Result<Reply, AllocError>
     refuse(text)
 }
 
-// The two lines of a conversion that is granted.
-fn granted_reply(alloc: Global, forward: &Frac, back: &Frac) -> Result<Reply, AllocError>
-    ensures { IfOk result (λ reply. reply ≡ linear (Ok forward.now) (Ok back.now)) }
+// Puts a mark and a number on a line of their own.
+fn push_number(
+    alloc: Global,
+    text: &mut Vec<u8>,
+    mark: &[u8],
+    style: Style,
+    x: &Frac,
+) -> Result<(), AllocError>
+    requires { IsStyle style }
+    ensures { OnOk result (text.new.items ≡ text.old.items ++ line_of (mark.now ++ number_text_of style x.now)) }
 {
-    let forward = exact_text(alloc, forward)?;
-    let back = exact_text(alloc, back)?;
-    let text = format!(in alloc; "\t* {forward}\n\t/ {back}\n")?;
+    let number = number_text(alloc, style, x)?;
+    text.extend_from_slice(mark)?;
+    text.extend_from_slice(number.as_bytes())?;
+    text.push(b'\n')?;
+    Ok(())
+}
+
+// The two lines of a conversion that is granted.
+fn granted_reply(
+    alloc: Global,
+    style: Style,
+    forward: &Frac,
+    back: &Frac,
+) -> Result<Reply, AllocError>
+    requires { IsStyle style }
+    ensures { IfOk result (λ reply. reply ≡ linear style (Ok forward.now) (Ok back.now)) }
+{
+    let mut text = Vec::new(alloc);
+    push_number(alloc, &mut text, b"\t* ", style, forward)?;
+    push_number(alloc, &mut text, b"\t/ ", style, back)?;
     Ok(Reply {
-        text: Text::from(text.into_bytes()),
+        text: Text::from(text),
         refused: false,
     })
 }
 
 // The reply to a FROM that has a value.
-fn reply_to_value(alloc: Global, deck: &Deck, from: &Frac, to: &[u8]) -> Result<Reply, AllocError>
-    ensures { IfOk result (λ reply. reply ≡ reply_to from.now to.now (outcome_of deck.now to.now)) }
+fn reply_to_value(
+    alloc: Global,
+    deck: &Deck,
+    style: Style,
+    from: &Frac,
+    to: &[u8],
+) -> Result<Reply, AllocError>
+    requires { IsStyle style }
+    ensures { IfOk result (λ reply. reply ≡ reply_to style from.now to.now (outcome_of deck.now to.now)) }
 {
     match value_of(alloc, deck, to)? {
         None => unknown_reply(alloc, to),
         Some(Err(fault)) => fault_reply(alloc, fault),
         Some(Ok(value)) => match (from.div(&value), value.div(from)) {
-            (Ok(forward), Ok(back)) => granted_reply(alloc, &forward, &back),
+            (Ok(forward), Ok(back)) => granted_reply(alloc, style, &forward, &back),
             (Err(fault), _) => fault_reply(alloc, fault),
             (_, Err(fault)) => fault_reply(alloc, fault),
         },
@@ -100,12 +114,19 @@ fn reply_to_value(alloc: Global, deck: &Deck, from: &Frac, to: &[u8]) -> Result<
 
 /// The reply to two names by the definitions of a deck: how many TO one FROM is and how many FROM one TO is, or the
 /// first fault, of FROM, of TO and of the two quotients.
-pub fn first_reply(alloc: Global, deck: &Deck, from: &[u8], to: &[u8]) -> Result<Reply, AllocError>
-    ensures { IfOk result (λ reply. reply ≡ reply_of deck.now from.now to.now) }
+pub fn first_reply(
+    alloc: Global,
+    deck: &Deck,
+    style: Style,
+    from: &[u8],
+    to: &[u8],
+) -> Result<Reply, AllocError>
+    requires { IsStyle style }
+    ensures { IfOk result (λ reply. reply ≡ reply_of deck.now style from.now to.now) }
 {
     match value_of(alloc, deck, from)? {
         None => unknown_reply(alloc, from),
         Some(Err(fault)) => fault_reply(alloc, fault),
-        Some(Ok(value)) => reply_to_value(alloc, deck, &value, to),
+        Some(Ok(value)) => reply_to_value(alloc, deck, style, &value, to),
     }
 }

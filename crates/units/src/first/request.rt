@@ -1,24 +1,26 @@
 //! The command lines that ask for a conversion by a first file.
-ghost use Rattle.std.specs.Prelude.{◌≡◌, option_map};
+ghost use Rattle.std.specs.Prelude.{◌≡◌, ◌≤◌, IfSome, option_map};
+ghost use Rattle.units.specs.Style.{IsStyle};
 ghost use Rattle.units.specs.Request.{request_of, has_other_option as has_other_option_in};
 
+use crate::style::{Style, style_of};
 use command_line::CommandLine;
 use deck::is_first_name;
 
-/// A file, and the two names between which it converts.
+/// A file, the two names between which it converts, and how the numbers are printed.
 #[derive(Clone, Copy)]
 pub struct FirstRequest<'a> {
     pub file: &'a [u8],
     pub from: &'a [u8],
     pub to: &'a [u8],
+    pub style: Style,
 }
 
-// Whether an option stands that is neither `--exact` nor `--file`.
+// Whether an option stands that is none of `--digits`, `--exact` and `--file`.
 fn has_other_option(line: &CommandLine) -> bool
     ensures { result ≡ has_other_option_in line.now }
 {
-    line.digits.is_some()
-        || line.one_line
+    line.one_line
         || line.compact
         || line.terse
         || line.quiet
@@ -30,11 +32,15 @@ fn has_other_option(line: &CommandLine) -> bool
         || line.trial.is_some()
 }
 
-/// What a command line asks for, where it is `--exact -f FILE FROM TO` and FROM and TO are first names.
+/// What a command line asks for, where it has `-f FILE`, FROM and TO, perhaps `-d N` or `--exact`, and nothing else,
+/// and FROM and TO are first names.
 pub fn first_request(line: &CommandLine) -> Option<FirstRequest<'_>>
-    ensures { option_map (λ r. record { file = r.file.now; from = r.from.now; to = r.to.now }) result ≡ request_of line.now }
+    requires { IfSome line.now.digits (λ n. (1 ≤ n) × (n ≤ 36)) }
+    ensures asks { option_map (λ r. record { file = r.file.now; from = r.from.now; to = r.to.now; style = r.style }) result ≡ request_of line.now }
+    ensures style { IfSome result (λ r. IsStyle r.style) }
 {
-    if !line.exact || has_other_option(line) {
+    let style = style_of(line);
+    if has_other_option(line) {
         return None;
     }
     let (Some(file), Some(from), Some(to)) = (&line.file, &line.from, &line.to) else {
@@ -44,5 +50,10 @@ pub fn first_request(line: &CommandLine) -> Option<FirstRequest<'_>>
     if !is_first_name(from) || !is_first_name(to) {
         return None;
     }
-    Some(FirstRequest { file, from, to })
+    Some(FirstRequest {
+        file,
+        from,
+        to,
+        style,
+    })
 }

@@ -1,4 +1,4 @@
-use Rattle.std.proofs.Common.{◌∙◌, ◌≡◌, ap, sym, option_map}
+use Rattle.std.proofs.Common.{◌∙◌, ap, sym, option_map}
 use Rattle.std.specs.Map.Iter.{deref_pair}
 use Rattle.deck.proofs.DeckLines.{name_at-entry}
 use Rattle.deck.proofs.first_file.lines.name_at.Goals as goal

@@ -1,4 +1,4 @@
-use Rattle.std.proofs.Common.{◌≡◌, arith}
+use Rattle.std.proofs.Common.{arith}
 use Rattle.std.proofs.lemmas.Grind.{common_steps}
 use Rattle.deck.proofs.Digits.{number-le-digits}
 use Rattle.deck.proofs.first_file.numbers.decimal_value.Goals as goal

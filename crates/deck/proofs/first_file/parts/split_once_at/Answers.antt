@@ -1,4 +1,4 @@
-use Rattle.std.proofs.Common.{◌≡◌, ◌∙◌, ◌+◌, ◌-◌, ◌==◌, ap, sym, take, drop, length, arith}
+use Rattle.std.proofs.Common.{◌∙◌, ◌+◌, ◌==◌, ap, sym, take, drop, arith}
 use Rattle.std.proofs.lemmas.List.{length-drop, take_all}
 use Rattle.deck.proofs.Parts.{position-found, position-missed}
 use Rattle.deck.proofs.first_file.parts.split_once_at.Goals as goal

@@ -1,22 +1,16 @@
-use Rattle.std.proofs.Common.{◌≡◌, ◌<◌, ◌/◌, ℕ, ℤ, pos, negsuc, zero, suc, arith, refl, sym, ap, ◌∙◌, unsigned_abs, of_z}
+use Rattle.std.proofs.Common.{◌≡◌, ◌/◌, ℕ, ℤ, refl, sym, ap, ◌∙◌, unsigned_abs, of_z}
 use mir.Syntax.{w128}
 use Rattle.std.proofs.lemmas.Int.{to_z-of_z}
 use Rattle.frac128.specs.Divisors.{IsLowest, gcd}
 use Rattle.frac128.specs.Sign.{signed}
 use Rattle.frac128.specs.Steps.{fitting}
 use Rattle.frac128.proofs.Lowest.{lowest_gcd, lowest_some}
-use Rattle.frac128.proofs.Signs.{ratio_is}
+use Rattle.frac128.proofs.Signs.{ratio_is, some_abs}
 use Rattle.frac128.proofs.fraction.Frac.new.Goals as goal
 
 -- two numbers divided by their greatest common divisor
 divided : (n d : ℤ) (a b g : ℕ) → a ≡ unsigned_abs n → b ≡ unsigned_abs d → g ≡ gcd a b → IsLowest (unsigned_abs n) (unsigned_abs d) (a / g) (b / g)
 divided n d a b g p q e = rw (e, p, q) (record { top_is = refl; bottom_is = refl })
-
--- the magnitude of a number other than 0
-some_abs : (d : ℤ) → (d ≡ pos 0 → ⊥) → 0 < unsigned_abs d
-some_abs (pos zero) other = absurd (other refl)
-some_abs (pos (suc d)) other = omega arith
-some_abs (negsuc d) other = omega arith
 
 pub fitting-requires-clause-some : goal.fitting-requires-clause-some
 fitting-requires-clause-some c =

@@ -1,4 +1,4 @@
-use Rattle.std.proofs.Common.{◌≡◌, ◌∙◌, ◌∷◌, ◌&&◌, Bool, true, false, not, Some, is_some, refl, ap, ap₂, sym, subst}
+use Rattle.std.proofs.Common.{◌∙◌, ◌∷◌, ◌&&◌, not, Some, is_some, ap, ap₂, sym, subst}
 use Rattle.std.proofs.Math.Bool.{and-false}
 use Rattle.std.specs.Option.{option_copied}
 use Rattle.deck.specs.FirstFile.{is_defined}

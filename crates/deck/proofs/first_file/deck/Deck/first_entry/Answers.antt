@@ -1,7 +1,6 @@
-use Rattle.std.proofs.Common.{◌≡◌, ◌∙◌, Option, Some, None, ap, sym, subst, option_map, refl}
+use Rattle.std.proofs.Common.{◌∙◌, Some, ap, sym, subst, option_map, refl}
 use Rattle.std.specs.Option.{option_copied}
-use Rattle.deck.specs.FirstDeck.{by_bytes, line_in, definitions_of}
-use Rattle.deck.specs.FirstFile.{Definition, definition_in}
+use Rattle.deck.specs.FirstFile.{definition_in}
 use Rattle.deck.specs.FirstValues.{outcome_of}
 use Rattle.deck.proofs.Linked.{primitive-outcome, undefined-outcome}
 use Rattle.deck.proofs.Shown.{definition-line, definition-none, place-within, line-scales, Scales}

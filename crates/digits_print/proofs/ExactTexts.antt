@@ -1,0 +1,84 @@
+-- The exact text of a fraction reads as that fraction.
+use Rattle.std.proofs.Common.{◌≡◌, ◌<◌, ◌≤◌, ◌^◌, ◌++◌, ℕ, ℤ, pos, negsuc, suc, zero, List, Bool, true, false, unsigned_abs, arith, refl, sym, ap, ◌∙◌, lit<, inl, inr}
+use Rattle.std.specs.Prelude.{◌⊎◌, ◌==◌, ◌&&◌, Ok, nat_le, codes}
+use Rattle.std.specs.Fmt.{decimal, signed_decimal}
+use Rattle.std.specs.Str.Parse.{IsNumeral, digits_value}
+use Rattle.std.proofs.lemmas.Bool.Decides.{nat_tests}
+use Rattle.std.proofs.lemmas.Fmt.{decimal_is_IsNumeral_wide}
+use Rattle.frac128.specs.Fraction.{Fraction, IsKept, most}
+use Rattle.frac128.specs.Sign.{signed}
+use Rattle.frac128.specs.Steps.{ReducedLaw, fitting, ratio}
+use Rattle.digits_print.specs.Exact.{ExactLaw, ReadsAsQuotient, ReadsAsWhole, exact_text, sign_text}
+
+-- a fraction that fits
+fitting_kept : (x : Fraction) → IsKept x → fitting x ≡ Ok x
+fitting_kept x kept = rw (tests (unsigned_abs x.num) x.den kept.num_fits kept.den_fits) refl
+  where
+    tests : (m n : ℕ) → m ≤ most → n ≤ most → (nat_le m most && nat_le n most) ≡ true
+    tests m n h k = grind (arith, nat_tests)
+
+-- the quotient of a fraction's numerator and denominator is that fraction
+ratio_kept : ReducedLaw → (n : ℤ) (d : ℕ) → IsKept (record { num = n; den = d }) → ratio n (pos d) ≡ Ok (record { num = n; den = d })
+ratio_kept law n zero kept = absurd (omega (arith, kept.reduced.positive))
+ratio_kept law n (suc d) kept =
+    let x : Fraction = record { num = n; den = suc d } in
+    let same : x ≡ _ = (law n (suc d) kept.reduced.positive).2 x kept.reduced refl in
+    ap fitting (sym same) ∙ fitting_kept x kept
+
+-- a number as an optional minus and a numeral
+record IsSpelled (z : ℤ) : Type 0 where
+  negative : Bool
+  digits : List ℕ
+  numeral : IsNumeral 10 digits
+  text : signed_decimal z ≡ sign_text negative ++ digits
+  value : signed negative (digits_value 10 digits) ≡ z
+
+wide : (n : ℕ) → n ≤ most → n < 10 ^ 64
+wide n h = let big : 2 ^ 127 < 10 ^ 64 = lit< tt in omega arith
+
+spelled : (z : ℤ) → unsigned_abs z ≤ most → IsSpelled z
+spelled (pos n) h =
+    let read = decimal_is_IsNumeral_wide n (wide n h) in
+    record { negative = false; digits = decimal n; numeral = read.0; text = refl; value = ap pos read.1 }
+spelled (negsuc n) h =
+    let read = decimal_is_IsNumeral_wide (suc n) (wide (suc n) h) in
+    record { negative = true; digits = decimal (suc n); numeral = read.0; text = refl; value = ap (signed true) read.1 }
+
+reads_as_whole : ReducedLaw → (n : ℤ) → IsKept (record { num = n; den = 1 }) → ReadsAsWhole (signed_decimal n) (record { num = n; den = 1 })
+reads_as_whole law n kept =
+    let top = spelled n kept.num_fits in
+    record {
+      negative = top.negative;
+      top = top.digits;
+      top_digits = top.numeral;
+      spelled = top.text;
+      value = ap (λ z. ratio z (pos 1)) top.value ∙ ratio_kept law n 1 kept;
+    }
+
+reads_as_quotient : ReducedLaw → (n : ℤ) (d : ℕ) → IsKept (record { num = n; den = d }) → ReadsAsQuotient (signed_decimal n ++ codes "|" ++ decimal d) (record { num = n; den = d })
+reads_as_quotient law n d kept =
+    let top = spelled n kept.num_fits in
+    let bottom = decimal_is_IsNumeral_wide d (wide d kept.den_fits) in
+    record {
+      negative = top.negative;
+      top = top.digits;
+      bottom = decimal d;
+      top_digits = top.numeral;
+      bottom_digits = bottom.0;
+      spelled = ap (λ t. t ++ codes "|" ++ decimal d) top.text;
+      value = ap (λ z. ratio z (pos (digits_value 10 (decimal d)))) top.value ∙ ap (λ m. ratio n (pos m)) bottom.1 ∙ ratio_kept law n d kept;
+    }
+
+reads : ReducedLaw → (n : ℤ) (d : ℕ) → IsKept (record { num = n; den = d })
+    → ReadsAsWhole (exact_text (record { num = n; den = d })) (record { num = n; den = d })
+    ⊎ ReadsAsQuotient (exact_text (record { num = n; den = d })) (record { num = n; den = d })
+reads law n zero kept = inr (reads_as_quotient law n zero kept)
+reads law n (suc zero) kept = inl (reads_as_whole law n kept)
+reads law n (suc (suc d)) kept = inr (rw (other d) (reads_as_quotient law n (suc (suc d)) kept))
+  where
+    other : (d : ℕ) → (suc (suc d) == 1) ≡ false
+    other d = grind (arith, nat_tests)
+
+-- the exact text of each fraction of the program reads as that fraction
+pub exact_law : ReducedLaw → ExactLaw
+exact_law law x kept = reads law x.num x.den kept

@@ -1,0 +1,9 @@
+pub mod DigitSteps
+pub mod EndZeros
+pub mod ExactTexts
+pub mod Halves
+pub mod Layouts
+pub mod NearestDecimals
+pub mod NearestWholes
+pub mod Products
+pub mod Scales

@@ -1,0 +1,5 @@
+use Rattle.digits_print.proofs.ExactTexts as texts
+use Rattle.digits_print.proofs.laws.exact_law.Goals as goal
+
+pub returns : goal.returns
+returns c = texts.exact_law c.reduced_law.ensures

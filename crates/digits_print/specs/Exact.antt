@@ -1,0 +1,38 @@
+-- The exact text of a fraction.
+use Rattle.std.specs.Prelude.{◌≡◌, ◌++◌, ◌==◌, [], ℕ, List, Bool, true, false, pos, if◌then◌else◌, ◌⊎◌, Ok, codes}
+use Rattle.std.specs.Fmt.{decimal, signed_decimal}
+use Rattle.std.specs.Str.Parse.{IsNumeral, digits_value}
+use Rattle.frac128.specs.Fraction.{Fraction, IsKept}
+use Rattle.frac128.specs.Sign.{signed}
+use Rattle.frac128.specs.Steps.{ratio}
+
+-- a fraction as `n`, or as `n|d` where the denominator is above 1
+abbrev pub exact_text : Fraction → List ℕ
+exact_text x = if x.den == 1 then signed_decimal x.num else signed_decimal x.num ++ codes "|" ++ decimal x.den
+
+-- the sign before a number
+abbrev pub sign_text : Bool → List ℕ
+sign_text true = codes "-"
+sign_text false = []
+
+-- the text is an optional minus and a decimal numeral, whose value is x
+pub record ReadsAsWhole (text : List ℕ) (x : Fraction) : Type 0 where
+  pub negative : Bool
+  pub top : List ℕ
+  pub top_digits : IsNumeral 10 top
+  pub spelled : text ≡ sign_text negative ++ top
+  pub value : ratio (signed negative (digits_value 10 top)) (pos 1) ≡ Ok x
+
+-- the text is an optional minus and two decimal numerals with a bar between, whose quotient is x
+pub record ReadsAsQuotient (text : List ℕ) (x : Fraction) : Type 0 where
+  pub negative : Bool
+  pub top : List ℕ
+  pub bottom : List ℕ
+  pub top_digits : IsNumeral 10 top
+  pub bottom_digits : IsNumeral 10 bottom
+  pub spelled : text ≡ sign_text negative ++ top ++ codes "|" ++ bottom
+  pub value : ratio (signed negative (digits_value 10 top)) (pos (digits_value 10 bottom)) ≡ Ok x
+
+-- law: the exact text of each fraction of the program reads as that fraction
+abbrev pub ExactLaw : Type 0
+ExactLaw = (x : Fraction) → IsKept x → ReadsAsWhole (exact_text x) x ⊎ ReadsAsQuotient (exact_text x) x

@@ -1,0 +1,5 @@
+pub mod Digits
+pub mod Exact
+pub mod Layout
+pub mod Nearest
+pub mod Rounding

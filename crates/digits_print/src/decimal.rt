@@ -1,0 +1,67 @@
+//! Decimals with so many digits.
+
+ghost use Rattle.std.specs.Prelude.{◌≡◌, ◌<◌, ◌≤◌, ◌^◌, pos, negsuc, ◌<ℤ◌, ◌≤ℤ◌};
+ghost use Rattle.digits_print.specs.Nearest.{HasDigits};
+ghost use Rattle.digits_print.specs.Rounding.{by_half as by_half_of, carried as carried_of};
+
+use std::cmp::Ordering;
+
+// The most significant digits of a printed number.
+pub(crate) const MOST_DIGITS: u32 = 36;
+
+/// A whole number times ten to the scale.
+#[derive(Clone, Copy)]
+pub struct Decimal {
+    pub digits: u128,
+    pub scale: i32,
+}
+
+impl Decimal {
+    // The number at this scale, rounded by how what was cut off behind it compares with a half.
+    pub(crate) fn rounded(number: u128, cut: Ordering, scale: i32, digits: u32) -> Decimal
+        requires some { 0 < digits }
+        requires most { digits ≤ MOST_DIGITS }
+        requires fits { HasDigits digits number }
+        requires low { negsuc 99 <ℤ scale }
+        requires high { scale <ℤ pos 100 }
+        ensures value { result ≡ carried_of digits (by_half_of number cut) scale }
+        ensures fits { HasDigits digits result.digits }
+        ensures low { negsuc 99 <ℤ result.scale }
+        ensures high { result.scale ≤ℤ pos 100 }
+    {
+        let limit = power_of_ten(digits);
+        let nearest = by_half(number, cut);
+        if nearest == limit {
+            Decimal {
+                digits: power_of_ten(digits - 1),
+                scale: scale + 1,
+            }
+        } else {
+            Decimal {
+                digits: nearest,
+                scale,
+            }
+        }
+    }
+}
+
+// The number, or the next one. A half goes to the even number.
+fn by_half(number: u128, cut: Ordering) -> u128
+    requires { number < 10 ^ MOST_DIGITS }
+    ensures { result ≡ by_half_of number cut }
+{
+    match cut {
+        Ordering::Less => number,
+        Ordering::Equal => number + number % 2,
+        Ordering::Greater => number + 1,
+    }
+}
+
+// Ten to a power, which 128 bits hold.
+pub(crate) fn power_of_ten(power: u32) -> u128
+    requires { power ≤ MOST_DIGITS }
+    ensures value { result ≡ 10 ^ power }
+    ensures fits { result ≤ 10 ^ MOST_DIGITS }
+{
+    10u128.pow(power)
+}

@@ -1,0 +1,18 @@
+//! Laws of the definitions that the contracts cite.
+
+ghost use Rattle.digits_print.specs.Exact.{ExactLaw};
+ghost use Rattle.digits_print.specs.Rounding.{NearestLaw};
+
+use frac128::reduced_law;
+
+/// The exact text of a fraction reads as that fraction.
+pub fn exact_law()
+    ensures { ExactLaw }
+{
+    reduced_law();
+}
+
+/// A rounded number is the nearest one with so many significant digits, and the only one.
+pub fn nearest_law()
+    ensures { NearestLaw }
+{}

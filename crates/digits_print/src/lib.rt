@@ -1,0 +1,16 @@
+//! Numbers as texts: a fraction exactly, or rounded to so many significant digits.
+#![tactic(auto)]
+
+mod decimal;
+mod digits;
+mod exact;
+mod laws;
+mod layout;
+mod rounding;
+mod tenfold;
+#[cfg(test)]
+mod tests;
+
+pub use digits::print_digits;
+pub use exact::print_exact;
+pub use laws::{exact_law, nearest_law};

@@ -1,0 +1,87 @@
+//! Rounding a ratio to so many significant digits.
+
+ghost use Rattle.std.specs.Prelude.{◌≡◌, ◌<◌, ◌≤◌, ◌+◌, ◌*◌, ◌/◌, ◌^◌, pos, negsuc, ◌<ℤ◌, ◌≤ℤ◌};
+ghost use Rattle.std.specs.Ordering.{nat_cmp};
+ghost use Rattle.digits_print.specs.Nearest.{HasDigits};
+ghost use Rattle.digits_print.specs.Rounding.{rounded as rounded_of};
+
+use crate::decimal::{Decimal, MOST_DIGITS, power_of_ten};
+use crate::tenfold::ten_times;
+use std::cmp::Ordering;
+
+// A ratio above 0 rounded to so many significant digits.
+pub(crate) fn rounded(top: u128, bottom: u128, digits: u32) -> Decimal
+    requires some { 0 < digits }
+    requires most { digits ≤ MOST_DIGITS }
+    requires top { 0 < top }
+    requires bottom { 0 < bottom }
+    requires fits { bottom ≤ 2 ^ 127 }
+    ensures value { result ≡ rounded_of digits top bottom }
+    ensures fits { HasDigits digits result.digits }
+    ensures low { negsuc 99 <ℤ result.scale }
+    ensures high { result.scale ≤ℤ pos 100 }
+{
+    if top / bottom < power_of_ten(digits) {
+        lengthened(top, bottom, digits)
+    } else {
+        shortened(top, bottom, digits)
+    }
+}
+
+// The same where the whole part has at most so many digits: digits are added behind the point.
+fn lengthened(top: u128, bottom: u128, digits: u32) -> Decimal
+    requires some { 0 < digits }
+    requires most { digits ≤ MOST_DIGITS }
+    requires top { 0 < top }
+    requires bottom { 0 < bottom }
+    requires fits { bottom ≤ 2 ^ 127 }
+    requires low { top / bottom < 10 ^ digits }
+    ensures value { result ≡ rounded_of digits top bottom }
+    ensures fits { HasDigits digits result.digits }
+    ensures low { negsuc 99 <ℤ result.scale }
+    ensures high { result.scale ≤ℤ pos 100 }
+{
+    let least = power_of_ten(digits - 1);
+    let mut number = top / bottom;
+    let mut rest = top % bottom;
+    let mut places = 0u32;
+    while number < least {
+        let next = ten_times(rest, bottom);
+        number = number * 10 + next.whole;
+        rest = next.rest;
+        places += 1;
+    }
+    Decimal::rounded(number, (rest * 2).cmp(&bottom), -(places as i32), digits)
+}
+
+// The same where the whole part has more digits: those past the first ones are cut off.
+fn shortened(top: u128, bottom: u128, digits: u32) -> Decimal
+    requires some { 0 < digits }
+    requires most { digits ≤ MOST_DIGITS }
+    requires bottom { 0 < bottom }
+    requires high { 10 ^ digits ≤ top / bottom }
+    ensures value { result ≡ rounded_of digits top bottom }
+    ensures fits { HasDigits digits result.digits }
+    ensures low { negsuc 99 <ℤ result.scale }
+    ensures high { result.scale ≤ℤ pos 100 }
+{
+    let whole = top / bottom;
+    let limit = power_of_ten(digits);
+    let mut unit = 10;
+    let mut places = 1u32;
+    while whole / unit >= limit {
+        unit *= 10;
+        places += 1;
+    }
+    let cut = compared_with_half(whole % unit, top % bottom, bottom, unit);
+    Decimal::rounded(whole / unit, cut, places as i32, digits)
+}
+
+// How a whole number and a part of the bottom compare with half of the unit.
+fn compared_with_half(whole: u128, part: u128, bottom: u128, unit: u128) -> Ordering
+    requires part { part < bottom }
+    requires even { 2 * (unit / 2) ≡ unit }
+    ensures { result ≡ nat_cmp (2 * (whole * bottom + part)) (bottom * unit) }
+{
+    whole.cmp(&(unit / 2)).then(part.cmp(&0))
+}

@@ -1,0 +1,43 @@
+//! The next decimal digit of a fraction, in 128 bits.
+
+ghost use Rattle.std.specs.Prelude.{◌≡◌, ◌<◌, ◌≤◌, ◌+◌, ◌*◌, ◌^◌};
+
+// A whole number, and a rest over the bottom.
+#[derive(Clone, Copy)]
+pub(crate) struct Mixed {
+    pub(crate) whole: u128,
+    pub(crate) rest: u128,
+}
+
+// Ten times the rest over the bottom. Since ten times the rest may be wider than 128 bits, the
+// bottom is taken off after each doubling.
+pub(crate) fn ten_times(rest: u128, bottom: u128) -> Mixed
+    requires rest { rest < bottom }
+    requires bottom { bottom ≤ 2 ^ 127 }
+    ensures value { result.whole * bottom + result.rest ≡ 10 * rest }
+    ensures rest { result.rest < bottom }
+    ensures digit { result.whole < 10 }
+{
+    let two = normalized(0, rest * 2, bottom);
+    let four = normalized(two.whole * 2, two.rest * 2, bottom);
+    let five = normalized(four.whole, four.rest + rest, bottom);
+    normalized(five.whole * 2, five.rest * 2, bottom)
+}
+
+// The whole number and the part over the bottom, with the bottom taken off the part.
+fn normalized(whole: u128, part: u128, bottom: u128) -> Mixed
+    requires few { whole < 100 }
+    requires part { part < 2 * bottom }
+    ensures value { result.whole * bottom + result.rest ≡ whole * bottom + part }
+    ensures rest { result.rest < bottom }
+    ensures few { result.whole ≤ whole + 1 }
+{
+    if part < bottom {
+        Mixed { whole, rest: part }
+    } else {
+        Mixed {
+            whole: whole + 1,
+            rest: part - bottom,
+        }
+    }
+}

@@ -1,0 +1,77 @@
+-- The order of two ratios by their quotients and remainders.
+use Rattle.std.proofs.Common.{inl, inr, ◌⊎◌, ◌≡◌, ◌+◌, ◌*◌, ◌/◌, ◌%◌, ◌<◌, ◌≤◌, ℕ, suc, zero, arith, refl, sym, ap, ◌∙◌}
+use Rattle.std.specs.Ordering.{nat_cmp}
+use Rattle.std.proofs.lemmas.Bool.Decides.{nat_tests}
+use Rattle.std.proofs.lemmas.Bool.{cases_order}
+use Rattle.std.proofs.Math.Nat.{add-mul, div-add-mod, mul-pos}
+
+-- two ratios of numbers above 0 stand to each other as x does to y
+pub record IsAlike (a b c d x y : ℕ) : Type 0 where
+  pub some_b : 0 < b
+  pub some_d : 0 < d
+  pub alike : nat_cmp (a * d) (c * b) ≡ nat_cmp x y
+
+-- a factor above 0 keeps less
+pub scaled : (m n d : ℕ) → m < n → 0 < d → m * d < n * d
+scaled m n d h some = grind arith
+
+-- a greater quotient is of a greater ratio
+quotient_below : (a b c d : ℕ) → 0 < b → 0 < d → a / b < c / d → a * d < c * b
+quotient_below a b c d some_b some_d h =
+    below a b c d (a / b) (c / d) (a % b) (c % d) h (omega arith) (omega arith) (omega arith) some_b some_d
+  where
+    below : (a b c d p q r s : ℕ) → p < q → a ≡ b * p + r → r < b → c ≡ d * q + s → 0 < b → 0 < d → a * d < c * b
+    below a b c d p q r s h e k f some_b some_d =
+        let whole : a < b * q = rows b p q r a e k h in
+        let first : a * d < b * q * d = scaled a (b * q) d whole some_d in
+        let second : b * q * d ≤ c * b = rw f (spread b q d s) in
+        omega arith
+      where
+        rows : (b p q r a : ℕ) → a ≡ b * p + r → r < b → p < q → a < b * q
+        rows b p q r a e k h = grind arith
+
+        spread : (b q d s : ℕ) → b * q * d ≤ (d * q + s) * b
+        spread b q d s = grind arith
+
+-- two pairs of numbers: both less
+both_less : (m n x y : ℕ) → m < n → x < y → nat_cmp m n ≡ nat_cmp x y
+both_less m n x y h k = grind (arith, nat_tests)
+
+-- both greater
+both_greater : (m n x y : ℕ) → n < m → y < x → nat_cmp m n ≡ nat_cmp x y
+both_greater m n x y h k = grind (arith, nat_tests)
+
+-- both equal
+both_equal : (m n x y : ℕ) → m ≡ n → x ≡ y → nat_cmp m n ≡ nat_cmp x y
+both_equal m n x y h k = grind (arith, nat_tests)
+
+-- different quotients decide
+pub quotients_decide : (a b c d : ℕ) → 0 < b → 0 < d → (a / b ≡ c / d → ⊥) → nat_cmp (a / b) (c / d) ≡ nat_cmp (a * d) (c * b)
+quotients_decide a b c d some_b some_d other =
+    elim (cases_order (a / b) (c / d)) [
+      | inl h ↦ absurd (other h)
+      | inr (inl h) ↦ both_less _ _ _ _ h (quotient_below a b c d some_b some_d h)
+      | inr (inr h) ↦ both_greater _ _ _ _ h (quotient_below c d a b some_d some_b h)
+    ]
+
+-- at equal quotients the remainders decide
+pub quotient_same : (a b c d : ℕ) → 0 < b → 0 < d → a / b ≡ c / d → nat_cmp (a * d) (c * b) ≡ nat_cmp (a % b * d) (c % d * b)
+quotient_same a b c d some_b some_d h =
+    let left : a * d ≡ b * (a / b) * d + a % b * d = ap (λ n. n * d) (sym (div-add-mod a b)) ∙ add-mul (b * (a / b)) (a % b) d in
+    let right : c * b ≡ b * (a / b) * d + c % d * b =
+    ap (λ n. n * b) (sym (div-add-mod c d)) ∙ add-mul (d * (c / d)) (c % d) b ∙ ap (λ n. n + c % d * b) (ap (λ q. d * q * b) (sym h) ∙ turned d (a / b) b) in
+    rw (left, right) (shifted (b * (a / b) * d) (a % b * d) (c % d * b))
+  where
+    shifted : (k x y : ℕ) → nat_cmp (k + x) (k + y) ≡ nat_cmp x y
+    shifted k x y = grind (arith, nat_tests)
+
+    turned : (d q b : ℕ) → d * q * b ≡ b * q * d
+    turned d q b = omega arith
+
+-- a remainder of 0 decides
+pub rest_decides : (r s b d : ℕ) → 0 < b → 0 < d → (r ≡ 0) ⊎ (s ≡ 0) → nat_cmp r s ≡ nat_cmp (r * d) (s * b)
+rest_decides zero zero b d some_b some_d h = both_equal 0 0 (0 * d) (0 * b) refl (omega arith)
+rest_decides zero (suc s) b d some_b some_d h = both_less 0 (suc s) (0 * d) (suc s * b) (omega arith) (omega (arith, mul-pos {m = suc s} {n = b} (omega arith) some_b))
+rest_decides (suc r) zero b d some_b some_d h = both_greater (suc r) 0 (suc r * d) (0 * b) (omega arith) (omega (arith, mul-pos {m = suc r} {n = d} (omega arith) some_d))
+rest_decides (suc r) (suc s) b d some_b some_d (inl h) = absurd (omega arith)
+rest_decides (suc r) (suc s) b d some_b some_d (inr h) = absurd (omega arith)

@@ -1,0 +1,142 @@
+-- Roots of fractions by the roots of their parts.
+use Rattle.std.proofs.Common.{inl, inr, ◌≡◌, ◌%◌, ◌^◌, ◌<◌, ◌≤◌, ℕ, ℤ, pos, negsuc, suc, zero, Bool, true, false, unsigned_abs, arith, refl, sym, ap, subst, ◌∙◌}
+use Rattle.std.specs.Prelude.{int_lt, IsFalse, Ok, ◌&&◌, ◌==◌}
+use Rattle.std.specs.Int.{◌∣◌, IsGcd, int_pow}
+use Rattle.std.proofs.lemmas.Bool.{cases_order}
+use Rattle.std.proofs.lemmas.Int.{ints}
+use Rattle.std.proofs.Math.Nat.{pow-lt-pow_left, dvd-mul_left, pow-le-pow_right, pow-suc}
+use Rattle.frac128.specs.Fraction.{Fraction, most}
+use Rattle.frac128.specs.Powers.{raised}
+use Rattle.frac128.specs.Roots.{IsRoot, IsRootAnswer, RootLaw}
+use Rattle.frac128.specs.Sign.{signed}
+use Rattle.frac128.specs.Steps.{fitting}
+use Rattle.frac128.proofs.Coprime.{coprime_is, coprime-dvd, is_coprime}
+use Rattle.frac128.proofs.Powers.{IsMade, pow-signed, pow_some}
+use Rattle.frac128.proofs.RootSearch.{pow-one, zero-pow}
+use Rattle.frac128.proofs.Signs.{abs-signed, signed_is}
+use Rattle.frac128.proofs.Comparisons.{and-true, le-true}
+
+-- a root is above 0 where its power is
+pub root_some : (m q b : ℕ) → 0 < q → m ^ q ≡ b → 0 < b → 0 < m
+root_some zero q b some e h = let none : b ≡ 0 = sym e ∙ zero-pow q some in absurd (omega arith)
+root_some (suc m) q b some e h = omega arith
+
+-- a number is at most its power
+le-pow : (m q : ℕ) → 0 < q → m ≤ m ^ q
+le-pow zero q some = omega arith
+le-pow (suc m) q some = subst (λ k. k ≤ suc m ^ q) (pow-one (suc m)) (pow-le-pow_right {n = suc m} (omega arith) {i = 1} {j = q} some)
+
+-- a number divides its power
+dvd-pow : (m q : ℕ) → 0 < q → m ∣ m ^ q
+dvd-pow m zero some = absurd (omega arith)
+dvd-pow m (suc q) some = subst (λ k. m ∣ k) (sym (pow-suc m q)) (dvd-mul_left m (m ^ q))
+
+-- roots of coprime numbers are coprime
+pub root_lowest : (m n q a b : ℕ) → 0 < q → m ^ q ≡ a → n ^ q ≡ b → IsGcd a b 1 → IsGcd m n 1
+root_lowest m n q a b some first second h =
+    is_coprime m n (coprime-dvd a b m n (coprime_is a b h) (subst (λ k. m ∣ k) first (dvd-pow m q some)) (subst (λ k. n ∣ k) second (dvd-pow n q some)))
+
+-- what fits is no overflow
+fitting_ok : (s : Bool) (top bottom : ℕ) → top ≤ most → bottom ≤ most → fitting (record { num = signed s top; den = bottom }) ≡ Ok (record { num = signed s top; den = bottom })
+fitting_ok s top bottom low high = rw (abs-signed s top, le-true top most low, le-true bottom most high) refl
+
+-- a number below 0 has roots of odd degree alone
+odd_sign : (s : Bool) (q : ℕ) → (s ≡ true → q % 2 ≡ 0 → ⊥) → (s && (q % 2 == 1)) ≡ s
+odd_sign false q odd = refl
+odd_sign true q odd = is_one (q % 2) (omega arith) (odd refl)
+  where
+    is_one : (r : ℕ) → r < 2 → (r ≡ 0 → ⊥) → (r == 1) ≡ true
+    is_one zero h other = absurd (other refl)
+    is_one (suc zero) h other = refl
+    is_one (suc (suc r)) h other = absurd (omega arith)
+
+-- a root of even degree is not below 0
+plain_sign : (s : Bool) (top q : ℕ) → (s ≡ true → q % 2 ≡ 0 → ⊥) → q % 2 ≡ 0 → IsFalse (int_lt (signed s top) (pos 0))
+plain_sign false top q odd even = grind (arith, ints)
+plain_sign true top q odd even = absurd (odd refl even)
+
+-- the root by the roots of numerator and denominator
+pub root_made : (x : Fraction) (q : ℕ) (s : Bool) (a b top bottom : ℕ) → IsMade x s a b → 0 < q → top ^ q ≡ a → bottom ^ q ≡ b → a ≤ most → b ≤ most
+    → (s ≡ true → q % 2 ≡ 0 → ⊥) → IsRootAnswer x q (fitting (record { num = signed s top; den = bottom }))
+root_made x q s a b top bottom is some first second a_fits b_fits odd =
+    let low : top ≤ most = subst (λ k. k ≤ most) refl (under top a (subst (λ k. top ≤ k) first (le-pow top q some)) a_fits) in
+    let high : bottom ≤ most = under bottom b (subst (λ k. bottom ≤ k) second (le-pow bottom q some)) b_fits in
+    let num : int_pow (signed s top) q ≡ x.num =
+    pow-signed s top q ∙ ap (λ t. signed t (top ^ q)) (odd_sign s q odd) ∙ ap (signed s) (first ∙ is.a_is) ∙ ap (λ t. signed t (unsigned_abs x.num)) is.s_is ∙ sym (signed_is x.num) in
+    let root : IsRoot x q (record { num = signed s top; den = bottom }) = record {
+      reduced = record {
+        positive = root_some bottom q b some second is.some;
+        lowest = rw (abs-signed s top) (root_lowest top bottom q a b some first second (rw is.b_is is.lowest));
+      };
+      power = ap (λ n. record { num = n; den = bottom ^ q }) num ∙ ap (λ d. record { num = x.num; den = d }) (second ∙ is.b_is);
+      plain = plain_sign s top q odd;
+    } in
+    subst (IsRootAnswer x q) (sym (fitting_ok s top bottom low high)) root
+  where
+    under : (m n : ℕ) → m ≤ n → n ≤ most → m ≤ most
+    under m n h k = omega arith
+
+-- powers of different numbers differ
+same_of_pow : (m n q : ℕ) → 0 < q → m ^ q ≡ n ^ q → m ≡ n
+same_of_pow m n q some e = elim (cases_order m n) [
+  | inl h ↦ h
+  | inr (inl h) ↦ (let less : m ^ q < n ^ q = pow-lt-pow_left h (other q some) in absurd (omega arith))
+  | inr (inr h) ↦ (let less : n ^ q < m ^ q = pow-lt-pow_left h (other q some) in absurd (omega arith))
+]
+  where
+    other : (q : ℕ) → 0 < q → q ≡ 0 → ⊥
+    other q some e = omega arith
+
+-- the magnitude and the sign of a power
+abs-pow : (z : ℤ) (q : ℕ) → unsigned_abs (int_pow z q) ≡ unsigned_abs z ^ q
+abs-pow z q =
+    ap (λ n. unsigned_abs (int_pow n q)) (signed_is z) ∙ ap unsigned_abs (pow-signed (int_lt z (pos 0)) (unsigned_abs z) q) ∙ abs-signed _ (unsigned_abs z ^ q)
+
+-- the sign of a number other than 0
+sign_of : (s : Bool) (m : ℕ) → 0 < m → int_lt (signed s m) (pos 0) ≡ s
+sign_of false m some = grind (arith, ints)
+sign_of true zero some = absurd (omega arith)
+sign_of true (suc m) some = refl
+
+-- a power of odd degree has the sign of the number
+odd_pow : (z : ℤ) (q : ℕ) → 0 < unsigned_abs z → q % 2 ≡ 1 → int_lt (int_pow z q) (pos 0) ≡ int_lt z (pos 0)
+odd_pow z q some odd =
+    let s = int_lt z (pos 0) in
+    let m = unsigned_abs z in
+    ap (λ n. int_lt n (pos 0)) (ap (λ n. int_pow n q) (signed_is z) ∙ pow-signed s m q ∙ ap (λ b. signed (s && b) (m ^ q)) (one_is (q % 2) odd) ∙ ap (λ b. signed b (m ^ q)) (and-true s))
+    ∙ sign_of s (m ^ q) (pow_some m q some)
+  where
+    one_is : (r : ℕ) → r ≡ 1 → (r == 1) ≡ true
+    one_is r e = rw e refl
+
+-- two roots have one numerator
+same_num : (m n : ℤ) (q : ℕ) → 0 < q → int_pow m q ≡ int_pow n q → (q % 2 ≡ 0 → IsFalse (int_lt m (pos 0))) → (q % 2 ≡ 0 → IsFalse (int_lt n (pos 0))) → m ≡ n
+same_num m n q some e plain_m plain_n =
+    let size : unsigned_abs m ≡ unsigned_abs n = same_of_pow (unsigned_abs m) (unsigned_abs n) q some (sym (abs-pow m q) ∙ ap unsigned_abs e ∙ abs-pow n q) in
+    by_size (unsigned_abs m) refl size
+  where
+    none : (z : ℤ) → unsigned_abs z ≡ 0 → z ≡ pos 0
+    none (pos zero) h = refl
+    none (pos (suc z)) h = absurd (omega arith)
+    none (negsuc z) h = absurd (omega arith)
+
+    sign : (r : ℕ) → q % 2 ≡ r → r < 2 → 0 < unsigned_abs m → 0 < unsigned_abs n → int_lt m (pos 0) ≡ int_lt n (pos 0)
+    sign zero r_is h some_m some_n = plain_m r_is ∙ sym (plain_n r_is)
+    sign (suc zero) r_is h some_m some_n = sym (odd_pow m q some_m r_is) ∙ ap (λ z. int_lt z (pos 0)) e ∙ odd_pow n q some_n r_is
+    sign (suc (suc r)) r_is h some_m some_n = absurd (omega arith)
+
+    by_size : (a : ℕ) → unsigned_abs m ≡ a → unsigned_abs m ≡ unsigned_abs n → m ≡ n
+    by_size zero a_is size = none m a_is ∙ sym (none n (sym size ∙ a_is))
+    by_size (suc a) a_is size =
+        let some_m : 0 < unsigned_abs m = omega arith in
+        let some_n : 0 < unsigned_abs n = omega arith in
+        let below : q % 2 < 2 = omega arith in
+        signed_is m ∙ ap (λ s. signed s (unsigned_abs m)) (sign (q % 2) refl below some_m some_n) ∙ ap (signed (int_lt n (pos 0))) size ∙ sym (signed_is n)
+
+-- two roots are one
+pub root_law : RootLaw
+root_law x q r s some is_r is_s =
+    let same : raised r q ≡ raised s q = is_r.power ∙ sym is_s.power in
+    let num = same_num r.num s.num q some (ap (λ f. f.num) same) is_r.plain is_s.plain in
+    let den = same_of_pow r.den s.den q some (ap (λ f. f.den) same) in
+    ap (λ n. record { num = n; den = r.den }) num ∙ ap (λ d. record { num = s.num; den = d }) den

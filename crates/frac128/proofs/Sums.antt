@@ -1,0 +1,154 @@
+-- Sums over a common multiple.
+use Rattle.std.proofs.Common.{◌≡◌, ◌*◌, ◌/◌, ◌<◌, ◌≤◌, ◌+ℤ◌, ◌-ℤ◌, ◌*ℤ◌, ℕ, ℤ, pos, neg_ℤ, suc, zero, Bool, true, false, unsigned_abs, arith, refl, sym, ap, ◌∙◌}
+use Rattle.std.specs.Prelude.{int_lt, Ok, Err, if◌then◌else◌}
+use Rattle.std.proofs.Math.Nat.{mul_comm, mul-div_cancel', mul-div_cancel_left, mul-pos, mul-zero, div-le_self}
+use Rattle.frac128.specs.declared.fault.FracFault.{FracFault}
+use Rattle.frac128.specs.declared.fault.FracFault.TheVariants.{Overflow}
+use Rattle.frac128.specs.Divisors.{gcd, lcm}
+use Rattle.frac128.specs.Fraction.{Fraction, fits, most, negated}
+use Rattle.frac128.specs.Sign.{signed}
+use Rattle.frac128.specs.Steps.{ratio, reduced}
+use Rattle.frac128.specs.Sums.{in_range, joined, minus, numerator_over, plus, sum_over, within}
+use Rattle.frac128.proofs.Euclid.{gcd_is}
+use Rattle.frac128.proofs.Multiples.{lcm-left, lcm-right}
+use Rattle.frac128.proofs.Reduced.{reduced_is}
+use Rattle.frac128.proofs.Signs.{abs-neg, abs-signed, differ-false, mul-signed, neg-signed, signed_is}
+use Rattle.frac128.proofs.Comparisons.{le-true}
+
+-- the multiple over one denominator is what is left of the other
+lcm-div : (b d : ℕ) → 0 < b → 0 < d → (lcm b d / b ≡ d / gcd b d) × (lcm b d / d ≡ b / gcd b d)
+lcm-div b d some_b some_d = (
+  ap (λ n. n / b) (lcm-right b d) ∙ mul-div_cancel_left (d / gcd b d) some_b,
+  ap (λ n. n / d) (lcm-left b d ∙ mul_comm (b / gcd b d) d) ∙ mul-div_cancel_left (b / gcd b d) some_d,
+)
+
+-- the magnitudes of two fractions, and the divisor of their denominators
+pub record IsParts (x y : Fraction) (b d g top other : ℕ) : Type 0 where
+  pub b_is : b ≡ x.den
+  pub d_is : d ≡ y.den
+  pub g_is : g ≡ gcd b d
+  pub some_b : 0 < b
+  pub some_d : 0 < d
+  pub top_is : top ≡ unsigned_abs x.num
+  pub other_is : other ≡ unsigned_abs y.num
+
+-- a numerator times a factor, by sign and magnitude
+numerator-signed : (n : ℤ) (s : Bool) (a k : ℕ) → s ≡ int_lt n (pos 0) → a ≡ unsigned_abs n → n *ℤ pos k ≡ signed s (a * k)
+numerator-signed n s a k p q = ap (λ z. z *ℤ pos k) (signed_is n) ∙ rw (← p, ← q) (mul-signed s false a k ∙ ap (λ t. signed t (a * k)) (differ-false s))
+
+-- a test that fails, or passes
+if_err : (b : Bool) (z : ℤ) (e : FracFault) → Err e ≡ (if b then Ok z else Err Overflow) → (b ≡ false) × (e ≡ Overflow)
+if_err true z e h = absurd (cc)
+if_err false z e h = (refl, cc)
+
+-- a test that passes
+if_ok : (b : Bool) (n z : ℤ) → Ok n ≡ (if b then Ok z else Err Overflow) → (b ≡ true) × (n ≡ z)
+if_ok true n z h = (refl, cc)
+if_ok false n z h = absurd (cc)
+
+-- a number out of range
+within_err : (z : ℤ) (e : FracFault) → Err e ≡ within z → (in_range z ≡ false) × (e ≡ Overflow)
+within_err z e h = if_err (in_range z) z e h
+
+-- a number in range
+pub within_ok : (n z : ℤ) → Ok n ≡ within z → (in_range z ≡ true) × (n ≡ z)
+within_ok n z h = if_ok (in_range z) n z h
+
+-- a quotient of numbers in range fits in lowest terms
+fits_reduced : (z : ℤ) (m : ℕ) → unsigned_abs z ≤ most → m ≤ most → fits (reduced z m) ≡ true
+fits_reduced z m top bottom =
+    let g = gcd (unsigned_abs z) m in
+    let low : unsigned_abs z / g ≤ most = omega (arith, div-le_self (unsigned_abs z) g) in
+    let high : m / g ≤ most = omega (arith, div-le_self m g) in
+    rw (reduced_is z m, abs-signed (int_lt z (pos 0)) (unsigned_abs z / g), le-true (unsigned_abs z / g) most low, le-true (m / g) most high) refl
+
+-- a sum in range is the ratio
+pub sum_over-ratio : (m : ℕ) (z : ℤ) → 0 < m → m ≤ most → unsigned_abs z ≤ most → ratio z (pos m) ≡ sum_over m z
+sum_over-ratio zero z some low h = absurd (omega arith)
+sum_over-ratio (suc m) z some low h = rw (fits_reduced z (suc m) h low, le-true (unsigned_abs z) most h) refl
+
+-- the first part that is out of range
+joined-multiple : (step : ℤ → ℤ → ℤ) (m : ℕ) (l r : ℤ) (e : FracFault) → Err e ≡ within (pos m) → joined step m l r ≡ Err e
+joined-multiple step m l r e h = let no = within_err (pos m) e h in rw (no.0, no.1) refl
+
+-- also the first numerator
+joined-left : (step : ℤ → ℤ → ℤ) (m : ℕ) (l r n : ℤ) (e : FracFault) → Ok n ≡ within (pos m) → Err e ≡ within l → joined step m l r ≡ Err e
+joined-left step m l r n e p h = let no = within_err l e h in rw ((within_ok n (pos m) p).0, no.0, no.1) refl
+
+-- also the second
+joined-right : (step : ℤ → ℤ → ℤ) (m : ℕ) (l r n k : ℤ) (e : FracFault) → Ok n ≡ within (pos m) → Ok k ≡ within l → Err e ≡ within r → joined step m l r ≡ Err e
+joined-right step m l r n k e p q h = let no = within_err r e h in rw ((within_ok n (pos m) p).0, (within_ok k l q).0, no.0, no.1) refl
+
+-- all parts in range
+joined-sum : (step : ℤ → ℤ → ℤ) (m : ℕ) (l r n k j : ℤ) → Ok n ≡ within (pos m) → Ok k ≡ within l → Ok j ≡ within r → joined step m l r ≡ sum_over (unsigned_abs n) (step k j)
+joined-sum step m l r n k j p q h =
+    let n_is = within_ok n (pos m) p in
+    let k_is = within_ok k l q in
+    let j_is = within_ok j r h in
+    rw (n_is.0, k_is.0, j_is.0, n_is.1, k_is.1, j_is.1) refl
+
+-- the sum by the parts that the code makes
+plus_by : (x y : Fraction) (b d g top other : ℕ) (s t : Bool) → IsParts x y b d g top other → s ≡ int_lt x.num (pos 0) → t ≡ int_lt y.num (pos 0)
+    → plus x y ≡ joined ◌+ℤ◌ (b / g * d) (signed s (top * (d / g))) (signed t (other * (b / g)))
+plus_by x y b d g top other s t is s_is t_is =
+    rw (sym (numerator-signed x.num s top (d / g) s_is is.top_is), sym (numerator-signed y.num t other (b / g) t_is is.other_is), is.g_is, is.b_is, is.d_is)
+    (by_divisor x y (rw (← is.b_is) is.some_b) (rw (← is.d_is) is.some_d))
+  where
+    by_divisor : (x y : Fraction) → 0 < x.den → 0 < y.den → plus x y ≡ joined ◌+ℤ◌ (x.den / gcd x.den y.den * y.den) (x.num *ℤ pos (y.den / gcd x.den y.den)) (y.num *ℤ pos (x.den / gcd x.den y.den))
+    by_divisor x y some_x some_y =
+        let parts = lcm-div x.den y.den some_x some_y in
+        ap (λ k. joined ◌+ℤ◌ (lcm x.den y.den) (x.num *ℤ pos k) (y.num *ℤ pos (lcm x.den y.den / y.den))) parts.0
+        ∙ ap (λ k. joined ◌+ℤ◌ (lcm x.den y.den) (x.num *ℤ pos (y.den / gcd x.den y.den)) (y.num *ℤ pos k)) parts.1
+        ∙ ap (λ m. joined ◌+ℤ◌ m (x.num *ℤ pos (y.den / gcd x.den y.den)) (y.num *ℤ pos (x.den / gcd x.den y.den))) (lcm-left x.den y.den)
+
+-- the least common multiple is above 0
+pub multiple_some : (b d g : ℕ) → g ≡ gcd b d → 0 < b → 0 < d → 0 < b / g * d
+multiple_some b d g is some_b some_d = mul-pos (above (b / g) refl) some_d
+  where
+    above : (q : ℕ) → b / g ≡ q → 0 < q
+    above zero e =
+        let none : g * 0 ≡ b = ap (λ n. g * n) (sym e) ∙ mul-div_cancel' g (rw is (gcd_is b d).0) in
+        absurd (omega (arith, mul-zero g))
+    above (suc q) e = omega arith
+
+-- the sum where the multiple is out of range
+pub plus-multiple : (x y : Fraction) (b d g top other : ℕ) (e : FracFault) → IsParts x y b d g top other → Err e ≡ within (pos (b / g * d)) → plus x y ≡ Err e
+plus-multiple x y b d g top other e is h = plus_by x y b d g top other _ _ is refl refl ∙ joined-multiple ◌+ℤ◌ (b / g * d) (signed (int_lt x.num (pos 0)) (top * (d / g))) (signed (int_lt y.num (pos 0)) (other * (b / g))) e h
+
+-- the sum where the first numerator is
+pub plus-left : (x y : Fraction) (b d g top other : ℕ) (s : Bool) (n : ℤ) (e : FracFault) → IsParts x y b d g top other → s ≡ int_lt x.num (pos 0)
+    → Ok n ≡ within (pos (b / g * d)) → Err e ≡ within (signed s (top * (d / g))) → plus x y ≡ Err e
+plus-left x y b d g top other s n e is s_is p h = plus_by x y b d g top other s _ is s_is refl ∙ joined-left ◌+ℤ◌ (b / g * d) (signed s (top * (d / g))) (signed (int_lt y.num (pos 0)) (other * (b / g))) n e p h
+
+-- the sum where the second numerator is
+pub plus-right : (x y : Fraction) (b d g top other : ℕ) (s t : Bool) (n k : ℤ) (e : FracFault) → IsParts x y b d g top other
+    → s ≡ int_lt x.num (pos 0) → t ≡ int_lt y.num (pos 0)
+    → Ok n ≡ within (pos (b / g * d)) → Ok k ≡ within (signed s (top * (d / g))) → Err e ≡ within (signed t (other * (b / g))) → plus x y ≡ Err e
+plus-right x y b d g top other s t n k e is s_is t_is p q h =
+    plus_by x y b d g top other s t is s_is t_is ∙ joined-right ◌+ℤ◌ (b / g * d) (signed s (top * (d / g))) (signed t (other * (b / g))) n k e p q h
+
+-- the sum where all parts are in range
+pub plus-sum : (x y : Fraction) (b d g top other : ℕ) (s t : Bool) (n k j : ℤ) → IsParts x y b d g top other
+    → s ≡ int_lt x.num (pos 0) → t ≡ int_lt y.num (pos 0)
+    → Ok n ≡ within (pos (b / g * d)) → Ok k ≡ within (signed s (top * (d / g))) → Ok j ≡ within (signed t (other * (b / g)))
+    → plus x y ≡ sum_over (unsigned_abs n) (k +ℤ j)
+plus-sum x y b d g top other s t n k j is s_is t_is p q h =
+    plus_by x y b d g top other s t is s_is t_is ∙ joined-sum ◌+ℤ◌ (b / g * d) (signed s (top * (d / g))) (signed t (other * (b / g))) n k j p q h
+
+-- a difference is the sum with the other sign
+pub minus-negated : (x y : Fraction) → minus x y ≡ plus x (negated y)
+minus-negated x y =
+    let m = lcm x.den y.den in
+    turned m (numerator_over x m) (numerator_over y m) ∙ ap (λ r. joined ◌+ℤ◌ m (numerator_over x m) r) (neg-times y.num (m / y.den))
+  where
+    turned : (m : ℕ) (l r : ℤ) → joined ◌-ℤ◌ m l r ≡ joined ◌+ℤ◌ m l (neg_ℤ r)
+    turned m l r = rw (abs-neg r) refl
+
+    by_sign : (s : Bool) (a k : ℕ) → neg_ℤ (signed s a *ℤ pos k) ≡ neg_ℤ (signed s a) *ℤ pos k
+    by_sign false a k = sym (mul-signed true false a k)
+    by_sign true a k = ap neg_ℤ (mul-signed true false a k) ∙ neg-signed true (a * k) ∙ sym (ap (λ n. n *ℤ pos k) (neg-signed true a))
+
+    neg-times : (z : ℤ) (k : ℕ) → neg_ℤ (z *ℤ pos k) ≡ neg_ℤ z *ℤ pos k
+    neg-times z k =
+        ap (λ n. neg_ℤ (n *ℤ pos k)) (signed_is z) ∙ by_sign (int_lt z (pos 0)) (unsigned_abs z) k
+        ∙ sym (ap (λ n. neg_ℤ n *ℤ pos k) (signed_is z))

@@ -1,0 +1,27 @@
+use Rattle.std.proofs.Common.{◌≡◌, ◌-ℤ◌, ℕ, ℤ, pos, neg_ℤ, unsigned_abs, ap, ◌∙◌, arith, SFits, rules}
+use mir.Syntax.{w128}
+use Rattle.std.proofs.lemmas.Int.{ints, to_z-of_z}
+use Rattle.frac128.specs.Fraction.{IsKept}
+use Rattle.frac128.proofs.Signs.{abs-neg}
+use Rattle.frac128.proofs.fraction.Frac.negate.Goals as goal
+
+-- the difference from 0 keeps the magnitude
+abs-minus : (z : ℤ) → unsigned_abs (pos 0 -ℤ z) ≡ unsigned_abs z
+abs-minus z = ap unsigned_abs (minus_is z) ∙ abs-neg z
+  where
+    minus_is : (z : ℤ) → pos 0 -ℤ z ≡ neg_ℤ z
+    minus_is z = omega (arith, ints)
+
+-- the other sign keeps a fraction in lowest terms and in range
+kept_minus : (z : ℤ) (d : ℕ) → IsKept (record { num = z; den = d }) → IsKept (record { num = pos 0 -ℤ z; den = d })
+kept_minus z d kept = record {
+  reduced = record { positive = kept.reduced.positive; lowest = rw (abs-minus z) kept.reduced.lowest };
+  num_fits = rw (abs-minus z) kept.num_fits;
+  den_fits = kept.den_fits;
+}
+
+pub invariant_of-result : goal.invariant_of-result
+invariant_of-result c =
+    let fits : SFits w128 c.self.inside.num = search rules in
+    let fits_minus : SFits w128 (pos 0 -ℤ c.self.inside.num) = search rules in
+    simp to_z-of_z (kept_minus _ _ c.self.invariant)

@@ -1,0 +1,116 @@
+-- The numbers that decimal numerals stand for.
+use Rattle.std.specs.Prelude.{◌≡◌, ◌<◌, ◌≤◌, ◌+◌, ◌-◌, ◌*◌, ◌^◌, ◌+ℤ◌, ◌-ℤ◌, ℕ, ℤ, pos, negsuc, suc, zero}
+use Rattle.std.specs.Prelude.{Bool, true, false, IsTrue, ◌&&◌, ◌==◌, nat_le, if◌then◌else◌}
+use Rattle.std.specs.Prelude.{List, [], ◌∷◌, length, fold, Option, Some, None, Result, Ok, Err}
+use Rattle.std.specs.List.{list_all, list_any}
+use Rattle.frac128.specs.declared.fault.FracFault.{FracFault}
+use Rattle.frac128.specs.declared.numeral.NumeralFault.{NumeralFault}
+use Rattle.frac128.specs.declared.numeral.NumeralFault.TheVariants.{NotNumeral, TooLong}
+use Rattle.frac128.specs.Fraction.{Fraction, most, whole}
+use Rattle.frac128.specs.Numerals.{before, from, is_digit, is_mark_byte, is_minus_byte, is_numeral, is_point_byte}
+use Rattle.frac128.specs.Sign.{signed}
+use Rattle.frac128.specs.Steps.{ratio}
+
+-- a coefficient times ten to the scale
+pub record Decimal : Type 0 where
+  pub coefficient : ℕ
+  pub scale : ℤ
+
+-- the largest exponent
+abbrev pub most_exponent : ℕ
+most_exponent = 9999
+
+-- the digits among some bytes, as numbers
+abbrev pub digits_of : List ℕ → List ℕ
+digits_of [] = []
+digits_of (b ∷ bs) = if is_digit b then (b - 48) ∷ digits_of bs else digits_of bs
+
+-- the whole number that digits write
+abbrev pub number : List ℕ → ℕ
+number ds = fold (λ n d. n * 10 + d) 0 ds
+
+-- the digit is 0
+abbrev pub is_zero : ℕ → Bool
+is_zero zero = true
+is_zero (suc n) = false
+
+-- the digits without the zeros at their end
+abbrev pub without_end_zeros : List ℕ → List ℕ
+without_end_zeros [] = []
+without_end_zeros (d ∷ ds) = if list_all is_zero (d ∷ ds) then [] else d ∷ without_end_zeros ds
+
+-- what stands before the `e` or `E`
+abbrev pub mantissa : List ℕ → List ℕ
+mantissa bytes = before is_mark_byte bytes
+
+-- what stands from the `e` or `E` on
+abbrev pub exponent_text : List ℕ → List ℕ
+exponent_text bytes = from is_mark_byte bytes
+
+-- how many digits of a mantissa stand after the point
+abbrev pub places : List ℕ → ℕ
+places bytes = length (from is_point_byte bytes) - 1
+
+-- the number that all digits of a mantissa write without the zeros at their end
+abbrev pub coefficient_of : List ℕ → ℕ
+coefficient_of bytes = number (without_end_zeros (digits_of bytes))
+
+-- how many zeros are at the end of the digits of a mantissa
+abbrev pub end_zeros : List ℕ → ℕ
+end_zeros bytes = length (digits_of bytes) - length (without_end_zeros (digits_of bytes))
+
+-- both, where the number is not too large
+abbrev pub short_coefficient : List ℕ → Option (ℕ × ℕ)
+short_coefficient bytes =
+    if nat_le (coefficient_of bytes) most then Some (coefficient_of bytes, end_zeros bytes) else None
+
+-- the magnitude of the exponent
+abbrev pub exponent_size : List ℕ → ℕ
+exponent_size text = number (digits_of text)
+
+-- the exponent, below 0 where a minus stands
+abbrev pub exponent_of : List ℕ → ℤ
+exponent_of text = signed (list_any is_minus_byte text) (exponent_size text)
+
+-- a mantissa times ten to a power
+abbrev pub decimal : List ℕ → ℤ → Decimal
+decimal bytes power =
+    if coefficient_of bytes == 0
+    then record { coefficient = 0; scale = pos 0 }
+    else record {
+      coefficient = coefficient_of bytes;
+      scale = power -ℤ pos (places bytes) +ℤ pos (end_zeros bytes);
+    }
+
+-- the coefficient and the exponent are not too large
+abbrev pub is_short : List ℕ → Bool
+is_short bytes =
+    nat_le (coefficient_of (mantissa bytes)) most
+    && nat_le (exponent_size (exponent_text bytes)) most_exponent
+
+-- the numeral that the bytes are
+abbrev pub read : List ℕ → Result Decimal NumeralFault
+read bytes =
+    if is_numeral bytes
+    then (
+    if is_short bytes
+    then Ok (decimal (mantissa bytes) (exponent_of (exponent_text bytes)))
+    else Err TooLong
+    )
+    else Err NotNumeral
+
+-- a whole number times ten to a power
+abbrev pub times_power : ℕ → ℤ → Result Fraction FracFault
+times_power n (pos k) = ratio (pos (n * 10 ^ k)) (pos 1)
+times_power n (negsuc k) = ratio (pos n) (pos (10 ^ suc k))
+
+-- the value of a numeral
+abbrev pub value_of : Decimal → Result Fraction FracFault
+value_of x = times_power x.coefficient x.scale
+
+-- law: digits alone are a numeral, and its value is the whole number that they write
+abbrev pub DigitsLaw : Type 0
+DigitsLaw = (bytes : List ℕ) → 0 < length bytes → IsTrue (list_all is_digit bytes)
+    → number (digits_of bytes) ≤ most
+    → (x : Decimal) × (read bytes ≡ Ok x)
+    × (value_of x ≡ Ok (whole (pos (number (digits_of bytes)))))

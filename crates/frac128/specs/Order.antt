@@ -1,0 +1,18 @@
+-- The order of fractions.
+use Rattle.std.specs.Prelude.{◌≡◌, ◌<◌, ◌*ℤ◌, pos}
+use Rattle.std.specs.declared.cmp.Ordering.{Ordering}
+use Rattle.std.specs.declared.cmp.Ordering.TheVariants.{Less, Equal}
+use Rattle.std.specs.Ordering.{int_cmp, ordering_reverse}
+use Rattle.frac128.specs.Fraction.{Fraction, IsReduced}
+
+-- how the value of x stands to that of y: by the cross products
+abbrev pub compared : Fraction → Fraction → Ordering
+compared x y = int_cmp (x.num *ℤ pos y.den) (y.num *ℤ pos x.den)
+
+-- law: an exchange of two fractions turns the answer round, less is transitive, and reduced
+-- fractions that stand equal are equal
+abbrev pub OrderLaw : Type 0
+OrderLaw = ((x y : Fraction) → compared x y ≡ ordering_reverse (compared y x))
+    × ((x y z : Fraction) → 0 < x.den → 0 < y.den → 0 < z.den
+    → compared x y ≡ Less → compared y z ≡ Less → compared x z ≡ Less)
+    × ((x y : Fraction) → IsReduced x → IsReduced y → compared x y ≡ Equal → x ≡ y)

@@ -1,0 +1,117 @@
+//! Decimal numerals as a coefficient and a power of ten, and their values.
+
+ghost use Rattle.std.specs.Prelude.{◌≡◌, ◌+◌, ◌<◌, ◌≤◌, ◌*◌, ◌^◌, pos, SomeIff};
+ghost use Rattle.frac128.specs.Decimals.{value_of};
+ghost use Rattle.frac128.specs.Fraction.{most};
+ghost use Rattle.frac128.specs.Steps.{ratio};
+
+use crate::fault::FracFault;
+use crate::fraction::Frac;
+use std::marker::Model;
+
+/// Why some bytes are read as no numeral.
+#[derive(Clone, Copy, Debug, PartialEq, Eq)]
+pub enum NumeralFault {
+    /// The bytes are no numeral.
+    NotNumeral,
+    /// The digits without the zeros at both ends are above the largest numerator, or the
+    /// exponent is outside -9,999..9,999.
+    TooLong,
+}
+
+/// What a numeral says: a coefficient times ten to a power.
+#[derive(Clone, Copy, Debug, PartialEq, Eq)]
+pub struct Numeral {
+    coefficient: u128,
+    scale: i128,
+}
+
+impl Model for Numeral {
+    ghost use Rattle.std.specs.Prelude.{◌≤◌};
+    ghost use Rattle.frac128.specs.Decimals.{Decimal};
+    ghost use Rattle.frac128.specs.Fraction.{most};
+
+    ghost Value = { Decimal };
+
+    ghost view = { λ x. record { coefficient = x.coefficient; scale = x.scale } };
+
+    ghost invariant = { λ x. x.coefficient ≤ most };
+
+    ghost inverse = { λ x. record { coefficient = x.coefficient; scale = x.scale } };
+}
+
+impl Numeral {
+    // The coefficient times ten to the scale.
+    pub(crate) fn new(coefficient: u128, scale: i128) -> Numeral
+        requires { coefficient ≤ most }
+        ensures { result ≡ record { coefficient = coefficient; scale = scale } }
+    {
+        Numeral { coefficient, scale }
+    }
+
+    /// The value. `Overflow` where it does not fit.
+    pub fn value(&self) -> Result<Frac, FracFault>
+        ensures { result ≡ value_of self.now }
+    {
+        if self.coefficient == 0 {
+            return Ok(Frac::whole(0));
+        }
+        let power = self.scale.unsigned_abs();
+        if self.scale >= 0 {
+            scaled_up(self.coefficient, power)
+        } else {
+            scaled_down(self.coefficient, power)
+        }
+    }
+}
+
+// A number above 0 times ten to a power.
+fn scaled_up(n: u128, power: u128) -> Result<Frac, FracFault>
+    requires some { 0 < n }
+    requires fits { n ≤ most }
+    ensures { result ≡ ratio (pos (n * 10 ^ power)) (pos 1) }
+{
+    match power_of_ten(power) {
+        Some(factor) => Frac::whole(n as i128).mul(&Frac::whole(factor)),
+        None => Err(FracFault::Overflow),
+    }
+}
+
+// A number above 0 over ten to a power.
+fn scaled_down(n: u128, power: u128) -> Result<Frac, FracFault>
+    requires some { 0 < n }
+    requires fits { n ≤ most }
+    ensures { result ≡ ratio (pos n) (pos (10 ^ power)) }
+{
+    match power_of_ten(power) {
+        Some(divisor) => Frac::new(n as i128, divisor),
+        None => scaled_down_twice(n, power - 38),
+    }
+}
+
+// A number above 0 over the largest power of ten, and over one more: past these the denominator
+// is too large, whatever is divided out.
+fn scaled_down_twice(n: u128, power: u128) -> Result<Frac, FracFault>
+    requires some { 0 < n }
+    requires fits { n ≤ most }
+    ensures { result ≡ ratio (pos n) (pos (10 ^ (38 + power))) }
+{
+    let Some(divisor) = power_of_ten(power) else {
+        return Err(FracFault::Overflow);
+    };
+    Frac::new(n as i128, LARGEST_POWER)?.div(&Frac::whole(divisor))
+}
+
+// The largest power of ten that is in range.
+const LARGEST_POWER: i128 = 100_000_000_000_000_000_000_000_000_000_000_000_000;
+
+// Ten to a power, or none where it is out of range.
+fn power_of_ten(power: u128) -> Option<i128>
+    ensures { SomeIff result (power ≤ 38) (pos (10 ^ power)) }
+{
+    if power <= 38 {
+        Some(10u128.pow(power as u32) as i128)
+    } else {
+        None
+    }
+}

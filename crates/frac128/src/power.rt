@@ -1,0 +1,43 @@
+//! Whole powers.
+
+ghost use Rattle.std.specs.Prelude.{◌≡◌, ◌<◌};
+ghost use Rattle.std.specs.Int.{IsGcd};
+ghost use Rattle.frac128.specs.Powers.{power, raised};
+ghost use Rattle.frac128.specs.Sign.{signed as signed_of};
+ghost use Rattle.frac128.specs.Steps.{fitting};
+
+use crate::fault::FracFault;
+use crate::fraction::Frac;
+
+impl Frac {
+    /// The power, which is 1 where k is 0. `DivisionByZero` where the fraction is 0 and k is
+    /// below 0, and else `Overflow` where the power does not fit.
+    pub fn pow(&self, k: i32) -> Result<Frac, FracFault>
+        ensures { result ≡ power self.now k }
+    {
+        let (top, bottom) = (self.top(), self.bottom());
+        let times = k.unsigned_abs();
+        if k >= 0 {
+            Frac::raised(self.is_negative(), top, bottom, times)
+        } else if top == 0 {
+            Err(FracFault::DivisionByZero)
+        } else {
+            Frac::raised(self.is_negative(), bottom, top, times)
+        }
+    }
+
+    // A fraction in lowest terms to a power. The steps end with the first product of more than
+    // 128 bits.
+    fn raised(negative: bool, top: u128, bottom: u128, times: u32) -> Result<Frac, FracFault>
+        requires some { 0 < bottom }
+        requires lowest { IsGcd top bottom 1 }
+        ensures { result
+            ≡ fitting (raised (record { num = signed_of negative top; den = bottom }) times) }
+    {
+        let negative = negative && times % 2 == 1;
+        match (top.checked_pow(times), bottom.checked_pow(times)) {
+            (Some(top), Some(bottom)) => Frac::fitting(negative, top, bottom),
+            _ => Err(FracFault::Overflow),
+        }
+    }
+}

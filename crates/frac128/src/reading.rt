@@ -1,0 +1,142 @@
+//! Reading numerals.
+
+ghost use Rattle.std.specs.Prelude.{◌≡◌, ◌<◌, ◌≤◌, ◌+◌, ◌*◌, ◌^◌, length, SomeIff};
+ghost use Rattle.std.specs.List.{list_any};
+ghost use Rattle.frac128.specs.Decimals.{exponent_of, exponent_size as exponent_size_of, most_exponent};
+ghost use Rattle.frac128.specs.Decimals.{places as places_of, read, short_coefficient};
+ghost use Rattle.frac128.specs.Fraction.{most};
+ghost use Rattle.frac128.specs.Numerals.{before, is_mark_byte, is_minus_byte, is_numeral as is_numeral_of};
+
+use crate::fraction::MOST;
+use crate::numeral::{Numeral, NumeralFault};
+use crate::spelling::numeral_len;
+
+// The largest exponent.
+const MOST_EXPONENT: u32 = 9_999;
+
+/// The numeral that the bytes are. `NotNumeral` where they are none, and else `TooLong` where
+/// its digits without the zeros at both ends are above the largest numerator, or its exponent
+/// is outside -9,999..9,999.
+pub fn read_numeral(bytes: &[u8]) -> Result<Numeral, NumeralFault>
+    ensures { result ≡ read bytes.now }
+{
+    if !is_numeral(bytes) {
+        return Err(NumeralFault::NotNumeral);
+    }
+    let (mantissa, text) = bytes.split_at(mark_place(bytes));
+    let Some((coefficient, zeros)) = significant(mantissa) else {
+        return Err(NumeralFault::TooLong);
+    };
+    let Some(power) = exponent(text) else {
+        return Err(NumeralFault::TooLong);
+    };
+    if coefficient == 0 {
+        return Ok(Numeral::new(0, 0));
+    }
+    let scale = power - places(mantissa) as i128 + zeros as i128;
+    Ok(Numeral::new(coefficient, scale))
+}
+
+// Whether all of the bytes are one numeral.
+fn is_numeral(bytes: &[u8]) -> bool
+    ensures { result ≡ is_numeral_of bytes.now }
+{
+    !bytes.is_empty() && numeral_len(bytes) == bytes.len()
+}
+
+// The place of the first `e` or `E`, or the length where there is none.
+fn mark_place(bytes: &[u8]) -> usize
+    ensures { result ≡ length (before is_mark_byte bytes.now) }
+{
+    for (i, &byte) in bytes.iter().enumerate() {
+        if byte == b'E' || byte == b'e' {
+            return i;
+        }
+    }
+    bytes.len()
+}
+
+// How many bytes stand after the point, or 0 where there is none.
+fn places(bytes: &[u8]) -> usize
+    ensures { result ≡ places_of bytes.now }
+{
+    for (i, &byte) in bytes.iter().enumerate() {
+        if byte == b'.' {
+            return bytes.len() - i - 1;
+        }
+    }
+    0
+}
+
+// The number of all digits without the zeros at their end, and how many those are, or none where
+// the number is too large.
+fn significant(bytes: &[u8]) -> Option<(u128, usize)>
+    ensures { result ≡ short_coefficient bytes.now }
+{
+    let mut number = 0;
+    let mut zeros = 0;
+    for &byte in bytes {
+        if byte == b'0' {
+            zeros += 1;
+        } else if byte.is_ascii_digit() {
+            number = extended(number, zeros, byte - b'0')?;
+            zeros = 0;
+        }
+    }
+    Some((number, zeros))
+}
+
+// The number with some zeros and a digit after it, or none where that is too large.
+fn extended(number: u128, zeros: usize, digit: u8) -> Option<u128>
+    requires { digit < 10 }
+    ensures { SomeIff result
+        (number * 10 ^ (zeros + 1) + digit ≤ most)
+        (number * 10 ^ (zeros + 1) + digit) }
+{
+    if number == 0 {
+        return Some(u128::from(digit));
+    }
+    if zeros > 37 {
+        return None;
+    }
+    let shifted = number.checked_mul(10u128.pow(zeros as u32 + 1))?;
+    let more = shifted.checked_add(u128::from(digit))?;
+    if more <= MOST { Some(more) } else { None }
+}
+
+// The exponent that the bytes from the mark on write, or none where it is too large.
+fn exponent(text: &[u8]) -> Option<i128>
+    ensures { SomeIff result (exponent_size_of text.now ≤ most_exponent) (exponent_of text.now) }
+{
+    let size = exponent_size(text)?;
+    if has_minus(text) {
+        Some(-i128::from(size))
+    } else {
+        Some(i128::from(size))
+    }
+}
+
+// Whether a minus is among the bytes.
+fn has_minus(bytes: &[u8]) -> bool
+    ensures { result ≡ list_any is_minus_byte bytes.now }
+{
+    bytes.iter().any(|byte| *byte == b'-')
+}
+
+// The number that the digits among the bytes write, or none where it is too large.
+fn exponent_size(bytes: &[u8]) -> Option<u32>
+    ensures { SomeIff result
+        (exponent_size_of bytes.now ≤ most_exponent)
+        (exponent_size_of bytes.now) }
+{
+    let mut number = 0;
+    for &byte in bytes {
+        if byte.is_ascii_digit() {
+            number = number * 10 + u32::from(byte - b'0');
+            if number > MOST_EXPONENT {
+                return None;
+            }
+        }
+    }
+    Some(number)
+}

@@ -1,0 +1,108 @@
+//! What a call answers.
+
+ghost use Rattle.std.specs.Prelude.{◌≡◌, IfOk};
+ghost use Rattle.std.specs.Fmt.{decimal};
+ghost use Rattle.number_calls.specs.Answers.{fault_text as fault_text_of, order_text as order_text_of};
+ghost use Rattle.number_calls.specs.Answers.{IsAnswer, IsTaken, fraction_text, numeral_text};
+ghost use Rattle.frac128.specs.Decimals.{read};
+ghost use Rattle.frac128.specs.Numerals.{numeral_len_of};
+
+use crate::call::{Call, Step};
+use crate::reading::read_call;
+use digits_print::{print_digits, print_exact};
+use frac128::{Frac, FracFault, NumeralFault, numeral_len, read_numeral};
+use std::alloc::{AllocError, Global};
+use std::cmp::Ordering;
+use units_io::Text;
+
+// The answer to a line, which may be no call.
+pub(crate) fn line_answer(alloc: Global, line: &[u8]) -> Result<Text, AllocError> {
+    match read_call(line) {
+        Some(call) => answer_to(alloc, &call),
+        None => Text::from_bytes(alloc, b"bad call"),
+    }
+}
+
+// The answer to a call.
+fn answer_to(alloc: Global, call: &Call<'_>) -> Result<Text, AllocError>
+    ensures { IfOk result (λ text. IsAnswer call.now text) }
+{
+    match call {
+        Call::Step(step) => fraction_answer(alloc, step.taken()),
+        Call::Compare(x, y) => Text::from_bytes(alloc, order_text(x.cmp(y))),
+        Call::Exact(x) => print_exact(alloc, x),
+        Call::Digits(count, x) => print_digits(alloc, x, count.value),
+        Call::Length(bytes) => length_answer(alloc, bytes),
+        Call::Numeral(bytes) => numeral_answer(alloc, bytes),
+    }
+}
+
+impl Step {
+    // The fraction that the step gives, or its fault.
+    fn taken(&self) -> Result<Frac, FracFault>
+        ensures { IsTaken self.now result }
+    {
+        match self {
+            Step::New(n, d) => Frac::new(*n, *d),
+            Step::Negate(x) => Ok(x.negate()),
+            Step::Floor(x) => Ok(x.floor()),
+            Step::Add(x, y) => x.add(y),
+            Step::Sub(x, y) => x.sub(y),
+            Step::Mul(x, y) => x.mul(y),
+            Step::Div(x, y) => x.div(y),
+            Step::Pow(x, power) => x.pow(*power),
+            Step::Root(x, degree) => x.root(degree.get()),
+        }
+    }
+}
+
+// A fraction, or the text of a fault.
+fn fraction_answer(alloc: Global, taken: Result<Frac, FracFault>) -> Result<Text, AllocError>
+    ensures { IfOk result (λ text. text ≡ fraction_text taken) }
+{
+    match taken {
+        Ok(x) => print_exact(alloc, &x),
+        Err(fault) => Text::from_bytes(alloc, fault_text(fault)),
+    }
+}
+
+// The length of the longest numeral at the front.
+fn length_answer(alloc: Global, bytes: &[u8]) -> Result<Text, AllocError>
+    ensures { IfOk result (λ text. text ≡ decimal (numeral_len_of bytes.now)) }
+{
+    let length = numeral_len(bytes).to_string(alloc)?;
+    Ok(Text::from(length.into_bytes()))
+}
+
+// The value of a numeral, or the text of a fault.
+fn numeral_answer(alloc: Global, bytes: &[u8]) -> Result<Text, AllocError>
+    ensures { IfOk result (λ text. text ≡ numeral_text (read bytes.now)) }
+{
+    match read_numeral(bytes) {
+        Ok(numeral) => fraction_answer(alloc, numeral.value()),
+        Err(NumeralFault::NotNumeral) => Text::from_bytes(alloc, b"not a numeral"),
+        Err(NumeralFault::TooLong) => Text::from_bytes(alloc, b"too long"),
+    }
+}
+
+// The text of a fault.
+fn fault_text(fault: FracFault) -> &'static [u8]
+    ensures { result.now ≡ fault_text_of fault }
+{
+    match fault {
+        FracFault::Overflow => b"overflow",
+        FracFault::DivisionByZero => b"division by zero",
+        FracFault::NoExactRoot => b"no exact root",
+    }
+}
+
+// How the first of two fractions stands to the second.
+fn order_text(order: Ordering) -> &'static [u8]
+    ensures { result.now ≡ order_text_of order }
+{
+    match order {
+        Ordering::Less => b"less",
+        Ordering::Equal => b"equal",
+        Ordering::Greater => b"greater",
+    }
+}
