@@ -1,0 +1,4 @@
+pub mod FirstLine
+pub mod Joining
+pub mod Listing
+pub mod Trimming

@@ -1,0 +1,19 @@
+-- Blanks at the ends of a text.
+use Rattle.std.specs.Prelude.{◌==◌, ◌||◌, ℕ, List, [], ◌∷◌, Bool, reverse, if◌then◌else◌}
+
+-- a space or a tab
+abbrev pub is_blank : ℕ → Bool
+is_blank b = b == 32 || b == 9
+
+-- a text without the blanks at its front
+abbrev pub after_blanks : List ℕ → List ℕ
+after_blanks [] = []
+after_blanks (b ∷ bytes) = if is_blank b then after_blanks bytes else b ∷ bytes
+
+-- a text without the blanks at its end
+abbrev pub before_blanks : List ℕ → List ℕ
+before_blanks bytes = reverse (after_blanks (reverse bytes))
+
+-- a text without the blanks at both ends
+abbrev pub trimmed : List ℕ → List ℕ
+trimmed bytes = after_blanks (before_blanks bytes)

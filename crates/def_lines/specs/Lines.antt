@@ -1,0 +1,69 @@
+-- The logical lines of a file.
+use Rattle.std.specs.Prelude.{◌==◌, ◌+◌, ℕ, List, [], ◌∷◌, ◌++◌, Bool, false, map, reverse, if◌then◌else◌}
+use Rattle.std.specs.List.{before_first}
+use Rattle.def_lines.specs.declared.line.Line.{Line}
+use Rattle.def_lines.specs.Blanks.{before_blanks, trimmed}
+
+-- a byte at the front of the first of some lines
+abbrev pub onto_line : ℕ → List (List ℕ) → List (List ℕ)
+onto_line b [] = (b ∷ []) ∷ []
+onto_line b (line ∷ lines) = (b ∷ line) ∷ lines
+
+-- the physical lines, each of which ends at a line feed or at the end of the file
+abbrev pub physical_lines : List ℕ → List (List ℕ)
+physical_lines [] = []
+physical_lines (b ∷ bytes) = if b == 10 then [] ∷ physical_lines bytes else onto_line b (physical_lines bytes)
+
+-- the byte is the first one of a text
+abbrev pub begins_with : ℕ → List ℕ → Bool
+begins_with b [] = false
+begins_with b (x ∷ bytes) = x == b
+
+-- all but the first byte
+abbrev pub behind_first : List ℕ → List ℕ
+behind_first [] = []
+behind_first (b ∷ bytes) = bytes
+
+-- the byte is the last one of a text
+abbrev pub ends_with : ℕ → List ℕ → Bool
+ends_with b bytes = begins_with b (reverse bytes)
+
+-- all but the last byte
+abbrev pub front : List ℕ → List ℕ
+front bytes = reverse (behind_first (reverse bytes))
+
+-- what stands before the first such byte, or all where there is none
+abbrev pub before_byte : ℕ → List ℕ → List ℕ
+before_byte b bytes = before_first (λ x. x == b) bytes
+
+-- a physical line without a final carriage return, then without `#` and what follows, then
+-- without trailing blanks
+abbrev pub cleaned : List ℕ → List ℕ
+cleaned line = before_blanks (before_byte 35 (if ends_with 13 line then front line else line))
+
+-- a text at the front of the first of some lines, which takes this number, or alone where there
+-- is none
+abbrev pub joined : ℕ → List ℕ → List Line → List Line
+joined number text [] = record { number = number; text = text } ∷ []
+joined number text (line ∷ lines) = record { number = number; text = text ++ line.text } ∷ lines
+
+-- what is left of a physical line before the lines behind it: where it ends in `\`, that is one
+-- space and the next line is joined
+abbrev pub continued : ℕ → List ℕ → List Line → List Line
+continued number text lines =
+    if ends_with 92 text
+    then joined number (front text ++ 32 ∷ []) lines
+    else record { number = number; text = text } ∷ lines
+
+-- the lines that physical lines make, the first of which has this number
+abbrev pub lines_from : ℕ → List (List ℕ) → List Line
+lines_from number [] = []
+lines_from number (line ∷ lines) = continued number (cleaned line) (lines_from (number + 1) lines)
+
+-- a line with its text trimmed
+abbrev pub trimmed_line : Line → Line
+trimmed_line line = record { number = line.number; text = trimmed line.text }
+
+-- the logical lines of a file, each with the number of its first physical line
+abbrev pub logical_lines : List ℕ → List Line
+logical_lines bytes = map trimmed_line (lines_from 1 (physical_lines bytes))

@@ -1,0 +1,40 @@
+-- The words of a text, which blanks part.
+use Rattle.std.specs.Prelude.{◌&&◌, ℕ, List, [], ◌∷◌, Bool, true, false, not, length, drop, nat_eq}
+use Rattle.std.specs.List.{before_first, list_any, slice_split}
+use Rattle.std.specs.Cmp.Lexicographic.{pointwise}
+use Rattle.def_lines.specs.Blanks.{is_blank, trimmed}
+
+-- those of some texts that have a byte
+abbrev pub nonempty : List (List ℕ) → List (List ℕ)
+nonempty [] = []
+nonempty ([] ∷ texts) = nonempty texts
+nonempty ((b ∷ bytes) ∷ texts) = (b ∷ bytes) ∷ nonempty texts
+
+-- the words: what stands between blanks
+unfoldable pub words_of : List ℕ → List (List ℕ)
+words_of text = nonempty (slice_split is_blank text)
+
+-- what stands before the first blank, or all where there is none
+abbrev pub first_word : List ℕ → List ℕ
+first_word text = before_first is_blank text
+
+-- what stands behind that, trimmed
+abbrev pub behind_word : List ℕ → List ℕ
+behind_word text = trimmed (drop (length (first_word text)) text)
+
+-- a text of no byte
+abbrev pub is_empty : List ℕ → Bool
+is_empty [] = true
+is_empty (b ∷ bytes) = false
+
+-- a word and nothing else
+abbrev pub is_word : List ℕ → Bool
+is_word text = not (is_empty text) && not (list_any is_blank text)
+
+-- two texts have the same bytes
+abbrev pub same_bytes : List ℕ → List ℕ → Bool
+same_bytes left right = pointwise nat_eq left right
+
+-- the value is one of the words of a text
+abbrev pub is_listed : List ℕ → List ℕ → Bool
+is_listed values value = list_any (λ word. same_bytes word value) (words_of values)

@@ -1,0 +1,59 @@
+//! The words of a text, which blanks part.
+
+ghost use Rattle.std.specs.Prelude.{◌≡◌, ◌≤◌, length};
+ghost use Rattle.std.specs.List.{list_any, position_or_len};
+ghost use Rattle.def_lines.specs.Blanks.{is_blank as is_blank_byte};
+ghost use Rattle.def_lines.specs.Words.{behind_word, first_word, is_listed, is_word as is_word_text};
+
+use crate::blanks::{is_blank, trim, trim_front};
+
+/// What stands before the first blank, or all where there is none, and what stands behind that,
+/// trimmed.
+pub fn split_word(text: &[u8]) -> (&[u8], &[u8])
+    ensures word { result.0.now ≡ first_word text.now }
+    ensures behind { result.1.now ≡ behind_word text.now }
+{
+    let (word, behind) = text.split_at(word_len(text));
+    (word, trim(behind))
+}
+
+/// Whether the value is one of the words of a text.
+pub fn listed(values: &[u8], value: &[u8]) -> bool
+    ensures { result ≡ is_listed values.now value.now }
+{
+    let mut rest = trim_front(values);
+    while !rest.is_empty() {
+        let (word, behind) = rest.split_at(word_len(rest));
+        if word == value {
+            return true;
+        }
+        rest = trim_front(behind);
+    }
+    false
+}
+
+// Whether the text is a word and nothing else.
+pub(crate) fn is_word(text: &[u8]) -> bool
+    ensures { result ≡ is_word_text text.now }
+{
+    !text.is_empty() && !has_blank(text)
+}
+
+// Whether a blank is among the bytes.
+fn has_blank(text: &[u8]) -> bool
+    ensures { result ≡ list_any is_blank_byte text.now }
+{
+    text.iter().any(|byte| is_blank(*byte))
+}
+
+// The place of the first blank, or the length where there is none.
+fn word_len(text: &[u8]) -> usize
+    ensures is { result ≡ position_or_len is_blank_byte text.now }
+    ensures within { result ≤ length text.now }
+{
+    let mut len = 0;
+    while len < text.len() && !is_blank(text[len]) {
+        len += 1;
+    }
+    len
+}
