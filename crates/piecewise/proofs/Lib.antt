@@ -1,0 +1,2 @@
+pub mod FirstSegments
+pub mod Neighbours

@@ -1,0 +1,106 @@
+-- Neighbouring points.
+use Rattle.std.proofs.Common.{◌≡◌, ◌+◌, ◌-◌, ◌<◌, ◌≤◌, ◌*ℤ◌, ℕ, pos, suc, zero, List, [], ◌∷◌, length, get_or, drop, arith, refl, sym, ap, ◌∙◌}
+use Rattle.std.specs.Prelude.{◌&&◌, ◌||◌, Bool, true, false, IsTrue, nat_le}
+use Rattle.std.specs.declared.cmp.Ordering.{Ordering}
+use Rattle.std.specs.declared.cmp.Ordering.TheVariants.{Less, Equal, Greater}
+use Rattle.std.specs.Ordering.{is_le, is_lt, ordering_reverse}
+use Rattle.std.proofs.lemmas.List.{drop_more}
+use Rattle.std.proofs.lemmas.Bool.Decides.{nat_tests}
+use Rattle.std.proofs.lemmas.Cmp.{int_cmp_total}
+use Rattle.frac128.specs.Fraction.{Fraction}
+use Rattle.frac128.specs.Order.{compared}
+use Rattle.piecewise.specs.Lines.{Point}
+use Rattle.piecewise.specs.Points.{is_table, rises}
+use Rattle.piecewise.specs.Tables.{are_around, is_from_to}
+
+-- both of two tests
+pub both : (a b : Bool) → IsTrue (a && b) → IsTrue a × IsTrue b
+both true b h = (refl, h)
+both false b h = absurd (cc)
+
+-- p and q stand at the places i - 1 and i
+pub record AreNeighbours (points : List Point) (i : ℕ) (p q : Point) : Type 0 where
+  pub some : 0 < i
+  pub within : i < length points
+  pub left : p ≡ get_or points (i - 1) p
+  pub right : q ≡ get_or points i q
+
+-- the points from the right one on
+pub drop-right : (points : List Point) (i : ℕ) (p q : Point) → AreNeighbours points i p q → drop i points ≡ q ∷ drop (i + 1) points
+drop-right points i p q are = drop_more points i q are.within ∙ ap (λ x. x ∷ drop (i + 1) points) (sym are.right)
+
+-- the points from the left one on
+pub drop-left : (points : List Point) (i : ℕ) (p q : Point) → AreNeighbours points i p q → drop (i - 1) points ≡ p ∷ q ∷ drop (i + 1) points
+drop-left points i p q are =
+    let before : i - 1 < length points = before_within i (length points) are.within in
+    let next : i - 1 + 1 ≡ i = next_is i are.some in
+    drop_more points (i - 1) p before ∙ ap (λ x. x ∷ drop (i - 1 + 1) points) (sym are.left)
+    ∙ ap (λ k. p ∷ drop k points) next ∙ ap (λ xs. p ∷ xs) (drop-right points i p q are)
+  where
+    before_within : (i n : ℕ) → i < n → i - 1 < n
+    before_within i n h = omega arith
+
+    next_is : (i : ℕ) → 0 < i → i - 1 + 1 ≡ i
+    next_is i h = omega arith
+
+-- the points rise from one on where it is less than the next, from which they rise
+pub rises-left : (points : List Point) (i : ℕ) (p q : Point) → AreNeighbours points i p q
+    → rises (drop (i - 1) points) ≡ (is_lt (compared p.0 q.0) && rises (drop i points))
+unfolding rises
+rises-left points i p q are =
+    ap rises (drop-left points i p q are) ∙ sym (ap (λ xs. is_lt (compared p.0 q.0) && rises xs) (drop-right points i p q are))
+
+-- how they stand to each other
+same_order : {points : List Point} {i : ℕ} {p q : Point} → AreNeighbours points i p q → compared p.0 q.0 ≡ compared (get_or points (i - 1) p).0 (get_or points i q).0
+same_order {points} {i} {p} {q} are = ap (λ r. compared r.0 q.0) are.left ∙ ap (λ r. compared (get_or points (i - 1) p).0 r.0) are.right
+
+-- a point that is not less than the next one
+pub rises-stop : (points : List Point) (i : ℕ) (p q : Point) (less : Bool) → AreNeighbours points i p q → less ≡ is_lt (compared (get_or points (i - 1) p).0 (get_or points i q).0)
+    → less ≡ false → rises (drop (i - 1) points) ≡ rises points → false ≡ rises points
+rises-stop points i p q less are less_is none rest =
+    ap (λ b. b && rises (drop i points)) (sym none ∙ less_is ∙ sym (ap is_lt (same_order are))) ∙ sym (rises-left points i p q are) ∙ rest
+
+-- a point that is less
+pub rises-on : (points : List Point) (i : ℕ) (p q : Point) (less : Bool) → AreNeighbours points i p q → less ≡ is_lt (compared (get_or points (i - 1) p).0 (get_or points i q).0)
+    → less ≡ true → rises (drop (i - 1) points) ≡ rises points → rises (drop (i + 1 - 1) points) ≡ rises points
+rises-on points i p q less are less_is some rest =
+    ap (λ k. rises (drop k points)) (back i) ∙ ap (λ b. b && rises (drop i points)) (sym some ∙ less_is ∙ sym (ap is_lt (same_order are)))
+    ∙ sym (rises-left points i p q are) ∙ rest
+  where
+    back : (i : ℕ) → i + 1 - 1 ≡ i
+    back i = omega arith
+
+-- one point rises
+pub rises-last : (points : List Point) (i : ℕ) → length points ≡ i + 1 → rises (drop i points) ≡ true
+unfolding rises
+rises-last [] i h = absurd (omega arith)
+rises-last (p ∷ []) zero h = refl
+rises-last (p ∷ []) (suc i) h = absurd (omega arith)
+rises-last (p ∷ q ∷ points) zero h = absurd (omega arith)
+rises-last (p ∷ q ∷ points) (suc i) h = rises-last (q ∷ points) i (omega arith)
+
+-- an exchange turns the order round
+pub compared-reverse : (a b : Fraction) → compared a b ≡ ordering_reverse (compared b a)
+compared-reverse a b = int_cmp_total.antisymm (a.num *ℤ pos b.den) (b.num *ℤ pos a.den)
+
+-- a number is between two others where they are around it
+pub between-around : (a b y : Fraction) → (is_from_to a b y || is_from_to b a y) ≡ are_around (compared a y) (compared b y)
+between-around a b y = rw (compared-reverse y b, compared-reverse y a) (by_order (compared a y) (compared b y))
+  where
+    by_order : (left right : Ordering) → (is_le left && is_le (ordering_reverse right) || is_le right && is_le (ordering_reverse left)) ≡ are_around left right
+    by_order Less Less = refl
+    by_order Less Equal = refl
+    by_order Less Greater = refl
+    by_order Equal Less = refl
+    by_order Equal Equal = refl
+    by_order Equal Greater = refl
+    by_order Greater Less = refl
+    by_order Greater Equal = refl
+    by_order Greater Greater = refl
+
+-- a table has two points or more
+pub table_many : (points : List Point) → IsTrue (is_table points) → 2 ≤ length points
+table_many points h = least (length points) (both (nat_le 2 (length points)) (nat_le (length points) 1000) (both _ (rises points) h).0).0
+  where
+    least : (n : ℕ) → nat_le 2 n ≡ true → 2 ≤ n
+    least n e = grind (arith, nat_tests)

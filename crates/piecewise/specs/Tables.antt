@@ -1,0 +1,69 @@
+-- Reading a table of points both ways.
+use Rattle.std.specs.Prelude.{◌&&◌, ◌||◌, Bool, true, false, List, [], ◌∷◌, Option, Some, None, Result, Ok, Err, find, if◌then◌else◌}
+use Rattle.std.specs.declared.cmp.Ordering.{Ordering}
+use Rattle.std.specs.declared.cmp.Ordering.TheVariants.{Less, Greater}
+use Rattle.std.specs.Ordering.{is_eq, is_le}
+use Rattle.frac128.specs.declared.fault.FracFault.{FracFault}
+use Rattle.frac128.specs.Fraction.{Fraction}
+use Rattle.frac128.specs.Order.{compared}
+use Rattle.piecewise.specs.Lines.{Point, exchanged, on_line}
+use Rattle.piecewise.specs.declared.fault.TableFault.{TableFault}
+use Rattle.piecewise.specs.declared.fault.TableFault.TheVariants.{OutsideTable, Number}
+
+-- a segment: two neighbouring points
+pub record Segment : Type 0 where
+  pub left : Point
+  pub right : Point
+
+-- the segments of a table, from the left
+abbrev pub segments : List Point → List Segment
+segments (p ∷ q ∷ points) = record { left = p; right = q } ∷ segments (q ∷ points)
+segments _ = []
+
+-- a is from low to high, both included
+abbrev pub is_from_to : Fraction → Fraction → Fraction → Bool
+is_from_to low high a = is_le (compared low a) && is_le (compared a high)
+
+-- x is between the two x of the segment, both included
+abbrev pub holds_x : Fraction → Segment → Bool
+holds_x x s = is_from_to s.left.0 s.right.0 x
+
+-- y is between the two y of the segment, both included, whichever is the greater
+abbrev pub holds_y : Fraction → Segment → Bool
+holds_y y s = is_from_to s.left.1 s.right.1 y || is_from_to s.right.1 s.left.1 y
+
+-- two numbers are on both sides of a third one, or one of them is that one, by how they stand to it
+abbrev pub are_around : Ordering → Ordering → Bool
+are_around Less Less = false
+are_around Greater Greater = false
+are_around _ _ = true
+
+-- the y at x on the segment
+abbrev pub y_on : Fraction → Segment → Result Fraction FracFault
+y_on x s = on_line s.left s.right x
+
+-- the x at y on the segment: that of its left end where the segment is flat
+abbrev pub x_on : Fraction → Segment → Result Fraction FracFault
+x_on y s =
+    if is_eq (compared s.left.1 s.right.1)
+    then Ok s.left.0
+    else on_line (exchanged s.left) (exchanged s.right) y
+
+-- the number, or the fault of the step that has none
+abbrev pub numbered : Result Fraction FracFault → Result Fraction TableFault
+numbered (Ok x) = Ok x
+numbered (Err fault) = Err (Number fault)
+
+-- what the segment gives, or outside where there is no segment
+abbrev pub given_by : (Segment → Result Fraction FracFault) → Option Segment
+    → Result Fraction TableFault
+given_by value None = Err OutsideTable
+given_by value (Some s) = numbered (value s)
+
+-- the y at x: on the first segment that holds x
+unfoldable pub y_at : List Point → Fraction → Result Fraction TableFault
+y_at points x = given_by (y_on x) (find (holds_x x) (segments points))
+
+-- the x at y: on the first segment that holds y
+unfoldable pub x_at : List Point → Fraction → Result Fraction TableFault
+x_at points y = given_by (x_on y) (find (holds_y y) (segments points))

@@ -1,0 +1,153 @@
+//! Tables of points.
+
+ghost use Rattle.std.specs.Prelude.{◌≡◌, ◌<◌, IfOk, All, length};
+ghost use Rattle.std.specs.Bool.{OnTrue};
+ghost use Rattle.std.specs.Ordering.{is_lt};
+ghost use Rattle.frac128.specs.Order.{compared};
+ghost use Rattle.piecewise.specs.Points.{IsMade, rises as rises_of};
+ghost use Rattle.piecewise.specs.Tables.{are_around, numbered, x_at, x_on as x_on_of, y_at, y_on as y_on_of};
+
+use crate::fault::{PointsFault, TableFault};
+use crate::line::on_line;
+use frac128::{Frac, order_law};
+use std::alloc::{AllocError, Global};
+use std::cmp::Ordering;
+use std::marker::Model;
+
+// The fewest and the most points of a table.
+const FEWEST: usize = 2;
+
+const MOST: usize = 1_000;
+
+// An x and its y.
+type Point = (Frac, Frac);
+
+/// From 2 to 1,000 points, each an x and its y, whose x rise strictly.
+#[derive(Debug, Drop)]
+pub struct Points {
+    points: Vec<Point>,
+}
+
+impl Model for Points {
+    ghost use Rattle.std.specs.Prelude.{List};
+    ghost use Rattle.piecewise.specs.Lines.{Point};
+
+    ghost Value = { List Point };
+
+    ghost use Rattle.piecewise.specs.Points.{AreKept};
+
+    ghost view = { λ table. table.points.items };
+
+    ghost invariant = { λ table. AreKept table.points.items };
+}
+
+impl Points {
+    /// The table of these points, each an x and its y. `BadPoints` where there are fewer than 2
+    /// or more than 1,000, or where the x do not rise strictly.
+    pub fn new(alloc: Global, pairs: &[(Frac, Frac)]) -> Result<Points, PointsFault>
+        ensures { IsMade pairs.now result }
+    {
+        if pairs.len() < FEWEST || pairs.len() > MOST || !rises(pairs) {
+            return Err(PointsFault::BadPoints);
+        }
+        Ok(Points {
+            points: Vec::from_slice(alloc, pairs)?,
+        })
+    }
+
+    /// The y at x, on the line of the first segment between neighbours that holds x. `OutsideTable`
+    /// where none does, and `Number` with the fault of the first step that has one.
+    pub fn at(&self, x: &Frac) -> Result<Frac, TableFault>
+        ensures { result ≡ y_at self.now x.now }
+    {
+        order_law();
+        prove!(x.den() > 0);
+        let place = self
+            .points
+            .partition_point(|point| is_less(&point.0, x))
+            .max(1);
+        let left = &self.points[place - 1];
+        if place == self.points.len() || is_less(x, &left.0) {
+            return Err(TableFault::OutsideTable);
+        }
+        y_on(left, &self.points[place], x)
+    }
+
+    /// The x at y, on the line of the first segment between neighbours that holds y, rising or
+    /// falling, or the x of its left end where it is flat. `OutsideTable` where none does, and
+    /// `Number` with the fault of the first step that has one.
+    pub fn back(&self, y: &Frac) -> Result<Frac, TableFault>
+        ensures { result ≡ x_at self.now y.now }
+    {
+        let mut before = self.points[0].1.cmp(y);
+        for i in 1..self.points.len() {
+            let right = &self.points[i];
+            let after = right.1.cmp(y);
+            if encloses(before, after) {
+                return x_on(&self.points[i - 1], right, y);
+            }
+            before = after;
+        }
+        Err(TableFault::OutsideTable)
+    }
+
+    /// An equal table.
+    pub fn copy(&self, alloc: Global) -> Result<Points, AllocError>
+        ensures { IfOk result (λ points. points ≡ self.now) }
+    {
+        Ok(Points {
+            points: Vec::from_slice(alloc, &self.points)?,
+        })
+    }
+}
+
+// Whether each x is less than the next one. The denominators are those of fractions.
+fn rises(points: &[Point]) -> bool
+    requires { 0 < length points.now }
+    ensures value { result ≡ rises_of points.now }
+    ensures denominators { OnTrue result (All (λ p. 0 < p.0.den) points.now) }
+{
+    prove!(points[0].0.den() > 0);
+    for i in 1..points.len() {
+        let (left, right) = (&points[i - 1].0, &points[i].0);
+        prove!(right.den() > 0);
+        if !is_less(left, right) {
+            return false;
+        }
+    }
+    true
+}
+
+// Whether a number is less than another.
+fn is_less(left: &Frac, right: &Frac) -> bool
+    ensures { result ≡ is_lt (compared left.now right.now) }
+{
+    left.cmp(right).is_lt()
+}
+
+// Whether a number is between two others, both included, by how they stand to it.
+fn encloses(left: Ordering, right: Ordering) -> bool
+    ensures { result ≡ are_around left right }
+{
+    !matches!(
+        (left, right),
+        (Ordering::Less, Ordering::Less) | (Ordering::Greater, Ordering::Greater)
+    )
+}
+
+// The y at x on the segment.
+fn y_on(left: &Point, right: &Point, x: &Frac) -> Result<Frac, TableFault>
+    ensures { result ≡ numbered (y_on_of x.now (record { left = left.now; right = right.now })) }
+{
+    on_line(&left.0, &left.1, &right.0, &right.1, x).map_err(TableFault::Number)
+}
+
+// The x at y on the segment, or that of its left end where it is flat.
+fn x_on(left: &Point, right: &Point, y: &Frac) -> Result<Frac, TableFault>
+    ensures { result ≡ numbered (x_on_of y.now (record { left = left.now; right = right.now })) }
+{
+    if left.1.cmp(&right.1).is_eq() {
+        return Ok(left.0);
+    }
+    on_line(&left.1, &left.0, &right.1, &right.0, y).map_err(TableFault::Number)
+}
