@@ -1,0 +1,38 @@
+#!/usr/bin/env bash
+# Times the program of crates/text_calls on long texts of a few kinds, of 4, 8 and 16 MiB: it reads the text, parses it, and
+# writes its tree or its fault. Prints the seconds, the lower of two runs, the greatest memory, and the length of the answer.
+# Build the program first: cd crates/text_calls && rt run < /dev/null
+set -u
+root=$(cd "$(dirname "${BASH_SOURCE[0]}")/.." && pwd)
+program=$root/crates/text_calls/out/text_calls
+folder=$(mktemp -d)
+trap 'rm -rf "$folder"' EXIT
+
+# text PATTERN MEBIBYTES: the pattern over and over, up to so many bytes, as a line of the program.
+text() {
+    python3 -c 'import sys
+pattern, size = sys.argv[1], int(sys.argv[2]) << 20
+print("plain " + (pattern * (size // len(pattern) + 1))[:size - 1] + "1")' "$1" "$2"
+}
+
+for pattern in '1 ' 'a' '(' '1+' '1*' 'm2 ' '1^' ' '; do
+    for size in 4 8 16; do
+        text "$pattern" $size > "$folder/text"
+        python3 - "$program" "$folder/text" "$pattern" $size <<'PYTHON'
+import resource
+import subprocess
+import sys
+import time
+
+program, text, pattern, size = sys.argv[1:]
+best, length = float("inf"), 0
+for _ in range(2):
+    with open(text, "rb") as given:
+        start = time.perf_counter()
+        run = subprocess.run([program], stdin=given, stdout=subprocess.PIPE, check=True)
+        best, length = min(best, time.perf_counter() - start), len(run.stdout)
+memory = resource.getrusage(resource.RUSAGE_CHILDREN).ru_maxrss >> 10
+print(f"{pattern * 3!r:14} {size:2} MiB  {best:6.2f} s  {memory:5} MiB of memory, {length} bytes of answer")
+PYTHON
+    done
+done

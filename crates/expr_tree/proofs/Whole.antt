@@ -1,0 +1,22 @@
+-- A sum that ends where the tokens end is all of them.
+use Rattle.std.proofs.Common.{◌≡◌, ℕ, List, [], ◌∷◌, map, Option, Some, refl, ◌∙◌, ap, true}
+use Rattle.expr_tree.specs.declared.token.Token.{Token as Made}
+use Rattle.expr_tree.specs.Front.{SumAt, tokens_from, stops, after_sum}
+use Rattle.expr_tree.specs.Grammar.{sum}
+use Rattle.expr_tree.specs.Reading.{tree_of}
+use Rattle.expr_tree.specs.Rules.{EndsOperand, fits}
+use Rattle.expr_tree.specs.Seen.{seen}
+use Rattle.expr_tree.specs.Syntax.{Syntax}
+use Rattle.expr_tree.specs.Tokens.{Token, Close}
+use Rattle.expr_tree.proofs.Found.{tree_of_law}
+
+-- no `)` is left where no parenthesis is open
+nothing_left : (y : List Token) → stops after_sum y ≡ true → fits EndsOperand 0 y ≡ true → y ≡ []
+nothing_left [] s f = refl
+nothing_left (Close ∷ y) s f = cc
+nothing_left (t ∷ y) s f = cc
+
+pub whole : (b : Option (List ℕ)) (ts : List Made) (e : Syntax) (end : ℕ) → SumAt b 0 (tokens_from ts 0) e (tokens_from ts end) → tree_of b (map seen ts) ≡ Some e
+whole b ts e end p =
+    let all : tokens_from ts end ≡ [] = nothing_left _ p.stop p.fit in
+    (tree_of_law b (map seen ts) e).1 (p.made, p.is ∙ ap (sum p.made) all, p.says)

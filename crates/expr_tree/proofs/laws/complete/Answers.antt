@@ -1,0 +1,10 @@
+use Rattle.expr_tree.proofs.Derived.{given}
+use Rattle.expr_tree.proofs.Places.{fits_exactly}
+use Rattle.expr_tree.proofs.Spelled.{given_fits}
+use Rattle.expr_tree.proofs.laws.complete.Goals as goal
+
+pub returns : goal.returns
+returns c = λ binder ts. (
+  λ g. (fits_exactly ts).0 (given_fits binder ts g.0 g.1),
+  λ m. given binder ts ((fits_exactly ts).1 m),
+)

@@ -1,0 +1,7 @@
+use Rattle.std.proofs.Common.{refl}
+use Rattle.expr_tree.specs.Reading.{tree_of}
+use Rattle.expr_tree.proofs.laws.examples.Goals as goal
+
+pub returns : goal.returns
+unfolding tree_of
+returns c = (refl, refl, refl, refl, refl, refl, refl, refl, refl, refl, refl)

@@ -1,0 +1,9 @@
+use Rattle.std.proofs.Common.{refl}
+use Rattle.frac128.specs.Numerals.{greatest}
+use Rattle.expr_tree.specs.Faults.{fault_from}
+use Rattle.expr_tree.specs.Lexemes.{lexemes_from, tokens_in}
+use Rattle.expr_tree.proofs.laws.text_examples.Goals as goal
+
+pub returns : goal.returns
+unfolding greatest fault_from lexemes_from tokens_in
+returns c = (refl, refl, refl, refl, refl, refl, refl, refl, refl, refl, refl, refl, refl, refl, refl)

@@ -1,0 +1,50 @@
+-- The first fault of a text.
+use Rattle.std.specs.Prelude.{ℕ, ◌-◌, pos, Bool, nat_lt, if◌then◌else◌}
+use Rattle.std.specs.Prelude.{List, [], ◌∷◌, ◌++◌, length, Option, Some, None}
+use Rattle.expr_tree.specs.declared.fault.ParseFault.{ParseFault}
+use Rattle.expr_tree.specs.declared.fault.ParseFault.TheVariants.{Syntax, NumeralTooLong, NestedTooDeep}
+use Rattle.expr_tree.specs.Lexemes.{Lexeme, Blank, Whole, TooLong, Malformed, Placed, lexemes, token_in}
+use Rattle.expr_tree.specs.Rules.{After, WantsOperand, count_closes, count_deepens, left_by, may, may_end, opened}
+use Rattle.expr_tree.specs.Tokens.{Token, Numeral}
+
+-- the greatest depth of a token
+abbrev pub deepest : ℕ
+deepest = 64
+
+-- how deep a token after these is
+abbrev pub depth_behind : List Token → ℕ
+depth_behind before = count_deepens WantsOperand before - count_closes before
+
+-- whether a numeral may stand, whatever its value
+abbrev pub takes_numeral : After → Bool
+takes_numeral last = may last 0 (Numeral (record { coefficient = 0; scale = pos 0 }))
+
+-- the fault of a lexeme, by what the tokens before it leave, by how many parentheses are open and
+-- by its depth; a numeral that is too long may stand where any numeral may
+abbrev pub fault_at : After → ℕ → ℕ → ℕ → Lexeme → Option ParseFault
+fault_at last opened depth place Blank = None
+fault_at last opened depth place Malformed = Some (Syntax place)
+fault_at last opened depth place TooLong =
+    if takes_numeral last then Some NumeralTooLong else Some (Syntax place)
+fault_at last opened depth place (Whole t) =
+    if may last opened t
+    then (if nat_lt deepest depth then Some NestedTooDeep else None)
+    else Some (Syntax place)
+
+-- the first, or else the second
+abbrev pub or_later : Option ParseFault → Option ParseFault → Option ParseFault
+or_later (Some fault) later = Some fault
+or_later None later = later
+
+-- the first fault of the lexemes that follow some tokens, in a text of this length
+unfoldable pub fault_from : List Token → ℕ → List Placed → Option ParseFault
+fault_from before len [] =
+    if may_end (left_by WantsOperand before) (opened before) then None else Some (Syntax len)
+fault_from before len (x ∷ xs) =
+    or_later
+    (fault_at (left_by WantsOperand before) (opened before) (depth_behind before) x.place x.lexeme)
+    (fault_from (before ++ token_in x.lexeme) len xs)
+
+-- the first fault of a text, if it has one
+abbrev pub first_fault : List ℕ → Option ParseFault
+first_fault text = fault_from [] (length text) (lexemes text)

@@ -1,0 +1,114 @@
+-- What stands at the front of tokens: single tokens, and derivations before the other tokens.
+use Rattle.std.specs.Prelude.{◌≡◌, ℕ, Bool, true, false, List, [], ◌∷◌, drop, map, Option, Some, None}
+use Rattle.frac128.specs.Decimals.{Decimal}
+use Rattle.expr_tree.specs.declared.operator.Scale.{Scale}
+use Rattle.expr_tree.specs.declared.operator.Scale.TheVariants.{Multiply, Divide}
+use Rattle.expr_tree.specs.declared.operator.Sign.{Sign}
+use Rattle.expr_tree.specs.declared.operator.Sign.TheVariants as signs
+use Rattle.expr_tree.specs.declared.token.Token.{Token as Made}
+use Rattle.expr_tree.specs.Grammar.{Sum, sum, sum_tree, product, product_tree, juxtaposition, juxtaposition_tree, power, power_tree, exponent, exponent_tree, atom, atom_tree}
+use Rattle.expr_tree.specs.Rules.{EndsOperand, begins_operand, fits}
+use Rattle.expr_tree.specs.Seen.{seen}
+use Rattle.expr_tree.specs.Syntax.{Syntax}
+use Rattle.expr_tree.specs.Tokens.{Token, Numeral, Plus, Minus, Star, Slash, Bar, Caret, Close}
+
+-- the tokens from a place on
+abbrev pub tokens_from : List Made → ℕ → List Token
+tokens_from ts i = map seen (drop i ts)
+
+-- the sign that stands first
+abbrev pub first_sign : List Token → Option Sign
+first_sign (Plus ∷ ts) = Some signs.Plus
+first_sign (Minus ∷ ts) = Some signs.Minus
+first_sign _ = None
+
+-- the `*` or `/` that stands first
+abbrev pub first_scale : List Token → Option Scale
+first_scale (Star ∷ ts) = Some Multiply
+first_scale (Slash ∷ ts) = Some Divide
+first_scale _ = None
+
+-- a `^` stands first
+abbrev pub first_caret : List Token → Bool
+first_caret (Caret ∷ ts) = true
+first_caret _ = false
+
+-- a token that begins an operand stands first
+abbrev pub begins : List Token → Bool
+begins [] = false
+begins (t ∷ ts) = begins_operand t
+
+-- the numeral after a `|` that stands first
+abbrev pub first_denominator : List Token → Option Decimal
+first_denominator (Bar ∷ Numeral n ∷ ts) = Some n
+first_denominator _ = None
+
+-- the first token, where there is one, is one of those
+abbrev pub stops : (Token → Bool) → List Token → Bool
+stops follow [] = true
+stops follow (t ∷ ts) = follow t
+
+-- what stands after each rule of the grammar
+
+abbrev pub after_sum : Token → Bool
+after_sum Close = true
+after_sum _ = false
+
+abbrev pub after_product : Token → Bool
+after_product Close = true
+after_product Plus = true
+after_product Minus = true
+after_product _ = false
+
+abbrev pub after_juxtaposition : Token → Bool
+after_juxtaposition Close = true
+after_juxtaposition Plus = true
+after_juxtaposition Minus = true
+after_juxtaposition Star = true
+after_juxtaposition Slash = true
+after_juxtaposition _ = false
+
+abbrev pub after_power : Token → Bool
+after_power Caret = false
+after_power Bar = false
+after_power _ = true
+
+abbrev pub after_atom : Token → Bool
+after_atom Bar = false
+after_atom _ = true
+
+-- a derivation of the tree stands before the other tokens, which may stand after an operand inside
+-- so many parentheses
+pub record IsFront {X : Type 0} (spell : X → List Token → List Token) (tree : X → Syntax) (follow : Token → Bool) (opened : ℕ) (ts : List Token) (e : Syntax) (others : List Token) : Type 0 where
+  pub made : X
+  pub is : ts ≡ spell made others
+  pub says : e ≡ tree made
+  pub stop : stops follow others ≡ true
+  pub fit : fits EndsOperand opened others ≡ true
+
+-- the same for each rule of the grammar
+
+abbrev pub SumAt : Option (List ℕ) → ℕ → List Token → Syntax → List Token → Type 0
+SumAt binder = IsFront sum (sum_tree binder) after_sum
+
+abbrev pub ProductAt : Option (List ℕ) → ℕ → List Token → Syntax → List Token → Type 0
+ProductAt binder = IsFront product (product_tree binder) after_product
+
+abbrev pub JuxtapositionAt : Option (List ℕ) → ℕ → List Token → Syntax → List Token → Type 0
+JuxtapositionAt binder = IsFront juxtaposition (juxtaposition_tree binder) after_juxtaposition
+
+abbrev pub PowerAt : Option (List ℕ) → ℕ → List Token → Syntax → List Token → Type 0
+PowerAt binder = IsFront power (power_tree binder) after_power
+
+abbrev pub ExponentAt : Option (List ℕ) → ℕ → List Token → Syntax → List Token → Type 0
+ExponentAt binder = IsFront exponent (exponent_tree binder) after_power
+
+abbrev pub AtomAt : Option (List ℕ) → ℕ → List Token → Syntax → List Token → Type 0
+AtomAt binder = IsFront atom (atom_tree binder) after_atom
+
+-- a sum and its `)` stand before the other tokens
+pub record IsClosed (binder : Option (List ℕ)) (opened : ℕ) (ts : List Token) (e : Syntax) (others : List Token) : Type 0 where
+  pub made : Sum
+  pub is : ts ≡ sum made (Close ∷ others)
+  pub says : e ≡ sum_tree binder made
+  pub fit : fits EndsOperand opened others ≡ true

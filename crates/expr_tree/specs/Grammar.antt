@@ -1,0 +1,203 @@
+-- The grammar: a type for each of its rules, the tokens of each derivation, and its tree.
+use Rattle.std.specs.Prelude.{◌≡◌, ℕ, Bool, false, if◌then◌else◌}
+use Rattle.std.specs.Prelude.{List, [], ◌∷◌, Option, Some, None}
+use Rattle.std.specs.Str.{bytes_eq}
+use Rattle.frac128.specs.Decimals.{Decimal}
+use Rattle.expr_tree.specs.declared.operator.Scale.{Scale}
+use Rattle.expr_tree.specs.declared.operator.Scale.TheVariants.{Multiply, Divide}
+use Rattle.expr_tree.specs.declared.operator.Sign.{Sign}
+use Rattle.expr_tree.specs.declared.operator.Sign.TheVariants as signs
+use Rattle.expr_tree.specs.Syntax.{Syntax, Members, Factors, Terms}
+use Rattle.expr_tree.specs.Syntax as tree
+use Rattle.expr_tree.specs.Tokens.{Token, Numeral, Word, WordWithPower, Head, Root}
+use Rattle.expr_tree.specs.Tokens.{Plus, Minus, Star, Slash, Bar, Caret, Tilde, Open, Close}
+
+mutual
+  -- product { ("+" | "-") product }
+  pub data Sum : Type 0 where
+    SumOf : Product → SumRest → Sum
+
+  pub data SumRest : Type 0 where
+    NoTerm : SumRest
+    NextTerm : Sign → Product → SumRest → SumRest
+
+  -- juxtaposition { ("*" | "/") juxtaposition }
+  pub data Product : Type 0 where
+    ProductOf : Juxtaposition → ProductRest → Product
+
+  pub data ProductRest : Type 0 where
+    NoFactor : ProductRest
+    NextFactor : Scale → Juxtaposition → ProductRest → ProductRest
+
+  -- ("-" | "+") juxtaposition | power { power }
+  pub data Juxtaposition : Type 0 where
+    Signed : Sign → Juxtaposition → Juxtaposition
+    JuxtapositionOf : Power → JuxtapositionRest → Juxtaposition
+
+  pub data JuxtapositionRest : Type 0 where
+    NoPower : JuxtapositionRest
+    NextPower : Power → JuxtapositionRest → JuxtapositionRest
+
+  -- atom [ "^" exponent ]
+  pub data Power : Type 0 where
+    Bare : Atom → Power
+    Raised : Atom → Exponent → Power
+
+  -- ("-" | "+") exponent | power
+  pub data Exponent : Type 0 where
+    SignedExponent : Sign → Exponent → Exponent
+    ExponentOf : Power → Exponent
+
+  pub data Atom : Type 0 where
+    -- numeral
+    NumeralAtom : Decimal → Atom
+    -- numeral "|" numeral
+    BarAtom : Decimal → Decimal → Atom
+    -- word
+    WordAtom : List ℕ → Atom
+    -- word with power
+    PowerAtom : List ℕ → Decimal → Atom
+    -- head sum ")"
+    CallAtom : List ℕ → Sum → Atom
+    -- "~" head sum ")"
+    InverseAtom : List ℕ → Sum → Atom
+    -- ("sqrt" | "cuberoot") "(" sum ")"
+    RootAtom : ℕ → Sum → Atom
+    -- "(" sum ")"
+    GroupAtom : Sum → Atom
+
+abbrev pub sign : Sign → Token
+sign signs.Plus = Plus
+sign signs.Minus = Minus
+
+abbrev pub scale : Scale → Token
+scale Multiply = Star
+scale Divide = Slash
+
+-- the tokens of a derivation, before other tokens
+abbrev mutual
+  pub sum : Sum → List Token → List Token
+  sum (SumOf p ps) others = product p (sum_rest ps others)
+
+  pub sum_rest : SumRest → List Token → List Token
+  sum_rest NoTerm others = others
+  sum_rest (NextTerm s p ps) others = sign s ∷ product p (sum_rest ps others)
+
+  pub product : Product → List Token → List Token
+  product (ProductOf j js) others = juxtaposition j (product_rest js others)
+
+  pub product_rest : ProductRest → List Token → List Token
+  product_rest NoFactor others = others
+  product_rest (NextFactor s j js) others = scale s ∷ juxtaposition j (product_rest js others)
+
+  pub juxtaposition : Juxtaposition → List Token → List Token
+  juxtaposition (Signed s j) others = sign s ∷ juxtaposition j others
+  juxtaposition (JuxtapositionOf p ps) others = power p (juxtaposition_rest ps others)
+
+  pub juxtaposition_rest : JuxtapositionRest → List Token → List Token
+  juxtaposition_rest NoPower others = others
+  juxtaposition_rest (NextPower p ps) others = power p (juxtaposition_rest ps others)
+
+  pub power : Power → List Token → List Token
+  power (Bare a) others = atom a others
+  power (Raised a e) others = atom a (Caret ∷ exponent e others)
+
+  pub exponent : Exponent → List Token → List Token
+  exponent (SignedExponent s e) others = sign s ∷ exponent e others
+  exponent (ExponentOf p) others = power p others
+
+  pub atom : Atom → List Token → List Token
+  atom (NumeralAtom n) others = Numeral n ∷ others
+  atom (BarAtom n d) others = Numeral n ∷ Bar ∷ Numeral d ∷ others
+  atom (WordAtom w) others = Word w ∷ others
+  atom (PowerAtom w n) others = WordWithPower w n ∷ others
+  atom (CallAtom w d) others = Head w ∷ sum d (Close ∷ others)
+  atom (InverseAtom w d) others = Tilde ∷ Head w ∷ sum d (Close ∷ others)
+  atom (RootAtom degree d) others = Root degree ∷ Open ∷ sum d (Close ∷ others)
+  atom (GroupAtom d) others = Open ∷ sum d (Close ∷ others)
+
+-- the word is the binder
+abbrev pub is_binder : Option (List ℕ) → List ℕ → Bool
+is_binder None w = false
+is_binder (Some binder) w = bytes_eq binder w
+
+-- a word, which stands for the argument where it is the binder
+abbrev pub word : Option (List ℕ) → List ℕ → Syntax
+word binder w = if is_binder binder w then tree.Argument else tree.Word w
+
+-- the argument times an operand
+abbrev pub argument_times : Syntax → Syntax
+argument_times e = tree.Group (tree.Juxtaposed (tree.Member tree.Argument (tree.Member e tree.NoMember)))
+
+-- a word before what stands in its parentheses: a product where it is the binder, and else a call
+abbrev pub call : Option (List ℕ) → List ℕ → Syntax → Syntax
+call binder w e = if is_binder binder w then argument_times e else tree.Call w e
+
+abbrev pub signed : Sign → Syntax → Syntax
+signed signs.Plus e = e
+signed signs.Minus e = tree.Negate e
+
+-- a list of one member is that member
+
+abbrev pub summed : Syntax → Terms → Syntax
+summed e tree.NoTerm = e
+summed e ts = tree.Sum (tree.Term signs.Plus e ts)
+
+abbrev pub multiplied : Syntax → Factors → Syntax
+multiplied e tree.NoFactor = e
+multiplied e fs = tree.Product (tree.Factor Multiply e fs)
+
+abbrev pub juxtaposed : Syntax → Members → Syntax
+juxtaposed e tree.NoMember = e
+juxtaposed e es = tree.Juxtaposed (tree.Member e es)
+
+-- the tree of a derivation, with or without a binder
+abbrev mutual
+  pub sum_tree : Option (List ℕ) → Sum → Syntax
+  sum_tree binder (SumOf p ps) = summed (product_tree binder p) (terms binder ps)
+
+  pub terms : Option (List ℕ) → SumRest → Terms
+  terms binder NoTerm = tree.NoTerm
+  terms binder (NextTerm s p ps) = tree.Term s (product_tree binder p) (terms binder ps)
+
+  pub product_tree : Option (List ℕ) → Product → Syntax
+  product_tree binder (ProductOf j js) = multiplied (juxtaposition_tree binder j) (factors binder js)
+
+  pub factors : Option (List ℕ) → ProductRest → Factors
+  factors binder NoFactor = tree.NoFactor
+  factors binder (NextFactor s j js) = tree.Factor s (juxtaposition_tree binder j) (factors binder js)
+
+  pub juxtaposition_tree : Option (List ℕ) → Juxtaposition → Syntax
+  juxtaposition_tree binder (Signed s j) = signed s (juxtaposition_tree binder j)
+  juxtaposition_tree binder (JuxtapositionOf p ps) = juxtaposed (power_tree binder p) (members binder ps)
+
+  pub members : Option (List ℕ) → JuxtapositionRest → Members
+  members binder NoPower = tree.NoMember
+  members binder (NextPower p ps) = tree.Member (power_tree binder p) (members binder ps)
+
+  pub power_tree : Option (List ℕ) → Power → Syntax
+  power_tree binder (Bare a) = atom_tree binder a
+  power_tree binder (Raised a e) = tree.Power (atom_tree binder a) (exponent_tree binder e)
+
+  pub exponent_tree : Option (List ℕ) → Exponent → Syntax
+  exponent_tree binder (SignedExponent s e) = signed s (exponent_tree binder e)
+  exponent_tree binder (ExponentOf p) = power_tree binder p
+
+  pub atom_tree : Option (List ℕ) → Atom → Syntax
+  atom_tree binder (NumeralAtom n) = tree.Number n
+  atom_tree binder (BarAtom n d) = tree.Bar n d
+  atom_tree binder (WordAtom w) = word binder w
+  atom_tree binder (PowerAtom w n) = tree.Power (word binder w) (tree.Number n)
+  atom_tree binder (CallAtom w d) = call binder w (sum_tree binder d)
+  atom_tree binder (InverseAtom w d) = tree.Inverse w (sum_tree binder d)
+  atom_tree binder (RootAtom degree d) = tree.Root degree (sum_tree binder d)
+  atom_tree binder (GroupAtom d) = tree.Group (sum_tree binder d)
+
+-- the tokens give the tree
+abbrev pub Gives : Option (List ℕ) → List Token → Syntax → Type 0
+Gives binder ts e = (d : Sum) × (ts ≡ sum d []) × (e ≡ sum_tree binder d)
+
+-- law: tokens give one tree at most
+abbrev pub OneTreeLaw : Type 0
+OneTreeLaw = (binder : Option (List ℕ)) (ts : List Token) (x y : Syntax)
+    → Gives binder ts x → Gives binder ts y → x ≡ y

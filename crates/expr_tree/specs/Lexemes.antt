@@ -1,0 +1,146 @@
+-- How a text is cut into lexemes.
+use Rattle.std.specs.Prelude.{ℕ, zero, suc, ◌+◌, ◌-◌, pos, Bool, true, false, ◌&&◌, ◌||◌, ◌==◌, if◌then◌else◌, codes}
+use Rattle.std.specs.Prelude.{List, [], ◌∷◌, ◌++◌, length, take, drop, slice_index, Result, Ok, Err}
+use Rattle.std.specs.List.{prefix_len}
+use Rattle.std.specs.Str.{bytes_eq}
+use Rattle.frac128.specs.Decimals.{Decimal, read}
+use Rattle.frac128.specs.Numerals.{is_digit, numeral_len_of}
+use Rattle.frac128.specs.declared.numeral.NumeralFault.{NumeralFault}
+use Rattle.frac128.specs.declared.numeral.NumeralFault.TheVariants as fault
+use Rattle.expr_tree.specs.Names.{base, has_power, is_blank, is_name, is_refused, is_word_byte, last_byte, word_of}
+use Rattle.expr_tree.specs.Tokens.{Token, Numeral, Word, WordWithPower, Head, Root}
+use Rattle.expr_tree.specs.Tokens.{Plus, Minus, Star, Slash, Bar, Caret, Tilde, Open, Close}
+
+pub data Lexeme : Type 0 where
+  Blank : Lexeme
+  Whole : Token → Lexeme
+  -- a numeral past its limits
+  TooLong : Lexeme
+  -- bytes that are no token
+  Malformed : Lexeme
+
+-- a lexeme at the front of a text, and how many bytes it has
+pub record Piece : Type 0 where
+  pub lexeme : Lexeme
+  pub len : ℕ
+
+-- a lexeme, and the place of its first byte
+pub record Placed : Type 0 where
+  pub place : ℕ
+  pub lexeme : Lexeme
+
+abbrev pub piece : Lexeme → ℕ → Piece
+piece x n = record { lexeme = x; len = n }
+
+-- what the bytes of a numeral are
+abbrev pub numeral : Result Decimal NumeralFault → Lexeme
+numeral (Ok x) = Whole (Numeral x)
+numeral (Err fault.TooLong) = TooLong
+numeral (Err fault.NotNumeral) = Malformed
+
+-- the longest numeral; a point with no digit is none
+abbrev pub numeral_piece : List ℕ → Piece
+numeral_piece text =
+    if numeral_len_of text == 0
+    then piece Malformed 1
+    else piece (numeral (read (take (numeral_len_of text) text))) (numeral_len_of text)
+
+-- a digit from 2 to 9 as a numeral
+abbrev pub power_of : List ℕ → Decimal
+power_of word = record { coefficient = last_byte word - 48; scale = pos 0 }
+
+-- a name with one digit from 2 to 9 behind it
+abbrev pub word_with_power : List ℕ → Lexeme
+word_with_power word = if has_power word then Whole (WordWithPower (base word) (power_of word)) else Malformed
+
+-- what a word is that is neither a name nor refused
+abbrev pub other_word : List ℕ → Lexeme
+other_word word =
+    if bytes_eq word (codes "per") then Whole Slash
+    else (if bytes_eq word (codes "sqrt") then Whole (Root 2)
+    else (if bytes_eq word (codes "cuberoot") then Whole (Root 3)
+    else word_with_power word))
+
+-- what a word is, where a `(` follows or not
+abbrev pub word_piece : List ℕ → Bool → Piece
+word_piece word opened =
+    if is_name word || is_refused word
+    then (if opened then piece (Whole (Head word)) (length word + 1) else piece (Whole (Word word)) (length word))
+    else piece (other_word word) (length word)
+
+-- the byte `(` stands at the front
+abbrev pub is_opened : List ℕ → Bool
+is_opened text = slice_index text 0 == 40
+
+-- the word at the front of a text
+abbrev pub word_front : List ℕ → Piece
+word_front text = word_piece (word_of text) (is_opened (drop (prefix_len is_word_byte text) text))
+
+-- a byte that is a token by itself
+abbrev pub mark : ℕ → Lexeme
+mark b =
+    if b == 43 then Whole Plus
+    else (if b == 45 then Whole Minus
+    else (if b == 42 then Whole Star
+    else (if b == 47 then Whole Slash
+    else (if b == 124 then Whole Bar
+    else (if b == 94 then Whole Caret
+    else (if b == 126 then Whole Tilde
+    else (if b == 40 then Whole Open
+    else (if b == 41 then Whole Close
+    else Malformed))))))))
+
+-- two stars are a caret
+abbrev pub mark_piece : List ℕ → Piece
+mark_piece text =
+    if slice_index text 0 == 42 && slice_index text 1 == 42
+    then piece (Whole Caret) 2
+    else piece (mark (slice_index text 0)) 1
+
+-- the byte `.` stands at the front
+abbrev pub is_pointed : List ℕ → Bool
+is_pointed text = slice_index text 0 == 46
+
+-- the lexeme at the front of a text that has a byte; directly after a numeral a point is malformed
+abbrev pub front : Bool → List ℕ → Piece
+front after_numeral text =
+    if is_blank (slice_index text 0) then piece Blank 1
+    else (if after_numeral && is_pointed text then piece Malformed 1
+    else (if is_digit (slice_index text 0) || is_pointed text then numeral_piece text
+    else (if is_word_byte (slice_index text 0) then word_front text
+    else mark_piece text)))
+
+abbrev pub is_numeral_token : Token → Bool
+is_numeral_token (Numeral x) = true
+is_numeral_token _ = false
+
+abbrev pub is_numeral : Lexeme → Bool
+is_numeral (Whole t) = is_numeral_token t
+is_numeral TooLong = true
+is_numeral _ = false
+
+-- the lexemes of a text whose first bytes the lexeme before may still cover
+unfoldable pub lexemes_from : ℕ → Bool → ℕ → List ℕ → List Placed
+lexemes_from covered after_numeral place [] = []
+lexemes_from (suc covered) after_numeral place (b ∷ bs) = lexemes_from covered after_numeral (suc place) bs
+lexemes_from zero after_numeral place (b ∷ bs) =
+    let first : Piece = front after_numeral (b ∷ bs) in
+    record { place = place; lexeme = first.lexeme }
+    ∷ lexemes_from (first.len - 1) (is_numeral first.lexeme) (suc place) bs
+
+-- the lexemes of a text, each with its place
+abbrev pub lexemes : List ℕ → List Placed
+lexemes text = lexemes_from 0 false 0 text
+
+-- the token that a lexeme is, if it is one
+abbrev pub token_in : Lexeme → List Token
+token_in (Whole t) = t ∷ []
+token_in _ = []
+
+unfoldable pub tokens_in : List Placed → List Token
+tokens_in [] = []
+tokens_in (x ∷ xs) = token_in x.lexeme ++ tokens_in xs
+
+-- the tokens of a text
+abbrev pub tokens : List ℕ → List Token
+tokens text = tokens_in (lexemes text)

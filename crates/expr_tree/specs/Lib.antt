@@ -1,0 +1,17 @@
+pub mod Examples
+pub mod Faults
+pub mod Formed
+pub mod Front
+pub mod Grammar
+pub mod Laws
+pub mod Lexemes
+pub mod Names
+pub mod Parsed
+pub mod Reading
+pub mod Rules
+pub mod Seen
+pub mod Syntax
+pub mod TextExamples
+pub mod Tokens
+pub mod Trees
+pub mod Words

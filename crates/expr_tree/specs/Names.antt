@@ -1,0 +1,105 @@
+-- Names, and the words of expressions.
+use Rattle.std.specs.Prelude.{ℕ, ◌-◌, Bool, false, not, ◌&&◌, ◌||◌, ◌==◌, nat_lt, nat_le, codes, nat_eq}
+use Rattle.std.specs.Prelude.{List, [], ◌∷◌, length, take, slice_index}
+use Rattle.std.specs.List.{list_all, list_any, take_while}
+use Rattle.std.specs.Str.{bytes_eq}
+use Rattle.frac128.specs.Numerals.{is_digit}
+
+-- a space or a tab
+abbrev pub is_blank : ℕ → Bool
+is_blank b = b == 32 || b == 9
+
+-- below 32 and no tab, or 127
+abbrev pub is_control : ℕ → Bool
+is_control b = (nat_lt b 32 && not (b == 9)) || b == 127
+
+-- one of the bytes of a text
+abbrev pub is_one_of : List ℕ → ℕ → Bool
+is_one_of bytes b = list_any (nat_eq b) bytes
+
+-- neither a blank, nor a control byte, nor a mark of punctuation
+abbrev pub is_word_byte : ℕ → Bool
+is_word_byte b = not (is_blank b || is_control b || is_one_of (codes "+-*/|^;~#()[]") b)
+
+-- the longest word that the bytes begin with
+abbrev pub word_of : List ℕ → List ℕ
+word_of bytes = take_while is_word_byte bytes
+
+-- the last byte, or 0 where there is none
+abbrev pub last_byte : List ℕ → ℕ
+last_byte bytes = slice_index bytes (length bytes - 1)
+
+-- what a name may begin with
+abbrev pub may_begin : ℕ → Bool
+may_begin b = not (is_digit b || is_one_of (codes "_,.!") b)
+
+-- what a name may end in
+abbrev pub may_end : ℕ → Bool
+may_end b = not (is_one_of (codes "_,.") b)
+
+-- a digit from 1 to 9
+abbrev pub is_count : ℕ → Bool
+is_count b = nat_le 49 b && nat_le b 57
+
+-- a digit, a dot or a comma
+abbrev pub is_index_byte : ℕ → Bool
+is_index_byte b = is_digit b || is_one_of (codes ".,") b
+
+-- some `_` has nothing but digits, dots and commas after it
+abbrev pub has_index : List ℕ → Bool
+has_index [] = false
+has_index (b ∷ bs) = (b == 95 && list_all is_index_byte bs) || has_index bs
+
+-- the words that mean something of their own
+abbrev pub keywords : List (List ℕ)
+keywords = codes "per" ∷ codes "sqrt" ∷ codes "cuberoot" ∷ []
+
+-- the functions that are refused
+abbrev pub refused_names : List (List ℕ)
+refused_names =
+    codes "sin" ∷ codes "cos" ∷ codes "tan" ∷ codes "asin" ∷ codes "acos" ∷ codes "atan"
+    ∷ codes "sinh" ∷ codes "cosh" ∷ codes "tanh" ∷ codes "asinh" ∷ codes "acosh" ∷ codes "atanh"
+    ∷ codes "ln" ∷ codes "log" ∷ codes "log2" ∷ codes "exp" ∷ []
+
+-- the bytes are one of the words
+abbrev pub is_among : List (List ℕ) → List ℕ → Bool
+is_among words bytes = list_any (bytes_eq bytes) words
+
+abbrev pub is_refused : List ℕ → Bool
+is_refused bytes = is_among refused_names bytes
+
+-- the most bytes of a name
+abbrev pub longest_name : ℕ
+longest_name = 255
+
+-- the number of bytes, the bytes, the first and the last are those of a name
+abbrev pub is_spelled : List ℕ → Bool
+is_spelled bytes =
+    nat_lt 0 (length bytes)
+    && nat_le (length bytes) longest_name
+    && may_begin (slice_index bytes 0)
+    && may_end (last_byte bytes)
+    && list_all is_word_byte bytes
+
+-- the last byte is a digit from 1 to 9, and belongs to no index
+abbrev pub ends_in_count : List ℕ → Bool
+ends_in_count bytes = nat_lt 0 (length bytes) && is_count (last_byte bytes) && not (has_index bytes)
+
+abbrev pub is_name : List ℕ → Bool
+is_name bytes =
+    is_spelled bytes
+    && not (ends_in_count bytes)
+    && not (is_among keywords bytes)
+    && not (is_refused bytes)
+
+-- a word without its last byte
+abbrev pub base : List ℕ → List ℕ
+base word = take (length word - 1) word
+
+-- a digit from 2 to 9
+abbrev pub is_power_byte : ℕ → Bool
+is_power_byte b = nat_le 50 b && nat_le b 57
+
+-- a name, followed by one digit from 2 to 9
+abbrev pub has_power : List ℕ → Bool
+has_power word = is_power_byte (last_byte word) && is_name (base word)

@@ -1,0 +1,26 @@
+-- What a text is parsed to.
+use Rattle.std.specs.Prelude.{◌≡◌, ◌↔◌, ℕ, List, length, Option, Some, None, Result, Ok, Err}
+use Rattle.expr_tree.specs.declared.fault.ParseFault.{ParseFault}
+use Rattle.expr_tree.specs.declared.fault.ParseFault.TheVariants as fault
+use Rattle.expr_tree.specs.Faults.{first_fault}
+use Rattle.expr_tree.specs.Grammar.{Gives}
+use Rattle.expr_tree.specs.Lexemes.{tokens}
+use Rattle.expr_tree.specs.Reading.{tree_of}
+use Rattle.expr_tree.specs.Syntax.{Syntax}
+
+-- a fault, or else a tree; a text of this length without a fault has one
+abbrev pub fault_or_tree : ℕ → Option ParseFault → Option Syntax → Result Syntax ParseFault
+fault_or_tree len (Some x) e = Err x
+fault_or_tree len None (Some e) = Ok e
+fault_or_tree len None None = Err (fault.Syntax len)
+
+-- the first fault of the text, or else the tree of its tokens
+unfoldable pub parsed : Option (List ℕ) → List ℕ → Result Syntax ParseFault
+parsed binder text = fault_or_tree (length text) (first_fault text) (tree_of binder (tokens text))
+
+-- law: a text is parsed to a tree exactly where it has no fault and its tokens give that tree, and
+-- to a fault exactly where that is its first one
+abbrev pub ParsedLaw : Type 0
+ParsedLaw = (binder : Option (List ℕ)) (text : List ℕ)
+    → ((e : Syntax) → (parsed binder text ≡ Ok e) ↔ ((first_fault text ≡ None) × Gives binder (tokens text) e))
+    × ((x : ParseFault) → (parsed binder text ≡ Err x) ↔ (first_fault text ≡ Some x))

@@ -1,0 +1,37 @@
+-- The tokens and lexemes that the program makes, as those of the grammar.
+use Rattle.expr_tree.specs.declared.lexeme.Lexeme.{Lexeme as MadeLexeme}
+use Rattle.expr_tree.specs.declared.lexeme.Lexeme.TheVariants as lexeme
+use Rattle.expr_tree.specs.declared.lexeme.Piece.{Piece as MadePiece}
+use Rattle.expr_tree.specs.declared.token.Token.{Token as Made}
+use Rattle.expr_tree.specs.declared.token.Token.TheVariants as made
+use Rattle.expr_tree.specs.Lexemes.{Lexeme, Blank, Whole, TooLong, Malformed, Piece}
+use Rattle.expr_tree.specs.Tokens.{Token, Numeral, Word, WordWithPower, Head, Root}
+use Rattle.expr_tree.specs.Tokens.{Plus, Minus, Star, Slash, Bar, Caret, Tilde, Open, Close}
+
+-- the token, whose words are bytes wherever they lie
+abbrev pub seen : Made → Token
+seen (made.Numeral n) = Numeral n
+seen (made.Word w) = Word w.now
+seen (made.WordWithPower w n) = WordWithPower w.now n
+seen (made.Head w) = Head w.now
+seen (made.Root degree) = Root degree
+seen made.Plus = Plus
+seen made.Minus = Minus
+seen made.Star = Star
+seen made.Slash = Slash
+seen made.Bar = Bar
+seen made.Caret = Caret
+seen made.Tilde = Tilde
+seen made.Open = Open
+seen made.Close = Close
+
+-- the lexeme
+abbrev pub seen_lexeme : MadeLexeme → Lexeme
+seen_lexeme lexeme.Blank = Blank
+seen_lexeme (lexeme.Whole t) = Whole (seen t)
+seen_lexeme lexeme.TooLong = TooLong
+seen_lexeme lexeme.Malformed = Malformed
+
+-- the lexeme at the front of a text
+abbrev pub seen_piece : MadePiece → Piece
+seen_piece p = record { lexeme = seen_lexeme p.lexeme; len = p.len }

@@ -1,0 +1,33 @@
+-- What an expression says: a tree, whatever place it has in memory.
+use Rattle.std.specs.Prelude.{ℕ, List}
+use Rattle.frac128.specs.Decimals.{Decimal}
+use Rattle.expr_tree.specs.declared.operator.Scale.{Scale}
+use Rattle.expr_tree.specs.declared.operator.Sign.{Sign}
+
+mutual
+  pub data Syntax : Type 0 where
+    Number : Decimal → Syntax
+    Bar : Decimal → Decimal → Syntax
+    Word : List ℕ → Syntax
+    Argument : Syntax
+    Call : List ℕ → Syntax → Syntax
+    Inverse : List ℕ → Syntax → Syntax
+    Root : ℕ → Syntax → Syntax
+    Group : Syntax → Syntax
+    Negate : Syntax → Syntax
+    Power : Syntax → Syntax → Syntax
+    Juxtaposed : Members → Syntax
+    Product : Factors → Syntax
+    Sum : Terms → Syntax
+
+  pub data Members : Type 0 where
+    NoMember : Members
+    Member : Syntax → Members → Members
+
+  pub data Factors : Type 0 where
+    NoFactor : Factors
+    Factor : Scale → Syntax → Factors → Factors
+
+  pub data Terms : Type 0 where
+    NoTerm : Terms
+    Term : Sign → Syntax → Terms → Terms

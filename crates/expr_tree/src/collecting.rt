@@ -1,0 +1,93 @@
+//! The words of a tree.
+
+ghost use Rattle.std.specs.Prelude.{◌≡◌, ◌++◌, ◌∷◌, [], IfOk};
+ghost use Rattle.expr_tree.specs.Trees.{factors, factors_of, members, syntax, terms, terms_of, trees_of};
+ghost use Rattle.expr_tree.specs.Words.{words_in, words_in_factors, words_in_members, words_in_terms};
+
+use crate::tree::{Factors, Terms, Tree, Trees};
+use crate::word_list::{WordKind, WordUse, Words};
+use std::alloc::{AllocError, Global};
+use units_io::Text;
+
+/// The words of the tree, from left to right.
+pub fn words(alloc: Global, tree: &Tree) -> Result<Words, AllocError>
+    ensures { IfOk result (λ words. words ≡ words_in (syntax tree.now)) }
+{
+    let mut words = Words::new(alloc);
+    put_words(alloc, &mut words, tree)?;
+    Ok(words)
+}
+
+// Puts the words of a tree at the end.
+#[cycle(put)]
+#[tactic(auto, using(crate::proofs::Says::says))]
+fn put_words(alloc: Global, words: &mut Words, tree: &Tree) -> Result<(), AllocError>
+    ensures { IfOk result (λ _. words.new ≡ words.old ++ words_in (syntax tree.now)) }
+{
+    match tree {
+        Tree::Number(_) | Tree::Bar(_, _) | Tree::Argument => Ok(()),
+        Tree::Word(word) => put_word(alloc, words, word, WordKind::Plain),
+        Tree::Call(word, operand) => {
+            put_word(alloc, words, word, WordKind::Call)?;
+            put_words(alloc, words, operand)
+        }
+        Tree::Inverse(word, operand) => {
+            put_word(alloc, words, word, WordKind::Inverse)?;
+            put_words(alloc, words, operand)
+        }
+        Tree::Root(_, operand) | Tree::Group(operand) | Tree::Negate(operand) => {
+            put_words(alloc, words, operand)
+        }
+        Tree::Power(base, exponent) => {
+            put_words(alloc, words, base)?;
+            put_words(alloc, words, exponent)
+        }
+        Tree::Juxtaposed(members) => put_members(alloc, words, members),
+        Tree::Product(members) => put_factors(alloc, words, members),
+        Tree::Sum(members) => put_terms(alloc, words, members),
+    }
+}
+
+// Puts a word at the end.
+fn put_word(alloc: Global, words: &mut Words, word: &Text, kind: WordKind) -> Result<(), AllocError>
+    ensures { IfOk result (λ _. words.new ≡ words.old ++ record { text = word.now; kind = kind } ∷ []) }
+{
+    let text = word.copy()?;
+    words.push(alloc, WordUse { text, kind })
+}
+
+// Puts the words of trees side by side at the end.
+#[cycle(put)]
+#[tactic(auto, using(crate::proofs::Says::member_words))]
+fn put_members(alloc: Global, words: &mut Words, trees: &Trees) -> Result<(), AllocError>
+    ensures { IfOk result (λ _. words.new ≡ words.old ++ words_in_members (members (trees_of trees.now))) }
+{
+    for tree in &trees.items {
+        put_words(alloc, words, tree)?;
+    }
+    Ok(())
+}
+
+// Puts the words of a product at the end.
+#[cycle(put)]
+#[tactic(auto, using(crate::proofs::Says::factor_words))]
+fn put_factors(alloc: Global, words: &mut Words, members: &Factors) -> Result<(), AllocError>
+    ensures { IfOk result (λ _. words.new ≡ words.old ++ words_in_factors (factors (factors_of members.now))) }
+{
+    for member in &members.items {
+        put_words(alloc, words, &member.1)?;
+    }
+    Ok(())
+}
+
+// Puts the words of a sum at the end.
+#[cycle(put)]
+#[tactic(auto, using(crate::proofs::Says::term_words))]
+fn put_terms(alloc: Global, words: &mut Words, members: &Terms) -> Result<(), AllocError>
+    ensures { IfOk result (λ _. words.new ≡ words.old ++ words_in_terms (terms (terms_of members.now))) }
+{
+    for member in &members.items {
+        put_words(alloc, words, &member.1)?;
+    }
+    Ok(())
+}

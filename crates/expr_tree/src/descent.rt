@@ -1,0 +1,253 @@
+//! Recursive descent over tokens that fit: a function for each rule of the grammar, each of which
+//! gives the tree at a place and the place after it. Calls nest as deep as the tokens are.
+
+ghost use Rattle.std.specs.Prelude.{◌≡◌, ◌+◌, ◌<◌, ◌≤◌, ◌∷◌, true, IfOk, Some, length, map};
+ghost use Rattle.std.specs.Option.{option_copied};
+ghost use Rattle.expr_tree.specs.Front.{AtomAt, ExponentAt, IsClosed, JuxtapositionAt, PowerAt, ProductAt, SumAt, begins, tokens_from};
+ghost use Rattle.expr_tree.specs.Reading.{tree_of};
+ghost use Rattle.expr_tree.specs.Rules.{WantsHead, WantsOperand, fits};
+ghost use Rattle.expr_tree.specs.Seen.{seen};
+ghost use Rattle.expr_tree.specs.Tokens.{Tilde};
+ghost use Rattle.expr_tree.specs.Trees.{syntax};
+
+use crate::ahead::{denominator_at, has_caret, has_operand, scale_at, sign_at};
+use crate::making::{call_tree, inverse_tree, power_tree, signed_tree, word_tree};
+use crate::operator::{Scale, Sign};
+use crate::token::Token;
+use crate::tree::{Factors, Terms, Tree, Trees};
+use std::alloc::{AllocError, Global};
+
+// The tree that the tokens give.
+pub(crate) fn tree_of_tokens(
+    alloc: Global,
+    tokens: &[Token],
+    binder: Option<&[u8]>,
+) -> Result<Tree, AllocError>
+    requires { fits WantsOperand 0 (map seen tokens.now) ≡ true }
+    ensures { IfOk result (λ e. tree_of (option_copied binder.entry) (map seen tokens.now) ≡ Some (syntax e)) }
+{
+    let (tree, _) = sum_at(alloc, tokens, 0, 0, binder)?;
+    Ok(tree)
+}
+
+#[cycle(rules)]
+fn sum_at(
+    alloc: Global,
+    tokens: &[Token],
+    at: usize,
+    opened: usize,
+    binder: Option<&[u8]>,
+) -> Result<(Tree, usize), AllocError>
+    requires deep { opened ≤ at }
+    requires fit { fits WantsOperand opened (tokens_from tokens.now at) ≡ true }
+    ensures { IfOk result (λ r. SumAt (option_copied binder.entry) opened (tokens_from tokens.now at) (syntax r.0) (tokens_from tokens.now r.1) × (at < r.1) × (r.1 ≤ length tokens.now)) }
+{
+    let (first, mut next) = product_at(alloc, tokens, at, opened, binder)?;
+    if sign_at(tokens, next).is_none() {
+        return Ok((first, next));
+    }
+    let mut terms = Terms::new(alloc);
+    terms.push(alloc, (Sign::Plus, first))?;
+    while let Some(sign) = sign_at(tokens, next) {
+        let (member, after) = product_at(alloc, tokens, next + 1, opened, binder)?;
+        terms.push(alloc, (sign, member))?;
+        next = after;
+    }
+    Ok((Tree::Sum(terms), next))
+}
+
+#[cycle(rules)]
+fn product_at(
+    alloc: Global,
+    tokens: &[Token],
+    at: usize,
+    opened: usize,
+    binder: Option<&[u8]>,
+) -> Result<(Tree, usize), AllocError>
+    requires deep { opened ≤ at }
+    requires fit { fits WantsOperand opened (tokens_from tokens.now at) ≡ true }
+    ensures { IfOk result (λ r. ProductAt (option_copied binder.entry) opened (tokens_from tokens.now at) (syntax r.0) (tokens_from tokens.now r.1) × (at < r.1) × (r.1 ≤ length tokens.now)) }
+{
+    let (first, mut next) = juxtaposition_at(alloc, tokens, at, opened, binder)?;
+    if scale_at(tokens, next).is_none() {
+        return Ok((first, next));
+    }
+    let mut factors = Factors::new(alloc);
+    factors.push(alloc, (Scale::Multiply, first))?;
+    while let Some(scale) = scale_at(tokens, next) {
+        let (member, after) = juxtaposition_at(alloc, tokens, next + 1, opened, binder)?;
+        factors.push(alloc, (scale, member))?;
+        next = after;
+    }
+    Ok((Tree::Product(factors), next))
+}
+
+#[cycle(rules)]
+fn juxtaposition_at(
+    alloc: Global,
+    tokens: &[Token],
+    at: usize,
+    opened: usize,
+    binder: Option<&[u8]>,
+) -> Result<(Tree, usize), AllocError>
+    requires deep { opened ≤ at }
+    requires fit { fits WantsOperand opened (tokens_from tokens.now at) ≡ true }
+    ensures { IfOk result (λ r. JuxtapositionAt (option_copied binder.entry) opened (tokens_from tokens.now at) (syntax r.0) (tokens_from tokens.now r.1) × (at < r.1) × (r.1 ≤ length tokens.now)) }
+{
+    match sign_at(tokens, at) {
+        Some(sign) => {
+            let (operand, next) = juxtaposition_at(alloc, tokens, at + 1, opened, binder)?;
+            Ok((signed_tree(alloc, sign, operand)?, next))
+        }
+        None => powers_at(alloc, tokens, at, opened, binder),
+    }
+}
+
+// A juxtaposition without a sign before it.
+#[cycle(rules)]
+fn powers_at(
+    alloc: Global,
+    tokens: &[Token],
+    at: usize,
+    opened: usize,
+    binder: Option<&[u8]>,
+) -> Result<(Tree, usize), AllocError>
+    requires deep { opened ≤ at }
+    requires fit { fits WantsOperand opened (tokens_from tokens.now at) ≡ true }
+    requires begun { begins (tokens_from tokens.now at) ≡ true }
+    ensures { IfOk result (λ r. JuxtapositionAt (option_copied binder.entry) opened (tokens_from tokens.now at) (syntax r.0) (tokens_from tokens.now r.1) × (at < r.1) × (r.1 ≤ length tokens.now)) }
+{
+    let (first, mut next) = power_at(alloc, tokens, at, opened, binder)?;
+    if !has_operand(tokens, next) {
+        return Ok((first, next));
+    }
+    let mut members = Trees::new(alloc);
+    members.push(alloc, first)?;
+    while has_operand(tokens, next) {
+        let (member, after) = power_at(alloc, tokens, next, opened, binder)?;
+        members.push(alloc, member)?;
+        next = after;
+    }
+    Ok((Tree::Juxtaposed(members), next))
+}
+
+#[cycle(rules)]
+fn power_at(
+    alloc: Global,
+    tokens: &[Token],
+    at: usize,
+    opened: usize,
+    binder: Option<&[u8]>,
+) -> Result<(Tree, usize), AllocError>
+    requires deep { opened ≤ at }
+    requires fit { fits WantsOperand opened (tokens_from tokens.now at) ≡ true }
+    requires begun { begins (tokens_from tokens.now at) ≡ true }
+    ensures { IfOk result (λ r. PowerAt (option_copied binder.entry) opened (tokens_from tokens.now at) (syntax r.0) (tokens_from tokens.now r.1) × (at < r.1) × (r.1 ≤ length tokens.now)) }
+{
+    let (base, next) = atom_at(alloc, tokens, at, opened, binder)?;
+    if !has_caret(tokens, next) {
+        return Ok((base, next));
+    }
+    let (exponent, end) = exponent_at(alloc, tokens, next + 1, opened, binder)?;
+    Ok((power_tree(alloc, base, exponent)?, end))
+}
+
+#[cycle(rules)]
+fn exponent_at(
+    alloc: Global,
+    tokens: &[Token],
+    at: usize,
+    opened: usize,
+    binder: Option<&[u8]>,
+) -> Result<(Tree, usize), AllocError>
+    requires deep { opened ≤ at }
+    requires fit { fits WantsOperand opened (tokens_from tokens.now at) ≡ true }
+    ensures { IfOk result (λ r. ExponentAt (option_copied binder.entry) opened (tokens_from tokens.now at) (syntax r.0) (tokens_from tokens.now r.1) × (at < r.1) × (r.1 ≤ length tokens.now)) }
+{
+    match sign_at(tokens, at) {
+        Some(sign) => {
+            let (operand, next) = exponent_at(alloc, tokens, at + 1, opened, binder)?;
+            Ok((signed_tree(alloc, sign, operand)?, next))
+        }
+        None => power_at(alloc, tokens, at, opened, binder),
+    }
+}
+
+#[cycle(rules)]
+fn atom_at(
+    alloc: Global,
+    tokens: &[Token],
+    at: usize,
+    opened: usize,
+    binder: Option<&[u8]>,
+) -> Result<(Tree, usize), AllocError>
+    requires deep { opened ≤ at }
+    requires fit { fits WantsOperand opened (tokens_from tokens.now at) ≡ true }
+    requires begun { begins (tokens_from tokens.now at) ≡ true }
+    ensures { IfOk result (λ r. AtomAt (option_copied binder.entry) opened (tokens_from tokens.now at) (syntax r.0) (tokens_from tokens.now r.1) × (at < r.1) × (r.1 ≤ length tokens.now)) }
+{
+    match tokens[at] {
+        Token::Numeral(n) => match denominator_at(tokens, at + 1) {
+            Some(denominator) => Ok((Tree::Bar(n, denominator), at + 3)),
+            None => Ok((Tree::Number(n), at + 1)),
+        },
+        Token::Word(word) => Ok((word_tree(alloc, word, binder)?, at + 1)),
+        Token::WordWithPower(word, n) => {
+            let base = word_tree(alloc, word, binder)?;
+            Ok((power_tree(alloc, base, Tree::Number(n))?, at + 1))
+        }
+        Token::Head(word) => {
+            let (operand, next) = closed_sum_at(alloc, tokens, at + 1, opened, binder)?;
+            Ok((call_tree(alloc, word, operand, binder)?, next))
+        }
+        Token::Tilde => inverse_at(alloc, tokens, at + 1, opened, binder),
+        Token::Root(degree) => {
+            let (radicand, next) = closed_sum_at(alloc, tokens, at + 2, opened, binder)?;
+            Ok((Tree::Root(degree, Box::new(alloc, radicand)?), next))
+        }
+        Token::Open => {
+            let (sum, next) = closed_sum_at(alloc, tokens, at + 1, opened, binder)?;
+            Ok((Tree::Group(Box::new(alloc, sum)?), next))
+        }
+        _ => unreachable!(),
+    }
+}
+
+// The atom of a `~` and what stands at the place after it.
+#[cycle(rules)]
+fn inverse_at(
+    alloc: Global,
+    tokens: &[Token],
+    at: usize,
+    opened: usize,
+    binder: Option<&[u8]>,
+) -> Result<(Tree, usize), AllocError>
+    requires deep { opened < at }
+    requires fit { fits WantsHead opened (tokens_from tokens.now at) ≡ true }
+    ensures { IfOk result (λ r. AtomAt (option_copied binder.entry) opened (Tilde ∷ tokens_from tokens.now at) (syntax r.0) (tokens_from tokens.now r.1) × (at < r.1) × (r.1 ≤ length tokens.now)) }
+{
+    match tokens[at] {
+        Token::Head(word) => {
+            let (operand, next) = closed_sum_at(alloc, tokens, at + 1, opened, binder)?;
+            Ok((inverse_tree(alloc, word, operand)?, next))
+        }
+        _ => unreachable!(),
+    }
+}
+
+// A sum and the `)` after it.
+#[cycle(rules)]
+fn closed_sum_at(
+    alloc: Global,
+    tokens: &[Token],
+    at: usize,
+    opened: usize,
+    binder: Option<&[u8]>,
+) -> Result<(Tree, usize), AllocError>
+    requires deep { opened < at }
+    requires fit { fits WantsOperand (opened + 1) (tokens_from tokens.now at) ≡ true }
+    ensures { IfOk result (λ r. IsClosed (option_copied binder.entry) opened (tokens_from tokens.now at) (syntax r.0) (tokens_from tokens.now r.1) × (at < r.1) × (r.1 ≤ length tokens.now)) }
+{
+    let (sum, next) = sum_at(alloc, tokens, at, opened + 1, binder)?;
+    Ok((sum, next + 1))
+}

@@ -1,0 +1,46 @@
+//! Laws of the grammar and of the plain rules.
+
+ghost use Rattle.expr_tree.specs.Examples.{ExamplesLaw};
+ghost use Rattle.expr_tree.specs.Formed.{FormedLaw};
+ghost use Rattle.expr_tree.specs.Grammar.{OneTreeLaw};
+ghost use Rattle.expr_tree.specs.Laws.{CompleteLaw};
+ghost use Rattle.expr_tree.specs.Parsed.{ParsedLaw};
+ghost use Rattle.expr_tree.specs.Reading.{TreeOfLaw};
+ghost use Rattle.expr_tree.specs.TextExamples.{TextExamplesLaw};
+
+/// Tokens give one tree at most, with each binder and without one.
+pub fn one_tree()
+    ensures { OneTreeLaw }
+{}
+
+/// Tokens give a tree exactly where each of them may stand and they may end.
+pub fn complete()
+    ensures { CompleteLaw }
+{}
+
+/// The function that reads tokens gives a tree exactly where the grammar gives it.
+pub fn reading()
+    ensures { TreeOfLaw }
+{}
+
+/// A text is parsed to the tree that its tokens give where it has no fault, and else to its first
+/// fault.
+pub fn parsed_law()
+    ensures { ParsedLaw }
+{}
+
+/// A few token lists give the trees that were found by hand.
+pub fn examples()
+    ensures { ExamplesLaw }
+{}
+
+/// A text is parsed to a tree that is well formed: each list in it has a first member, that of a
+/// product multiplies and that of a sum has a plus, and each root is a square root or a cube root.
+pub fn formed_law()
+    ensures { FormedLaw }
+{}
+
+/// A few texts have the tokens and the first faults that were found by hand.
+pub fn text_examples()
+    ensures { TextExamplesLaw }
+{}

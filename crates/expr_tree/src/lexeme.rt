@@ -1,0 +1,216 @@
+//! Lexemes, and the one at the front of a text.
+
+ghost use Rattle.std.specs.Prelude.{◌≡◌, ◌<◌, ◌≤◌, ◌+◌, ◌^◌, if◌then◌else◌, IsTrue, length, slice_index};
+ghost use Rattle.expr_tree.specs.Lexemes.{front, mark as mark_of, mark_piece as mark_piece_of, numeral_piece as numeral_piece_of};
+ghost use Rattle.expr_tree.specs.Lexemes.{is_numeral as is_numeral_lexeme, is_opened as is_opened_of, other_word as other_word_of, word_front};
+ghost use Rattle.expr_tree.specs.Lexemes.{word_piece as word_piece_of, word_with_power as word_with_power_of};
+ghost use Rattle.expr_tree.specs.Names.{is_word_byte as is_of_words};
+ghost use Rattle.expr_tree.specs.Seen.{seen_lexeme, seen_piece};
+
+use crate::name::{has_power, is_blank, is_name, is_refused, is_word_byte, word_len};
+use crate::token::Token;
+use frac128::{NumeralFault, numeral_len, read_numeral};
+
+// A part of a text.
+#[derive(Clone, Copy)]
+pub(crate) enum Lexeme<'a> {
+    // A space or a tab.
+    Blank,
+    // A token.
+    Whole(Token<'a>),
+    // A numeral past its limits.
+    TooLong,
+    // Bytes that are no token.
+    Malformed,
+}
+
+// A lexeme at the front of a text, and how many bytes it has.
+#[derive(Clone, Copy)]
+pub(crate) struct Piece<'a> {
+    pub(crate) lexeme: Lexeme<'a>,
+    pub(crate) len: usize,
+}
+
+impl<'a> Piece<'a> {
+    // The lexeme at the front of a text that has a byte. Directly after a numeral a point is
+    // malformed.
+    pub(crate) fn first(text: &'a [u8], after_numeral: bool) -> Piece<'a>
+        requires { 0 < length text.now }
+        ensures is { seen_piece result ≡ front after_numeral text.now }
+        ensures some { 0 < result.len }
+        ensures within { result.len ≤ length text.now }
+    {
+        let byte = text[0];
+        if is_blank(byte) {
+            return Piece {
+                lexeme: Lexeme::Blank,
+                len: 1,
+            };
+        }
+        if after_numeral && byte == b'.' {
+            return Piece {
+                lexeme: Lexeme::Malformed,
+                len: 1,
+            };
+        }
+        if byte.is_ascii_digit() || byte == b'.' {
+            return numeral_piece(text);
+        }
+        if is_word_byte(byte) {
+            return word_at_front(text);
+        }
+        mark_piece(text)
+    }
+}
+
+impl Lexeme<'_> {
+    // Whether it is a numeral.
+    pub(crate) fn is_numeral(&self) -> bool
+        ensures { result ≡ is_numeral_lexeme (seen_lexeme self.now) }
+    {
+        match self {
+            Lexeme::TooLong => true,
+            Lexeme::Whole(token) => token.is_numeral(),
+            Lexeme::Blank | Lexeme::Malformed => false,
+        }
+    }
+}
+
+// The numeral at the front.
+#[tactic(auto, using(crate::proofs::Lengths::lengths))]
+fn numeral_piece(text: &[u8]) -> Piece<'_>
+    requires { 0 < length text.now }
+    ensures is { seen_piece result ≡ numeral_piece_of text.now }
+    ensures some { 0 < result.len }
+    ensures within { result.len ≤ length text.now }
+{
+    let len = numeral_len(text);
+    if len == 0 {
+        return Piece {
+            lexeme: Lexeme::Malformed,
+            len: 1,
+        };
+    }
+    let lexeme = match read_numeral(&text[..len]) {
+        Ok(numeral) => Lexeme::Whole(Token::Numeral(numeral)),
+        Err(NumeralFault::TooLong) => Lexeme::TooLong,
+        Err(NumeralFault::NotNumeral) => Lexeme::Malformed,
+    };
+    Piece { lexeme, len }
+}
+
+// The word at the front.
+#[tactic(auto, using(crate::proofs::Lengths::lengths))]
+fn word_at_front(text: &[u8]) -> Piece<'_>
+    requires word { IsTrue (is_of_words (slice_index text.now 0)) }
+    requires some { 0 < length text.now }
+    ensures is { seen_piece result ≡ word_front text.now }
+    ensures some { 0 < result.len }
+    ensures within { result.len ≤ length text.now }
+{
+    let (word, rest) = text.split_at(word_len(text));
+    let opened = is_opened(rest);
+    word_piece(word, opened)
+}
+
+// Whether the byte `(` stands at the front.
+fn is_opened(text: &[u8]) -> bool
+    ensures is { result ≡ is_opened_of text.now }
+    ensures some { IsTrue result → 0 < length text.now }
+{
+    !text.is_empty() && text[0] == b'('
+}
+
+// What a word is, where a `(` follows or not.
+fn word_piece(word: &[u8], opened: bool) -> Piece<'_>
+    requires some { 0 < length word.now }
+    requires room { length word.now + (if opened then 1 else 0) < 2 ^ 64 }
+    ensures is { seen_piece result ≡ word_piece_of word.now opened }
+    ensures some { 0 < result.len }
+    ensures within { result.len ≤ length word.now + (if opened then 1 else 0) }
+{
+    if !(is_name(word) || is_refused(word)) {
+        return Piece {
+            lexeme: other_word(word),
+            len: word.len(),
+        };
+    }
+    if opened {
+        return Piece {
+            lexeme: Lexeme::Whole(Token::Head(word)),
+            len: word.len() + 1,
+        };
+    }
+    Piece {
+        lexeme: Lexeme::Whole(Token::Word(word)),
+        len: word.len(),
+    }
+}
+
+// What a word is that is neither a name nor refused.
+fn other_word(word: &[u8]) -> Lexeme<'_>
+    ensures { seen_lexeme result ≡ other_word_of word.now }
+{
+    if word == b"per".as_slice() {
+        return Lexeme::Whole(Token::Slash);
+    }
+    if word == b"sqrt".as_slice() {
+        return Lexeme::Whole(Token::Root(2));
+    }
+    if word == b"cuberoot".as_slice() {
+        return Lexeme::Whole(Token::Root(3));
+    }
+    word_with_power(word)
+}
+
+// A name with one digit from 2 to 9 behind it.
+#[tactic(auto, using(crate::proofs::PowerWords::powers))]
+fn word_with_power(word: &[u8]) -> Lexeme<'_>
+    ensures { seen_lexeme result ≡ word_with_power_of word.now }
+{
+    if !has_power(word) {
+        return Lexeme::Malformed;
+    }
+    let (base, digit) = word.split_at(word.len() - 1);
+    match read_numeral(digit) {
+        Ok(power) => Lexeme::Whole(Token::WordWithPower(base, power)),
+        Err(_) => Lexeme::Malformed,
+    }
+}
+
+// Two stars, or a byte that is a token by itself.
+fn mark_piece(text: &[u8]) -> Piece<'_>
+    requires { 0 < length text.now }
+    ensures is { seen_piece result ≡ mark_piece_of text.now }
+    ensures some { 0 < result.len }
+    ensures within { result.len ≤ length text.now }
+{
+    if text.len() > 1 && text[0] == b'*' && text[1] == b'*' {
+        return Piece {
+            lexeme: Lexeme::Whole(Token::Caret),
+            len: 2,
+        };
+    }
+    Piece {
+        lexeme: mark(text[0]),
+        len: 1,
+    }
+}
+
+// A byte that is a token by itself.
+fn mark(byte: u8) -> Lexeme<'static>
+    ensures { seen_lexeme result ≡ mark_of byte }
+{
+    match byte {
+        b'+' => Lexeme::Whole(Token::Plus),
+        b'-' => Lexeme::Whole(Token::Minus),
+        b'*' => Lexeme::Whole(Token::Star),
+        b'/' => Lexeme::Whole(Token::Slash),
+        b'|' => Lexeme::Whole(Token::Bar),
+        b'^' => Lexeme::Whole(Token::Caret),
+        b'~' => Lexeme::Whole(Token::Tilde),
+        b'(' => Lexeme::Whole(Token::Open),
+        b')' => Lexeme::Whole(Token::Close),
+        _ => Lexeme::Malformed,
+    }
+}

@@ -1,0 +1,32 @@
+//! Expressions: their tokens, their grammar, their trees, and the parser that is proved against it.
+#![tactic(auto)]
+
+mod ahead;
+mod collecting;
+mod copying;
+mod descent;
+mod fault;
+mod laws;
+mod lexeme;
+mod making;
+mod name;
+mod operator;
+mod parse;
+mod rules;
+mod scan;
+mod standing;
+mod token;
+mod tree;
+mod word_list;
+
+pub use collecting::words;
+pub use fault::ParseFault;
+pub use laws::{complete, examples, formed_law, one_tree, parsed_law, reading, text_examples};
+pub use name::{is_name, is_refused};
+pub use operator::{Scale, Sign};
+pub use parse::parse_expr;
+pub use tree::{Factors, Terms, Tree, Trees};
+pub use word_list::{WordKind, WordUse, Words};
+
+#[cfg(test)]
+mod tests;

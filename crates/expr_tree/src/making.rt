@@ -1,0 +1,88 @@
+//! Trees made of their parts.
+
+ghost use Rattle.std.specs.Prelude.{◌≡◌, IfOk};
+ghost use Rattle.std.specs.Option.{option_copied};
+ghost use Rattle.expr_tree.specs.Grammar as grammar;
+ghost use Rattle.expr_tree.specs.Syntax as tree;
+ghost use Rattle.expr_tree.specs.Trees.{syntax};
+
+use crate::operator::Sign;
+use crate::tree::{Tree, Trees};
+use std::alloc::{AllocError, Global};
+use units_io::Text;
+
+// Whether the word is the binder.
+fn is_binder(binder: Option<&[u8]>, word: &[u8]) -> bool
+    ensures { result ≡ grammar.is_binder (option_copied binder.entry) word.now }
+{
+    match binder {
+        Some(binder) => binder == word,
+        None => false,
+    }
+}
+
+// A word, which stands for the argument where it is the binder.
+pub(crate) fn word_tree(
+    alloc: Global,
+    word: &[u8],
+    binder: Option<&[u8]>,
+) -> Result<Tree, AllocError>
+    ensures { IfOk result (λ e. syntax e ≡ grammar.word (option_copied binder.entry) word.now) }
+{
+    if is_binder(binder, word) {
+        return Ok(Tree::Argument);
+    }
+    Ok(Tree::Word(Text::from_bytes(alloc, word)?))
+}
+
+// A word before its operand in parentheses: a product where it is the binder, and else a call.
+pub(crate) fn call_tree(
+    alloc: Global,
+    word: &[u8],
+    operand: Tree,
+    binder: Option<&[u8]>,
+) -> Result<Tree, AllocError>
+    ensures { IfOk result (λ e. syntax e ≡ grammar.call (option_copied binder.entry) word.now (syntax operand)) }
+{
+    if is_binder(binder, word) {
+        return product_with_argument(alloc, operand);
+    }
+    let word = Text::from_bytes(alloc, word)?;
+    Ok(Tree::Call(word, Box::new(alloc, operand)?))
+}
+
+// The argument times the operand.
+fn product_with_argument(alloc: Global, operand: Tree) -> Result<Tree, AllocError>
+    ensures { IfOk result (λ e. syntax e ≡ grammar.argument_times (syntax operand)) }
+{
+    let mut members = Trees::new(alloc);
+    members.push(alloc, Tree::Argument)?;
+    members.push(alloc, operand)?;
+    Ok(Tree::Group(Box::new(alloc, Tree::Juxtaposed(members))?))
+}
+
+// The inverse of a function at its operand.
+pub(crate) fn inverse_tree(alloc: Global, word: &[u8], operand: Tree) -> Result<Tree, AllocError>
+    ensures { IfOk result (λ e. syntax e ≡ tree.Inverse word.now (syntax operand)) }
+{
+    let word = Text::from_bytes(alloc, word)?;
+    Ok(Tree::Inverse(word, Box::new(alloc, operand)?))
+}
+
+// A base and its exponent.
+pub(crate) fn power_tree(alloc: Global, base: Tree, exponent: Tree) -> Result<Tree, AllocError>
+    ensures { IfOk result (λ e. syntax e ≡ tree.Power (syntax base) (syntax exponent)) }
+{
+    let base = Box::new(alloc, base)?;
+    Ok(Tree::Power(base, Box::new(alloc, exponent)?))
+}
+
+// The tree after a sign.
+pub(crate) fn signed_tree(alloc: Global, sign: Sign, operand: Tree) -> Result<Tree, AllocError>
+    ensures { IfOk result (λ e. syntax e ≡ grammar.signed sign (syntax operand)) }
+{
+    match sign {
+        Sign::Plus => Ok(operand),
+        Sign::Minus => Ok(Tree::Negate(Box::new(alloc, operand)?)),
+    }
+}

@@ -1,0 +1,174 @@
+//! Names, and the words of expressions.
+
+ghost use Rattle.std.specs.Prelude.{◌≡◌};
+ghost use Rattle.std.specs.List.{list_all, prefix_len};
+ghost use Rattle.expr_tree.specs.Names.{ends_in_count as ends_in_count_of, has_index as has_index_in, has_power as has_power_of, is_among};
+ghost use Rattle.expr_tree.specs.Names.{is_blank as is_blank_byte, is_count as is_count_byte, is_index_byte as is_index};
+ghost use Rattle.expr_tree.specs.Names.{is_name as is_name_of, is_refused as is_refused_name, is_spelled as is_spelled_name};
+ghost use Rattle.expr_tree.specs.Names.{is_power_byte as is_power, is_word_byte as is_of_words, keywords, may_begin as may_begin_name, may_end as may_end_name};
+
+// The most bytes of a name.
+const LONGEST_NAME: usize = 255;
+
+/// Whether the bytes are a name: 1 to 255 bytes, none of them a blank, a control byte or one of
+/// `+ - * / | ^ ; ~ # ( ) [ ]`. The first is no digit and none of `_ , . !`, the last none of
+/// `_ , .`. Where the last is a digit from 1 to 9, some `_` has only digits, dots and commas
+/// after it. `per`, `sqrt`, `cuberoot` and the refused names are no names.
+pub fn is_name(bytes: &[u8]) -> bool
+    ensures { result ≡ is_name_of bytes.now }
+{
+    is_spelled(bytes) && !ends_in_count(bytes) && !is_keyword(bytes) && !is_refused(bytes)
+}
+
+// Whether the number of bytes, the bytes, the first and the last are those of a name.
+fn is_spelled(bytes: &[u8]) -> bool
+    ensures { result ≡ is_spelled_name bytes.now }
+{
+    !bytes.is_empty()
+        && bytes.len() <= LONGEST_NAME
+        && may_begin(bytes[0])
+        && may_end(bytes[bytes.len() - 1])
+        && has_word_bytes(bytes)
+}
+
+// Whether a word may hold each of the bytes.
+fn has_word_bytes(bytes: &[u8]) -> bool
+    ensures { result ≡ list_all is_of_words bytes.now }
+{
+    bytes.iter().all(|byte| is_word_byte(*byte))
+}
+
+// Whether the last byte is a digit from 1 to 9 that belongs to no index.
+fn ends_in_count(bytes: &[u8]) -> bool
+    ensures { result ≡ ends_in_count_of bytes.now }
+{
+    !bytes.is_empty() && is_count(bytes[bytes.len() - 1]) && !has_index(bytes)
+}
+
+/// Whether the bytes are the name of a function that is refused.
+pub fn is_refused(bytes: &[u8]) -> bool
+    ensures { result ≡ is_refused_name bytes.now }
+{
+    matches!(
+        bytes,
+        b"sin"
+            | b"cos"
+            | b"tan"
+            | b"asin"
+            | b"acos"
+            | b"atan"
+            | b"sinh"
+            | b"cosh"
+            | b"tanh"
+            | b"asinh"
+            | b"acosh"
+            | b"atanh"
+            | b"ln"
+            | b"log"
+            | b"log2"
+            | b"exp"
+    )
+}
+
+// Whether the bytes are a name, followed by one digit from 2 to 9.
+pub(crate) fn has_power(word: &[u8]) -> bool
+    ensures { result ≡ has_power_of word.now }
+{
+    !word.is_empty() && is_power_byte(word[word.len() - 1]) && is_name(&word[..word.len() - 1])
+}
+
+// Whether the byte is a digit from 2 to 9.
+fn is_power_byte(byte: u8) -> bool
+    ensures { result ≡ is_power byte }
+{
+    matches!(byte, b'2'..=b'9')
+}
+
+// Whether the bytes are a word that means something of its own.
+fn is_keyword(bytes: &[u8]) -> bool
+    ensures { result ≡ is_among keywords bytes.now }
+{
+    bytes == b"per".as_slice() || bytes == b"sqrt".as_slice() || bytes == b"cuberoot".as_slice()
+}
+
+// A space or a tab.
+pub(crate) fn is_blank(byte: u8) -> bool
+    ensures { result ≡ is_blank_byte byte }
+{
+    matches!(byte, b' ' | b'\t')
+}
+
+// Whether a word may hold the byte.
+pub(crate) fn is_word_byte(byte: u8) -> bool
+    ensures { result ≡ is_of_words byte }
+{
+    !matches!(
+        byte,
+        0..=32
+            | 127
+            | b'+'
+            | b'-'
+            | b'*'
+            | b'/'
+            | b'|'
+            | b'^'
+            | b';'
+            | b'~'
+            | b'#'
+            | b'('
+            | b')'
+            | b'['
+            | b']'
+    )
+}
+
+// How many bytes the word has that the bytes begin with.
+pub(crate) fn word_len(bytes: &[u8]) -> usize
+    ensures { result ≡ prefix_len is_of_words bytes.now }
+{
+    for (i, &byte) in bytes.iter().enumerate() {
+        if !is_word_byte(byte) {
+            return i;
+        }
+    }
+    bytes.len()
+}
+
+// Whether a name may begin with the byte.
+fn may_begin(byte: u8) -> bool
+    ensures { result ≡ may_begin_name byte }
+{
+    !matches!(byte, b'0'..=b'9' | b'_' | b',' | b'.' | b'!')
+}
+
+// Whether a name may end in the byte.
+fn may_end(byte: u8) -> bool
+    ensures { result ≡ may_end_name byte }
+{
+    !matches!(byte, b'_' | b',' | b'.')
+}
+
+// Whether the byte is a digit from 1 to 9.
+fn is_count(byte: u8) -> bool
+    ensures { result ≡ is_count_byte byte }
+{
+    matches!(byte, b'1'..=b'9')
+}
+
+// Whether the byte is a digit, a dot or a comma.
+fn is_index_byte(byte: u8) -> bool
+    ensures { result ≡ is_index byte }
+{
+    matches!(byte, b'0'..=b'9' | b'.' | b',')
+}
+
+// Whether some `_` has nothing but digits, dots and commas after it.
+fn has_index(bytes: &[u8]) -> bool
+    ensures { result ≡ has_index_in bytes.now }
+{
+    let mut in_index = false;
+    for &byte in bytes {
+        in_index = byte == b'_' || in_index && is_index_byte(byte);
+    }
+    in_index
+}

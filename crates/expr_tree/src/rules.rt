@@ -1,0 +1,146 @@
+//! Which token may stand after which.
+
+ghost use Rattle.std.specs.Prelude.{◌≡◌};
+ghost use Rattle.expr_tree.specs.Rules.{after as after_token, closes as closes_token};
+ghost use Rattle.expr_tree.specs.Rules.{deepens as deepens_token, has_ended as has_ended_at};
+ghost use Rattle.expr_tree.specs.Rules.{may as may_stand, opens as opens_token};
+ghost use Rattle.expr_tree.specs.Faults.{takes_numeral};
+ghost use Rattle.expr_tree.specs.Seen.{seen};
+
+use crate::token::Token;
+
+// What tokens leave to the one after them.
+#[derive(Clone, Copy)]
+pub(crate) enum After {
+    // Nothing, or last an operator, a `(` or a head.
+    WantsOperand,
+    // Last a `~`.
+    WantsHead,
+    // Last a `sqrt` or `cuberoot`.
+    WantsOpen,
+    // Last a `|`.
+    WantsNumeral,
+    // Last a numeral, with no `|` before it.
+    EndsNumeral,
+    // Last another token that ends an operand.
+    EndsOperand,
+}
+
+impl After {
+    // What a token leaves.
+    pub(crate) fn then(self, token: &Token) -> After
+        ensures { result ≡ after_token (seen token.now) self }
+    {
+        match token {
+            Token::Numeral(_) => match self {
+                After::WantsNumeral => After::EndsOperand,
+                _ => After::EndsNumeral,
+            },
+            Token::Word(_) | Token::WordWithPower(_, _) | Token::Close => After::EndsOperand,
+            Token::Tilde => After::WantsHead,
+            Token::Root(_) => After::WantsOpen,
+            Token::Bar => After::WantsNumeral,
+            Token::Head(_)
+            | Token::Plus
+            | Token::Minus
+            | Token::Star
+            | Token::Slash
+            | Token::Caret
+            | Token::Open => After::WantsOperand,
+        }
+    }
+
+    // Whether a token may stand where so many parentheses are open.
+    pub(crate) fn may(self, opened: usize, token: &Token) -> bool
+        ensures { result ≡ may_stand self opened (seen token.now) }
+    {
+        match token {
+            Token::Numeral(_) => !matches!(self, After::WantsHead | After::WantsOpen),
+            Token::Head(_) => !matches!(self, After::WantsOpen | After::WantsNumeral),
+            Token::Open => !matches!(self, After::WantsHead | After::WantsNumeral),
+            Token::Word(_) | Token::WordWithPower(_, _) | Token::Root(_) | Token::Tilde => {
+                matches!(self, After::WantsOperand) || self.has_ended()
+            }
+            Token::Plus | Token::Minus => matches!(self, After::WantsOperand) || self.has_ended(),
+            Token::Star | Token::Slash | Token::Caret => self.has_ended(),
+            Token::Bar => matches!(self, After::EndsNumeral),
+            Token::Close => self.has_ended() && opened > 0,
+        }
+    }
+
+    // Whether a numeral may stand.
+    pub(crate) fn may_take_numeral(self) -> bool
+        ensures { result ≡ takes_numeral self }
+    {
+        !matches!(self, After::WantsHead | After::WantsOpen)
+    }
+
+    // Whether an operand has ended.
+    pub(crate) fn has_ended(self) -> bool
+        ensures { result ≡ has_ended_at self }
+    {
+        matches!(self, After::EndsNumeral | After::EndsOperand)
+    }
+
+    // Whether a token nests what follows it deeper.
+    pub(crate) fn deepens(self, token: &Token) -> bool
+        ensures { result ≡ deepens_token (seen token.now) self }
+    {
+        match token {
+            Token::Caret | Token::Head(_) | Token::Open => true,
+            Token::Plus | Token::Minus => !self.has_ended(),
+            Token::Numeral(_)
+            | Token::Word(_)
+            | Token::WordWithPower(_, _)
+            | Token::Root(_)
+            | Token::Star
+            | Token::Slash
+            | Token::Bar
+            | Token::Tilde
+            | Token::Close => false,
+        }
+    }
+}
+
+// Whether a token opens a parenthesis.
+pub(crate) fn opens(token: &Token) -> bool
+    ensures { result ≡ opens_token (seen token.now) }
+{
+    match token {
+        Token::Head(_) | Token::Open => true,
+        Token::Numeral(_)
+        | Token::Word(_)
+        | Token::WordWithPower(_, _)
+        | Token::Root(_)
+        | Token::Plus
+        | Token::Minus
+        | Token::Star
+        | Token::Slash
+        | Token::Bar
+        | Token::Caret
+        | Token::Tilde
+        | Token::Close => false,
+    }
+}
+
+// Whether a token closes a parenthesis.
+pub(crate) fn closes(token: &Token) -> bool
+    ensures { result ≡ closes_token (seen token.now) }
+{
+    match token {
+        Token::Close => true,
+        Token::Numeral(_)
+        | Token::Word(_)
+        | Token::WordWithPower(_, _)
+        | Token::Head(_)
+        | Token::Root(_)
+        | Token::Plus
+        | Token::Minus
+        | Token::Star
+        | Token::Slash
+        | Token::Bar
+        | Token::Caret
+        | Token::Tilde
+        | Token::Open => false,
+    }
+}

@@ -1,0 +1,46 @@
+//! The tokens of a text, or its first fault.
+
+ghost use Rattle.std.specs.Prelude.{◌≡◌, ◌⊎◌, IfOk, IfErr, None, Some, map, true};
+ghost use Rattle.expr_tree.specs.Faults.{first_fault};
+ghost use Rattle.expr_tree.specs.Lexemes.{tokens as tokens_of};
+ghost use Rattle.expr_tree.specs.Rules.{WantsOperand, fits};
+ghost use Rattle.expr_tree.specs.Seen.{seen};
+
+use crate::fault::ParseFault;
+use crate::lexeme::{Lexeme, Piece};
+use crate::standing::Standing;
+use crate::token::Token;
+use std::alloc::Global;
+
+// The tokens of a text that has no fault, each of which may stand where it stands, or its first
+// fault.
+pub(crate) fn scan(alloc: Global, text: &[u8]) -> Result<Vec<Token<'_>>, ParseFault>
+    ensures tokens { IfOk result (λ tokens. map seen tokens.items ≡ tokens_of text.now) }
+    ensures faultless { IfOk result (λ tokens. first_fault text.now ≡ None) }
+    ensures fits { IfOk result (λ tokens. fits WantsOperand 0 (map seen tokens.items) ≡ true) }
+    ensures fault { IfErr result (λ fault. (fault ≡ ParseFault.OutOfMemory) ⊎ (first_fault text.now ≡ Some fault)) }
+{
+    let mut tokens = Vec::new(alloc);
+    let mut standing = Standing::new();
+    let mut after_numeral = false;
+    let mut at = 0;
+    while at < text.len() {
+        let piece = Piece::first(&text[at..], after_numeral);
+        if let Some(fault) = standing.fault(&piece.lexeme, at) {
+            return Err(fault);
+        }
+        after_numeral = piece.lexeme.is_numeral();
+        at += piece.len;
+        if let Lexeme::Whole(token) = piece.lexeme {
+            standing = standing.then(&token);
+            if tokens.push(token).is_err() {
+                return Err(ParseFault::OutOfMemory);
+            }
+        }
+    }
+    if standing.may_end() {
+        Ok(tokens)
+    } else {
+        Err(ParseFault::Syntax(text.len()))
+    }
+}

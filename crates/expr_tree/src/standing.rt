@@ -1,0 +1,101 @@
+//! What the tokens so far leave to the next one, and its fault where it may not stand.
+
+ghost use Rattle.std.specs.Prelude.{◌≡◌, ◌<◌, ◌^◌};
+ghost use Rattle.expr_tree.specs.Faults.{fault_at};
+ghost use Rattle.expr_tree.specs.Rules.{after, counted as counted_by, depth_after, may_end as may_end_at, opened_after};
+ghost use Rattle.expr_tree.specs.Seen.{seen, seen_lexeme};
+
+use crate::fault::ParseFault;
+use crate::lexeme::Lexeme;
+use crate::rules::{After, closes, opens};
+use crate::token::Token;
+
+// The greatest depth of a token.
+const DEEPEST: usize = 64;
+
+// What the tokens so far leave to the next one, how many parentheses are open, and how deep the
+// next one is.
+#[derive(Clone, Copy)]
+pub(crate) struct Standing {
+    pub(crate) last: After,
+    pub(crate) opened: usize,
+    pub(crate) depth: usize,
+}
+
+impl Standing {
+    // Before the first token.
+    pub(crate) fn new() -> Standing
+        ensures { result ≡ record { last = After.WantsOperand; opened = 0; depth = 0 } }
+    {
+        Standing {
+            last: After::WantsOperand,
+            opened: 0,
+            depth: 0,
+        }
+    }
+
+    // The fault of the lexeme at a place, if it has one there.
+    pub(crate) fn fault(&self, lexeme: &Lexeme, place: usize) -> Option<ParseFault>
+        ensures { result ≡ fault_at self.now.last self.now.opened self.now.depth place (seen_lexeme lexeme.now) }
+    {
+        match lexeme {
+            Lexeme::Blank => None,
+            Lexeme::Malformed => Some(ParseFault::Syntax(place)),
+            Lexeme::TooLong => {
+                if self.last.may_take_numeral() {
+                    Some(ParseFault::NumeralTooLong)
+                } else {
+                    Some(ParseFault::Syntax(place))
+                }
+            }
+            Lexeme::Whole(token) => {
+                if !self.last.may(self.opened, token) {
+                    Some(ParseFault::Syntax(place))
+                } else if self.depth > DEEPEST {
+                    Some(ParseFault::NestedTooDeep)
+                } else {
+                    None
+                }
+            }
+        }
+    }
+
+    // What is left once one more token stands.
+    pub(crate) fn then(&self, token: &Token) -> Standing
+        requires opened { self.now.opened < 2 ^ 32 }
+        requires depth { self.now.depth < 2 ^ 32 }
+        ensures { result ≡ record {
+          last = after (seen token.now) self.now.last;
+          opened = opened_after (seen token.now) self.now.opened;
+          depth = depth_after (seen token.now) self.now.last self.now.depth;
+        } }
+    {
+        let closes = closes(token);
+        Standing {
+            last: self.last.then(token),
+            opened: counted(opens(token), closes, self.opened),
+            depth: counted(self.last.deepens(token), closes, self.depth),
+        }
+    }
+
+    // Whether the tokens may end.
+    pub(crate) fn may_end(&self) -> bool
+        ensures { result ≡ may_end_at self.now.last self.now.opened }
+    {
+        self.last.has_ended() && self.opened == 0
+    }
+}
+
+// One more, one less, or the same.
+fn counted(more: bool, less: bool, n: usize) -> usize
+    requires { n < 2 ^ 32 }
+    ensures { result ≡ counted_by more less n }
+{
+    if more {
+        n + 1
+    } else if less {
+        n.saturating_sub(1)
+    } else {
+        n
+    }
+}

@@ -1,0 +1,50 @@
+//! Tokens of expressions.
+
+ghost use Rattle.std.specs.Prelude.{◌≡◌};
+ghost use Rattle.expr_tree.specs.Lexemes.{is_numeral_token};
+ghost use Rattle.expr_tree.specs.Seen.{seen};
+
+use frac128::Numeral;
+
+// A token, whose words are slices of the text.
+#[derive(Clone, Copy)]
+pub(crate) enum Token<'a> {
+    Numeral(Numeral),
+    Word(&'a [u8]),
+    WordWithPower(&'a [u8], Numeral),
+    Head(&'a [u8]),
+    Root(u32),
+    Plus,
+    Minus,
+    Star,
+    Slash,
+    Bar,
+    Caret,
+    Tilde,
+    Open,
+    Close,
+}
+
+impl Token<'_> {
+    // Whether it is a numeral.
+    pub(crate) fn is_numeral(&self) -> bool
+        ensures { result ≡ is_numeral_token (seen self.now) }
+    {
+        match self {
+            Token::Numeral(_) => true,
+            Token::Word(_)
+            | Token::WordWithPower(_, _)
+            | Token::Head(_)
+            | Token::Root(_)
+            | Token::Plus
+            | Token::Minus
+            | Token::Star
+            | Token::Slash
+            | Token::Bar
+            | Token::Caret
+            | Token::Tilde
+            | Token::Open
+            | Token::Close => false,
+        }
+    }
+}

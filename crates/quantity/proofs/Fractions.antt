@@ -1,0 +1,94 @@
+-- Exponents in lowest terms.
+use Rattle.std.proofs.Common.{◌≡◌, refl, sym, ap, subst, ◌∙◌, arith, ◌<◌, ◌*◌, Bool, true, false, cond, ℕ, ℤ, pos, negsuc, suc, zero, neg_ℤ, ◌+ℤ◌, ◌*ℤ◌, unsigned_abs, Option, Some, None, IsFalse, ◌==◌}
+use Rattle.std.specs.Int.{IsGcd}
+use Rattle.std.specs.Prelude.{unwrap_or}
+use Rattle.std.proofs.lemmas.Bool.Decides.{nat_tests}
+use Rattle.std.proofs.Math.Nat.{dvd_antisymm, dvd_refl, dvd-zero, one-dvd}
+use lib.IntN.{one, *ℤ-one, zero-*ℤ, +ℤ_idl, +ℤ_idr}
+use Rattle.frac128.specs.Fraction.{Fraction, IsReduced, SameValue, negated, whole}
+use Rattle.frac128.specs.Steps.{ReducedLaw, reduced}
+use Rattle.quantity.specs.Exponents.{exponent_product, exponent_sum, is_zero}
+
+abbrev pub nothing : Fraction
+nothing = whole (pos 0)
+
+-- the exponent, where it is not 0
+abbrev pub kept : Fraction → Option Fraction
+kept e = cond (is_zero e) None (Some e)
+
+pub nothing_reduced : IsReduced nothing
+nothing_reduced = record { positive = omega arith; lowest = (dvd-zero 1, dvd_refl 1, λ d p q. q) }
+
+pub whole_reduced : (n : ℤ) → IsReduced (whole n)
+whole_reduced n = record { positive = omega arith; lowest = (one-dvd (unsigned_abs n), dvd_refl 1, λ d p q. q) }
+
+pub abs-neg : (n : ℤ) → unsigned_abs (neg_ℤ n) ≡ unsigned_abs n
+abs-neg (pos zero) = refl
+abs-neg (pos (suc n)) = refl
+abs-neg (negsuc n) = refl
+
+pub negated_reduced : (e : Fraction) → IsReduced e → IsReduced (negated e)
+negated_reduced e is = record { positive = is.positive; lowest = subst (λ n. IsGcd n e.den 1) (sym (abs-neg e.num)) is.lowest }
+
+pub negated_zero : (e : Fraction) → is_zero (negated e) ≡ is_zero e
+negated_zero e = ap (λ n. n == 0) (abs-neg e.num)
+
+-- a reduced fraction that is 0
+pub zero_is : (e : Fraction) → IsReduced e → is_zero e ≡ true → e ≡ nothing
+zero_is e is none = go e.num e.den is.lowest none
+  where
+    den_one : (d : ℕ) → IsGcd 0 d 1 → d ≡ 1
+    den_one d h = dvd_antisymm (h.2 d (dvd-zero d) (dvd_refl d)) (one-dvd d)
+
+    not_zero : (n : ℕ) → (suc n == 0) ≡ true → ⊥
+    not_zero n e = grind (arith, nat_tests)
+
+    go : (n : ℤ) (d : ℕ) → IsGcd (unsigned_abs n) d 1 → (unsigned_abs n == 0) ≡ true → record { num = n; den = d } ≡ nothing
+    go (pos zero) d h e = ap (λ d. record { num = pos 0; den = d }) (den_one d h)
+    go (pos (suc n)) d h e = absurd (not_zero n e)
+    go (negsuc n) d h e = absurd (not_zero n e)
+
+-- the exponent that is looked up is the one that is there
+pub unwrap_kept : (e : Fraction) → IsReduced e → unwrap_or (kept e) nothing ≡ e
+unwrap_kept e is = go (is_zero e) refl
+  where
+    go : (z : Bool) → is_zero e ≡ z → unwrap_or (cond z None (Some e)) nothing ≡ e
+    go true none = sym (zero_is e is none)
+    go false some = refl
+
+pub some_kept : (e : Fraction) → IsFalse (is_zero e) → kept e ≡ Some e
+some_kept e some = ap (λ z. cond z None (Some e)) some
+
+module _ (law : ReducedLaw) where
+  pub sum_reduced : (a b : Fraction) → 0 < a.den → 0 < b.den → IsReduced (exponent_sum a b)
+  sum_reduced a b p q = (law _ (a.den * b.den) (grind (arith))).0
+
+  pub product_reduced : (a b : Fraction) → 0 < a.den → 0 < b.den → IsReduced (exponent_product a b)
+  product_reduced a b p q = (law _ (a.den * b.den) (grind (arith))).0
+
+  -- the sum with an exponent that is absent
+  pub sum_left : (a : Fraction) → IsReduced a → exponent_sum a nothing ≡ a
+  unfolding one
+  sum_left a is =
+      let num : (a.num *ℤ pos 1) +ℤ (pos 0 *ℤ pos a.den) ≡ a.num = ap (λ z. (a.num *ℤ pos 1) +ℤ z) (zero-*ℤ (pos a.den)) ∙ +ℤ_idr _ ∙ *ℤ-one a.num in
+      let den : a.den * 1 ≡ a.den = omega arith in
+      ap (λ z. reduced z (a.den * 1)) num ∙ ap (reduced a.num) den ∙ sym ((law a.num a.den is.positive).2 a is refl)
+
+  pub sum_right : (b : Fraction) → IsReduced b → exponent_sum nothing b ≡ b
+  unfolding one
+  sum_right b is =
+      let num : (pos 0 *ℤ pos b.den) +ℤ (b.num *ℤ pos 1) ≡ b.num = ap (λ z. z +ℤ (b.num *ℤ pos 1)) (zero-*ℤ (pos b.den)) ∙ +ℤ_idl _ ∙ *ℤ-one b.num in
+      let den : 1 * b.den ≡ b.den = omega arith in
+      ap (λ z. reduced z (1 * b.den)) num ∙ ap (reduced b.num) den ∙ sym ((law b.num b.den is.positive).2 b is refl)
+
+  -- a whole number over 1
+  pub whole_is : (n : ℤ) → reduced n 1 ≡ whole n
+  whole_is n = sym ((law n 1 (omega arith)).2 (whole n) (whole_reduced n) refl)
+
+  -- nothing times a fraction
+  pub product_zero : (by : Fraction) → 0 < by.den → exponent_product nothing by ≡ nothing
+  product_zero by some =
+      let num : pos 0 *ℤ by.num ≡ pos 0 = zero-*ℤ by.num in
+      let den : 1 * by.den ≡ by.den = omega arith in
+      let same : SameValue nothing (record { num = pos 0; den = by.den }) = zero-*ℤ (pos by.den) in
+      ap (λ z. reduced z (1 * by.den)) num ∙ ap (reduced (pos 0)) den ∙ sym ((law (pos 0) by.den some).2 nothing nothing_reduced same)

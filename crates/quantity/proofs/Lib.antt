@@ -1,0 +1,12 @@
+pub mod Fractions
+pub mod Listed
+pub mod Lookups
+pub mod Matched
+pub mod Merged
+pub mod MergeSteps
+pub mod Names
+pub mod Rooted
+pub mod Scaled
+pub mod Single
+pub mod Slashes
+pub mod Steps

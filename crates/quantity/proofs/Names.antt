@@ -1,0 +1,68 @@
+-- The byte order of names, and lists of powers in it.
+use Rattle.std.proofs.Common.{◌≡◌, refl, sym, ap, subst, ◌∙◌, Bool, true, false, cond, ◌&&◌, T, ℕ, List, [], ◌∷◌, ◌⊎◌, inl, inr, None, Some}
+use Rattle.std.specs.Cmp.{tied_itself}
+use Rattle.std.specs.Cmp.Lexicographic.{slice_cmp, nat_list_cmp_total}
+use Rattle.std.specs.FinMap.{slice_cmp-IsAntisymmetric, nat_cmp-IsAntisymmetric}
+use Rattle.std.specs.FinMap.Entries.{below_all, find}
+use Rattle.std.specs.Ordering.{nat_cmp, eq_by_cmp, is_eq, is_lt, ordering_reverse}
+use Rattle.std.specs.declared.cmp.Ordering.{Ordering}
+use Rattle.std.specs.declared.cmp.Ordering.TheVariants.{Less, Equal, Greater}
+use Rattle.quantity.specs.Merges.{Powers}
+
+abbrev pub Name : Type 0
+Name = List ℕ
+
+abbrev pub by_bytes : Name → Name → Ordering
+by_bytes = slice_cmp nat_cmp
+
+abbrev pub is_name : Name → Name → Bool
+is_name = eq_by_cmp by_bytes
+
+pub same_name : (x y : Name) → by_bytes x y ≡ Equal → x ≡ y
+same_name = slice_cmp-IsAntisymmetric nat_cmp-IsAntisymmetric
+
+pub is_itself : (x : Name) → is_name x x ≡ true
+is_itself x = ap is_eq (tied_itself nat_list_cmp_total x)
+
+-- two names are one, or the test tells them apart
+pub one_or_two : (x y : Name) → (x ≡ y) ⊎ (is_name x y ≡ false)
+one_or_two x y = elim (by_bytes x y) as (λ r. by_bytes x y ≡ r → (x ≡ y) ⊎ (is_name x y ≡ false)) [
+  | Less ↦ λ e. inr (ap is_eq e)
+  | Equal ↦ λ e. inl (same_name x y e)
+  | Greater ↦ λ e. inr (ap is_eq e)
+] refl
+
+pub both : (a b : Bool) → T a → T b → T (a && b)
+both true b p q = q
+both false b p q = p
+
+pub first : (a b : Bool) → T (a && b) → T a
+first true b p = tt
+first false b p = p
+
+pub second : (a b : Bool) → T (a && b) → T b
+second true b p = p
+second false b p = absurd p
+
+pub less : (r : Ordering) → T (is_lt r) → r ≡ Less
+less Less p = refl
+less Equal p = absurd p
+less Greater p = absurd p
+
+pub is_less : (x y : Name) → by_bytes x y ≡ Less → T (is_lt (by_bytes x y))
+is_less x y e = subst (λ r. T (is_lt r)) (sym e) tt
+
+-- the order turned round
+pub turned : (x y : Name) → by_bytes x y ≡ Greater → by_bytes y x ≡ Less
+turned x y e = nat_list_cmp_total.antisymm y x ∙ ap ordering_reverse e
+
+-- a name below a name that is below all of a list
+pub below_less : (x y : Name) (es : Powers) → by_bytes x y ≡ Less → T (below_all by_bytes y es) → T (below_all by_bytes x es)
+below_less x y [] p h = tt
+below_less x y (e ∷ es) p h =
+    both _ _ (is_less x e.0 (nat_list_cmp_total.trans x y e.0 p (less _ (first _ _ h)))) (below_less x y es p (second _ _ h))
+
+-- no name of a list is one below them all
+pub find_below : (q : Name) (es : Powers) → T (below_all by_bytes q es) → find by_bytes q es ≡ None
+find_below q [] h = refl
+find_below q (e ∷ es) h = ap (λ r. cond (is_eq r) (Some e.1) (find by_bytes q es)) (less _ (first _ _ h)) ∙ find_below q es (second _ _ h)

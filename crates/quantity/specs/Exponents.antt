@@ -1,0 +1,64 @@
+-- Exponents of names: a finite map from the bytes of a name to a reduced fraction other than 0.
+use Rattle.std.specs.Prelude.{◌≡◌, ◌≤◌, ◌==◌, ◌&&◌, ◌++◌, ◌+ℤ◌, ◌*ℤ◌, ◌*◌, ℕ, List, Bool, IsFalse, All, map, not, pos, unsigned_abs, nat_le, unwrap_or}
+use Rattle.std.specs.Cmp.Lexicographic.{slice_cmp}
+use Rattle.std.specs.FinMap as map_of
+use Rattle.std.specs.List.{filter}
+use Rattle.std.specs.Ordering.{nat_cmp}
+use Rattle.frac128.specs.Fraction.{Fraction, IsReduced, negated, whole}
+use Rattle.frac128.specs.Steps.{reduced}
+
+-- a reduced fraction, its numerator in -32,767..32,767 and its denominator at most 60
+pub record IsExponent (e : Fraction) : Type 0 where
+  pub reduced : IsReduced e
+  pub num_fits : unsigned_abs e.num ≤ 32767
+  pub den_fits : e.den ≤ 60
+
+-- a reduced fraction is an exponent
+abbrev pub is_exponent : Fraction → Bool
+is_exponent e = nat_le (unsigned_abs e.num) 32767 && nat_le e.den 60
+
+-- a fraction is 0
+abbrev pub is_zero : Fraction → Bool
+is_zero e = unsigned_abs e.num == 0
+
+-- the exponents of names, in the byte order of the names
+abbrev pub Exponents : Type 0
+Exponents = map_of.FinMap (slice_cmp nat_cmp) Fraction
+
+-- what is known of a name with its exponent in the program
+pub record IsPower (power : List ℕ × Fraction) : Type 0 where
+  pub exponent : IsExponent power.1
+  pub some : IsFalse (is_zero power.1)
+
+-- what is known of all exponents in the program
+abbrev pub AreKept : Exponents → Type 0
+AreKept exponents = All IsPower (map_of.entries exponents)
+
+-- the exponent of a name, 0 where it is absent
+abbrev pub exponent_of : Exponents → List ℕ → Fraction
+exponent_of exponents name = unwrap_or (map_of.get exponents name) (whole (pos 0))
+
+-- the names that one of two maps has
+abbrev pub names_of : Exponents → Exponents → List (List ℕ)
+names_of p o = map_of.keys p ++ map_of.keys o
+
+-- the exponents that f gives these names, but for those that are 0
+unfoldable pub exponents_by : (List ℕ → Fraction) → List (List ℕ) → Exponents
+exponents_by f names = map_of.from_entries (filter (λ power. not (is_zero power.1)) (map (λ name. (name, f name)) names))
+
+-- the sum of two exponents in lowest terms
+abbrev pub exponent_sum : Fraction → Fraction → Fraction
+exponent_sum a b = reduced ((a.num *ℤ pos b.den) +ℤ (b.num *ℤ pos a.den)) (a.den * b.den)
+
+-- the difference of two exponents in lowest terms
+abbrev pub exponent_difference : Fraction → Fraction → Fraction
+exponent_difference a b = exponent_sum a (negated b)
+
+-- an exponent times a fraction, in lowest terms
+abbrev pub exponent_product : Fraction → Fraction → Fraction
+exponent_product e by = reduced (e.num *ℤ by.num) (e.den * by.den)
+
+-- law: maps of the program that give each name one exponent are equal
+abbrev pub SameExponentsLaw : Type 0
+SameExponentsLaw = (p o : Exponents) → AreKept p → AreKept o
+    → ((name : List ℕ) → exponent_of p name ≡ exponent_of o name) → p ≡ o

@@ -1,0 +1,11 @@
+pub mod Amount
+pub mod Answers
+pub mod Degrees
+pub mod Exponents
+pub mod Factors
+pub mod Merges
+pub mod Powers
+pub mod Products
+pub mod Roots
+pub mod Sums
+pub mod Text

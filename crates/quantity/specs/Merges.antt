@@ -1,0 +1,82 @@
+-- Lists of names with exponents, in the byte order of the names.
+use Rattle.std.specs.Prelude.{◌≡◌, ◌++◌, ℕ, List, [], ◌∷◌, All, Bool, IsTrue, IsFalse, T, ⊤, map, Option, Some, None, Result, Ok, Err, if◌then◌else◌}
+use Rattle.std.specs.Cmp.Lexicographic.{slice_cmp}
+use Rattle.std.specs.FinMap as map_of
+use Rattle.std.specs.List.{list_all}
+use Rattle.std.specs.Ordering.{match_ordering, nat_cmp}
+use Rattle.smallvec.specs.SmallVec.{SmallVec}
+use Rattle.frac128.specs.Fraction.{Fraction}
+use Rattle.quantity.specs.Exponents.{Exponents, IsPower, exponent_product, exponent_sum, is_exponent, is_zero}
+use Rattle.quantity.specs.declared.fault.QuantityFault.{QuantityFault}
+use Rattle.quantity.specs.declared.fault.QuantityFault.TheVariants.{ExponentRange, OutOfMemory}
+use Rattle.quantity.specs.declared.merging.First.{First}
+use Rattle.quantity.specs.declared.merging.First.TheVariants.{Neither, Left, Right, Both}
+
+abbrev pub Powers : Type 0
+Powers = List (List ℕ × Fraction)
+
+-- the names strictly rise, and each has an exponent
+pub record AreInOrder (powers : Powers) : Type 0 where
+  pub sorted : T (map_of.is_sorted (slice_cmp nat_cmp) powers)
+  pub kept : All IsPower powers
+
+-- the map of a list in order
+abbrev pub exponents_in : Powers → Exponents
+exponents_in powers = map_of.from_sorted powers
+
+-- the powers of the second list as the step takes them
+abbrev pub taken : (Fraction → Fraction) → List ℕ × Fraction → List ℕ × Fraction
+taken step power = (power.0, step power.1)
+
+-- a power in front of a list, where it is not 0
+abbrev pub put_some : List ℕ × Fraction → Powers → Powers
+put_some power powers = if is_zero power.1 then powers else power ∷ powers
+
+-- a power of the first list and the rest of that list, merged with the second
+abbrev pub merged_into : (Fraction → Fraction) → List ℕ × Fraction → (Powers → Powers) → Powers → Powers
+merged_into step p rest [] = p ∷ rest []
+merged_into step p rest (o ∷ os) =
+    match_ordering (slice_cmp nat_cmp p.0 o.0)
+    (p ∷ rest (o ∷ os))
+    (put_some (p.0, exponent_sum p.1 (step o.1)) (rest os))
+    (taken step o ∷ merged_into step p rest os)
+
+-- two lists in order as one: the exponents of a name that both have are added, and those that
+-- cancel are left out
+abbrev pub merged : (Fraction → Fraction) → Powers → Powers → Powers
+merged step [] os = map (taken step) os
+merged step (p ∷ ps) os = merged_into step p (merged step ps) os
+
+-- a reduced fraction as an exponent, where it is one
+abbrev pub as_exponent : Fraction → Option Fraction
+as_exponent e = if is_exponent e then Some e else None
+
+-- the powers with each exponent multiplied, without those that are 0 then
+abbrev pub scaled : Fraction → Powers → Powers
+scaled by [] = []
+scaled by (p ∷ ps) = put_some (p.0, exponent_product p.1 by) (scaled by ps)
+
+-- where the first name of two lists in order stands
+abbrev pub first_of : Powers → Powers → First
+first_of [] [] = Neither
+first_of (p ∷ ps) [] = Left
+first_of [] (o ∷ os) = Right
+first_of (p ∷ ps) (o ∷ os) = match_ordering (slice_cmp nat_cmp p.0 o.0) Left Both Right
+
+-- each power has an exponent
+abbrev pub are_exponents : Powers → Bool
+are_exponents = list_all (λ power. is_exponent power.1)
+
+-- the list, or the fault that one of its powers has no exponent, or want of memory
+abbrev pub IsListed : Result (SmallVec (List ℕ × Fraction)) QuantityFault → Powers → Type 0
+IsListed (Ok powers) expected = (powers.items ≡ expected) × IsTrue (are_exponents expected)
+IsListed (Err OutOfMemory) expected = ⊤
+IsListed (Err ExponentRange) expected = IsFalse (are_exponents expected)
+IsListed (Err _) expected = ⊥
+
+-- the power at the end where it is not 0, or the fault that it has no exponent, or want of memory
+abbrev pub IsPut : Result (Unit {0}) QuantityFault → Powers → Powers → List ℕ × Fraction → Type 0
+IsPut (Ok _) old new power = (new ≡ old ++ put_some power []) × IsTrue (is_exponent power.1)
+IsPut (Err OutOfMemory) old new power = ⊤
+IsPut (Err ExponentRange) old new power = IsFalse (is_exponent power.1)
+IsPut (Err _) old new power = ⊥

@@ -1,0 +1,32 @@
+-- Powers of quantities.
+use Rattle.std.specs.Prelude.{ℤ, not, Result, Ok, Err, if◌then◌else◌}
+use Rattle.std.specs.FinMap as map_of
+use Rattle.frac128.specs.Fraction.{Fraction}
+use Rattle.frac128.specs.Powers.{power}
+use Rattle.frac128.specs.declared.fault.FracFault.{FracFault}
+use Rattle.quantity.specs.Amount.{Amount, is_number}
+use Rattle.quantity.specs.Answers.{joined, ranged}
+use Rattle.quantity.specs.Degrees.{is_degree}
+use Rattle.quantity.specs.Exponents.{Exponents, exponent_of, exponent_product}
+use Rattle.quantity.specs.Roots.{root_of}
+use Rattle.quantity.specs.declared.fault.QuantityFault.{QuantityFault}
+use Rattle.quantity.specs.declared.fault.QuantityFault.TheVariants.{ExponentNotNumber, ExponentRange}
+
+-- the power of a root that there is
+abbrev pub power_of_root : Result Fraction FracFault → ℤ → Result Fraction FracFault
+power_of_root (Ok root) k = power root k
+power_of_root (Err fault) k = Err fault
+
+-- x to the power p/q: the power p of the root q
+abbrev pub powered : Fraction → Fraction → Result Fraction FracFault
+powered x by = power_of_root (root_of x by.den) by.num
+
+-- the product of each exponent and a fraction
+unfoldable pub power_exponents : Exponents → Fraction → Result Exponents QuantityFault
+power_exponents p by = ranged (λ name. exponent_product (exponent_of p name) by) (map_of.keys p)
+
+abbrev pub power_of : Amount → Amount → Result Amount QuantityFault
+power_of x by =
+    if not (is_number by) then Err ExponentNotNumber
+    else (if not (is_degree by.value) then Err ExponentRange
+    else joined (powered x.value by.value) (power_exponents x.exponents by.value))

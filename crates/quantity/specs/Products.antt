@@ -1,0 +1,28 @@
+-- Products and quotients of quantities.
+use Rattle.std.specs.Prelude.{◌≡◌, ℕ, List, Result, Ok}
+use Rattle.frac128.specs.Steps.{over, times}
+use Rattle.quantity.specs.Amount.{Amount}
+use Rattle.quantity.specs.Answers.{joined, ranged}
+use Rattle.quantity.specs.Exponents.{AreKept, Exponents, exponent_difference, exponent_of, exponent_sum, names_of}
+use Rattle.quantity.specs.declared.fault.QuantityFault.{QuantityFault}
+
+-- the sum of the two exponents of each name
+unfoldable pub product_exponents : Exponents → Exponents → Result Exponents QuantityFault
+product_exponents p o = ranged (λ name. exponent_sum (exponent_of p name) (exponent_of o name)) (names_of p o)
+
+-- the difference of the two exponents of each name
+unfoldable pub quotient_exponents : Exponents → Exponents → Result Exponents QuantityFault
+quotient_exponents p o = ranged (λ name. exponent_difference (exponent_of p name) (exponent_of o name)) (names_of p o)
+
+abbrev pub product_of : Amount → Amount → Result Amount QuantityFault
+product_of x y = joined (times x.value y.value) (product_exponents x.exponents y.exponents)
+
+abbrev pub quotient_of : Amount → Amount → Result Amount QuantityFault
+quotient_of x y = joined (over x.value y.value) (quotient_exponents x.exponents y.exponents)
+
+-- law: each exponent of a product is the sum of the two, and of a quotient the difference, also
+-- where it is 0
+abbrev pub ProductLaw : Type 0
+ProductLaw = (p o r : Exponents) → AreKept p → AreKept o
+    → (product_exponents p o ≡ Ok r → (name : List ℕ) → exponent_of r name ≡ exponent_sum (exponent_of p name) (exponent_of o name))
+    × (quotient_exponents p o ≡ Ok r → (name : List ℕ) → exponent_of r name ≡ exponent_difference (exponent_of p name) (exponent_of o name))

@@ -1,0 +1,62 @@
+-- The reduced text of a quantity.
+use Rattle.std.specs.Prelude.{◌==◌, ◌++◌, ◌≤◌, ℕ, List, [], ◌∷◌, Bool, ⊤, pos, unsigned_abs, int_lt, if◌then◌else◌, codes}
+use Rattle.std.specs.FinMap as map_of
+use Rattle.std.specs.Fmt.{decimal}
+use Rattle.std.specs.List.{filter, flat_map}
+use Rattle.frac128.specs.Fraction.{Fraction}
+use Rattle.digits_print.specs.Digits.{digits_text}
+use Rattle.digits_print.specs.Exact.{exact_text}
+use Rattle.quantity.specs.Amount.{Amount}
+use Rattle.quantity.specs.Exponents.{Exponents}
+use Rattle.quantity.specs.declared.show.Style.{Style}
+use Rattle.quantity.specs.declared.show.Style.TheVariants.{Digits, Exact}
+use Rattle.quantity.specs.declared.text.Side.{Side}
+use Rattle.quantity.specs.declared.text.Side.TheVariants.{Above, Below}
+
+-- the digits of a style are from 1 to 36
+abbrev pub IsPrintable : Style → Type 0
+IsPrintable (Digits n) = (1 ≤ n) × (n ≤ 36)
+IsPrintable Exact = ⊤
+
+-- a number by its style
+abbrev pub number_text : Style → Fraction → List ℕ
+number_text (Digits n) x = digits_text x n
+number_text Exact x = exact_text x
+
+-- the exponent n/d behind its name: none for 1, else `^n`, or `^n|d` where d is above 1
+abbrev pub exponent_text : ℕ → ℕ → List ℕ
+exponent_text n d =
+    if d == 1
+    then (if n == 1 then [] else codes "^" ++ decimal n)
+    else codes "^" ++ decimal n ++ codes "|" ++ decimal d
+
+-- a space, the name and the magnitude of its exponent
+abbrev pub power_text : List ℕ × Fraction → List ℕ
+power_text e = codes " " ++ e.0 ++ exponent_text (unsigned_abs e.1.num) e.1.den
+
+abbrev pub is_positive : List ℕ × Fraction → Bool
+is_positive e = int_lt (pos 0) e.1.num
+
+abbrev pub is_negative : List ℕ × Fraction → Bool
+is_negative e = int_lt e.1.num (pos 0)
+
+-- the powers on one side of the slash
+abbrev pub sided : Side → List ℕ × Fraction → Bool
+sided Above e = is_positive e
+sided Below e = is_negative e
+
+-- the names behind the slash, where there are any
+abbrev pub divisor_text : List (List ℕ × Fraction) → List ℕ
+divisor_text [] = []
+divisor_text (e ∷ es) = codes " /" ++ flat_map power_text (e ∷ es)
+
+-- the names with positive exponents in order and, behind a slash, those with negative ones
+abbrev pub listed_text : List (List ℕ × Fraction) → List ℕ
+listed_text powers = flat_map power_text (filter is_positive powers) ++ divisor_text (filter is_negative powers)
+
+abbrev pub powers_text : Exponents → List ℕ
+powers_text exponents = listed_text (map_of.entries exponents)
+
+-- the number and its names, in byte order
+abbrev pub shown : Style → Amount → List ℕ
+shown style x = number_text style x.value ++ powers_text x.exponents

@@ -1,0 +1,27 @@
+//! Whether two quantities conform.
+
+ghost use Rattle.std.specs.Prelude.{◌≡◌, ◌↔◌, List, ℕ, IsTrue};
+ghost use Rattle.frac128.specs.Fraction.{negated};
+ghost use Rattle.quantity.specs.Amount.{are_reciprocal, conform};
+ghost use Rattle.quantity.specs.Exponents.{exponent_of};
+
+use crate::quantity::Quantity;
+
+impl Quantity {
+    /// Whether the exponents are equal.
+    pub fn conforms(&self, other: &Quantity) -> bool
+        ensures value { result ≡ conform self.now.exponents other.now.exponents }
+        ensures equal { IsTrue result ↔ (self.now.exponents ≡ other.now.exponents) }
+    {
+        self.powers.conform(&other.powers)
+    }
+
+    /// Whether each exponent is the negative of the other's.
+    pub fn is_reciprocal(&self, other: &Quantity) -> bool
+        ensures value { result ≡ are_reciprocal self.now.exponents other.now.exponents }
+        ensures opposite { IsTrue result ↔ ((name : List ℕ)
+            → exponent_of self.now.exponents name ≡ negated (exponent_of other.now.exponents name)) }
+    {
+        self.powers.are_reciprocal(&other.powers)
+    }
+}

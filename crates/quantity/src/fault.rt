@@ -1,0 +1,53 @@
+//! Why a step on quantities has no answer.
+
+use crate::quantity::Quantity;
+use frac128::FracFault;
+use std::alloc::{AllocError, AllocFailed};
+
+/// Why a step on quantities has no answer.
+#[derive(Drop)]
+pub enum QuantityFault {
+    /// The step on the numbers has no answer.
+    Number(FracFault),
+    /// A sum or difference of two quantities with different exponents: both of them.
+    NotConformable(Quantity, Quantity),
+    /// The exponent of a power has exponents of its own.
+    ExponentNotNumber,
+    /// An exponent is out of range.
+    ExponentRange,
+    /// Want of memory.
+    OutOfMemory,
+}
+
+impl From<FracFault> for QuantityFault {
+    ghost use Rattle.std.specs.Prelude.{◌≡◌};
+    ghost use Rattle.quantity.specs.declared.fault.QuantityFault.TheVariants.{Number};
+
+    ghost from_gives = { λ number fault. fault ≡ Number number };
+
+    fn from(fault: FracFault) -> QuantityFault {
+        QuantityFault::Number(fault)
+    }
+}
+
+impl From<AllocError> for QuantityFault {
+    ghost use Rattle.std.specs.Prelude.{◌≡◌};
+    ghost use Rattle.quantity.specs.declared.fault.QuantityFault.TheVariants.{OutOfMemory};
+
+    ghost from_gives = { λ _ fault. fault ≡ OutOfMemory };
+
+    fn from(_error: AllocError) -> QuantityFault {
+        QuantityFault::OutOfMemory
+    }
+}
+
+impl<T: Drop> From<AllocFailed<T>> for QuantityFault {
+    ghost use Rattle.std.specs.Prelude.{◌≡◌};
+    ghost use Rattle.quantity.specs.declared.fault.QuantityFault.TheVariants.{OutOfMemory};
+
+    ghost from_gives = { λ _ fault. fault ≡ OutOfMemory };
+
+    fn from(_failed: AllocFailed<T>) -> QuantityFault {
+        QuantityFault::OutOfMemory
+    }
+}

@@ -1,0 +1,29 @@
+//! Quantities: a fraction with the exponents of the primitive names that it is measured in.
+#![tactic(auto)]
+
+mod conforming;
+mod degree;
+mod exponent;
+mod factor;
+mod fault;
+mod laws;
+mod matching;
+mod merging;
+mod power;
+mod powers;
+mod product;
+mod quantity;
+mod raising;
+mod roots;
+mod scaling;
+mod show;
+mod sum;
+#[cfg(test)]
+mod tests;
+mod text;
+
+pub use exponent::Exponent;
+pub use fault::QuantityFault;
+pub use laws::{product_law, root_of_law, same_exponents_law};
+pub use quantity::Quantity;
+pub use show::Style;

@@ -1,0 +1,73 @@
+//! A name with its exponent.
+
+ghost use Rattle.std.specs.Prelude.{◌≡◌, pos, IfOk};
+ghost use Rattle.frac128.specs.Fraction.{whole};
+
+use crate::exponent::Exponent;
+use std::alloc::{AllocError, Global};
+use std::default::MadeWith;
+use std::marker::Model;
+use units_io::Text;
+
+/// A name with its exponent, which contracts see as a pair.
+#[derive(Clone, Drop)]
+pub(crate) struct Power {
+    name: Text,
+    exponent: Exponent,
+}
+
+impl Model for Power {
+    ghost use Rattle.std.specs.Prelude.{List, ℕ};
+    ghost use Rattle.frac128.specs.Fraction.{Fraction};
+    ghost use Rattle.quantity.specs.Amount.{power_code};
+
+    ghost Value = { List ℕ × Fraction };
+
+    ghost coded = { power_code };
+
+    ghost view = { λ p. (p.name, p.exponent) };
+}
+
+// A small vector fills its unused places with this.
+impl MadeWith<Global> for Power {
+    fn made_with(alloc: Global) -> Power {
+        Power {
+            name: Text::from(Vec::new(alloc)),
+            exponent: Exponent::zero(),
+        }
+    }
+}
+
+impl Power {
+    pub(crate) fn name(&self) -> &[u8]
+        ensures { result.now ≡ self.now.0 }
+    {
+        self.name.as_bytes()
+    }
+
+    pub(crate) fn exponent(&self) -> Exponent
+        ensures { result ≡ self.now.1 }
+    {
+        self.exponent
+    }
+
+    // A copy of the name with this exponent.
+    pub(crate) fn with(&self, exponent: Exponent) -> Result<Power, AllocError>
+        ensures { IfOk result (λ power. power ≡ (self.now.0, exponent)) }
+    {
+        Ok(Power {
+            name: self.name.copy()?,
+            exponent,
+        })
+    }
+
+    // The name with the exponent 1.
+    pub(crate) fn of(alloc: Global, name: &[u8]) -> Result<Power, AllocError>
+        ensures { IfOk result (λ power. power ≡ (name.now, whole (pos 1))) }
+    {
+        Ok(Power {
+            name: Text::from_bytes(alloc, name)?,
+            exponent: Exponent::one(),
+        })
+    }
+}

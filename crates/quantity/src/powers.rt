@@ -1,0 +1,141 @@
+//! The exponents of a quantity, in the byte order of their names.
+
+ghost use Rattle.std.specs.Prelude.{◌≡◌, ◌==◌, ◌++◌, ◌↔◌, ℕ, List, pos, IfOk, IsTrue, OnOk};
+ghost use Rattle.std.specs.FinMap as map;
+ghost use Rattle.frac128.specs.Fraction.{negated, whole};
+ghost use Rattle.quantity.specs.Amount.{are_reciprocal, conform};
+ghost use Rattle.quantity.specs.Answers.{IsAnswer};
+ghost use Rattle.quantity.specs.Exponents.{AreKept, exponent_of};
+ghost use Rattle.quantity.specs.Factors.{exponents_with};
+ghost use Rattle.quantity.specs.Powers.{power_exponents};
+ghost use Rattle.quantity.specs.Text.{powers_text};
+
+use crate::degree::Degree;
+use crate::exponent::Exponent;
+use crate::factor::Factor;
+use crate::fault::QuantityFault;
+use crate::matching::{exponent_in, same_powers};
+use crate::merging::merge;
+use crate::power::Power;
+use crate::scaling::scale;
+use crate::text::put_powers;
+use frac128::reduced_law;
+use smallvec::SmallVec;
+use std::alloc::{AllocError, Global};
+use std::marker::Model;
+
+/// Names with exponents other than 0, the first four of them in the value itself.
+#[derive(Drop)]
+pub(crate) struct Powers {
+    items: SmallVec<Power, 4>,
+}
+
+impl Model for Powers {
+    ghost use Rattle.quantity.specs.Amount.{exponents_code};
+    ghost use Rattle.quantity.specs.Exponents.{Exponents};
+    ghost use Rattle.quantity.specs.Merges.{AreInOrder, exponents_in};
+
+    ghost Value = { Exponents };
+
+    ghost coded = { exponents_code };
+
+    ghost view = { λ powers. exponents_in powers.items.items };
+
+    ghost invariant = { λ powers. AreInOrder powers.items.items };
+}
+
+impl Powers {
+    pub(crate) fn new(alloc: Global) -> Powers
+        ensures { result ≡ map.empty }
+    {
+        Powers {
+            items: SmallVec::new(alloc),
+        }
+    }
+
+    // The exponent 1 of one name.
+    pub(crate) fn one(alloc: Global, name: &[u8]) -> Result<Powers, AllocError>
+        ensures { IfOk result (λ powers. powers ≡ map.insert map.empty name.now (whole (pos 1))) }
+    {
+        let mut items = SmallVec::new(alloc);
+        items.push(Power::of(alloc, name)?)?;
+        Ok(Powers { items })
+    }
+
+    // An equal map.
+    pub(crate) fn copy(&self) -> Result<Powers, AllocError>
+        ensures { IfOk result (λ powers. powers ≡ self.now) }
+    {
+        Ok(Powers {
+            items: self.items.clone()?,
+        })
+    }
+
+    pub(crate) fn is_empty(&self) -> bool
+        ensures { result ≡ (map.len self.now == 0) }
+    {
+        self.items.is_empty()
+    }
+
+    // The exponent of a name, 0 where it is absent.
+    pub(crate) fn exponent(&self, name: &[u8]) -> Exponent
+        ensures value { result ≡ exponent_of self.now name.now }
+        ensures kept { AreKept self.now }
+    {
+        exponent_in(self.items.as_slice(), name)
+    }
+
+    // Whether two maps are equal.
+    pub(crate) fn conform(&self, other: &Powers) -> bool
+        ensures value { result ≡ conform self.now other.now }
+        ensures equal { IsTrue result ↔ (self.now ≡ other.now) }
+    {
+        same_powers(self.items.as_slice(), other.items.as_slice(), Factor::Plain)
+    }
+
+    // Whether each exponent is the negative of the other's.
+    pub(crate) fn are_reciprocal(&self, other: &Powers) -> bool
+        ensures value { result ≡ are_reciprocal self.now other.now }
+        ensures opposite { IsTrue result ↔ ((name : List ℕ)
+            → exponent_of self.now name ≡ negated (exponent_of other.now name)) }
+    {
+        same_powers(
+            self.items.as_slice(),
+            other.items.as_slice(),
+            Factor::Inverse,
+        )
+    }
+
+    // The exponents of the product with a factor.
+    pub(crate) fn product(
+        &self,
+        alloc: Global,
+        other: &Powers,
+        factor: Factor,
+    ) -> Result<Powers, QuantityFault>
+        ensures { IsAnswer result (exponents_with factor self.now other.now) }
+    {
+        reduced_law();
+        let items = merge(alloc, self.items.as_slice(), other.items.as_slice(), factor)?;
+        Ok(Powers { items })
+    }
+
+    // The exponents of a power.
+    pub(crate) fn raised(&self, alloc: Global, degree: &Degree) -> Result<Powers, QuantityFault>
+        ensures { IsAnswer result (power_exponents self.now degree.now) }
+    {
+        reduced_law();
+        // Its denominator is above 0.
+        degree.den();
+        let items = scale(alloc, self.items.as_slice(), degree)?;
+        Ok(Powers { items })
+    }
+
+    // Puts the names behind a text: those with positive exponents and, behind a slash, those with
+    // negative ones.
+    pub(crate) fn put_text(&self, alloc: Global, text: &mut Vec<u8>) -> Result<(), AllocError>
+        ensures { OnOk result (text.new.items ≡ text.old.items ++ powers_text self.now) }
+    {
+        put_powers(alloc, text, self.items.as_slice())
+    }
+}

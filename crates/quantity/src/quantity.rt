@@ -1,0 +1,109 @@
+//! Numbers with the exponents of names.
+
+ghost use Rattle.std.specs.Prelude.{◌≡◌, ◌∷◌, [], pos, IfOk};
+ghost use Rattle.std.specs.FinMap as map;
+ghost use Rattle.frac128.specs.Fraction.{negated, whole};
+ghost use Rattle.quantity.specs.Amount.{is_number as is_number_of};
+ghost use Rattle.quantity.specs.Exponents.{AreKept, exponent_of};
+
+use crate::exponent::Exponent;
+use crate::powers::Powers;
+use frac128::Frac;
+use std::alloc::{AllocError, Global};
+use std::marker::Model;
+
+/// A fraction with the exponents of primitive names. Contracts see the fraction and a finite map
+/// from the bytes of a name to its exponent, none of which is 0.
+#[derive(Drop)]
+pub struct Quantity {
+    pub(crate) value: Frac,
+    pub(crate) powers: Powers,
+}
+
+impl Model for Quantity {
+    ghost use Rattle.quantity.specs.Amount.{Amount, amount_code};
+
+    ghost Value = { Amount };
+
+    ghost coded = { amount_code };
+
+    ghost view = { λ q. record { value = q.value; exponents = q.powers } };
+}
+
+impl Quantity {
+    /// A number without exponents.
+    pub fn number(alloc: Global, x: Frac) -> Quantity
+        ensures { result ≡ record { value = x; exponents = map.empty } }
+    {
+        Quantity {
+            value: x,
+            powers: Powers::new(alloc),
+        }
+    }
+
+    /// One of a primitive: 1 with the exponent 1 of its name. The only error is want of memory.
+    pub fn one(alloc: Global, name: &[u8]) -> Result<Quantity, AllocError>
+        ensures { IfOk result (λ q. q ≡ record {
+          value = whole (pos 1);
+          exponents = map.insert map.empty name.now (whole (pos 1));
+        }) }
+    {
+        Ok(Quantity {
+            value: one(),
+            powers: Powers::one(alloc, name)?,
+        })
+    }
+
+    /// An equal quantity. The only error is want of memory.
+    pub fn copy(&self, alloc: Global) -> Result<Quantity, AllocError>
+        ensures { IfOk result (λ q. q ≡ self.now) }
+    {
+        self.with_value(alloc, self.value)
+    }
+
+    /// The quantity whose number has the other sign. The only error is want of memory.
+    pub fn negate(&self, alloc: Global) -> Result<Quantity, AllocError>
+        ensures { IfOk result (λ q. q ≡ record self.now { value = negated self.now.value }) }
+    {
+        self.with_value(alloc, self.value.negate())
+    }
+
+    /// The number.
+    pub fn value(&self) -> Frac
+        ensures { result ≡ self.now.value }
+    {
+        self.value
+    }
+
+    /// The exponent of a name, 0/1 where the name is absent.
+    pub fn exponent(&self, name: &[u8]) -> Exponent
+        ensures value { result ≡ exponent_of self.now.exponents name.now }
+        ensures kept { AreKept self.now.exponents }
+    {
+        self.powers.exponent(name)
+    }
+
+    /// Whether no name has an exponent.
+    pub fn is_number(&self) -> bool
+        ensures { result ≡ is_number_of self.now }
+    {
+        self.powers.is_empty()
+    }
+
+    // The quantity with another number.
+    pub(crate) fn with_value(&self, alloc: Global, value: Frac) -> Result<Quantity, AllocError>
+        ensures { IfOk result (λ q. q ≡ record self.now { value = value }) }
+    {
+        Ok(Quantity {
+            value,
+            powers: self.powers.copy()?,
+        })
+    }
+}
+
+// The number 1.
+fn one() -> Frac
+    ensures { result ≡ whole (pos 1) }
+{
+    Frac::new(1, 1).unwrap()
+}

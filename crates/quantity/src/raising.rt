@@ -1,0 +1,50 @@
+//! Powers with a fraction as exponent.
+
+ghost use Rattle.std.specs.Prelude.{◌≡◌};
+ghost use Rattle.quantity.specs.Answers.{IsAnswer, joined};
+ghost use Rattle.quantity.specs.Powers.{power_exponents, power_of, powered as powered_of};
+
+use crate::degree::Degree;
+use crate::fault::QuantityFault;
+use crate::quantity::Quantity;
+use crate::roots::root;
+use frac128::{Frac, FracFault};
+use std::alloc::Global;
+
+impl Quantity {
+    /// The power with the number of `by` as exponent. With p/q as that number in lowest terms it
+    /// is the power p of the root q, and each exponent is multiplied by p/q.
+    ///
+    /// The errors, in this order: `ExponentNotNumber` where `by` has exponents; `ExponentRange`
+    /// where p or q has a magnitude above 32,767; `Number` with `NoExactRoot` where the number has
+    /// no root q, and with the fault of the root's power p; `ExponentRange` where a product of an
+    /// exponent and p/q is no exponent.
+    pub fn pow(&self, alloc: Global, by: &Quantity) -> Result<Quantity, QuantityFault>
+        ensures { IsAnswer result (power_of self.now by.now) }
+    {
+        if !by.is_number() {
+            return Err(QuantityFault::ExponentNotNumber);
+        }
+        match Degree::of(&by.value) {
+            Some(degree) => self.raised(alloc, &degree),
+            None => Err(QuantityFault::ExponentRange),
+        }
+    }
+
+    // The power with this exponent.
+    fn raised(&self, alloc: Global, degree: &Degree) -> Result<Quantity, QuantityFault>
+        ensures { IsAnswer result (joined (powered_of self.now.value degree.now)
+            (power_exponents self.now.exponents degree.now)) }
+    {
+        let value = powered(&self.value, degree)?;
+        let powers = self.powers.raised(alloc, degree)?;
+        Ok(Quantity { value, powers })
+    }
+}
+
+// The power of the root of a number.
+fn powered(x: &Frac, degree: &Degree) -> Result<Frac, FracFault>
+    ensures { result ≡ powered_of x.now degree.now }
+{
+    root(x, degree.den())?.pow(degree.num())
+}

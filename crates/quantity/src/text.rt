@@ -1,0 +1,97 @@
+//! The texts of names with exponents.
+
+ghost use Rattle.std.specs.Prelude.{◌≡◌, ◌++◌, OnOk, unsigned_abs};
+ghost use Rattle.std.specs.List.{filter, flat_map, list_any};
+ghost use Rattle.quantity.specs.Text.{exponent_text, listed_text, power_text, sided};
+
+use crate::exponent::Exponent;
+use crate::power::Power;
+use std::alloc::{AllocError, Global};
+
+// On which side of the slash a name stands.
+#[derive(Clone, Copy)]
+enum Side {
+    Above,
+    Below,
+}
+
+impl Side {
+    // Whether a power stands on this side.
+    fn has(self, power: &Power) -> bool
+        ensures { result ≡ sided self power.now }
+    {
+        match self {
+            Side::Above => power.exponent().num > 0,
+            Side::Below => power.exponent().num < 0,
+        }
+    }
+}
+
+// Puts the names behind a text: those with positive exponents and, behind a slash, those with
+// negative ones.
+pub(crate) fn put_powers(
+    alloc: Global,
+    text: &mut Vec<u8>,
+    powers: &[Power],
+) -> Result<(), AllocError>
+    ensures { OnOk result (text.new.items ≡ text.old.items ++ listed_text powers.now) }
+{
+    put_side(alloc, text, powers, Side::Above)?;
+    if has_side(powers, Side::Below) {
+        text.extend_from_slice(b" /".as_slice())?;
+        put_side(alloc, text, powers, Side::Below)?;
+    }
+    Ok(())
+}
+
+// Whether a power stands on this side.
+fn has_side(powers: &[Power], side: Side) -> bool
+    ensures { result ≡ list_any (sided side) powers.now }
+{
+    powers.iter().any(|power| side.has(power))
+}
+
+// Puts the names of one side behind a text.
+fn put_side(
+    alloc: Global,
+    text: &mut Vec<u8>,
+    powers: &[Power],
+    side: Side,
+) -> Result<(), AllocError>
+    ensures { OnOk result (text.new.items
+        ≡ text.old.items ++ flat_map power_text (filter (sided side) powers.now)) }
+{
+    for power in powers {
+        if side.has(power) {
+            put_power(alloc, text, power)?;
+        }
+    }
+    Ok(())
+}
+
+// Puts a space, a name and the magnitude of its exponent behind a text.
+fn put_power(alloc: Global, text: &mut Vec<u8>, power: &Power) -> Result<(), AllocError>
+    ensures { OnOk result (text.new.items ≡ text.old.items ++ power_text power.now) }
+{
+    text.push(b' ')?;
+    text.extend_from_slice(power.name())?;
+    put_exponent(alloc, text, &power.exponent())
+}
+
+// Puts the magnitude of an exponent other than 1 behind a text.
+fn put_exponent(alloc: Global, text: &mut Vec<u8>, exponent: &Exponent) -> Result<(), AllocError>
+    ensures { OnOk result (text.new.items
+        ≡ text.old.items ++ exponent_text (unsigned_abs exponent.now.num) exponent.now.den) }
+{
+    let num = exponent.num.unsigned_abs();
+    if exponent.den == 1 && num == 1 {
+        return Ok(());
+    }
+    text.push(b'^')?;
+    text.extend_from_slice(num.to_string(alloc)?.as_bytes())?;
+    if exponent.den > 1 {
+        text.push(b'|')?;
+        text.extend_from_slice(exponent.den.to_string(alloc)?.as_bytes())?;
+    }
+    Ok(())
+}

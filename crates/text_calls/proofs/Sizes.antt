@@ -1,0 +1,85 @@
+-- How large trees are: each is larger than its parts.
+use Rattle.std.proofs.Common.{◌≡◌, ◌+◌, ◌<◌, ℕ, zero, suc, List, [], ◌∷◌, Some, ap, ◌∙◌, arith, Box, Global}
+use Rattle.std.specs.Prelude.{slice_get}
+use Rattle.expr_tree.specs.declared.operator.Scale.{Scale}
+use Rattle.expr_tree.specs.declared.operator.Sign.{Sign}
+use Rattle.expr_tree.specs.declared.tree.Factors.{Factors as FactorList}
+use Rattle.expr_tree.specs.declared.tree.Terms.{Terms as TermList}
+use Rattle.expr_tree.specs.declared.tree.Tree.{Tree}
+use Rattle.expr_tree.specs.declared.tree.Tree.TheVariants as made
+use Rattle.expr_tree.specs.declared.tree.Trees.{Trees}
+use Rattle.expr_tree.specs.Syntax.{Syntax, Members, NoMember, Member, Factors, NoFactor, Factor, Terms, NoTerm, Term}
+use Rattle.expr_tree.specs.Syntax as tree
+use Rattle.expr_tree.specs.Trees.{factors, factors_of, members, syntax, terms, terms_of, trees_of}
+use Rattle.expr_tree.proofs.Says.{of_call, of_inverse, of_root, of_group, of_negate, of_power}
+use Rattle.expr_tree.proofs.Views.{of_juxtaposed, of_product, of_sum}
+
+abbrev mutual
+  pub size : Syntax → ℕ
+  size (tree.Call w e) = suc (size e)
+  size (tree.Inverse w e) = suc (size e)
+  size (tree.Root degree e) = suc (size e)
+  size (tree.Group e) = suc (size e)
+  size (tree.Negate e) = suc (size e)
+  size (tree.Power e f) = suc (size e + size f)
+  size (tree.Juxtaposed es) = suc (members_size es)
+  size (tree.Product fs) = suc (factors_size fs)
+  size (tree.Sum ts) = suc (terms_size ts)
+  size _ = 0
+
+  pub members_size : Members → ℕ
+  members_size NoMember = 0
+  members_size (Member e es) = suc (size e + members_size es)
+
+  pub factors_size : Factors → ℕ
+  factors_size NoFactor = 0
+  factors_size (Factor s e fs) = suc (size e + factors_size fs)
+
+  pub terms_size : Terms → ℕ
+  terms_size NoTerm = 0
+  terms_size (Term s e ts) = suc (size e + terms_size ts)
+
+pub of_call_size : (t : Tree) (w : List ℕ) (e : Box Tree Global) → t ≡ made.Call w e → size (syntax t) ≡ suc (size (syntax e.value))
+of_call_size t w e is = ap (λ (x : Tree). size (syntax x)) is ∙ ap size (of_call w e)
+
+pub of_inverse_size : (t : Tree) (w : List ℕ) (e : Box Tree Global) → t ≡ made.Inverse w e → size (syntax t) ≡ suc (size (syntax e.value))
+of_inverse_size t w e is = ap (λ (x : Tree). size (syntax x)) is ∙ ap size (of_inverse w e)
+
+pub of_root_size : (t : Tree) (n : ℕ) (e : Box Tree Global) → t ≡ made.Root n e → size (syntax t) ≡ suc (size (syntax e.value))
+of_root_size t n e is = ap (λ (x : Tree). size (syntax x)) is ∙ ap size (of_root n e)
+
+pub of_group_size : (t : Tree) (e : Box Tree Global) → t ≡ made.Group e → size (syntax t) ≡ suc (size (syntax e.value))
+of_group_size t e is = ap (λ (x : Tree). size (syntax x)) is ∙ ap size (of_group e)
+
+pub of_negate_size : (t : Tree) (e : Box Tree Global) → t ≡ made.Negate e → size (syntax t) ≡ suc (size (syntax e.value))
+of_negate_size t e is = ap (λ (x : Tree). size (syntax x)) is ∙ ap size (of_negate e)
+
+pub of_power_size : (t : Tree) (e f : Box Tree Global) → t ≡ made.Power e f → size (syntax t) ≡ suc (size (syntax e.value) + size (syntax f.value))
+of_power_size t e f is = ap (λ (x : Tree). size (syntax x)) is ∙ ap size (of_power e f)
+
+pub of_juxtaposed_size : (t : Tree) (es : Trees) → t ≡ made.Juxtaposed es → size (syntax t) ≡ suc (members_size (members (trees_of es)))
+of_juxtaposed_size t es is = ap (λ (x : Tree). size (syntax x)) is ∙ ap size (of_juxtaposed es)
+
+pub of_product_size : (t : Tree) (fs : FactorList) → t ≡ made.Product fs → size (syntax t) ≡ suc (factors_size (factors (factors_of fs)))
+of_product_size t fs is = ap (λ (x : Tree). size (syntax x)) is ∙ ap size (of_product fs)
+
+pub of_sum_size : (t : Tree) (ts : TermList) → t ≡ made.Sum ts → size (syntax t) ≡ suc (terms_size (terms (terms_of ts)))
+of_sum_size t ts is = ap (λ (x : Tree). size (syntax x)) is ∙ ap size (of_sum ts)
+
+pub member_smaller : (es : List Syntax) (i : ℕ) (e : Syntax) → Some e ≡ slice_get es i → size e < members_size (members es)
+member_smaller [] i e h = cc
+member_smaller (f ∷ es) zero e h = let same : e ≡ f = cc in omega (arith, ap size same)
+member_smaller (f ∷ es) (suc i) e h = omega (arith, member_smaller es i e h)
+
+pub factor_smaller : (fs : List (Scale × Syntax)) (i : ℕ) (e : Scale × Syntax) → Some e ≡ slice_get fs i → size e.1 < factors_size (factors fs)
+factor_smaller [] i e h = cc
+factor_smaller (f ∷ fs) zero e h = let same : e ≡ f = cc in omega (arith, ap (λ (x : Scale × Syntax). size x.1) same)
+factor_smaller (f ∷ fs) (suc i) e h = omega (arith, factor_smaller fs i e h)
+
+pub term_smaller : (ts : List (Sign × Syntax)) (i : ℕ) (e : Sign × Syntax) → Some e ≡ slice_get ts i → size e.1 < terms_size (terms ts)
+term_smaller [] i e h = cc
+term_smaller (t ∷ ts) zero e h = let same : e ≡ t = cc in omega (arith, ap (λ (x : Sign × Syntax). size x.1) same)
+term_smaller (t ∷ ts) (suc i) e h = omega (arith, term_smaller ts i e h)
+
+pub ruleset sizes =
+    (of_call_size, of_inverse_size, of_root_size, of_group_size, of_negate_size, of_power_size, of_juxtaposed_size, of_product_size, of_sum_size)

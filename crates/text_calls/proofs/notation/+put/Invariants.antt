@@ -1,0 +1,31 @@
+use Rattle.std.proofs.Common.{◌≡◌, ◌+◌, ◌*◌, ◌++◌, drop}
+use Rattle.expr_tree.specs.Trees.{factors, factors_of, members, syntax, terms, terms_of, trees_of}
+use Rattle.text_calls.specs.Notation.{factors_text, members_text, terms_text}
+use Rattle.text_calls.proofs.Sizes.{factors_size, members_size, size, terms_size}
+use Rattle.text_calls.proofs.notation.+put.Given as goal
+
+abbrev pub decreases-put_tree : goal.decreases-put_tree
+decreases-put_tree l = 2 * size (syntax l.tree.now)
+
+abbrev pub decreases-put_last : goal.decreases-put_last
+decreases-put_last l = 2 * size (syntax l.tree.now) + 1
+
+abbrev pub decreases-put_members : goal.decreases-put_members
+decreases-put_members l = 2 * members_size (members (trees_of l.members.now)) + 1
+
+abbrev pub decreases-put_factors : goal.decreases-put_factors
+decreases-put_factors l = 2 * factors_size (factors (factors_of l.members.now)) + 1
+
+abbrev pub decreases-put_terms : goal.decreases-put_terms
+decreases-put_terms l = 2 * terms_size (terms (terms_of l.members.now)) + 1
+
+-- what is written and what is still to be written
+
+abbrev pub invariant-put_members-loop-i : goal.invariant-put_members-loop-i
+invariant-put_members-loop-i l = l.out.items ++ members_text (members (drop l.i (trees_of l.members))) ≡ l.initial.out.items ++ members_text (members (trees_of l.members))
+
+abbrev pub invariant-put_factors-loop-i : goal.invariant-put_factors-loop-i
+invariant-put_factors-loop-i l = l.out.items ++ factors_text (factors (drop l.i (factors_of l.members))) ≡ l.initial.out.items ++ factors_text (factors (factors_of l.members))
+
+abbrev pub invariant-put_terms-loop-i : goal.invariant-put_terms-loop-i
+invariant-put_terms-loop-i l = l.out.items ++ terms_text (terms (drop l.i (terms_of l.members))) ≡ l.initial.out.items ++ terms_text (terms (terms_of l.members))

@@ -1,0 +1,20 @@
+//! Reads one expression a line on standard input, and writes its tree or its fault on standard
+//! output.
+#![tactic(auto)]
+
+mod answer;
+mod notation;
+
+use std::io;
+use std::io::{BufRead, BufReader, BufWriter, Write};
+
+fn main(rt: HostRuntime) -> io::Result<()> {
+    let alloc = rt.alloc();
+    let mut output = BufWriter::new(alloc, io::writer(&rt))?;
+    for line in BufReader::new(alloc, rt.reader())?.split(alloc, b'\n') {
+        let text = answer::line_answer(alloc, &line?)?;
+        output.write_all(&text)?;
+        output.write_all(b"\n")?;
+    }
+    output.flush()
+}

@@ -1,0 +1,126 @@
+-- The counts of a number with a sign.
+use Rattle.std.proofs.Common.{◌≡◌, ◌<◌, ◌*◌, ◌*ℤ◌, ◌+ℤ◌, ℕ, ℤ, pos, negsuc, neg_ℤ, suc, zero, unsigned_abs, arith, refl, sym, ap, subst, ◌∙◌}
+use Rattle.std.specs.Prelude.{Bool, true, false, List, [], ◌∷◌, length, map, All, int_lt}
+use Rattle.std.proofs.lemmas.Int.{ints}
+use Rattle.std.proofs.lemmas.List.{length-map}
+use Rattle.std.proofs.lemmas.List.Elements.{All-head, All-tail}
+use Rattle.std.proofs.Math.IntN.{neg_ℤ-+ℤ, neg_ℤ-neg_ℤ}
+use Rattle.std.proofs.Math.Nat.{zero-mul}
+use Rattle.frac128.specs.Divisors.{LcmLaw}
+use Rattle.frac128.specs.Fraction.{Fraction, SameValue, negated, whole}
+use Rattle.frac128.specs.Steps.{ReducedLaw, over, reduced}
+use Rattle.unit_list.specs.Exact.{product, sum, total}
+use Rattle.unit_list.specs.Laws.{AreGreatest, IsSplitOf, IsUnit, SplitLaw, quotient_of, split_number}
+use Rattle.unit_list.specs.Nearest.{nearest_to}
+use Rattle.unit_list.specs.Splits.{counts_of, is_below_zero, last_of, magnitude, rounded_if, signed}
+use Rattle.unit_list.proofs.Counted.{AreCounts, counts_are, goes, ok_same, unit_natural}
+use Rattle.unit_list.proofs.Values.{over_reduced, own_value, times_value}
+
+-- a product with the other sign
+neg-times : (z : ℤ) (k : ℕ) → neg_ℤ (z *ℤ pos k) ≡ neg_ℤ z *ℤ pos k
+neg-times (pos zero) k = rw (zero-mul k) refl
+neg-times (pos (suc n)) k = refl
+neg-times (negsuc n) k = neg_ℤ-neg_ℤ (pos (suc n * k))
+
+-- the magnitude of a number with the other sign
+abs-neg : (z : ℤ) → unsigned_abs (neg_ℤ z) ≡ unsigned_abs z
+abs-neg (pos zero) = refl
+abs-neg (pos (suc n)) = refl
+abs-neg (negsuc n) = refl
+
+-- the sum of negated counts
+total-negated : (counts units : List Fraction) → All IsUnit units → total (map negated counts) units ≡ negated (total counts units)
+total-negated [] units are = refl
+total-negated (count ∷ counts) [] are = refl
+total-negated (count ∷ counts) (unit ∷ units) are =
+    let natural = unit_natural unit (All-head IsUnit unit units are) in
+    ap (sum (product (negated count) unit)) (total-negated counts units (All-tail IsUnit unit units are))
+    ∙ ap (λ z. record { num = z; den = count.den * unit.den * (total counts units).den })
+    (ap (λ u. neg_ℤ count.num *ℤ u *ℤ pos (total counts units).den +ℤ neg_ℤ (total counts units).num *ℤ pos (count.den * unit.den)) natural.num_is
+    ∙ turned count.num (total counts units).num natural.num (total counts units).den (count.den * unit.den)
+    ∙ sym (ap (λ u. neg_ℤ (count.num *ℤ u *ℤ pos (total counts units).den +ℤ (total counts units).num *ℤ pos (count.den * unit.den))) natural.num_is))
+  where
+    turned : (z t : ℤ) (n d k : ℕ) → neg_ℤ z *ℤ pos n *ℤ pos d +ℤ neg_ℤ t *ℤ pos k ≡ neg_ℤ (z *ℤ pos n *ℤ pos d +ℤ t *ℤ pos k)
+    turned z t n d k =
+        ap (λ u. u *ℤ pos d +ℤ neg_ℤ t *ℤ pos k) (sym (neg-times z n))
+        ∙ ap (λ u. u +ℤ neg_ℤ t *ℤ pos k) (sym (neg-times (z *ℤ pos n) d))
+        ∙ ap (λ u. neg_ℤ (z *ℤ pos n *ℤ pos d) +ℤ u) (sym (neg-times t k))
+        ∙ sym (neg_ℤ-+ℤ (z *ℤ pos n *ℤ pos d) (t *ℤ pos k))
+
+-- counts that keep their sign
+map-plain : (counts : List Fraction) → map (signed false) counts ≡ counts
+map-plain [] = refl
+map-plain (count ∷ counts) = ap (λ xs. count ∷ xs) (map-plain counts)
+
+-- the magnitudes of negated counts
+magnitudes-negated : (counts : List Fraction) → map magnitude (map (signed true) counts) ≡ map magnitude counts
+magnitudes-negated [] = refl
+magnitudes-negated (count ∷ counts) =
+    ap (λ n. record { num = pos n; den = count.den } ∷ map magnitude (map (signed true) counts)) (abs-neg count.num) ∙ ap (λ xs. magnitude count ∷ xs) (magnitudes-negated counts)
+
+-- a number is its magnitude with its sign
+sign_back : (x : Fraction) → signed (is_below_zero x) (magnitude x) ≡ x
+sign_back x = by_num x.num x.den
+  where
+    plus : (n : ℕ) → int_lt (pos n) (pos 0) ≡ false
+    plus n = grind (arith, ints)
+
+    by_num : (z : ℤ) (d : ℕ) → signed (int_lt z (pos 0)) (record { num = pos (unsigned_abs z); den = d }) ≡ record { num = z; den = d }
+    by_num (pos n) d = ap (λ s. signed s (record { num = pos n; den = d })) (plus n)
+    by_num (negsuc n) d = refl
+
+-- the counts of a / b, with a sign, are those of a / b with the sign
+signed_split : (negative : Bool) (a b : ℕ) (units counts : List Fraction) → 0 < b → All IsUnit units → AreCounts a b units counts
+    → IsSplitOf (signed negative (record { num = pos a; den = b })) units (map (signed negative) counts)
+signed_split false a b units counts some units_are are =
+    subst (IsSplitOf (record { num = pos a; den = b }) units) (sym (map-plain counts)) (record {
+      one_each = are.one_each;
+      sum = ap (λ z. z *ℤ pos b) are.sum.num_is ∙ ap pos are.sum.same;
+      greatest = subst (AreGreatest (record { num = pos a; den = b }) units) (sym are.plain) (are.greatest (record { num = pos a; den = b }) (own_value (record { num = pos a; den = b }) a refl some));
+    })
+signed_split true a b units counts some units_are are = record {
+  one_each = length-map counts (signed true) ∙ are.one_each;
+  sum = subst (λ t. SameValue t (negated (record { num = pos a; den = b }))) (sym (total-negated counts units units_are))
+      (sym (neg-times (total counts units).num b) ∙ ap (λ z. neg_ℤ (z *ℤ pos b)) are.sum.num_is ∙ ap (λ n. neg_ℤ (pos n)) are.sum.same ∙ neg-times (pos a) (total counts units).den);
+  greatest = subst (λ n. AreGreatest (record { num = pos n; den = b }) units (map magnitude (map (signed true) counts))) (sym (abs-neg (pos a)))
+      (subst (AreGreatest (record { num = pos a; den = b }) units) (sym (magnitudes-negated counts ∙ are.plain)) (are.greatest (record { num = pos a; den = b }) (own_value (record { num = pos a; den = b }) a refl some)));
+}
+
+-- the last unit is one
+last_unit : (units : List Fraction) → 0 < length units → All IsUnit units → IsUnit (last_of units)
+unfolding last_of
+last_unit [] some are = absurd (omega arith)
+last_unit (unit ∷ []) some are = All-head IsUnit unit [] are
+last_unit (unit ∷ next ∷ units) some are = last_unit (next ∷ units) (omega arith) (All-tail IsUnit unit (next ∷ units) are)
+
+-- the counts add up
+pub split_law : ReducedLaw → LcmLaw → SplitLaw
+split_law law multiples false x units counts some many units_are h =
+    let inner = goes (counts_of (magnitude x) units) _ counts h in
+    let are = counts_are law multiples units inner.value (magnitude x) (unsigned_abs x.num) x.den (own_value (magnitude x) (unsigned_abs x.num) refl some) some units_are many inner.first_is in
+    subst (IsSplitOf x units) (ok_same _ _ _ refl inner.step_is)
+    (subst (λ y. IsSplitOf y units (map (signed (is_below_zero x)) inner.value)) (sign_back x)
+    (signed_split (is_below_zero x) (unsigned_abs x.num) x.den units inner.value some units_are are))
+split_law law multiples true x units counts some many units_are h =
+    let unit = last_of units in
+    let unit_is = last_unit units many units_are in
+    let natural = unit_natural unit unit_is in
+    let amount = goes (rounded_if true unit (magnitude x)) _ counts h in
+    let quotient = goes (over (magnitude x) unit) _ amount.value amount.first_is in
+    let inner = goes (counts_of amount.value units) _ counts amount.step_is in
+    let n = nearest_to quotient.value in
+    let value = times_value law n natural.num unit amount.value natural.num_is unit_is.denominator quotient.step_is in
+    let are = counts_are law multiples units inner.value amount.value (n * natural.num) unit.den value unit_is.denominator units_are many inner.first_is in
+    let quotient_is : quotient.value ≡ quotient_of x unit =
+    over_reduced (magnitude x) unit quotient.value (unsigned_abs x.num) natural.num refl natural.num_is some natural.some quotient.first_is
+    ∙ ap (λ z. reduced (pos (unsigned_abs x.num * unit.den)) (x.den * unsigned_abs z)) (sym natural.num_is) in
+    let number_is : record { num = pos (n * natural.num); den = unit.den } ≡ product (whole (pos (nearest_to (quotient_of x unit)))) unit =
+    ap (λ z. record { num = pos n *ℤ z; den = unit.den }) (sym natural.num_is)
+    ∙ ap (λ d. record { num = pos n *ℤ unit.num; den = d }) (once unit.den)
+    ∙ ap (λ q. product (whole (pos (nearest_to q))) unit) quotient_is in
+    subst (IsSplitOf (split_number true unit x) units) (ok_same _ _ _ refl inner.step_is)
+    (subst (λ y. IsSplitOf (signed (is_below_zero x) y) units (map (signed (is_below_zero x)) inner.value)) number_is
+    (signed_split (is_below_zero x) (n * natural.num) unit.den units inner.value unit_is.denominator units_are are))
+  where
+    once : (d : ℕ) → d ≡ 1 * d
+    once d = omega arith

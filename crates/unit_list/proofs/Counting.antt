@@ -1,0 +1,180 @@
+-- Counting unit by unit.
+use Rattle.std.proofs.Common.{◌≡◌, ◌<◌, ◌≤◌, ◌+◌, ◌-◌, ℕ, suc, zero, arith, refl, sym, ap, ◌∙◌}
+use Rattle.std.specs.Prelude.{Bool, List, [], ◌∷◌, ◌++◌, length, map, drop, IsErrAnd, Some, None, Result, Ok, Err}
+use Rattle.std.proofs.Common.{append_assoc, get_or}
+use Rattle.std.proofs.lemmas.List.{drop_more}
+use Rattle.std.proofs.Math.Seq.{drop-nil}
+use Rattle.frac128.specs.declared.fault.FracFault.{FracFault}
+use Rattle.frac128.specs.Fraction.{Fraction}
+use Rattle.frac128.specs.Steps.{over}
+use Rattle.quantity.specs.Amount.{Amount}
+use Rattle.unit_list.specs.declared.part.Part.{Part}
+use Rattle.unit_list.specs.declared.counts.Split.{Split}
+use Rattle.unit_list.specs.declared.fault.SplitFault.{SplitFault}
+use Rattle.unit_list.specs.declared.fault.SplitFault.TheVariants.{NotConformable, ListUnitNotPositive, Number, OutOfMemory}
+use Rattle.unit_list.specs.Amounts.{IsSplit, checked, counts_in, number_of, unit_fault}
+use Rattle.unit_list.specs.Splits.{◌>>=◌, counts_of, is_below_zero, last_of, magnitude, number_counts, part_of, rounded_if, signed}
+
+-- counts with the sign of the number
+abbrev pub signed_counts : Bool → Result (List Fraction) FracFault → Result (List Fraction) FracFault
+signed_counts negative counts = counts >>= (λ cs. Ok (map (signed negative) cs))
+
+-- counts behind those that are done
+abbrev pub behind : List Fraction → Result (List Fraction) FracFault → Result (List Fraction) FracFault
+behind done counts = counts >>= (λ cs. Ok (done ++ cs))
+
+-- behind the counts so far stand those that the rest has of the units from the place i on
+pub record IsCounting (negative : Bool) (units : List Amount) (all : Result (List Fraction) FracFault) (i : ℕ) (rest : Fraction) (done : List Fraction) : Type 0 where
+  pub same : behind done (signed_counts negative (counts_of rest (map number_of (drop i units)))) ≡ all
+
+-- nothing is done at the start
+behind_none : (counts : Result (List Fraction) FracFault) → behind [] counts ≡ counts
+behind_none (Ok counts) = refl
+behind_none (Err fault) = refl
+
+pub counting_start : (negative : Bool) (units : List Amount) (x : Fraction) → IsCounting negative units (signed_counts negative (counts_of x (map number_of units))) 0 x []
+counting_start negative units x = record { same = behind_none (signed_counts negative (counts_of x (map number_of units))) }
+
+-- the units from a place on that is not the last
+more_units : (units : List Amount) (i : ℕ) (d : Amount) → i + 1 < length units
+    → map number_of (drop i units) ≡ number_of (get_or units i d) ∷ number_of (get_or units (i + 1) d) ∷ map number_of (drop (i + 1 + 1) units)
+more_units units i d h = ap (map number_of) (drop_more units i d (omega arith) ∙ ap (λ xs. get_or units i d ∷ xs) (drop_more units (i + 1) d h))
+
+next_units : (units : List Amount) (i : ℕ) (d : Amount) → i + 1 < length units
+    → map number_of (drop (i + 1) units) ≡ number_of (get_or units (i + 1) d) ∷ map number_of (drop (i + 1 + 1) units)
+next_units units i d h = ap (map number_of) (drop_more units (i + 1) d h)
+
+-- a part that is done goes before the others
+put_before : (negative : Bool) (done : List Fraction) (count : Fraction) (others : Result (List Fraction) FracFault)
+    → behind done (signed_counts negative (others >>= (λ counts. Ok (count ∷ counts)))) ≡ behind (done ++ signed negative count ∷ []) (signed_counts negative others)
+put_before negative done count (Ok others) = ap Ok (sym (append_assoc done (signed negative count ∷ []) (map (signed negative) others)))
+put_before negative done count (Err fault) = refl
+
+pub counting_more : (negative : Bool) (units : List Amount) (all : Result (List Fraction) FracFault) (i : ℕ) (rest : Fraction) (done : List Fraction) (unit : Amount) (part : Part)
+    → IsCounting negative units all i rest done → i + 1 < length units → unit ≡ get_or units i unit → part_of rest (number_of unit) ≡ Ok part
+    → IsCounting negative units all (i + 1) part.rest (done ++ signed negative part.count ∷ [])
+unfolding counts_of
+counting_more negative units all i rest done unit part is within unit_is part_is =
+    let step : counts_of rest (map number_of (drop i units)) ≡ counts_of part.rest (map number_of (drop (i + 1) units)) >>= (λ counts. Ok (part.count ∷ counts)) =
+    ap (counts_of rest) (more_units units i unit within)
+    ∙ ap (λ u. part_of rest (number_of u) >>= (λ part. counts_of part.rest (number_of (get_or units (i + 1) unit) ∷ map number_of (drop (i + 1 + 1) units)) >>= (λ counts. Ok (part.count ∷ counts)))) (sym unit_is)
+    ∙ ap (λ r. r >>= (λ part. counts_of part.rest (number_of (get_or units (i + 1) unit) ∷ map number_of (drop (i + 1 + 1) units)) >>= (λ counts. Ok (part.count ∷ counts)))) part_is
+    ∙ ap (λ us. counts_of part.rest us >>= (λ counts. Ok (part.count ∷ counts))) (sym (next_units units i unit within)) in
+    record {
+      same = sym (put_before negative done part.count (counts_of part.rest (map number_of (drop (i + 1) units))))
+          ∙ ap (λ r. behind done (signed_counts negative r)) (sym step) ∙ is.same;
+    }
+
+-- a part that has a fault
+pub counting_fault : (negative : Bool) (units : List Amount) (all : Result (List Fraction) FracFault) (i : ℕ) (rest : Fraction) (done : List Fraction) (unit : Amount) (fault : FracFault)
+    → IsCounting negative units all i rest done → i + 1 < length units → unit ≡ get_or units i unit → part_of rest (number_of unit) ≡ Err fault → all ≡ Err fault
+unfolding counts_of
+counting_fault negative units all i rest done unit fault is within unit_is part_is =
+    let step : counts_of rest (map number_of (drop i units)) ≡ Err fault =
+    ap (counts_of rest) (more_units units i unit within)
+    ∙ ap (λ u. part_of rest (number_of u) >>= (λ part. counts_of part.rest (number_of (get_or units (i + 1) unit) ∷ map number_of (drop (i + 1 + 1) units)) >>= (λ counts. Ok (part.count ∷ counts)))) (sym unit_is)
+    ∙ ap (λ r. r >>= (λ part. counts_of part.rest (number_of (get_or units (i + 1) unit) ∷ map number_of (drop (i + 1 + 1) units)) >>= (λ counts. Ok (part.count ∷ counts)))) part_is in
+    sym is.same ∙ ap (λ r. behind done (signed_counts negative r)) step
+
+-- the last unit
+last_units : (units : List Amount) (i : ℕ) (unit : Amount) → i + 1 ≡ length units → unit ≡ get_or units (length units - 1) unit → map number_of (drop i units) ≡ number_of unit ∷ []
+last_units units i unit last unit_is =
+    ap (map number_of) (drop_more units i unit (omega arith) ∙ ap (λ xs. get_or units i unit ∷ xs) (drop_past units (i + 1) (omega arith))
+    ∙ ap (λ k. get_or units k unit ∷ []) (place i (length units) last) ∙ ap (λ u. u ∷ []) (sym unit_is))
+  where
+    place : (i n : ℕ) → i + 1 ≡ n → i ≡ n - 1
+    place i n h = omega arith
+
+    drop_past : (xs : List Amount) (n : ℕ) → length xs ≤ n → drop n xs ≡ []
+    drop_past [] n h = drop-nil n
+    drop_past (x ∷ xs) zero h = absurd (omega arith)
+    drop_past (x ∷ xs) (suc n) h = drop_past xs n (omega arith)
+
+-- its count ends them
+pub counting_end : (negative : Bool) (units : List Amount) (all : Result (List Fraction) FracFault) (i : ℕ) (rest : Fraction) (done : List Fraction) (unit : Amount) (count : Fraction)
+    → IsCounting negative units all i rest done → i + 1 ≡ length units → unit ≡ get_or units (length units - 1) unit → over rest (number_of unit) ≡ Ok count
+    → all ≡ Ok (done ++ signed negative count ∷ [])
+unfolding counts_of
+counting_end negative units all i rest done unit count is last unit_is count_is =
+    sym is.same
+    ∙ ap (λ us. behind done (signed_counts negative (counts_of rest us))) (last_units units i unit last unit_is)
+    ∙ ap (λ r. behind done (signed_counts negative (r >>= (λ count. Ok (count ∷ []))))) count_is
+
+-- or has a fault
+pub counting_end_fault : (negative : Bool) (units : List Amount) (all : Result (List Fraction) FracFault) (i : ℕ) (rest : Fraction) (done : List Fraction) (unit : Amount) (fault : FracFault)
+    → IsCounting negative units all i rest done → i + 1 ≡ length units → unit ≡ get_or units (length units - 1) unit → over rest (number_of unit) ≡ Err fault
+    → all ≡ Err fault
+unfolding counts_of
+counting_end_fault negative units all i rest done unit fault is last unit_is count_is =
+    sym is.same
+    ∙ ap (λ us. behind done (signed_counts negative (counts_of rest us))) (last_units units i unit last unit_is)
+    ∙ ap (λ r. behind done (signed_counts negative (r >>= (λ count. Ok (count ∷ []))))) count_is
+
+-- the number of the last unit
+last_number : (units : List Amount) (unit : Amount) → 0 < length units → unit ≡ get_or units (length units - 1) unit → last_of (map number_of units) ≡ number_of unit
+unfolding last_of
+last_number units unit some unit_is = by_place units (length units - 1) (next (length units) some) unit_is
+  where
+    next : (n : ℕ) → 0 < n → n - 1 + 1 ≡ n
+    next n h = omega arith
+
+    by_place : (units : List Amount) (i : ℕ) → i + 1 ≡ length units → unit ≡ get_or units i unit → last_of (map number_of units) ≡ number_of unit
+    by_place [] i last is = absurd (omega arith)
+    by_place (first ∷ []) zero last is = ap number_of (sym is)
+    by_place (first ∷ []) (suc i) last is = absurd (omega arith)
+    by_place (first ∷ second ∷ units) zero last is = absurd (omega arith)
+    by_place (first ∷ second ∷ units) (suc i) last is = by_place (second ∷ units) i (omega arith) is
+
+-- a split has begun: its units have no fault, and its amount is that of the number
+pub record IsBegun (round : Bool) (q : Amount) (units : List Amount) (negative : Bool) (amount : Result Fraction FracFault) : Type 0 where
+  pub fine : None ≡ unit_fault q units
+  pub negative_is : negative ≡ is_below_zero q.value
+  pub amount_is : amount ≡ rounded_if round (last_of (map number_of units)) (magnitude q.value)
+
+-- by the parts that the code makes
+pub begun_by : (round : Bool) (q : Amount) (units : List Amount) (number last size : Fraction) (negative : Bool) (unit : Amount) (amount : Result Fraction FracFault)
+    → None ≡ unit_fault q units → 0 < length units → number ≡ q.value → negative ≡ is_below_zero number
+    → unit ≡ get_or units (length units - 1) unit → last ≡ number_of unit → size ≡ magnitude number → amount ≡ rounded_if round last size
+    → IsBegun round q units negative amount
+begun_by round q units number last size negative unit amount fine some number_is negative_is unit_is last_is size_is amount_is = record {
+  fine = fine;
+  negative_is = negative_is ∙ ap is_below_zero number_is;
+  amount_is = amount_is ∙ ap (λ u. rounded_if round u size) (last_is ∙ sym (last_number units unit some unit_is))
+      ∙ ap (rounded_if round (last_of (map number_of units))) (size_is ∙ ap magnitude number_is);
+}
+
+-- where the amount has a fault, the split has it
+pub begun_fault : (round : Bool) (q : Amount) (units : List Amount) (negative : Bool) (amount : Result Fraction FracFault) (fault : FracFault)
+    → IsBegun round q units negative amount → amount ≡ Err fault → counts_in round q units ≡ Err (Number fault)
+unfolding counts_in
+begun_fault round q units negative amount fault is amount_fault =
+    ap (λ f. checked f (number_counts round q.value (map number_of units))) (sym is.fine)
+    ∙ ap (λ r. checked None (r >>= (λ amount. signed_counts (is_below_zero q.value) (counts_of amount (map number_of units))))) (sym is.amount_is ∙ amount_fault)
+
+-- and else it is what becomes of the amount
+pub begun_ends : (round : Bool) (q : Amount) (units : List Amount) (negative : Bool) (amount : Result Fraction FracFault) (x : Fraction) (ending : Result (List Fraction) FracFault)
+    → IsBegun round q units negative amount → amount ≡ Ok x → signed_counts negative (counts_of x (map number_of units)) ≡ ending → counts_in round q units ≡ checked None ending
+unfolding counts_in
+begun_ends round q units negative amount x ending is amount_ok ends =
+    ap (λ f. checked f (number_counts round q.value (map number_of units))) (sym is.fine)
+    ∙ ap (λ r. checked None (r >>= (λ amount. signed_counts (is_below_zero q.value) (counts_of amount (map number_of units))))) (sym is.amount_is ∙ amount_ok)
+    ∙ ap (λ b. checked None (signed_counts b (counts_of x (map number_of units)))) (sym is.negative_is)
+    ∙ ap (checked None) ends
+
+-- the expected fault is an answer
+fault_split : (expected : Result (List Fraction) SplitFault) (fault : SplitFault) → expected ≡ Err fault → IsSplit expected (Err fault)
+fault_split expected (NotConformable place) h = h
+fault_split expected (ListUnitNotPositive place) h = h
+fault_split expected (Number fault) h = h
+fault_split expected OutOfMemory h = tt
+
+-- units that have a fault
+pub unit_fault_ends : (round : Bool) (q : Amount) (units : List Amount) (fault : SplitFault) → Some fault ≡ unit_fault q units → IsSplit (counts_in round q units) (Err fault)
+unfolding counts_in
+unit_fault_ends round q units fault is = fault_split (counts_in round q units) fault (ap (λ f. checked f (number_counts round q.value (map number_of units))) (sym is))
+
+-- the fault of a step that a `?` hands on is an answer
+pub step_fault_ends : (expected : Result (List Fraction) SplitFault) (result : Result Split SplitFault) (fault : FracFault)
+    → IsErrAnd result (λ given. given ≡ Number fault) → expected ≡ Err (Number fault) → IsSplit expected result
+step_fault_ends expected (Ok split) fault given h = absurd given
+step_fault_ends expected (Err other) fault given h = fault_split expected other (h ∙ ap Err (sym given))

@@ -1,0 +1,5 @@
+pub mod Added
+pub mod Counted
+pub mod Counting
+pub mod NearestWholes
+pub mod Values

@@ -1,0 +1,5 @@
+use Rattle.unit_list.proofs.Added as laws
+use Rattle.unit_list.proofs.laws.split_law.Goals as goal
+
+pub returns : goal.returns
+returns c = laws.split_law c.reduced_law.ensures c.lcm_law.ensures

@@ -1,0 +1,49 @@
+-- Splitting a quantity into counts of units.
+use Rattle.std.specs.Prelude.{◌≡◌, ℕ, pos, int_lt, not, Bool, List, map, position, Option, Some, None, Result, Ok, Err, ⊤}
+use Rattle.frac128.specs.declared.fault.FracFault.{FracFault}
+use Rattle.frac128.specs.Fraction.{Fraction}
+use Rattle.quantity.specs.Amount.{Amount, conform}
+use Rattle.unit_list.specs.Splits.{number_counts}
+use Rattle.unit_list.specs.declared.fault.SplitFault.{SplitFault}
+use Rattle.unit_list.specs.declared.fault.SplitFault.TheVariants.{NotConformable, ListUnitNotPositive, Number, OutOfMemory}
+use Rattle.unit_list.specs.declared.counts.Split.{Split}
+
+-- the unit has other exponents than the quantity
+abbrev pub is_unlike : Amount → Amount → Bool
+is_unlike q unit = not (conform q.exponents unit.exponents)
+
+-- the number of the unit is 0 or below
+abbrev pub is_not_positive : Amount → Bool
+is_not_positive unit = not (int_lt (pos 0) unit.value.num)
+
+-- the fault of the first unlike unit, and else of the first that is not positive
+abbrev pub place_fault : Option ℕ → Option ℕ → Option SplitFault
+place_fault (Some place) not_positive = Some (NotConformable place)
+place_fault None (Some place) = Some (ListUnitNotPositive place)
+place_fault None None = None
+
+-- the fault of the units of a quantity, where they have one
+abbrev pub unit_fault : Amount → List Amount → Option SplitFault
+unit_fault q units = place_fault (position (is_unlike q) units) (position is_not_positive units)
+
+-- the fault of the units, and else the counts or the fault of a step
+abbrev pub checked : Option SplitFault → Result (List Fraction) FracFault
+    → Result (List Fraction) SplitFault
+checked (Some fault) counts = Err fault
+checked None (Err fault) = Err (Number fault)
+checked None (Ok counts) = Ok counts
+
+-- the number of a unit
+abbrev pub number_of : Amount → Fraction
+number_of unit = unit.value
+
+-- the counts of the units in a quantity, or the fault
+unfoldable pub counts_in : Bool → Amount → List Amount → Result (List Fraction) SplitFault
+counts_in round q units =
+    checked (unit_fault q units) (number_counts round q.value (map number_of units))
+
+-- the answer has the expected counts or fault, or is want of memory
+abbrev pub IsSplit : Result (List Fraction) SplitFault → Result Split SplitFault → Type 0
+IsSplit expected (Ok split) = expected ≡ Ok split.counts
+IsSplit expected (Err OutOfMemory) = ⊤
+IsSplit expected (Err fault) = expected ≡ Err fault

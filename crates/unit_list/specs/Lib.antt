@@ -1,0 +1,5 @@
+pub mod Amounts
+pub mod Exact
+pub mod Laws
+pub mod Nearest
+pub mod Splits

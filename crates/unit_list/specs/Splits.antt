@@ -1,0 +1,73 @@
+-- Splitting a number into counts of units, by fraction steps.
+use Rattle.std.specs.Prelude.{pos, unsigned_abs, int_lt, Bool, true, false, List, [], ◌∷◌, map, Result, Ok, Err, if◌then◌else◌}
+use Rattle.frac128.specs.declared.fault.FracFault.{FracFault}
+use Rattle.frac128.specs.Floor.{floor_of}
+use Rattle.frac128.specs.Fraction.{Fraction, negated, whole}
+use Rattle.frac128.specs.Steps.{over, times}
+use Rattle.frac128.specs.Sums.{minus}
+use Rattle.unit_list.specs.Nearest.{nearest_to}
+use Rattle.unit_list.specs.declared.part.Part.{Part}
+
+-- a step, and then another on what it gives; a fault is the answer of both
+infixl 10 ◌>>=◌
+abbrev pub ◌>>=◌ : {A B : Type 0} → Result A FracFault → (A → Result B FracFault)
+    → Result B FracFault
+Ok x >>= step = step x
+Err fault >>= step = Err fault
+
+-- the greatest whole count of a unit in x, and what is left of x
+abbrev pub part_of : Fraction → Fraction → Result Part FracFault
+part_of x unit = do
+  quotient ← over x unit
+  taken ← times (floor_of quotient) unit
+  rest ← minus x taken
+  Ok (record { count = floor_of quotient; rest = rest })
+
+-- the counts of the units in x: of each but the last the greatest whole one in what the earlier ones
+-- leave, and of the last one all that is left
+unfoldable pub counts_of : Fraction → List Fraction → Result (List Fraction) FracFault
+counts_of x [] = Ok []
+counts_of x (unit ∷ []) = do
+  count ← over x unit
+  Ok (count ∷ [])
+counts_of x (unit ∷ next ∷ units) = do
+  part ← part_of x unit
+  counts ← counts_of part.rest (next ∷ units)
+  Ok (part.count ∷ counts)
+
+-- the whole multiple of the unit that is nearest to x
+abbrev pub rounded_to : Fraction → Fraction → Result Fraction FracFault
+rounded_to unit x = do
+  quotient ← over x unit
+  times (whole (pos (nearest_to quotient))) unit
+
+-- the last unit
+unfoldable pub last_of : List Fraction → Fraction
+last_of [] = whole (pos 0)
+last_of (unit ∷ []) = unit
+last_of (unit ∷ next ∷ units) = last_of (next ∷ units)
+
+-- x, or with rounding the nearest whole multiple of the unit
+abbrev pub rounded_if : Bool → Fraction → Fraction → Result Fraction FracFault
+rounded_if false unit x = Ok x
+rounded_if true unit x = rounded_to unit x
+
+-- the number without its sign
+abbrev pub magnitude : Fraction → Fraction
+magnitude x = record { num = pos (unsigned_abs x.num); den = x.den }
+
+-- the number is below 0
+abbrev pub is_below_zero : Fraction → Bool
+is_below_zero x = int_lt x.num (pos 0)
+
+-- x with the other sign, where it is to be below 0
+abbrev pub signed : Bool → Fraction → Fraction
+signed negative x = if negative then negated x else x
+
+-- the counts of the units in a number: those in its magnitude, which is rounded to the last unit where
+-- that is asked, with the number's sign
+abbrev pub number_counts : Bool → Fraction → List Fraction → Result (List Fraction) FracFault
+number_counts round x units = do
+  amount ← rounded_if round (last_of units) (magnitude x)
+  counts ← counts_of amount units
+  Ok (map (signed (is_below_zero x)) counts)

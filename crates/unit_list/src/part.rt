@@ -1,0 +1,23 @@
+//! One unit of a split.
+
+ghost use Rattle.std.specs.Prelude.{◌≡◌};
+ghost use Rattle.unit_list.specs.Splits.{part_of as part_in};
+
+use frac128::{Frac, FracFault};
+
+// The count of a unit in a number, and what is left of the number.
+#[derive(Clone, Copy)]
+pub(crate) struct Part {
+    pub(crate) count: Frac,
+    pub(crate) rest: Frac,
+}
+
+// The greatest whole count of the unit in x, and what is left of x.
+pub(crate) fn part_of(x: &Frac, unit: &Frac) -> Result<Part, FracFault>
+    ensures { result ≡ part_in x.now unit.now }
+{
+    let count = x.div(unit)?.floor();
+    let taken = count.mul(unit)?;
+    let rest = x.sub(&taken)?;
+    Ok(Part { count, rest })
+}

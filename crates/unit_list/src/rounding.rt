@@ -1,0 +1,47 @@
+//! Rounding to whole multiples of a unit.
+
+ghost use Rattle.std.specs.Prelude.{◌≡◌, ◌<◌, ◌%◌, ◌+◌, ◌/◌, ◌≤ℤ◌, pos, unsigned_abs};
+ghost use Rattle.frac128.specs.Fraction.{whole};
+ghost use Rattle.unit_list.specs.Nearest.{nearest_to as nearest_to_of};
+ghost use Rattle.unit_list.specs.Splits.{rounded_if as rounded_if_of, rounded_to as rounded_to_of};
+
+use crate::sign::magnitude;
+use frac128::{Frac, FracFault};
+use std::cmp::Ordering;
+
+// The number, or with rounding the whole multiple of the unit that is nearest to it.
+pub(crate) fn rounded_if(round: bool, unit: &Frac, x: &Frac) -> Result<Frac, FracFault>
+    ensures { result ≡ rounded_if_of round unit.now x.now }
+{
+    if round { rounded_to(unit, x) } else { Ok(*x) }
+}
+
+// The whole multiple of the unit that is nearest to x.
+fn rounded_to(unit: &Frac, x: &Frac) -> Result<Frac, FracFault>
+    ensures { result ≡ rounded_to_of unit.now x.now }
+{
+    nearest_to(&x.div(unit)?).mul(unit)
+}
+
+// The whole number nearest to the magnitude of x, and of two the even one.
+fn nearest_to(x: &Frac) -> Frac
+    ensures { result ≡ whole (pos (nearest_to_of x.now)) }
+{
+    let x = magnitude(x);
+    let low = x.floor();
+    let rest = x.num().unsigned_abs() % x.den().unsigned_abs();
+    match (2 * rest).cmp(&x.den().unsigned_abs()) {
+        Ordering::Less => low,
+        Ordering::Equal if low.num() % 2 == 0 => low,
+        _ => ceiling(&x),
+    }
+}
+
+// The whole number after a fraction that is not below 0 and not whole.
+fn ceiling(x: &Frac) -> Frac
+    requires plain { pos 0 ≤ℤ x.now.num }
+    requires part { 0 < unsigned_abs x.now.num % x.now.den }
+    ensures { result ≡ whole (pos (unsigned_abs x.now.num / x.now.den + 1)) }
+{
+    x.negate().floor().negate()
+}
