@@ -1,6 +1,6 @@
 #!/usr/bin/env bash
 # Times the program of crates/text_calls on long texts of a few kinds, of 4, 8 and 16 MiB: it reads the text, parses it, and
-# writes its tree or its fault. Prints the seconds, the lower of two runs, the greatest memory, and the length of the answer.
+# writes its fault or that there is a tree. Prints the seconds, the lower of two runs, the greatest memory, and the answer.
 # Build the program first: cd crates/text_calls && rt run < /dev/null
 set -u
 root=$(cd "$(dirname "${BASH_SOURCE[0]}")/.." && pwd)
@@ -12,7 +12,7 @@ trap 'rm -rf "$folder"' EXIT
 text() {
     python3 -c 'import sys
 pattern, size = sys.argv[1], int(sys.argv[2]) << 20
-print("plain " + (pattern * (size // len(pattern) + 1))[:size - 1] + "1")' "$1" "$2"
+print("parse " + (pattern * (size // len(pattern) + 1))[:size - 1] + "1")' "$1" "$2"
 }
 
 for pattern in '1 ' 'a' '(' '1+' '1*' 'm2 ' '1^' ' '; do
@@ -25,14 +25,14 @@ import sys
 import time
 
 program, text, pattern, size = sys.argv[1:]
-best, length = float("inf"), 0
+best, answer = float("inf"), ""
 for _ in range(2):
     with open(text, "rb") as given:
         start = time.perf_counter()
         run = subprocess.run([program], stdin=given, stdout=subprocess.PIPE, check=True)
-        best, length = min(best, time.perf_counter() - start), len(run.stdout)
+        best, answer = min(best, time.perf_counter() - start), run.stdout.decode().strip()
 memory = resource.getrusage(resource.RUSAGE_CHILDREN).ru_maxrss >> 10
-print(f"{pattern * 3!r:14} {size:2} MiB  {best:6.2f} s  {memory:5} MiB of memory, {length} bytes of answer")
+print(f"{pattern * 3!r:14} {size:2} MiB  {best:6.2f} s  {memory:5} MiB of memory, {answer}")
 PYTHON
     done
 done

@@ -76,3 +76,8 @@ fault_text fault.OutOfMemory = codes "out of memory"
 abbrev pub parsed_text : Result Syntax ParseFault → List ℕ
 parsed_text (Ok e) = tree_text e
 parsed_text (Err x) = fault_text x
+
+-- that there is a tree, or its fault
+abbrev pub verdict_text : Result Syntax ParseFault → List ℕ
+verdict_text (Ok e) = codes "tree"
+verdict_text (Err x) = fault_text x

@@ -1,19 +1,22 @@
 //! What a line answers.
 
-ghost use Rattle.std.specs.Prelude.{◌≡◌, ◌++◌, IfOk};
+ghost use Rattle.std.specs.Prelude.{◌≡◌, ◌++◌, IfOk, None};
 ghost use Rattle.std.specs.Option.{option_copied};
 ghost use Rattle.expr_tree.specs.Parsed.{parsed};
-ghost use Rattle.text_calls.specs.Notation.{fault_text, parsed_text, place_text};
+ghost use Rattle.text_calls.specs.Notation.{fault_text, parsed_text, place_text, verdict_text};
 
 use crate::notation::put_tree;
 use expr_tree::{ParseFault, parse_expr};
 use std::alloc::{AllocError, Global};
 
 // The tree of a line's expression, or its fault. In a line `plain TEXT` there is no binder; a line
-// `with NAME TEXT` has the binder `NAME`.
+// `with NAME TEXT` has the binder `NAME`. In a line `parse TEXT` the tree is not written.
 pub(crate) fn line_answer(alloc: Global, line: &[u8]) -> Result<Vec<u8>, AllocError> {
     if let Some(text) = line.strip_prefix(b"plain ".as_slice()) {
         return answer_to(alloc, text, None);
+    }
+    if let Some(text) = line.strip_prefix(b"parse ".as_slice()) {
+        return verdict_on(alloc, text);
     }
     let Some(rest) = line.strip_prefix(b"with ".as_slice()) else {
         return Vec::from_slice(alloc, b"bad call");
@@ -33,6 +36,19 @@ fn answer_to(alloc: Global, text: &[u8], binder: Option<&[u8]>) -> Result<Vec<u8
     let mut out = Vec::new(alloc);
     match parse_expr(alloc, text, binder) {
         Ok(tree) => put_tree(alloc, &mut out, &tree)?,
+        Err(ParseFault::OutOfMemory) => return Err(AllocError),
+        Err(fault) => put_fault(alloc, &mut out, fault)?,
+    }
+    Ok(out)
+}
+
+// That a text has a tree, or its fault.
+fn verdict_on(alloc: Global, text: &[u8]) -> Result<Vec<u8>, AllocError>
+    ensures { IfOk result (λ out. out.items ≡ verdict_text (parsed None text.now)) }
+{
+    let mut out = Vec::new(alloc);
+    match parse_expr(alloc, text, None) {
+        Ok(_) => out.extend_from_slice(b"tree")?,
         Err(ParseFault::OutOfMemory) => return Err(AllocError),
         Err(fault) => put_fault(alloc, &mut out, fault)?,
     }
