@@ -1,0 +1,5 @@
+use Rattle.def_entry.proofs.KeyTexts as texts
+use Rattle.def_entry.proofs.laws.key_texts.Goals as goal
+
+pub returns : goal.returns
+returns c = texts.key_texts

@@ -1,0 +1,5 @@
+use Rattle.def_entry.proofs.KeyTexts as texts
+use Rattle.def_entry.proofs.laws.one_key.Goals as goal
+
+pub returns : goal.returns
+returns c = texts.one_key

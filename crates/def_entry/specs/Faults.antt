@@ -1,0 +1,28 @@
+-- What is told of a line that gives no entry.
+use Rattle.std.specs.Prelude.{◌++◌, ℕ, Bool, true, false, List, [], codes}
+use Rattle.std.specs.Fmt.{decimal}
+use Rattle.expr_tree.specs.declared.fault.ParseFault.{ParseFault}
+use Rattle.expr_tree.specs.declared.fault.ParseFault.TheVariants as parse
+use Rattle.def_entry.specs.declared.fault.EntryFault.{EntryFault}
+use Rattle.def_entry.specs.declared.fault.EntryFault.TheVariants as entry
+
+-- the fault is of the line, and no want of memory
+abbrev pub is_told : EntryFault → Bool
+is_told entry.OutOfMemory = false
+is_told (entry.Parse parse.OutOfMemory) = false
+is_told _ = true
+
+-- what is told of an expression
+abbrev pub parse_fault_text : ParseFault → List ℕ
+parse_fault_text (parse.Syntax place) = codes "syntax error at " ++ decimal place
+parse_fault_text parse.NumeralTooLong = codes "numeral too long"
+parse_fault_text parse.NestedTooDeep = codes "nested too deep"
+parse_fault_text parse.OutOfMemory = []
+
+-- what is told of a line
+abbrev pub entry_fault_text : EntryFault → List ℕ
+entry_fault_text (entry.BadName w) = codes "bad name: " ++ w
+entry_fault_text entry.BadForm = codes "bad definition"
+entry_fault_text entry.BadTable = codes "bad table"
+entry_fault_text (entry.Parse fault) = parse_fault_text fault
+entry_fault_text entry.OutOfMemory = []

@@ -1,0 +1,89 @@
+//! Copies of entries.
+
+ghost use Rattle.std.specs.Prelude.{◌≡◌, IfOk, option_map};
+ghost use Rattle.expr_tree.specs.Trees.{syntax, trees_of};
+ghost use Rattle.def_entry.specs.Views.{entry_view, function_view, table_view, what_view};
+
+use crate::entry::{Entry, FunctionDef, TableDef, What};
+use expr_tree::{Tree, Trees};
+use std::alloc::{AllocError, Global};
+
+impl Entry {
+    /// An equal entry. The only error is want of memory.
+    pub fn copy(&self, alloc: Global) -> Result<Entry, AllocError>
+        ensures { IfOk result (λ entry. entry_view entry ≡ entry_view self.now) }
+    {
+        let text = self.text.copy()?;
+        let what = self.what.copy(alloc)?;
+        Ok(Entry { text, what })
+    }
+}
+
+impl What {
+    // What is equal.
+    fn copy(&self, alloc: Global) -> Result<What, AllocError>
+        ensures { IfOk result (λ what. what_view what ≡ what_view self.now) }
+    {
+        match self {
+            What::Primitive => Ok(What::Primitive),
+            What::Dimensionless => Ok(What::Dimensionless),
+            What::Body(tree) => Ok(What::Body(tree.copy(alloc)?)),
+            What::Function(function) => Ok(What::Function(function.copy(alloc)?)),
+            What::Alias(target) => Ok(What::Alias(target.copy()?)),
+            What::Table(table) => Ok(What::Table(table.copy(alloc)?)),
+            What::ListOf(parts) => Ok(What::ListOf(copied_trees(alloc, parts)?)),
+        }
+    }
+}
+
+impl FunctionDef {
+    // A function that is equal.
+    fn copy(&self, alloc: Global) -> Result<FunctionDef, AllocError>
+        ensures { IfOk result (λ function. function_view function ≡ function_view self.now) }
+    {
+        let in_unit = copied_tree(alloc, &self.in_unit)?;
+        let out_unit = copied_tree(alloc, &self.out_unit)?;
+        let forward = self.forward.copy(alloc)?;
+        let inverse = copied_tree(alloc, &self.inverse)?;
+        Ok(FunctionDef {
+            in_unit,
+            out_unit,
+            domain: self.domain,
+            range: self.range,
+            forward,
+            inverse,
+        })
+    }
+}
+
+impl TableDef {
+    // A table that is equal.
+    fn copy(&self, alloc: Global) -> Result<TableDef, AllocError>
+        ensures { IfOk result (λ table. table_view table ≡ table_view self.now) }
+    {
+        let unit = self.unit.copy(alloc)?;
+        let points = self.points.copy(alloc)?;
+        Ok(TableDef { unit, points })
+    }
+}
+
+// An equal tree, where there is one.
+fn copied_tree(alloc: Global, tree: &Option<Tree>) -> Result<Option<Tree>, AllocError>
+    ensures { IfOk result (λ copy. option_map syntax copy ≡ option_map syntax tree.now) }
+{
+    match tree {
+        Some(tree) => Ok(Some(tree.copy(alloc)?)),
+        None => Ok(None),
+    }
+}
+
+// Equal trees, in their order.
+fn copied_trees(alloc: Global, trees: &Trees) -> Result<Trees, AllocError>
+    ensures { IfOk result (λ copies. trees_of copies ≡ trees_of trees.now) }
+{
+    let mut copies = Trees::new(alloc);
+    while let Some(tree) = trees.get(copies.len()) {
+        copies.push(alloc, tree.copy(alloc)?)?;
+    }
+    Ok(copies)
+}

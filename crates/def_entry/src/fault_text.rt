@@ -1,0 +1,46 @@
+//! What is told of a line that gives no entry.
+
+ghost use Rattle.std.specs.Prelude.{◌≡◌, ◌≢◌, true, IfOk};
+ghost use Rattle.expr_tree.specs.declared.fault.ParseFault.TheVariants as parse;
+ghost use Rattle.def_entry.specs.Faults.{entry_fault_text as fault_text, is_told, parse_fault_text as parse_text};
+
+use crate::fault::EntryFault;
+use crate::joined::joined;
+use expr_tree::ParseFault;
+use std::alloc::{AllocError, Global};
+use units_io::Text;
+
+/// The fault in words: `bad name: ` and the bytes that are no name, `bad definition`, `bad table`,
+/// `syntax error at ` and the place, `numeral too long`, or `nested too deep`. The only error is
+/// want of memory.
+pub fn entry_fault_text(alloc: Global, fault: &EntryFault) -> Result<Text, AllocError>
+    requires { is_told fault.now ≡ true }
+    ensures { IfOk result (λ text. text ≡ fault_text fault.now) }
+{
+    match fault {
+        EntryFault::BadName(name) => joined(alloc, b"bad name: ", name.as_bytes()),
+        EntryFault::BadForm => Text::from_bytes(alloc, b"bad definition"),
+        EntryFault::BadTable => Text::from_bytes(alloc, b"bad table"),
+        EntryFault::Parse(fault) => parse_fault_text(alloc, *fault),
+        EntryFault::OutOfMemory => unreachable!(),
+    }
+}
+
+// The fault of an expression in words.
+fn parse_fault_text(alloc: Global, fault: ParseFault) -> Result<Text, AllocError>
+    requires { fault ≢ parse.OutOfMemory }
+    ensures { IfOk result (λ text. text ≡ parse_text fault) }
+{
+    match fault {
+        ParseFault::Syntax(place) => {
+            joined(
+                alloc,
+                b"syntax error at ",
+                place.to_string(alloc)?.as_bytes(),
+            )
+        }
+        ParseFault::NumeralTooLong => Text::from_bytes(alloc, b"numeral too long"),
+        ParseFault::NestedTooDeep => Text::from_bytes(alloc, b"nested too deep"),
+        ParseFault::OutOfMemory => unreachable!(),
+    }
+}

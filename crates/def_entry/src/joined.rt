@@ -1,0 +1,15 @@
+//! Two texts side by side.
+
+ghost use Rattle.std.specs.Prelude.{◌≡◌, ◌++◌, IfOk};
+
+use std::alloc::{AllocError, Global};
+use units_io::Text;
+
+// A text of the bytes in front and those behind.
+pub(crate) fn joined(alloc: Global, front: &[u8], behind: &[u8]) -> Result<Text, AllocError>
+    ensures { IfOk result (λ text. text ≡ front.now ++ behind.now) }
+{
+    let mut bytes = Vec::from_slice(alloc, front)?;
+    bytes.extend_from_slice(behind)?;
+    Ok(Text::from(bytes))
+}

@@ -1,0 +1,92 @@
+//! The texts of keys, written and read.
+
+ghost use Rattle.std.specs.Prelude.{◌≡◌, ◌≢◌, ◌⊎◌, ℕ, List, IfOk, MatchOption, MatchResult, Some, None};
+ghost use Rattle.def_entry.specs.Keys.{key_of, key_text as text_of_key, kind_shown, written};
+ghost use Rattle.def_entry.specs.declared.spelling.KeyFault.TheVariants as key_fault;
+
+use crate::joined::joined;
+use crate::key::{Key, Kind};
+use expr_tree::is_name;
+use std::alloc::{AllocError, Global};
+use units_io::Text;
+
+/// Why bytes are not read as a key.
+#[derive(Clone, Copy, Debug, PartialEq, Eq)]
+pub enum KeyFault {
+    /// They are the text of no key that has a name.
+    NotKey,
+    /// There is no memory.
+    OutOfMemory,
+}
+
+impl From<AllocError> for KeyFault {
+    ghost use Rattle.std.specs.Prelude.{◌≡◌};
+    ghost use Rattle.def_entry.specs.declared.spelling.KeyFault.TheVariants.{OutOfMemory};
+
+    ghost from_gives = { λ _ fault. fault ≡ OutOfMemory };
+
+    fn from(_: AllocError) -> Self {
+        KeyFault::OutOfMemory
+    }
+}
+
+/// The key as it is written: the name for a unit, with a `-` behind it for a prefix, with `()`
+/// behind it for a function or a table, and with `!unitlist ` before it for a list. The only error
+/// is want of memory.
+pub fn key_text(alloc: Global, key: &Key) -> Result<Text, AllocError>
+    ensures { IfOk result (λ text. text ≡ text_of_key key.now) }
+{
+    let name = key.name.as_bytes();
+    match key.kind {
+        Kind::Unit => Text::from_bytes(alloc, name),
+        Kind::Prefix => joined(alloc, name, b"-"),
+        Kind::Func => joined(alloc, name, b"()"),
+        Kind::List => joined(alloc, b"!unitlist ", name),
+    }
+}
+
+/// The key that has a name and is written so. `NotKey` where there is none.
+pub fn read_key(alloc: Global, bytes: &[u8]) -> Result<Key, KeyFault>
+    ensures { MatchResult result
+        (λ key. key_of bytes.now ≡ Some key)
+        (λ fault. (fault ≡ key_fault.OutOfMemory) ⊎ ((fault ≡ key_fault.NotKey) × (key_of bytes.now ≡ None))) }
+{
+    let kind = shown_kind(bytes);
+    let Some(shown) = shown_name(kind, bytes) else {
+        return Err(KeyFault::NotKey);
+    };
+    if !is_name(shown) {
+        return Err(KeyFault::NotKey);
+    }
+    let name = Text::from_bytes(alloc, shown)?;
+    Ok(Key { kind, name })
+}
+
+// The kind of key that the ends of a text tell.
+fn shown_kind(bytes: &[u8]) -> Kind
+    ensures { result ≡ kind_shown bytes.now }
+{
+    if bytes.is_empty() {
+        return Kind::Unit;
+    }
+    match bytes[bytes.len() - 1] {
+        b')' => Kind::Func,
+        b'-' => Kind::Prefix,
+        _ if bytes[0] == b'!' => Kind::List,
+        _ => Kind::Unit,
+    }
+}
+
+// The name in the text of a key of this kind.
+fn shown_name(kind: Kind, bytes: &[u8]) -> Option<&[u8]>
+    ensures { MatchOption result
+        ((w : List ℕ) → written kind w ≢ bytes.now)
+        (λ name. written kind name.now ≡ bytes.now) }
+{
+    match kind {
+        Kind::Unit => Some(bytes),
+        Kind::Prefix => bytes.strip_suffix(b"-".as_slice()),
+        Kind::Func => bytes.strip_suffix(b"()".as_slice()),
+        Kind::List => bytes.strip_prefix(b"!unitlist ".as_slice()),
+    }
+}

@@ -1,0 +1,221 @@
+//! Rows whose expected values come from the rules of the format.
+
+use crate::{
+    Bound, Entry, EntryFault, FunctionDef, Key, KeyFault, Keys, Kind, Span, TableDef, What,
+    entry_fault_text, key_text, read_key,
+};
+use expr_tree::{ParseFault, Tree, Trees, parse_expr, words};
+use frac128::Frac;
+use piecewise::Points;
+use std::alloc::{AllocError, Global};
+use std::test::Fail;
+use units_io::Text;
+
+#[test]
+fn writes_and_reads_keys(rt: HostRuntime) -> Result<(), Fail> {
+    let rows = [
+        (Kind::Unit, "m", "m"),
+        (Kind::Prefix, "milli", "milli-"),
+        (Kind::Func, "tempC", "tempC()"),
+        (Kind::List, "hms", "!unitlist hms"),
+        (Kind::Unit, "%", "%"),
+        (Kind::List, "unitlist", "!unitlist unitlist"),
+        (Kind::Func, "x_2", "x_2()"),
+    ];
+    for (kind, name, want) in rows {
+        let name = Text::from_bytes(rt.alloc(), name.as_bytes())?;
+        let key = Key { kind, name };
+        let text = key_text(rt.alloc(), &key)?;
+        assert_eq!(rt; text.as_bytes(), want.as_bytes(), "{want}");
+        match read_key(rt.alloc(), want.as_bytes()) {
+            Ok(read) => {
+                assert_eq!(rt; read.kind, kind, "{want}");
+                assert_eq!(rt; read.name.as_bytes(), key.name.as_bytes(), "{want}");
+            }
+            Err(_) => assert!(rt; false, "{want}"),
+        }
+    }
+    Ok(())
+}
+
+#[test]
+fn refuses_what_is_no_key(rt: HostRuntime) -> Result<(), Fail> {
+    let rows = [
+        "",
+        "-",
+        "()",
+        ")",
+        "!",
+        "!unitlist",
+        "!unitlist ",
+        "!unitlist  z",
+        "!unitlist z ",
+        "a b",
+        "a--",
+        "a-()",
+        "a()-",
+        "a(x)",
+        "a)",
+        "2m",
+        "foo2",
+        "sin",
+        "sin()",
+        "per-",
+        "!unitlist z-",
+        "!Unitlist z",
+        "!unitlist !z",
+        " m",
+        "m ",
+        "a()()",
+    ];
+    for row in rows {
+        match read_key(rt.alloc(), row.as_bytes()) {
+            Ok(_) => assert!(rt; false, "{row}"),
+            Err(fault) => assert_eq!(rt; fault, KeyFault::NotKey, "{row}"),
+        }
+    }
+    Ok(())
+}
+
+#[test]
+fn keeps_keys_in_order(rt: HostRuntime) -> Result<(), Fail> {
+    let mut keys = Keys::new(rt.alloc());
+    for name in ["b", "a", "b"] {
+        let name = Text::from_bytes(rt.alloc(), name.as_bytes())?;
+        keys.push(
+            rt.alloc(),
+            Key {
+                kind: Kind::Unit,
+                name,
+            },
+        )?;
+    }
+    assert_eq!(rt; keys.len(), 3);
+    assert!(rt; keys.get(3).is_none());
+    let mut names = Vec::new(rt.alloc());
+    for key in keys.as_slice() {
+        names.extend_from_slice(key.name.as_bytes())?;
+    }
+    assert_eq!(rt; names.as_slice(), b"bab".as_slice());
+    Ok(())
+}
+
+#[test]
+fn tells_faults(rt: HostRuntime) -> Result<(), Fail> {
+    let name = Text::from_bytes(rt.alloc(), b"foo2")?;
+    let rows = [
+        (EntryFault::BadName(name), "bad name: foo2"),
+        (EntryFault::BadForm, "bad definition"),
+        (EntryFault::BadTable, "bad table"),
+        (
+            EntryFault::Parse(ParseFault::Syntax(0)),
+            "syntax error at 0",
+        ),
+        (
+            EntryFault::Parse(ParseFault::Syntax(1_205)),
+            "syntax error at 1205",
+        ),
+        (
+            EntryFault::Parse(ParseFault::NumeralTooLong),
+            "numeral too long",
+        ),
+        (
+            EntryFault::Parse(ParseFault::NestedTooDeep),
+            "nested too deep",
+        ),
+    ];
+    for (fault, want) in &rows {
+        let text = entry_fault_text(rt.alloc(), fault)?;
+        assert_eq!(rt; text.as_bytes(), want.as_bytes(), "{want}");
+    }
+    Ok(())
+}
+
+// An entry with this meaning.
+fn entry(alloc: Global, what: What) -> Result<Entry, AllocError> {
+    let text = Text::from_bytes(alloc, b"text")?;
+    Ok(Entry { text, what })
+}
+
+// The tree of an expression, or an argument where it has none.
+fn tree(alloc: Global, text: &[u8]) -> Tree {
+    match parse_expr(alloc, text, None) {
+        Ok(tree) => tree,
+        Err(_) => Tree::Argument,
+    }
+}
+
+// How many words stand in the trees of an entry, or 100 more where it has none.
+fn weight(alloc: Global, entry: &Entry) -> Result<usize, AllocError> {
+    match &entry.what {
+        What::Primitive => Ok(100),
+        What::Dimensionless => Ok(101),
+        What::Body(tree) => Ok(words(alloc, tree)?.len()),
+        What::Function(function) => Ok(words(alloc, &function.forward)?.len()),
+        What::Alias(target) => Ok(target.as_bytes().len()),
+        What::Table(table) => Ok(words(alloc, &table.unit)?.len()),
+        What::ListOf(parts) => Ok(parts.len()),
+    }
+}
+
+#[test]
+fn copies_entries(rt: HostRuntime) -> Result<(), Fail> {
+    let mut parts = Trees::new(rt.alloc());
+    for part in ["hr", "min", "sec"] {
+        parts.push(rt.alloc(), tree(rt.alloc(), part.as_bytes()))?;
+    }
+    let low = Bound {
+        at: Frac::new(0, 1)?,
+        closed: true,
+    };
+    let function = FunctionDef {
+        in_unit: Some(tree(rt.alloc(), b"m")),
+        out_unit: None,
+        domain: Some(Span {
+            low: Some(low),
+            high: None,
+        }),
+        range: None,
+        forward: tree(rt.alloc(), b"x m + y"),
+        inverse: Some(tree(rt.alloc(), b"f")),
+    };
+    let points = [
+        (Frac::new(1, 1)?, Frac::new(2, 1)?),
+        (Frac::new(2, 1)?, Frac::new(4, 1)?),
+    ];
+    let Ok(points) = Points::new(rt.alloc(), &points) else {
+        assert!(rt; false, "points");
+        return Ok(());
+    };
+    let unit = tree(rt.alloc(), b"in");
+    let target = Text::from_bytes(rt.alloc(), b"tempC")?;
+    let rows = [
+        (What::Primitive, 100),
+        (What::Dimensionless, 101),
+        (What::Body(tree(rt.alloc(), b"a b + c")), 3),
+        (What::Function(function), 3),
+        (What::Alias(target), 5),
+        (What::Table(TableDef { unit, points }), 1),
+        (What::ListOf(parts), 3),
+    ];
+    for (what, want) in rows {
+        let copy = entry(rt.alloc(), what)?.copy(rt.alloc())?;
+        assert_eq!(rt; copy.text.as_bytes(), b"text".as_slice());
+        assert_eq!(rt; weight(rt.alloc(), &copy)?, want);
+        if let What::Function(function) = &copy.what {
+            assert_eq!(rt;
+                function.domain,
+                Some(Span {
+                    low: Some(low),
+                    high: None
+                })
+            );
+            assert!(rt;
+                function.in_unit.is_some()
+                    && function.out_unit.is_none()
+                    && function.inverse.is_some()
+            );
+        }
+    }
+    Ok(())
+}

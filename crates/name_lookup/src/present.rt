@@ -1,0 +1,18 @@
+//! Which keys are present.
+
+ghost use Rattle.std.specs.Prelude.{◌≡◌, List};
+ghost use Rattle.def_entry.specs.Keys.{key};
+ghost use Rattle.def_entry.specs.declared.key.Key.{Key};
+ghost use Rattle.name_lookup.specs.Present.{is_among};
+
+use def_entry::Kind;
+
+/// A table of keys.
+pub trait Present {
+    // The keys that are present.
+    ghost keys: { Self → List Key };
+
+    /// Whether the key of this kind and name is present.
+    fn has(&self, kind: Kind, name: &[u8]) -> bool
+        ensures { result ≡ is_among (keys self.now) (key kind name.now) };
+}
