@@ -1,10 +1,11 @@
 -- The words of a text, taken one by one.
-use Rattle.std.proofs.Common.{◌≡◌, ◌<◌, ◌+◌, ◌∷◌, [], ◌||◌, ℕ, suc, List, Bool, true, false, cond, not, length, take, drop, refl, sym, ap, ◌∙◌, arith, one-add, ◌==◌, length-drop}
+use Rattle.std.proofs.Common.{◌≡◌, ◌<◌, ◌≤◌, ◌+◌, ◌∷◌, [], ◌||◌, ℕ, suc, List, Bool, true, false, cond, not, length, take, drop, refl, sym, ap, ◌∙◌, arith, one-add, ◌==◌, length-drop}
 use Rattle.std.specs.List.{list_any, position_or_len, slice_split, onto_first}
-use Rattle.def_lines.specs.Blanks.{is_blank, after_blanks}
+use Rattle.units_io.specs.Blanks.{is_blank}
+use Rattle.def_lines.specs.Blanks.{after_blanks}
 use Rattle.def_lines.specs.Parts.{is_begun}
-use Rattle.def_lines.specs.Words.{is_listed, nonempty, same_bytes, words_of}
-use Rattle.def_lines.proofs.Trimming.{after_blanks-blank, after_blanks-word, empty-nil, length-after_blanks}
+use Rattle.def_lines.specs.Words.{after_word, first_word, is_listed, nonempty, same_bytes, words_of}
+use Rattle.def_lines.proofs.Trimming.{after_blanks-blank, after_blanks-word, empty-nil, is_begun-after_blanks, length-after_blanks}
 
 -- where the first blank stands
 abbrev pub word_end : List ℕ → ℕ
@@ -59,17 +60,54 @@ parted (b ∷ text) = go (is_blank b) refl (parted text)
           ∙ ap (λ t. words_of (after_blanks (drop (cond (not t) (1 + word_end text) 0) (b ∷ text)))) (sym e);
     }
 
--- the words of a text whose front is no blank
-words_of-first : (b : ℕ) (text : List ℕ) → is_blank b ≡ false
-    → words_of (b ∷ text) ≡ take (word_end (b ∷ text)) (b ∷ text) ∷ words_of (after_blanks (drop (word_end (b ∷ text)) (b ∷ text)))
+-- a byte at the front that is no blank
+front_word : (b : ℕ) (text : List ℕ) → is_begun (b ∷ text) ≡ true → is_blank b ≡ false
+front_word b text begun = go (is_blank b) begun
+  where
+    go : (t : Bool) → not t ≡ true → t ≡ false
+    go true e = cc
+    go false e = refl
+
+-- the first word ends where the first blank stands
+length-first_word : (text : List ℕ) → length (first_word text) ≡ word_end text
+length-first_word [] = refl
+length-first_word (b ∷ text) = go (is_blank b) refl (length-first_word text)
+  where
+    go : (t : Bool) → is_blank b ≡ t → length (first_word text) ≡ word_end text → length (first_word (b ∷ text)) ≡ word_end (b ∷ text)
+    go true e rest =
+        let at : word_end (b ∷ text) ≡ 0 = ap (λ t. cond (not t) (1 + word_end text) 0) e in
+        ap (λ n. length (take n (b ∷ text))) at ∙ sym at
+    go false e rest =
+        let at : word_end (b ∷ text) ≡ suc (word_end text) = ap (λ t. cond (not t) (1 + word_end text) 0) e ∙ one-add (word_end text) in
+        ap (λ n. length (take n (b ∷ text))) at ∙ ap suc rest ∙ sym at
+
+-- the words of a text whose front is no blank: the first, and those behind it
+pub words_of-first : (b : ℕ) (text : List ℕ) → is_begun (b ∷ text) ≡ true → words_of (b ∷ text) ≡ first_word (b ∷ text) ∷ words_of (after_word (b ∷ text))
 unfolding words_of
-words_of-first b text word =
+words_of-first b text begun =
     let part : Parted (b ∷ text) = parted (b ∷ text) in
     let front : take (word_end (b ∷ text)) (b ∷ text) ≡ b ∷ take (word_end text) text =
-    ap (λ t. take (cond (not t) (1 + word_end text) 0) (b ∷ text)) word ∙ ap (λ n. take n (b ∷ text)) (one-add (word_end text)) in
+    ap (λ t. take (cond (not t) (1 + word_end text) 0) (b ∷ text)) (front_word b text begun) ∙ ap (λ n. take n (b ∷ text)) (one-add (word_end text)) in
     ap nonempty part.pieces
     ∙ ap (λ w. nonempty (w ∷ part.behind)) front
     ∙ (λ i. sym front i ∷ part.words i)
+    ∙ ap (λ n. first_word (b ∷ text) ∷ words_of (after_blanks (drop n (b ∷ text)))) (sym (length-first_word (b ∷ text)))
+
+-- what stands behind the first word is no longer than the text
+pub length-after_word : (text : List ℕ) → length (after_word text) ≤ length text
+length-after_word text =
+    omega (arith, length-after_blanks (drop (length (first_word text)) text), length-drop (length (first_word text)) text)
+
+-- and shorter, where no blank is at the front
+pub shorter-after_word : (b : ℕ) (text : List ℕ) → is_begun (b ∷ text) ≡ true → length (after_word (b ∷ text)) < length (b ∷ text)
+shorter-after_word b text begun =
+    let next : length (first_word (b ∷ text)) ≡ suc (word_end text) =
+    length-first_word (b ∷ text) ∙ ap (λ t. cond (not t) (1 + word_end text) 0) (front_word b text begun) ∙ one-add (word_end text) in
+    omega (arith, length-after_blanks (drop (length (first_word (b ∷ text))) (b ∷ text)), length-drop (length (first_word (b ∷ text))) (b ∷ text))
+
+-- no blank is at its front
+pub is_begun-after_word : (text : List ℕ) → is_begun (after_word text) ≡ true
+is_begun-after_word text = is_begun-after_blanks (drop (length (first_word text)) text)
 
 -- blanks at the front change nothing
 pub is_listed-after_blanks : (text value : List ℕ) → is_listed (after_blanks text) value ≡ is_listed text value
@@ -80,27 +118,14 @@ pub is_listed-none : (text value : List ℕ) → (length text == 0) ≡ true →
 unfolding words_of
 is_listed-none text value none = ap (λ t. is_listed t value) (empty-nil text none)
 
--- a byte at the front that is no blank
-front_word : (b : ℕ) → is_begun (b ∷ []) ≡ true → is_blank b ≡ false
-front_word b begun = go (is_blank b) begun
-  where
-    go : (t : Bool) → not t ≡ true → t ≡ false
-    go true e = cc
-    go false e = refl
-
 -- a value is listed where it is the first word, or where it is one behind that
-pub is_listed-first : (text word behind value : List ℕ) (n : ℕ) → is_begun text ≡ true → (length text == 0) ≡ false → n ≡ word_end text → word ≡ take n text → behind ≡ drop n text
-    → is_listed text value ≡ (same_bytes word value || is_listed (after_blanks behind) value)
-is_listed-first [] word behind value n begun some end is from = cc
-is_listed-first (b ∷ text) word behind value n begun some end is from =
-    ap (λ ws. list_any (λ w. same_bytes w value) ws) (words_of-first b text (front_word b begun))
-    ∙ ap (λ k. same_bytes (take k (b ∷ text)) value || is_listed (after_blanks (drop k (b ∷ text))) value) (sym end)
-    ∙ (λ i. same_bytes (sym is i) value || is_listed (after_blanks (sym from i)) value)
+pub is_listed-first : (text value : List ℕ) → is_begun text ≡ true → (length text == 0) ≡ false
+    → is_listed text value ≡ (same_bytes (first_word text) value || is_listed (after_word text) value)
+is_listed-first [] value begun some = cc
+is_listed-first (b ∷ text) value begun some =
+    ap (λ ws. list_any (λ w. same_bytes w value) ws) (words_of-first b text begun)
 
 -- what stands behind the first word is shorter
-pub shorter : (text behind : List ℕ) (n : ℕ) → is_begun text ≡ true → (length text == 0) ≡ false → n ≡ word_end text → behind ≡ drop n text → length (after_blanks behind) < length text
-shorter [] behind n begun some end from = cc
-shorter (b ∷ text) behind n begun some end from =
-    let next : n ≡ suc (word_end text) =
-    end ∙ ap (λ t. cond (not t) (1 + word_end text) 0) (front_word b begun) ∙ one-add (word_end text) in
-    omega (arith, length-after_blanks behind, ap length from, ap (λ k. length (drop k (b ∷ text))) next, length-drop (word_end text) text)
+pub shorter : (text : List ℕ) → is_begun text ≡ true → (length text == 0) ≡ false → length (after_word text) < length text
+shorter [] begun some = cc
+shorter (b ∷ text) begun some = shorter-after_word b text begun

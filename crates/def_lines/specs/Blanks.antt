@@ -1,9 +1,6 @@
 -- Blanks at the ends of a text.
-use Rattle.std.specs.Prelude.{◌==◌, ◌||◌, ℕ, List, [], ◌∷◌, Bool, reverse, if◌then◌else◌}
-
--- a space or a tab
-abbrev pub is_blank : ℕ → Bool
-is_blank b = b == 32 || b == 9
+use Rattle.std.specs.Prelude.{ℕ, List, [], ◌∷◌, reverse, if◌then◌else◌}
+use Rattle.units_io.specs.Blanks.{is_blank}
 
 -- a text without the blanks at its front
 abbrev pub after_blanks : List ℕ → List ℕ

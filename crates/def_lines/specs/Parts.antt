@@ -4,7 +4,7 @@ use Rattle.std.specs.Prelude.{ℕ, List, [], ◌∷◌, Bool, true, false, not, 
 use Rattle.def_lines.specs.declared.directive.Directive.{Directive}
 use Rattle.def_lines.specs.declared.directive.Directive.TheVariants as directive
 use Rattle.def_lines.specs.declared.line.Line.{Line}
-use Rattle.def_lines.specs.Blanks.{is_blank}
+use Rattle.units_io.specs.Blanks.{is_blank}
 use Rattle.def_lines.specs.Lines.{joined}
 
 -- no blank is at the front of a text

@@ -2,7 +2,8 @@
 use Rattle.std.specs.Prelude.{◌&&◌, ℕ, List, [], ◌∷◌, Bool, true, false, not, length, drop, nat_eq}
 use Rattle.std.specs.List.{before_first, list_any, slice_split}
 use Rattle.std.specs.Cmp.Lexicographic.{pointwise}
-use Rattle.def_lines.specs.Blanks.{is_blank, trimmed}
+use Rattle.units_io.specs.Blanks.{is_blank}
+use Rattle.def_lines.specs.Blanks.{after_blanks, trimmed}
 
 -- those of some texts that have a byte
 abbrev pub nonempty : List (List ℕ) → List (List ℕ)
@@ -17,6 +18,10 @@ words_of text = nonempty (slice_split is_blank text)
 -- what stands before the first blank, or all where there is none
 abbrev pub first_word : List ℕ → List ℕ
 first_word text = before_first is_blank text
+
+-- what stands behind that, without the blanks at its front
+abbrev pub after_word : List ℕ → List ℕ
+after_word text = after_blanks (drop (length (first_word text)) text)
 
 -- what stands behind that, trimmed
 abbrev pub behind_word : List ℕ → List ℕ

@@ -1,14 +1,9 @@
 //! Blanks at the ends of a text.
 
 ghost use Rattle.std.specs.Prelude.{◌≡◌};
-ghost use Rattle.def_lines.specs.Blanks.{is_blank as is_blank_byte, after_blanks, before_blanks, trimmed};
+ghost use Rattle.def_lines.specs.Blanks.{after_blanks, before_blanks, trimmed};
 
-/// Whether the byte is a blank: a space or a tab.
-pub fn is_blank(byte: u8) -> bool
-    ensures { result ≡ is_blank_byte byte }
-{
-    byte == b' ' || byte == b'\t'
-}
+use units_io::is_blank;
 
 /// The text without the blanks at both ends.
 pub fn trim(text: &[u8]) -> &[u8]
@@ -17,8 +12,8 @@ pub fn trim(text: &[u8]) -> &[u8]
     trim_front(trim_end(text))
 }
 
-// The text without the blanks at its front.
-pub(crate) fn trim_front(text: &[u8]) -> &[u8]
+/// The text without the blanks at its front.
+pub fn trim_front(text: &[u8]) -> &[u8]
     ensures { result.now ≡ after_blanks text.now }
 {
     let mut rest = text;

@@ -13,9 +13,9 @@ mod split;
 mod tests;
 mod words;
 
-pub use blanks::{is_blank, trim};
+pub use blanks::{trim, trim_front};
 pub use kind::{LineKind, classify};
 pub use line::Line;
 pub use lines::Lines;
 pub use split::split_lines;
-pub use words::{listed, split_word};
+pub use words::{cut_word, listed, split_word};

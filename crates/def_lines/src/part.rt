@@ -4,10 +4,10 @@ ghost use Rattle.std.specs.Prelude.{◌≡◌, ◌≤◌, ◌++◌, [], List, �
 ghost use Rattle.def_lines.specs.Blanks.{before_blanks, trimmed};
 ghost use Rattle.def_lines.specs.Parts.{is_begun};
 
-use crate::blanks::{is_blank, trim_front};
+use crate::blanks::trim_front;
 use crate::line::Line;
 use std::alloc::{AllocError, Global};
-use units_io::Text;
+use units_io::{Text, is_blank};
 
 // The number of its first physical line, and its text so far without the blanks at its front.
 #[derive(Drop)]

@@ -2,10 +2,11 @@
 
 ghost use Rattle.std.specs.Prelude.{◌≡◌, ◌≤◌, length};
 ghost use Rattle.std.specs.List.{list_any, position_or_len};
-ghost use Rattle.def_lines.specs.Blanks.{is_blank as is_blank_byte};
-ghost use Rattle.def_lines.specs.Words.{behind_word, first_word, is_listed, is_word as is_word_text};
+ghost use Rattle.units_io.specs.Blanks.{is_blank as is_blank_byte};
+ghost use Rattle.def_lines.specs.Words.{after_word, behind_word, first_word, is_listed, is_word as is_word_text};
 
-use crate::blanks::{is_blank, trim, trim_front};
+use crate::blanks::{trim, trim_front};
+use units_io::is_blank;
 
 /// What stands before the first blank, or all where there is none, and what stands behind that,
 /// trimmed.
@@ -17,17 +18,27 @@ pub fn split_word(text: &[u8]) -> (&[u8], &[u8])
     (word, trim(behind))
 }
 
+/// What stands before the first blank, or all where there is none, and what stands behind that,
+/// without the blanks at its front.
+pub fn cut_word(text: &[u8]) -> (&[u8], &[u8])
+    ensures word { result.0.now ≡ first_word text.now }
+    ensures behind { result.1.now ≡ after_word text.now }
+{
+    let (word, behind) = text.split_at(word_len(text));
+    (word, trim_front(behind))
+}
+
 /// Whether the value is one of the words of a text.
 pub fn listed(values: &[u8], value: &[u8]) -> bool
     ensures { result ≡ is_listed values.now value.now }
 {
     let mut rest = trim_front(values);
     while !rest.is_empty() {
-        let (word, behind) = rest.split_at(word_len(rest));
+        let (word, behind) = cut_word(rest);
         if word == value {
             return true;
         }
-        rest = trim_front(behind);
+        rest = behind;
     }
     false
 }

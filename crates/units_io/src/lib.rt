@@ -1,6 +1,7 @@
-//! Texts and lists of them, and what a program reads from and writes to: sources, sinks and files, of the system and in memory.
+//! Texts, lists of them and the bytes that part their words, and what a program reads from and writes to: sources, sinks and files, of the system and in memory.
 #![tactic(auto)]
 
+mod blanks;
 mod files;
 mod memory;
 mod sink;
@@ -11,6 +12,7 @@ mod text;
 mod texts;
 mod vars;
 
+pub use blanks::is_blank;
 pub use files::{FetchFault, Files, LONGEST_FILE, StoreFault};
 pub use memory::{MemFiles, MemSink, MemSource};
 pub use sink::{Sink, put_all};

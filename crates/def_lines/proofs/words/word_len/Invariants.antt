@@ -1,6 +1,6 @@
 use Rattle.std.proofs.Common.{◌≡◌, ◌≤◌, ◌+◌, ◌-◌, length, drop}
 use Rattle.std.specs.List.{position_or_len}
-use Rattle.def_lines.specs.Blanks.{is_blank}
+use Rattle.units_io.specs.Blanks.{is_blank}
 use Rattle.def_lines.proofs.words.word_len.Given as goal
 
 abbrev pub invariant-loop-len : goal.invariant-loop-len
