@@ -4,8 +4,9 @@ use Rattle.std.specs.Ordering.{nat_cmp}
 use Rattle.std.proofs.lemmas.Bool.{cases_lt}
 use Rattle.std.proofs.lemmas.Nat.{div-mul-add, le-div, mod_below, mod-mul-add, mul-le}
 use Rattle.std.proofs.Math.Nat.{div-add-mod, mul-pos}
+use Rattle.frac128.specs.Nearest.{by_half}
 use Rattle.digits_print.specs.Nearest.{down, up}
-use Rattle.digits_print.specs.Rounding.{by_half, carried, first_power, rounded, rounded_at}
+use Rattle.digits_print.specs.Rounding.{carried, first_power, rounded, rounded_at}
 use Rattle.digits_print.proofs.Scales.{IsScaled, scale_unique, scaled, ten_before, ten_some, ten_suc, ten_up}
 
 -- at a scale where the ratio has n digits before the point, rounding is by the quotient and the remainder there

@@ -11,10 +11,11 @@ use Rattle.std.proofs.lemmas.Int.{ints}
 use Rattle.std.proofs.lemmas.Nat.{div_below, le-div, mul-le, pow-add}
 use Rattle.std.proofs.Math.Nat.{mul-pos, mul-one}
 use Rattle.digits_print.specs.declared.decimal.Decimal.{Decimal}
+use Rattle.frac128.specs.Nearest.{IsNearestWhole, NearestWholeLaw, by_half, nearest_whole}
 use Rattle.digits_print.specs.Nearest.{HasDigits, IsLess, IsNearest, IsPreferred, NoFarther, down, gap, up}
-use Rattle.digits_print.specs.Rounding.{NearestLaw, by_half, carried, nearest_whole, rounded, rounded_at}
-use Rattle.digits_print.proofs.NearestWholes.{IsNearestWhole, abs_diff-mul, nearest_whole_is}
-use Rattle.digits_print.proofs.Products.{cancelled, cancelled_le, scaled_lt, turned}
+use Rattle.digits_print.specs.Rounding.{NearestLaw, carried, rounded, rounded_at}
+use Rattle.digits_print.proofs.NearestWholes.{other_odd}
+use Rattle.digits_print.proofs.Products.{abs_diff-mul, cancelled, cancelled_le, scaled_lt, turned}
 use Rattle.digits_print.proofs.Scales.{IsScaled, down_some, ordered, scaled, shifted, ten_before, ten_some, ten_suc, ten_up, up_some}
 
 -- d is m steps of ten to the scale s
@@ -184,8 +185,8 @@ preferred n m s d e some own digits is even odd = by_case own.is
         at_count (suc j) more = inl (even_power j d.digits (next_scale.1 ∙ ap (λ v. 10 ^ v) more), odd)
 
 -- the decimal at a scale with n digits before the point is nearest
-at_scale : (n a b : ℕ) (s : ℤ) (m : ℕ) (d : Decimal) → 0 < n → 0 < b → IsScaled n a b s → IsNearestWhole (a * down s) (b * up s) m → IsCarried n m s d → IsNearest n a b d
-at_scale n a b s m d some some_b at near own = record {
+at_scale : NearestWholeLaw → (n a b : ℕ) (s : ℤ) (m : ℕ) (d : Decimal) → 0 < n → 0 < b → IsScaled n a b s → IsNearestWhole (a * down s) (b * up s) m → IsCarried n m s d → IsNearest n a b d
+at_scale law n a b s m d some some_b at near own = record {
   digits = own.digits;
   nearest = λ e digits. nearest e digits (ordered s e.scale);
   tie = λ e digits h. tie e digits h (ordered s e.scale);
@@ -196,7 +197,7 @@ at_scale n a b s m d some some_b at near own = record {
         → abs_diff (a * down e.scale) (m * 10 ^ suc k * (b * up e.scale)) < abs_diff (a * down e.scale) (e.digits * (b * up e.scale))
     finer e k digits is =
         products (10 ^ (n - 1)) (10 ^ suc k) e.digits a b (up s) (down s) (up e.scale) (down e.scale)
-        (near.close (10 ^ (n - 1))) (shifted e.scale s (suc k) is) at.low (fewer k digits.below) (down_some s) (mul-pos some_b (up_some e.scale))
+        (near.near (10 ^ (n - 1))) (shifted e.scale s (suc k) is) at.low (fewer k digits.below) (down_some s) (mul-pos some_b (up_some e.scale))
       where
         fewer : (k : ℕ) → e.digits < 10 ^ n → e.digits < 10 ^ (n - 1) * 10 ^ suc k
         fewer k h = let more : n ≤ n - 1 + suc k = omega arith in let wide : 10 ^ n ≤ 10 ^ (n - 1) * 10 ^ suc k = subst (λ v. 10 ^ n ≤ v) (pow-add 10 (n - 1) (suc k)) (ten_up n (n - 1 + suc k) more) in omega arith
@@ -234,14 +235,14 @@ at_scale n a b s m d some some_b at near own = record {
             farther (a * dt) (m * p * (b * ut)) (l * p * (b * ut)) (x * (b * ut)) (cancelled_le _ _ ds some_s second) (cancelled_le _ _ ds some_s fourth) (scaled_lt x (l * p) (b * ut) few some_t)
 
     nearest : (e : Decimal) → HasDigits n e.digits → ((k : ℕ) × (e.scale ≡ s +ℤ pos k)) ⊎ ((k : ℕ) × (s ≡ e.scale +ℤ pos (suc k))) → NoFarther a b d e
-    nearest e digits (inl above) = no_farther_on a b d e s m _ own.on (on_grid_below e s above.0 above.1) (near.close _)
+    nearest e digits (inl above) = no_farther_on a b d e s m _ own.on (on_grid_below e s above.0 above.1) (near.near _)
     nearest e digits (inr below) =
         let less = finer e below.0 digits below.1 in
         no_farther_on a b d e e.scale (m * 10 ^ suc below.0) e.digits (on_finer_grid d s e.scale m (suc below.0) below.1 own.on) (on_own_grid e) (omega arith)
 
     tie : (e : Decimal) → HasDigits n e.digits → NoFarther a b e d → ((k : ℕ) × (e.scale ≡ s +ℤ pos k)) ⊎ ((k : ℕ) × (s ≡ e.scale +ℤ pos (suc k))) → (d ≡ e) ⊎ IsPreferred d e
     tie e digits h (inl above) =
-        by_steps above.0 above.1 (near.tie (e.digits * 10 ^ above.0) (steps_closer a b e d s _ m (on_grid_below e s above.0 above.1) own.on h))
+        by_steps above.0 above.1 (other_odd law (a * down s) (b * up s) m (e.digits * 10 ^ above.0) (mul-pos some_b (up_some s)) near (steps_closer a b e d s _ m (on_grid_below e s above.0 above.1) own.on h))
       where
         even : (x p q : ℕ) → p ≡ 10 * q → (x * p) % 2 ≡ 1 → ⊥
         even x p q e odd = let twice : x * p ≡ 2 * (x * (5 * q)) = ap (λ v. x * v) e ∙ omega arith in omega arith
@@ -283,19 +284,19 @@ rounds n a b some low high =
     by_cut q Equal h k = (omega arith, omega arith)
     by_cut q Greater h k = (omega arith, omega arith)
 
-rounded_at_is_nearest : (n a b : ℕ) (s : ℤ) → 0 < n → 0 < b → IsScaled n a b s → IsNearest n a b (rounded_at n a b s)
+rounded_at_is_nearest : NearestWholeLaw → (n a b : ℕ) (s : ℤ) → 0 < n → 0 < b → IsScaled n a b s → IsNearest n a b (rounded_at n a b s)
 unfolding rounded_at
-rounded_at_is_nearest n a b s some some_b at =
+rounded_at_is_nearest law n a b s some some_b at =
     let some_step = mul-pos some_b (up_some s) in
     let bounds = rounds n (a * down s) (b * up s) some_step at.low at.high in
-    at_scale n a b s _ _ some some_b at (nearest_whole_is (a * down s) (b * up s) some_step) (carried_is n _ s some bounds.0 bounds.1)
+    at_scale law n a b s _ _ some some_b at (law (a * down s) (b * up s) some_step).0 (carried_is n _ s some bounds.0 bounds.1)
 
-rounded_is_nearest : (n a b : ℕ) → 0 < n → 0 < a → 0 < b → IsNearest n a b (rounded n a b)
+rounded_is_nearest : NearestWholeLaw → (n a b : ℕ) → 0 < n → 0 < a → 0 < b → IsNearest n a b (rounded n a b)
 unfolding rounded
-rounded_is_nearest n a b some some_a some_b = rounded_at_is_nearest n a b _ some some_b (scaled n a b some some_a some_b)
+rounded_is_nearest law n a b some some_a some_b = rounded_at_is_nearest law n a b _ some some_b (scaled n a b some some_a some_b)
 
 -- rounding to n digits gives the nearest decimal, and no other one is nearest
-pub nearest_law : NearestLaw
-nearest_law n a b some some_a some_b =
-    let is = rounded_is_nearest n a b some some_a some_b in
+pub nearest_law : NearestWholeLaw → NearestLaw
+nearest_law law n a b some some_a some_b =
+    let is = rounded_is_nearest law n a b some some_a some_b in
     (is, λ d own. unique n a b d (rounded n a b) own is)

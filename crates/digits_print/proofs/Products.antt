@@ -1,5 +1,7 @@
 -- Orders and equations of products.
-use Rattle.std.proofs.Common.{◌≡◌, ◌<◌, ◌≤◌, ◌*◌, ℕ, arith}
+use Rattle.std.proofs.Common.{◌≡◌, ◌<◌, ◌≤◌, ◌+◌, ◌-◌, ◌*◌, ℕ, arith, sym, inl, inr}
+use Rattle.std.specs.Int.{abs_diff}
+use Rattle.std.proofs.lemmas.Bool.{cases_lt}
 
 pub scaled_lt : (m n d : ℕ) → m < n → 0 < d → m * d < n * d
 scaled_lt m n d h some = grind arith
@@ -19,3 +21,25 @@ turned m n d = omega arith
 
 pub grouped : (m n d : ℕ) → m * n * d ≡ m * (n * d)
 grouped m n d = omega arith
+
+abs_diff_up : (x z : ℕ) → abs_diff x (x + z) ≡ z
+abs_diff_up x z = omega arith
+
+abs_diff_down : (x z : ℕ) → abs_diff (x + z) x ≡ z
+abs_diff_down x z = omega arith
+
+-- a distance times a number
+pub abs_diff-mul : (x y k : ℕ) → abs_diff x y * k ≡ abs_diff (x * k) (y * k)
+abs_diff-mul x y k = elim (cases_lt x y) [
+  | inl h ↦ upper (y - x) (omega arith)
+  | inr h ↦ lower (x - y) (omega arith)
+]
+  where
+    spread : (m n : ℕ) → (m + n) * k ≡ m * k + n * k
+    spread m n = omega arith
+
+    upper : (z : ℕ) → y ≡ x + z → abs_diff x y * k ≡ abs_diff (x * k) (y * k)
+    upper z e = rw (e, abs_diff_up x z, spread x z) (sym (abs_diff_up (x * k) (z * k)))
+
+    lower : (z : ℕ) → x ≡ y + z → abs_diff x y * k ≡ abs_diff (x * k) (y * k)
+    lower z e = rw (e, abs_diff_down y z, spread y z) (sym (abs_diff_down (y * k) (z * k)))

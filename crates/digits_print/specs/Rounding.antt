@@ -1,9 +1,7 @@
 -- Rounding a ratio of two whole numbers to so many significant digits.
-use Rattle.std.specs.Prelude.{◌≡◌, ◌<◌, ◌+◌, ◌-◌, ◌*◌, ◌/◌, ◌%◌, ◌^◌, ◌==◌, ◌+ℤ◌, ◌-ℤ◌, ℕ, ℤ, pos, neg_ℤ, length, nat_le, if◌then◌else◌}
+use Rattle.std.specs.Prelude.{◌≡◌, ◌<◌, ◌-◌, ◌*◌, ◌/◌, ◌^◌, ◌==◌, ◌+ℤ◌, ◌-ℤ◌, ℕ, ℤ, pos, neg_ℤ, length, nat_le, if◌then◌else◌}
 use Rattle.std.specs.Int.Digits.{digits_of}
-use Rattle.std.specs.Ordering.{nat_cmp}
-use Rattle.std.specs.declared.cmp.Ordering.{Ordering}
-use Rattle.std.specs.declared.cmp.Ordering.TheVariants.{Less, Equal, Greater}
+use Rattle.frac128.specs.Nearest.{nearest_whole}
 use Rattle.digits_print.specs.declared.decimal.Decimal.{Decimal}
 use Rattle.digits_print.specs.Nearest.{IsNearest, down, up}
 
@@ -14,16 +12,6 @@ digit_count m = length (digits_of 10 m)
 -- the power of ten of the first digit of a / b; below 1 it is minus the least k with b ≤ a * 10 ^ k, which is how many digits (b - 1) / a has
 unfoldable pub first_power : ℕ → ℕ → ℤ
 first_power a b = if nat_le b a then pos (digit_count (a / b) - 1) else neg_ℤ (pos (digit_count ((b - 1) / a)))
-
--- a whole number and what was cut off behind it, by how that compares with a half; a half goes to the even number
-abbrev pub by_half : ℕ → Ordering → ℕ
-by_half m Less = m
-by_half m Equal = m + m % 2
-by_half m Greater = m + 1
-
--- the whole number nearest to a / b
-abbrev pub nearest_whole : ℕ → ℕ → ℕ
-nearest_whole a b = by_half (a / b) (nat_cmp (2 * (a % b)) b)
 
 -- a whole number of at most n digits times ten to the scale, or the next power of ten
 abbrev pub carried : ℕ → ℕ → ℤ → Decimal

@@ -1,8 +1,9 @@
 //! Decimals with so many digits.
 
 ghost use Rattle.std.specs.Prelude.{◌≡◌, ◌<◌, ◌≤◌, ◌^◌, pos, negsuc, ◌<ℤ◌, ◌≤ℤ◌};
+ghost use Rattle.frac128.specs.Nearest.{by_half as by_half_of};
 ghost use Rattle.digits_print.specs.Nearest.{HasDigits};
-ghost use Rattle.digits_print.specs.Rounding.{by_half as by_half_of, carried as carried_of};
+ghost use Rattle.digits_print.specs.Rounding.{carried as carried_of};
 
 use std::cmp::Ordering;
 

@@ -3,7 +3,7 @@
 ghost use Rattle.digits_print.specs.Exact.{ExactLaw};
 ghost use Rattle.digits_print.specs.Rounding.{NearestLaw};
 
-use frac128::reduced_law;
+use frac128::{nearest_whole_law, reduced_law};
 
 /// The exact text of a fraction reads as that fraction.
 pub fn exact_law()
@@ -15,4 +15,6 @@ pub fn exact_law()
 /// A rounded number is the nearest one with so many significant digits, and the only one.
 pub fn nearest_law()
     ensures { NearestLaw }
-{}
+{
+    nearest_whole_law();
+}

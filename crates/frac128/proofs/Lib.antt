@@ -1,9 +1,11 @@
 pub mod Comparisons
+pub mod ComputedRoots
 pub mod Coprime
 pub mod DigitRuns
 pub mod Euclid
 pub mod Lowest
 pub mod Multiples
+pub mod NearestWholes
 pub mod Ordered
 pub mod Powers
 pub mod Quotients

@@ -22,12 +22,12 @@ root_some zero q b some e h = let none : b ≡ 0 = sym e ∙ zero-pow q some in 
 root_some (suc m) q b some e h = omega arith
 
 -- a number is at most its power
-le-pow : (m q : ℕ) → 0 < q → m ≤ m ^ q
+pub le-pow : (m q : ℕ) → 0 < q → m ≤ m ^ q
 le-pow zero q some = omega arith
 le-pow (suc m) q some = subst (λ k. k ≤ suc m ^ q) (pow-one (suc m)) (pow-le-pow_right {n = suc m} (omega arith) {i = 1} {j = q} some)
 
 -- a number divides its power
-dvd-pow : (m q : ℕ) → 0 < q → m ∣ m ^ q
+pub dvd-pow : (m q : ℕ) → 0 < q → m ∣ m ^ q
 dvd-pow m zero some = absurd (omega arith)
 dvd-pow m (suc q) some = subst (λ k. m ∣ k) (sym (pow-suc m q)) (dvd-mul_left m (m ^ q))
 
@@ -88,7 +88,7 @@ same_of_pow m n q some e = elim (cases_order m n) [
     other q some e = omega arith
 
 -- the magnitude and the sign of a power
-abs-pow : (z : ℤ) (q : ℕ) → unsigned_abs (int_pow z q) ≡ unsigned_abs z ^ q
+pub abs-pow : (z : ℤ) (q : ℕ) → unsigned_abs (int_pow z q) ≡ unsigned_abs z ^ q
 abs-pow z q =
     ap (λ n. unsigned_abs (int_pow n q)) (signed_is z) ∙ ap unsigned_abs (pow-signed (int_lt z (pos 0)) (unsigned_abs z) q) ∙ abs-signed _ (unsigned_abs z ^ q)
 

@@ -2,7 +2,7 @@
 
 ghost use Rattle.std.specs.Prelude.{◌≡◌, ◌<◌, ◌≤◌, ◌↔◌, pos, int_lt, unsigned_abs, IsTrue};
 ghost use Rattle.std.specs.Int.{IsGcd};
-ghost use Rattle.frac128.specs.Fraction.{IsKept, most, negated, whole};
+ghost use Rattle.frac128.specs.Fraction.{IsKept, IsReduced, most, negated, whole};
 ghost use Rattle.frac128.specs.Sign.{signed as signed_of};
 ghost use Rattle.frac128.specs.Steps.{fitting, ratio};
 
@@ -99,6 +99,7 @@ impl Frac {
     // The denominator, by its magnitude.
     pub(crate) fn bottom(&self) -> u128
         ensures is { result ≡ self.now.den }
+        ensures reduced { IsReduced self.now }
         ensures some { 0 < result }
         ensures fits { result ≤ most }
     {

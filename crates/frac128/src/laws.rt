@@ -3,8 +3,9 @@
 ghost use Rattle.frac128.specs.Decimals.{DigitsLaw};
 ghost use Rattle.frac128.specs.Divisors.{GcdLaw, LcmLaw};
 ghost use Rattle.frac128.specs.Floor.{FloorLaw};
+ghost use Rattle.frac128.specs.Nearest.{NearestWholeLaw};
 ghost use Rattle.frac128.specs.Order.{OrderLaw};
-ghost use Rattle.frac128.specs.Roots.{RootLaw};
+ghost use Rattle.frac128.specs.Roots.{RootLaw, RootOfLaw};
 ghost use Rattle.frac128.specs.Steps.{ReducedLaw};
 
 /// The greatest common divisor divides both numbers, and each number that divides both
@@ -34,6 +35,12 @@ pub fn root_law()
     ensures { RootLaw }
 {}
 
+/// The root that is computed from those of the numerator and the denominator is the fraction
+/// whose power is the given one, and where there is none no fraction is.
+pub fn root_of_law()
+    ensures { RootOfLaw }
+{}
+
 /// Digits alone are a numeral, and its value is the whole number that they write.
 pub fn digits_law()
     ensures { DigitsLaw }
@@ -42,4 +49,9 @@ pub fn digits_law()
 /// The whole part is the greatest whole number that is at most the fraction.
 pub fn floor_law()
     ensures { FloorLaw }
+{}
+
+/// Rounding by the remainder gives the nearest whole number, and of two the even one.
+pub fn nearest_whole_law()
+    ensures { NearestWholeLaw }
 {}

@@ -2,15 +2,17 @@
 
 ghost use Rattle.std.specs.Prelude.{◌≡◌, ◌<◌, ◌*◌};
 ghost use Rattle.std.specs.Ordering.{nat_cmp};
+ghost use Rattle.frac128.specs.Fraction.{IsReduced};
 ghost use Rattle.frac128.specs.Order.{compared};
 
 use crate::fraction::Frac;
 use std::cmp::Ordering;
 
 impl Frac {
-    /// How the fraction's value stands to the other's.
+    /// How the fraction's value stands to the other's. Both are in lowest terms.
     pub fn cmp(&self, other: &Frac) -> Ordering
-        ensures { result ≡ compared self.now other.now }
+        ensures order { result ≡ compared self.now other.now }
+        ensures reduced { IsReduced self.now × IsReduced other.now }
     {
         let (a, b) = (self.top(), self.bottom());
         let (c, d) = (other.top(), other.bottom());

@@ -2,7 +2,7 @@
 
 ghost use Rattle.std.specs.Prelude.{◌≡◌, ◌<◌, ◌≤◌, ◌^◌, ℕ, MatchOption};
 ghost use Rattle.frac128.specs.Fraction.{most};
-ghost use Rattle.frac128.specs.Roots.{IsRootAnswer};
+ghost use Rattle.frac128.specs.Roots.{IsRootAnswer, root_of};
 
 use crate::fault::FracFault;
 use crate::fraction::Frac;
@@ -11,6 +11,17 @@ impl Frac {
     /// The fraction whose power to q is this one, not below 0 where q is even. `NoExactRoot`
     /// where no fraction is.
     pub fn root(&self, q: u32) -> Result<Frac, FracFault>
+        requires { 0 < q }
+        ensures exact { IsRootAnswer self.now q result }
+        ensures computed { result ≡ root_of self.now q }
+    {
+        // The fraction is in lowest terms.
+        self.den();
+        self.root_by_parts(q)
+    }
+
+    // The root by those of the numerator and the denominator.
+    fn root_by_parts(&self, q: u32) -> Result<Frac, FracFault>
         requires { 0 < q }
         ensures { IsRootAnswer self.now q result }
     {

@@ -61,13 +61,12 @@ impl Points {
         ensures { result ≡ y_at self.now x.now }
     {
         order_law();
-        prove!(x.den() > 0);
         let place = self
             .points
             .partition_point(|point| is_less(&point.0, x))
             .max(1);
         let left = &self.points[place - 1];
-        if place == self.points.len() || is_less(x, &left.0) {
+        if is_less(x, &left.0) || place == self.points.len() {
             return Err(TableFault::OutsideTable);
         }
         y_on(left, &self.points[place], x)
@@ -109,18 +108,17 @@ fn rises(points: &[Point]) -> bool
 {
     prove!(points[0].0.den() > 0);
     for i in 1..points.len() {
-        let (left, right) = (&points[i - 1].0, &points[i].0);
-        prove!(right.den() > 0);
-        if !is_less(left, right) {
+        if !is_less(&points[i - 1].0, &points[i].0) {
             return false;
         }
     }
     true
 }
 
-// Whether a number is less than another.
+// Whether a number is less than another. The denominators are those of fractions.
 fn is_less(left: &Frac, right: &Frac) -> bool
-    ensures { result ≡ is_lt (compared left.now right.now) }
+    ensures order { result ≡ is_lt (compared left.now right.now) }
+    ensures denominators { (0 < left.now.den) × (0 < right.now.den) }
 {
     left.cmp(right).is_lt()
 }

@@ -5,7 +5,6 @@ pub mod Matched
 pub mod Merged
 pub mod MergeSteps
 pub mod Names
-pub mod Rooted
 pub mod Scaled
 pub mod Single
 pub mod Slashes

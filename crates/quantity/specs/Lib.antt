@@ -6,6 +6,5 @@ pub mod Factors
 pub mod Merges
 pub mod Powers
 pub mod Products
-pub mod Roots
 pub mod Sums
 pub mod Text

@@ -3,12 +3,12 @@ use Rattle.std.specs.Prelude.{ℤ, not, Result, Ok, Err, if◌then◌else◌}
 use Rattle.std.specs.FinMap as map_of
 use Rattle.frac128.specs.Fraction.{Fraction}
 use Rattle.frac128.specs.Powers.{power}
+use Rattle.frac128.specs.Roots.{root_of}
 use Rattle.frac128.specs.declared.fault.FracFault.{FracFault}
 use Rattle.quantity.specs.Amount.{Amount, is_number}
 use Rattle.quantity.specs.Answers.{joined, ranged}
 use Rattle.quantity.specs.Degrees.{is_degree}
 use Rattle.quantity.specs.Exponents.{Exponents, exponent_of, exponent_product}
-use Rattle.quantity.specs.Roots.{root_of}
 use Rattle.quantity.specs.declared.fault.QuantityFault.{QuantityFault}
 use Rattle.quantity.specs.declared.fault.QuantityFault.TheVariants.{ExponentNotNumber, ExponentRange}
 

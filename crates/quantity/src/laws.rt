@@ -2,7 +2,6 @@
 
 ghost use Rattle.quantity.specs.Exponents.{SameExponentsLaw};
 ghost use Rattle.quantity.specs.Products.{ProductLaw};
-ghost use Rattle.quantity.specs.Roots.{RootOfLaw};
 
 use frac128::reduced_law;
 
@@ -17,8 +16,3 @@ pub fn product_law()
 {
     reduced_law();
 }
-
-/// The root of a fraction is the fraction whose power it is, where there is one.
-pub fn root_of_law()
-    ensures { RootOfLaw }
-{}

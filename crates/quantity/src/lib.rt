@@ -14,7 +14,6 @@ mod powers;
 mod product;
 mod quantity;
 mod raising;
-mod roots;
 mod scaling;
 mod show;
 mod sum;
@@ -24,6 +23,6 @@ mod text;
 
 pub use exponent::Exponent;
 pub use fault::QuantityFault;
-pub use laws::{product_law, root_of_law, same_exponents_law};
+pub use laws::{product_law, same_exponents_law};
 pub use quantity::Quantity;
 pub use show::Style;

@@ -7,7 +7,6 @@ ghost use Rattle.quantity.specs.Powers.{power_exponents, power_of, powered as po
 use crate::degree::Degree;
 use crate::fault::QuantityFault;
 use crate::quantity::Quantity;
-use crate::roots::root;
 use frac128::{Frac, FracFault};
 use std::alloc::Global;
 
@@ -46,5 +45,5 @@ impl Quantity {
 fn powered(x: &Frac, degree: &Degree) -> Result<Frac, FracFault>
     ensures { result ≡ powered_of x.now degree.now }
 {
-    root(x, degree.den())?.pow(degree.num())
+    x.root(degree.den())?.pow(degree.num())
 }

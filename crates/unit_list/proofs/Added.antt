@@ -11,8 +11,7 @@ use Rattle.frac128.specs.Fraction.{Fraction, SameValue, negated, whole}
 use Rattle.frac128.specs.Steps.{ReducedLaw, over, reduced}
 use Rattle.unit_list.specs.Exact.{product, sum, total}
 use Rattle.unit_list.specs.Laws.{AreGreatest, IsSplitOf, IsUnit, SplitLaw, quotient_of, split_number}
-use Rattle.unit_list.specs.Nearest.{nearest_to}
-use Rattle.unit_list.specs.Splits.{counts_of, is_below_zero, last_of, magnitude, rounded_if, signed}
+use Rattle.unit_list.specs.Splits.{counts_of, is_below_zero, last_of, magnitude, nearest_to, rounded_if, signed}
 use Rattle.unit_list.proofs.Counted.{AreCounts, counts_are, goes, ok_same, unit_natural}
 use Rattle.unit_list.proofs.Values.{over_reduced, own_value, times_value}
 

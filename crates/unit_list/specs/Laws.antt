@@ -3,8 +3,7 @@ use Rattle.std.specs.Prelude.{◌≡◌, ◌<◌, ◌*◌, ◌*ℤ◌, ◌+ℤ�
 use Rattle.frac128.specs.Fraction.{Fraction, SameValue, whole}
 use Rattle.frac128.specs.Steps.{reduced}
 use Rattle.unit_list.specs.Exact.{difference, product, total}
-use Rattle.unit_list.specs.Nearest.{nearest_to}
-use Rattle.unit_list.specs.Splits.{is_below_zero, last_of, magnitude, number_counts, signed}
+use Rattle.unit_list.specs.Splits.{is_below_zero, last_of, magnitude, nearest_to, number_counts, signed}
 
 -- a unit: its number is above 0
 pub record IsUnit (unit : Fraction) : Type 0 where

@@ -1,11 +1,11 @@
 -- Splitting a number into counts of units, by fraction steps.
-use Rattle.std.specs.Prelude.{pos, unsigned_abs, int_lt, Bool, true, false, List, [], ◌∷◌, map, Result, Ok, Err, if◌then◌else◌}
+use Rattle.std.specs.Prelude.{ℕ, pos, unsigned_abs, int_lt, Bool, true, false, List, [], ◌∷◌, map, Result, Ok, Err, if◌then◌else◌}
 use Rattle.frac128.specs.declared.fault.FracFault.{FracFault}
 use Rattle.frac128.specs.Floor.{floor_of}
 use Rattle.frac128.specs.Fraction.{Fraction, negated, whole}
+use Rattle.frac128.specs.Nearest.{nearest_whole}
 use Rattle.frac128.specs.Steps.{over, times}
 use Rattle.frac128.specs.Sums.{minus}
-use Rattle.unit_list.specs.Nearest.{nearest_to}
 use Rattle.unit_list.specs.declared.part.Part.{Part}
 
 -- a step, and then another on what it gives; a fault is the answer of both
@@ -34,6 +34,10 @@ counts_of x (unit ∷ next ∷ units) = do
   part ← part_of x unit
   counts ← counts_of part.rest (next ∷ units)
   Ok (part.count ∷ counts)
+
+-- the whole number nearest to the magnitude of a fraction
+abbrev pub nearest_to : Fraction → ℕ
+nearest_to x = nearest_whole (unsigned_abs x.num) x.den
 
 -- the whole multiple of the unit that is nearest to x
 abbrev pub rounded_to : Fraction → Fraction → Result Fraction FracFault

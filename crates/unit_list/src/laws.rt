@@ -1,7 +1,6 @@
 //! Laws of the definitions that the contracts cite.
 
 ghost use Rattle.unit_list.specs.Laws.{SplitLaw};
-ghost use Rattle.unit_list.specs.Nearest.{NearestLaw};
 
 use frac128::{lcm_law, reduced_law};
 
@@ -13,8 +12,3 @@ pub fn split_law()
     lcm_law();
     reduced_law();
 }
-
-/// A rounded number is the nearest whole one, and of two the even one.
-pub fn nearest_law()
-    ensures { NearestLaw }
-{}

@@ -15,5 +15,5 @@ mod tests;
 pub use counts::Split;
 pub use fault::SplitFault;
 pub use fracs::Fracs;
-pub use laws::{nearest_law, split_law};
+pub use laws::split_law;
 pub use splitting::split;

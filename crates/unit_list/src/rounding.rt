@@ -2,8 +2,7 @@
 
 ghost use Rattle.std.specs.Prelude.{◌≡◌, ◌<◌, ◌%◌, ◌+◌, ◌/◌, ◌≤ℤ◌, pos, unsigned_abs};
 ghost use Rattle.frac128.specs.Fraction.{whole};
-ghost use Rattle.unit_list.specs.Nearest.{nearest_to as nearest_to_of};
-ghost use Rattle.unit_list.specs.Splits.{rounded_if as rounded_if_of, rounded_to as rounded_to_of};
+ghost use Rattle.unit_list.specs.Splits.{nearest_to as nearest_to_of, rounded_if as rounded_if_of, rounded_to as rounded_to_of};
 
 use crate::sign::magnitude;
 use frac128::{Frac, FracFault};

@@ -1,6 +1,6 @@
 //! Splits whose expected counts come from Python's fractions.
 
-use crate::{Fracs, SplitFault, nearest_law, split, split_law};
+use crate::{Fracs, SplitFault, split, split_law};
 use frac128::{Frac, FracFault};
 use quantity::{Quantity, QuantityFault};
 use std::alloc::{AllocError, Global};
@@ -189,6 +189,5 @@ fn rounds_the_last_unit(rt: HostRuntime) -> Result<(), Fail> {
     for (i, row) in rows.iter().enumerate() {
         assert!(rt; is_told(rt.alloc(), row, true)?, "row {i}");
     }
-    nearest_law();
     Ok(())
 }

@@ -4,7 +4,7 @@ use super::{given, made, times};
 use crate::fault::QuantityFault;
 use crate::quantity::Quantity;
 use crate::show::Style;
-use crate::{product_law, root_of_law, same_exponents_law};
+use crate::{product_law, same_exponents_law};
 use frac128::Frac;
 use std::alloc::Global;
 use std::process::Abort;
@@ -143,6 +143,5 @@ fn unlike_sums_carry_both(rt: HostRuntime) -> Result<(), Fail> {
 #[test]
 fn laws_return() {
     product_law();
-    root_of_law();
     same_exponents_law();
 }

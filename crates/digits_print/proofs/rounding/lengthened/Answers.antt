@@ -2,7 +2,8 @@ use Rattle.std.proofs.Common.{◌≡◌, ◌*◌, ◌-ℤ◌, pos, neg_ℤ, of_z
 use mir.Syntax.{w32}
 use Rattle.std.specs.Ordering.{nat_cmp}
 use Rattle.std.proofs.lemmas.Int.{ints}
-use Rattle.digits_print.specs.Rounding.{by_half, carried}
+use Rattle.frac128.specs.Nearest.{by_half}
+use Rattle.digits_print.specs.Rounding.{carried}
 use Rattle.digits_print.proofs.DigitSteps.{few_places, lengthened_end, lengthened_less, lengthened_more}
 use Rattle.digits_print.proofs.rounding.lengthened.Goals as goal
 

@@ -2,7 +2,8 @@ use Rattle.std.proofs.Common.{◌+◌, ◌*◌, ◌/◌, ◌%◌, to_z, arith, a
 use mir.Syntax.{w32}
 use Rattle.std.specs.Ordering.{nat_cmp}
 use Rattle.std.proofs.lemmas.Int.{ints, to_z_pos}
-use Rattle.digits_print.specs.Rounding.{by_half, carried}
+use Rattle.frac128.specs.Nearest.{by_half}
+use Rattle.digits_print.specs.Rounding.{carried}
 use Rattle.digits_print.proofs.DigitSteps.{few_cut, shortened_end, shortened_more, shortened_room, unit_even, unit_some}
 use Rattle.digits_print.proofs.rounding.shortened.Goals as goal
 

@@ -13,7 +13,7 @@ returns-then-not-is_less-clause-value c =
       left = c.index-points-i.is;
       right = c.index-points-i-in-loop-i.is;
     } in
-    rises-stop _ _ _ _ c.is_less.result are c.is_less.ensures c.if-not-is_less.true c.loop-i.invariant.rest
+    rises-stop _ _ _ _ c.is_less.result are c.is_less.ensures.order c.if-not-is_less.true c.loop-i.invariant.rest
 
 pub loop-i-preserved : goal.loop-i-preserved
 loop-i-preserved c =
@@ -24,8 +24,8 @@ loop-i-preserved c =
       right = c.index-points-i-in-loop-i.is;
     } in
     record {
-      rest = rises-on _ _ _ _ c.is_less.result are c.is_less.ensures c.if-not-is_less.false c.loop-i.invariant.rest;
-      denominators = All-more IsKnown c.args.points.now c.loop-i.i c.index-points-i-in-loop-i.result are.within c.loop-i.invariant.denominators c.den-in-loop-i.ensures.kept.reduced.positive;
+      rest = rises-on _ _ _ _ c.is_less.result are c.is_less.ensures.order c.if-not-is_less.false c.loop-i.invariant.rest;
+      denominators = All-more IsKnown c.args.points.now c.loop-i.i c.index-points-i-in-loop-i.result are.within c.loop-i.invariant.denominators c.is_less.ensures.denominators.1;
     }
 
 pub returns-clause-value : goal.returns-clause-value

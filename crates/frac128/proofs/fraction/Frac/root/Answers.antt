@@ -1,31 +1,5 @@
-use Rattle.std.proofs.Common.{◌≡◌, ◌%◌, true, false, sym, subst, ◌∙◌}
-use Rattle.frac128.specs.Roots.{IsRootAnswer}
-use Rattle.frac128.proofs.Powers.{IsMade}
-use Rattle.frac128.proofs.Roots.{root_lowest, root_made, root_some}
-use Rattle.frac128.proofs.fraction.Frac.root.Goals.{else-negative-via-then-negative+else-q-eq0, else-negative-via-else-negative}
+use Rattle.frac128.proofs.ComputedRoots.{root_is}
 use Rattle.frac128.proofs.fraction.Frac.root.Goals as goal
 
-differs : true ≡ false → ⊥
-differs e = cc
-
-pub fitting-requires-clause-some : goal.fitting-requires-clause-some
-fitting-requires-clause-some c = root_some _ _ _ c.requires c.in-Some-Some.ensures' c.bottom.ensures.some
-
-pub fitting-requires-clause-lowest : goal.fitting-requires-clause-lowest
-fitting-requires-clause-lowest c = root_lowest _ _ _ _ _ c.requires c.in-Some-Some.ensures c.in-Some-Some.ensures' (rw c.bottom.ensures.is c.top.ensures.lowest)
-
-pub returns-in-Some-Some : goal.returns-in-Some-Some
-returns-in-Some-Some c =
-    let made : IsMade c.args.self.now c.is_negative-negative.result c.top.result c.bottom.result = record {
-      s_is = c.is_negative-negative.ensures;
-      a_is = c.top.ensures.is;
-      b_is = c.bottom.ensures.is;
-      some = c.bottom.ensures.some;
-      lowest = c.top.ensures.lowest;
-    } in
-    let odd : c.is_negative-negative.result ≡ true → c.args.q % 2 ≡ 0 → ⊥ = elim c.else-negative.branch [
-      | else-negative-via-then-negative+else-q-eq0 w ↦ λ e h. w.if-q-eq0.false h
-      | else-negative-via-else-negative w ↦ λ e h. differs (sym e ∙ w.if-negative.false)
-    ] in
-    subst (IsRootAnswer c.args.self.now c.args.q) (sym c.fitting.ensures)
-    (root_made _ _ _ _ _ _ _ made c.requires c.in-Some-Some.ensures c.in-Some-Some.ensures' c.top.ensures.fits c.bottom.ensures.fits odd)
+pub returns-clause-computed : goal.returns-clause-computed
+returns-clause-computed c = root_is c.args.self.now c.args.q c.root_by_parts.result c.den.ensures.kept.reduced c.requires c.root_by_parts.ensures

@@ -1,49 +1,16 @@
--- Roots by a search among whole numbers.
-use Rattle.std.proofs.Common.{◌≡◌, refl, sym, ap, subst, ◌∙◌, arith, ◌<◌, ◌≤◌, ◌^◌, ◌%◌, ◌*◌, Bool, true, false, cond, not, ◌&&◌, ◌==◌, ℕ, ℤ, pos, negsuc, suc, zero, neg_ℤ, unsigned_abs, int_lt, List, [], ◌∷◌, Option, None, Some, Result, Ok, Err, IsFalse}
+-- Roots that are computed by a search among whole numbers.
+use Rattle.std.proofs.Common.{◌≡◌, refl, sym, ap, subst, ◌∙◌, arith, ◌<◌, ◌≤◌, ◌^◌, ◌%◌, Bool, true, false, cond, not, ◌&&◌, ◌==◌, ℕ, ℤ, pos, negsuc, suc, zero, unsigned_abs, int_lt, List, [], ◌∷◌, Option, None, Some, Result, Ok, Err, IsFalse}
 use Rattle.std.specs.Cmp.{first_so, second_so}
-use Rattle.std.specs.Int.{◌∣◌, IsGcd, int_pow}
+use Rattle.std.specs.Int.{int_pow}
 use Rattle.std.specs.List.{find}
 use Rattle.std.specs.Ordering.{int_eq}
 use Rattle.std.proofs.lemmas.Bool.{false≢true}
 use Rattle.std.proofs.lemmas.Bool.Decides.{Decides-int_eq, nat_tests}
 use Rattle.std.proofs.lemmas.Int.{ints}
-use Rattle.std.proofs.Math.Nat.{dvd_trans, dvd-mul_left, pow-suc, pow-zero, pow-le-pow_right, mul-zero, one-dvd}
 use Rattle.frac128.specs.Fraction.{Fraction, IsReduced}
-use Rattle.frac128.specs.Roots.{IsRoot, IsRootAnswer, RootLaw}
+use Rattle.frac128.specs.Roots.{IsRoot, IsRootAnswer, RootOfLaw, is_whole_root, root_of, root_over, up_to, whole_root}
 use Rattle.frac128.specs.declared.fault.FracFault.{FracFault}
-use Rattle.quantity.specs.Roots.{RootOfLaw, is_whole_root, root_of, root_over, up_to, whole_root}
-
--- ---- powers
-
--- the magnitude of a power
-abs-pow : (z : ℤ) (q : ℕ) → unsigned_abs (int_pow z q) ≡ unsigned_abs z ^ q
-abs-pow (pos a) q = refl
-abs-pow (negsuc a) q = go (q % 2 == 0) (suc a ^ q)
-  where
-    abs-neg : (n : ℕ) → unsigned_abs (neg_ℤ (pos n)) ≡ n
-    abs-neg zero = refl
-    abs-neg (suc n) = refl
-
-    go : (b : Bool) (n : ℕ) → unsigned_abs (cond b (pos n) (neg_ℤ (pos n))) ≡ n
-    go true n = refl
-    go false n = abs-neg n
-
-pow_one : (m : ℕ) → m ^ 1 ≡ m
-pow_one m = pow-suc m 0 ∙ ap (λ k. k * m) (pow-zero m) ∙ (omega arith)
-
--- a number is at most its power
-le-pow : (m q : ℕ) → 0 < q → m ≤ m ^ q
-le-pow zero q some = omega arith
-le-pow (suc m) q some = subst (λ k. k ≤ suc m ^ q) (pow_one (suc m)) (pow-le-pow_right {n = suc m} (omega arith) {i = 1} {j = q} (omega arith))
-
--- a number divides its power
-dvd-pow : (m q : ℕ) → 0 < q → m ∣ m ^ q
-dvd-pow m zero some = absurd (omega arith)
-dvd-pow m (suc q) some = subst (λ k. m ∣ k) (sym (pow-suc m q)) (dvd-mul_left m (m ^ q))
-
-zero_pow : (q : ℕ) → 0 < q → 0 ^ q ≡ 0
-zero_pow zero some = absurd (omega arith)
-zero_pow (suc q) some = pow-suc 0 q ∙ mul-zero (0 ^ q)
+use Rattle.frac128.proofs.Roots.{abs-pow, le-pow, root_law, root_lowest, root_some}
 
 -- ---- the search
 
@@ -114,9 +81,9 @@ not_below : (d : ℕ) → IsFalse (int_lt (pos d) (pos 0))
 not_below d = grind (arith, ints)
 
 -- what is found makes the root
-root_made : (x : Fraction) (q : ℕ) (a b : ℤ) → IsReduced x → 0 < q → whole_root x.num q ≡ Some a → whole_root (pos x.den) q ≡ Some b
+found_root : (x : Fraction) (q : ℕ) (a b : ℤ) → IsReduced x → 0 < q → whole_root x.num q ≡ Some a → whole_root (pos x.den) q ≡ Some b
     → IsRoot x q (record { num = a; den = unsigned_abs b })
-root_made x q a b is some top bottom =
+found_root x q a b is some top bottom =
     let above = found_passes (is_whole_root x.num q) _ a top in
     let below = found_passes (is_whole_root (pos x.den) q) _ b bottom in
     let num : int_pow a q ≡ x.num = (Decides-int_eq (int_pow a q) x.num).0 (first_so (int_eq (int_pow a q) x.num) (not (q % 2 == 0 && int_lt a (pos 0))) above) in
@@ -125,26 +92,14 @@ root_made x q a b is some top bottom =
     let size : unsigned_abs a ^ q ≡ unsigned_abs x.num = sym (abs-pow a q) ∙ ap unsigned_abs num in
     record {
       reduced = record {
-        positive = not_zero (unsigned_abs b) den;
-        lowest = lowest (unsigned_abs a) (unsigned_abs b) size den;
+        positive = root_some (unsigned_abs b) q x.den some den is.positive;
+        lowest = root_lowest (unsigned_abs a) (unsigned_abs b) q (unsigned_abs x.num) x.den some size den is.lowest;
       };
       power = ap (λ n. record { num = n; den = unsigned_abs b ^ q }) num ∙ ap (λ d. record { num = x.num; den = d }) den;
       plain = plain_is q a (second_so (int_eq (int_pow a q) x.num) (not (q % 2 == 0 && int_lt a (pos 0))) above);
     }
-  where
-    not_zero : (m : ℕ) → m ^ q ≡ x.den → 0 < m
-    not_zero zero e = let none : x.den ≡ 0 = sym e ∙ zero_pow q some in absurd (omega (arith, is.positive))
-    not_zero (suc m) e = omega arith
 
-    lowest : (m n : ℕ) → m ^ q ≡ unsigned_abs x.num → n ^ q ≡ x.den → IsGcd m n 1
-    lowest m n top bottom = (
-      one-dvd m,
-      one-dvd n,
-      λ d left right. is.lowest.2 d
-          (dvd_trans d left (subst (λ k. m ∣ k) top (dvd-pow m q some)))
-          (dvd_trans d right (subst (λ k. n ∣ k) bottom (dvd-pow n q some))),
-    )
-
+-- the computed answer is the root, or says that there is none
 pub root_of_law : RootOfLaw
 unfolding root_of
 root_of_law x q is some = go (whole_root x.num q) (whole_root (pos x.den) q) refl refl
@@ -156,16 +111,16 @@ root_of_law x q is some = go (whole_root x.num q) (whole_root (pos x.den) q) ref
     den_of r root = ap (λ f. pos f.den) root.power
 
     go : (a b : Option ℤ) → whole_root x.num q ≡ a → whole_root (pos x.den) q ≡ b → IsRootAnswer x q (root_over a b)
-    go (Some a) (Some b) top bottom = root_made x q a b is some top bottom
+    go (Some a) (Some b) top bottom = found_root x q a b is some top bottom
     go (Some a) None top bottom = (refl, λ r root. root_found (pos x.den) q (pos r.den) some (den_of r root) (λ _. not_below r.den) bottom)
     go None b top bottom = (refl, λ r root. root_found x.num q r.num some (num_of r root) root.plain top)
 
 -- an answer is the one that is computed
-pub root_is : RootLaw → (x : Fraction) (q : ℕ) (answer : Result Fraction FracFault) → IsReduced x → 0 < q → IsRootAnswer x q answer → answer ≡ root_of x q
-root_is law x q answer is some h = go answer (root_of x q) h (root_of_law x q is some)
+pub root_is : (x : Fraction) (q : ℕ) (answer : Result Fraction FracFault) → IsReduced x → 0 < q → IsRootAnswer x q answer → answer ≡ root_of x q
+root_is x q answer is some h = go answer (root_of x q) h (root_of_law x q is some)
   where
     go : (a b : Result Fraction FracFault) → IsRootAnswer x q a → IsRootAnswer x q b → a ≡ b
-    go (Ok r) (Ok s) h g = ap Ok (law x q r s some h g)
+    go (Ok r) (Ok s) h g = ap Ok (root_law x q r s some h g)
     go (Ok r) (Err f) h g = absurd (g.1 r h)
     go (Err f) (Ok s) h g = absurd (h.1 s g)
     go (Err f) (Err e) h g = ap Err (h.0 ∙ sym g.0)

@@ -8,7 +8,7 @@ use Rattle.std.specs.declared.cmp.Ordering.TheVariants.{Less, Equal, Greater}
 use Rattle.std.proofs.lemmas.Bool.{cases_lt}
 use Rattle.std.proofs.lemmas.Cmp.{ranked}
 use Rattle.std.proofs.Math.Nat.{div-add-mod}
-use Rattle.unit_list.specs.Nearest.{IsNearest, NearestLaw, by_half, distance, nearest_whole}
+use Rattle.frac128.specs.Nearest.{IsNearestWhole, NearestWholeLaw, by_half, distance, nearest_whole}
 
 -- a whole number e is j steps below the whole part q, or j steps above the next number, and g away from q and r more
 data IsAway (b q r e g : ℕ) : Type 0 where
@@ -78,12 +78,12 @@ next_only b q r e g f some own half same (high zero is gap) = omega arith
 next_only b q r e g f some own half same (high (suc j) is gap) = absurd (omega arith)
 
 -- rounding by the remainder gives the nearest number
-nearest_is : (a b : ℕ) → 0 < b → IsNearest a b (nearest_whole a b)
+nearest_is : (a b : ℕ) → 0 < b → IsNearestWhole a b (nearest_whole a b)
 nearest_is a b some =
     let whole : b * (a / b) + a % b ≡ a = div-add-mod a b in
     by_order (a / b) (a % b) whole (omega arith) (nat_cmp (2 * (a % b)) b) (ranked (2 * (a % b)) b _ refl)
   where
-    by_order : (q r : ℕ) → b * q + r ≡ a → r < b → (order : Ordering) → MatchOrdering order (2 * r < b) (2 * r ≡ b) (b < 2 * r) → IsNearest a b (by_half q order)
+    by_order : (q r : ℕ) → b * q + r ≡ a → r < b → (order : Ordering) → MatchOrdering order (2 * r < b) (2 * r ≡ b) (b < 2 * r) → IsNearestWhole a b (by_half q order)
     by_order q r whole part Less half =
         let own = away_whole b q r (distance a b q) (away a b q r q whole part) in
         record {
@@ -101,7 +101,7 @@ nearest_is a b some =
         even : (q l : ℕ) → q % 2 ≡ l → l < 2 → (q + l) % 2 ≡ 0
         even q l is below = omega arith
 
-        by_last : (l : ℕ) → q % 2 ≡ l → l < 2 → IsNearest a b (q + q % 2)
+        by_last : (l : ℕ) → q % 2 ≡ l → l < 2 → IsNearestWhole a b (q + q % 2)
         by_last zero is below =
             let n_is : q + q % 2 ≡ q = omega arith in
             rw n_is (record {
@@ -117,7 +117,7 @@ nearest_is a b some =
         by_last (suc (suc l)) is below = absurd (omega arith)
 
 -- a nearest number is the whole part or the next number
-near_whole : (a b n : ℕ) → 0 < b → IsNearest a b n → (n ≡ a / b) ⊎ (n ≡ a / b + 1)
+near_whole : (a b n : ℕ) → 0 < b → IsNearestWhole a b n → (n ≡ a / b) ⊎ (n ≡ a / b + 1)
 near_whole a b n some is =
     let whole : b * (a / b) + a % b ≡ a = div-add-mod a b in
     let q = a / b in
@@ -134,7 +134,7 @@ near_whole a b n some is =
     by_place g to_whole to_next (high (suc j) is gap) whole_is next_is = absurd (omega arith)
 
 -- two nearest numbers are one
-nearest_same : (a b m n : ℕ) → 0 < b → IsNearest a b m → IsNearest a b n → m ≡ n
+nearest_same : (a b m n : ℕ) → 0 < b → IsNearestWhole a b m → IsNearestWhole a b n → m ≡ n
 nearest_same a b m n some is_m is_n =
     let same : distance a b m ≡ distance a b n = both_ways (distance a b m) (distance a b n) (is_m.near n) (is_n.near m) in
     elim (is_n.tie m same) [
@@ -155,5 +155,5 @@ nearest_same a b m n some is_m is_n =
     of_two q (inr p) (inr h) even_m even_n = omega arith
 
 -- the nearest number, and the only one
-pub nearest_law : NearestLaw
-nearest_law a b some = (nearest_is a b some, λ n is. nearest_same a b n (nearest_whole a b) some is (nearest_is a b some))
+pub nearest_whole_law : NearestWholeLaw
+nearest_whole_law a b some = (nearest_is a b some, λ n is. nearest_same a b n (nearest_whole a b) some is (nearest_is a b some))

@@ -1,17 +1,16 @@
 -- The whole number that is nearest to a ratio of two whole numbers.
-use Rattle.std.specs.Prelude.{◌≡◌, ◌≤◌, ◌<◌, ◌+◌, ◌*◌, ◌/◌, ◌%◌, ◌⊎◌, ℕ, unsigned_abs}
+use Rattle.std.specs.Prelude.{◌≡◌, ◌≤◌, ◌<◌, ◌+◌, ◌*◌, ◌/◌, ◌%◌, ◌⊎◌, ℕ}
 use Rattle.std.specs.Int.{abs_diff}
 use Rattle.std.specs.Ordering.{nat_cmp}
 use Rattle.std.specs.declared.cmp.Ordering.{Ordering}
 use Rattle.std.specs.declared.cmp.Ordering.TheVariants.{Less, Equal, Greater}
-use Rattle.frac128.specs.Fraction.{Fraction}
 
 -- the distance of a whole number from a / b, times b
 abbrev pub distance : ℕ → ℕ → ℕ → ℕ
 distance a b n = abs_diff a (n * b)
 
 -- no whole number is nearer to a / b than n, and n is even where another one is as near
-pub record IsNearest (a b n : ℕ) : Type 0 where
+pub record IsNearestWhole (a b n : ℕ) : Type 0 where
   pub near : (m : ℕ) → distance a b n ≤ distance a b m
   pub tie : (m : ℕ) → distance a b m ≡ distance a b n → (m ≡ n) ⊎ (n % 2 ≡ 0)
 
@@ -26,10 +25,6 @@ abbrev pub nearest_whole : ℕ → ℕ → ℕ
 nearest_whole a b = by_half (a / b) (nat_cmp (2 * (a % b)) b)
 
 -- law: it is the nearest one, and no other one is
-abbrev pub NearestLaw : Type 0
-NearestLaw = (a b : ℕ) → 0 < b
-    → IsNearest a b (nearest_whole a b) × ((n : ℕ) → IsNearest a b n → n ≡ nearest_whole a b)
-
--- the whole number nearest to the magnitude of a fraction
-abbrev pub nearest_to : Fraction → ℕ
-nearest_to x = nearest_whole (unsigned_abs x.num) x.den
+abbrev pub NearestWholeLaw : Type 0
+NearestWholeLaw = (a b : ℕ) → 0 < b
+    → IsNearestWhole a b (nearest_whole a b) × ((n : ℕ) → IsNearestWhole a b n → n ≡ nearest_whole a b)

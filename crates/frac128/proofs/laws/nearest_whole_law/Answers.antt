@@ -1,0 +1,5 @@
+use Rattle.frac128.proofs.NearestWholes as laws
+use Rattle.frac128.proofs.laws.nearest_whole_law.Goals as goal
+
+pub returns : goal.returns
+returns c = laws.nearest_whole_law
