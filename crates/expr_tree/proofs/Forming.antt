@@ -17,7 +17,8 @@ use Rattle.expr_tree.specs.Grammar.{Power, Bare, Raised, Exponent, SignedExponen
 use Rattle.expr_tree.specs.Grammar.{sum, sum_rest, product, product_rest, juxtaposition, juxtaposition_rest, power, exponent, atom, sign, scale}
 use Rattle.expr_tree.specs.Grammar.{Gives, atom_tree, call, exponent_tree, factors, is_binder, juxtaposed, juxtaposition_tree, members, multiplied, power_tree, product_tree, signed, sum_tree, summed, terms, word}
 use Rattle.expr_tree.specs.Lexemes.{Lexeme, Blank, Whole, Malformed, Piece, front, is_numeral, is_opened, is_pointed, lexemes_from, mark, mark_piece, numeral, numeral_piece, other_word, piece, power_of, token_in, tokens, tokens_in, word_front, word_piece, word_with_power}
-use Rattle.expr_tree.specs.Names.{base, has_power, is_blank, is_name, is_refused, is_word_byte, word_of}
+use Rattle.units_io.specs.Blanks.{is_blank}
+use Rattle.expr_tree.specs.Names.{base, has_power, is_name, is_refused, is_word_byte, word_of}
 use Rattle.expr_tree.specs.Syntax as tree
 use Rattle.expr_tree.specs.Syntax.{Syntax}
 use Rattle.expr_tree.specs.Tokens.{Token, Word, WordWithPower, Head, Root, Plus, Minus, Star, Slash, Bar, Caret, Tilde, Open, Close}

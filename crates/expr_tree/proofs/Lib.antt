@@ -14,9 +14,11 @@ pub mod Places
 pub mod PowerWords
 pub mod ProductSteps
 pub mod Says
+pub mod Sizes
 pub mod Spelled
 pub mod Stands
 pub mod Stops
 pub mod SumSteps
+pub mod Told
 pub mod Views
 pub mod Whole

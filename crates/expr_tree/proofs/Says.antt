@@ -1,41 +1,12 @@
--- What each variant of a tree says, and what lists of trees say member by member.
-use Rattle.std.proofs.Common.{◌≡◌, ◌<◌, ◌+◌, ℕ, List, [], ◌∷◌, ◌++◌, map, take, drop, length, get_or, refl, sym, ap, ◌∙◌, append_assoc, Global, Box}
+-- What lists of trees say, member by member.
+use Rattle.std.proofs.Common.{◌≡◌, ◌<◌, ◌+◌, ℕ, List, [], ◌∷◌, ◌++◌, map, take, drop, length, get_or, ap, append_assoc}
 use Rattle.std.proofs.lemmas.List.{append-nil, drop_more, map-append, take_all, take_more}
 use Rattle.expr_tree.specs.declared.operator.Scale.{Scale}
 use Rattle.expr_tree.specs.declared.operator.Sign.{Sign}
 use Rattle.expr_tree.specs.declared.tree.Tree.{Tree}
-use Rattle.expr_tree.specs.declared.tree.Tree.TheVariants as made
-use Rattle.expr_tree.specs.declared.tree.Tree.TheOpen as one
-use Rattle.expr_tree.specs.declared.tree.Tree.TheFolds.{fold-roll-Tree}
-use Rattle.expr_tree.specs.Syntax.{Syntax, Members, Factors, Terms}
-use Rattle.expr_tree.specs.Syntax as tree
-use Rattle.expr_tree.specs.Trees.{factor, factors, level, members, syntax, term, terms}
+use Rattle.expr_tree.specs.Trees.{factor, factors, members, syntax, term, terms}
 use Rattle.expr_tree.specs.Words.{words_in, words_in_factors, words_in_members, words_in_terms}
-use Rattle.expr_tree.proofs.Views.{of_number, of_bar, of_juxtaposed, of_product, of_sum}
-
-pub of_word : (w : List ℕ) → syntax (made.Word w) ≡ tree.Word w
-of_word w = ap syntax (sym (made.rolls-Word w)) ∙ fold-roll-Tree Syntax Factors Terms Members level (λ fs. factors fs.items.items) (λ ts. terms ts.items.items) (λ es. members es.items.items) (one.Word w)
-
-pub of_argument : syntax made.Argument ≡ tree.Argument
-of_argument = ap syntax (sym made.rolls-Argument) ∙ fold-roll-Tree Syntax Factors Terms Members level (λ fs. factors fs.items.items) (λ ts. terms ts.items.items) (λ es. members es.items.items) one.Argument
-
-pub of_call : (w : List ℕ) (e : Box Tree Global) → syntax (made.Call w e) ≡ tree.Call w (syntax e.value)
-of_call w e = ap syntax (sym (made.rolls-Call w e)) ∙ fold-roll-Tree Syntax Factors Terms Members level (λ fs. factors fs.items.items) (λ ts. terms ts.items.items) (λ es. members es.items.items) (one.Call w e)
-
-pub of_inverse : (w : List ℕ) (e : Box Tree Global) → syntax (made.Inverse w e) ≡ tree.Inverse w (syntax e.value)
-of_inverse w e = ap syntax (sym (made.rolls-Inverse w e)) ∙ fold-roll-Tree Syntax Factors Terms Members level (λ fs. factors fs.items.items) (λ ts. terms ts.items.items) (λ es. members es.items.items) (one.Inverse w e)
-
-pub of_root : (n : ℕ) (e : Box Tree Global) → syntax (made.Root n e) ≡ tree.Root n (syntax e.value)
-of_root n e = ap syntax (sym (made.rolls-Root n e)) ∙ fold-roll-Tree Syntax Factors Terms Members level (λ fs. factors fs.items.items) (λ ts. terms ts.items.items) (λ es. members es.items.items) (one.Root n e)
-
-pub of_group : (e : Box Tree Global) → syntax (made.Group e) ≡ tree.Group (syntax e.value)
-of_group e = ap syntax (sym (made.rolls-Group e)) ∙ fold-roll-Tree Syntax Factors Terms Members level (λ fs. factors fs.items.items) (λ ts. terms ts.items.items) (λ es. members es.items.items) (one.Group e)
-
-pub of_negate : (e : Box Tree Global) → syntax (made.Negate e) ≡ tree.Negate (syntax e.value)
-of_negate e = ap syntax (sym (made.rolls-Negate e)) ∙ fold-roll-Tree Syntax Factors Terms Members level (λ fs. factors fs.items.items) (λ ts. terms ts.items.items) (λ es. members es.items.items) (one.Negate e)
-
-pub of_power : (e f : Box Tree Global) → syntax (made.Power e f) ≡ tree.Power (syntax e.value) (syntax f.value)
-of_power e f = ap syntax (sym (made.rolls-Power e f)) ∙ fold-roll-Tree Syntax Factors Terms Members level (λ fs. factors fs.items.items) (λ ts. terms ts.items.items) (λ es. members es.items.items) (one.Power e f)
+use Rattle.expr_tree.proofs.Views.{of_number, of_bar, of_word, of_argument, of_call, of_inverse, of_root, of_group, of_negate, of_power, of_juxtaposed, of_product, of_sum}
 
 pub ruleset says =
     (of_number, of_bar, of_word, of_argument, of_call, of_inverse, of_root, of_group, of_negate, of_power, of_juxtaposed, of_product, of_sum, append-nil, append_assoc)

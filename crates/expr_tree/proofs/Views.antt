@@ -1,5 +1,5 @@
 -- What each kind of tree says.
-use Rattle.std.proofs.Common.{◌≡◌, ℕ, sym, ap, ◌∙◌, Global, Box}
+use Rattle.std.proofs.Common.{◌≡◌, ℕ, List, sym, ap, ◌∙◌, Global, Box}
 use Rattle.frac128.specs.Decimals.{Decimal}
 use Rattle.expr_tree.specs.declared.tree.Tree.{Tree}
 use Rattle.expr_tree.specs.declared.tree.Tree.TheVariants as made
@@ -18,11 +18,29 @@ of_number n = ap syntax (sym (made.rolls-Number n)) ∙ fold-roll-Tree Syntax Fa
 pub of_bar : (n d : Decimal) → syntax (made.Bar n d) ≡ tree.Bar n d
 of_bar n d = ap syntax (sym (made.rolls-Bar n d)) ∙ fold-roll-Tree Syntax Factors Terms Members level (λ fs. factors fs.items.items) (λ ts. terms ts.items.items) (λ es. members es.items.items) (one.Bar n d)
 
-pub of_root : (n : ℕ) (e : Box Tree Global) (t : Tree) → e.value ≡ t → syntax (made.Root n e) ≡ tree.Root n (syntax t)
-of_root n e t h = ap syntax (sym (made.rolls-Root n e)) ∙ (fold-roll-Tree Syntax Factors Terms Members level (λ fs. factors fs.items.items) (λ ts. terms ts.items.items) (λ es. members es.items.items) (one.Root n e) ∙ ap (λ (x : Tree). tree.Root n (syntax x)) h)
+pub of_word : (w : List ℕ) → syntax (made.Word w) ≡ tree.Word w
+of_word w = ap syntax (sym (made.rolls-Word w)) ∙ fold-roll-Tree Syntax Factors Terms Members level (λ fs. factors fs.items.items) (λ ts. terms ts.items.items) (λ es. members es.items.items) (one.Word w)
 
-pub of_group : (e : Box Tree Global) (t : Tree) → e.value ≡ t → syntax (made.Group e) ≡ tree.Group (syntax t)
-of_group e t h = ap syntax (sym (made.rolls-Group e)) ∙ (fold-roll-Tree Syntax Factors Terms Members level (λ fs. factors fs.items.items) (λ ts. terms ts.items.items) (λ es. members es.items.items) (one.Group e) ∙ ap (λ (x : Tree). tree.Group (syntax x)) h)
+pub of_argument : syntax made.Argument ≡ tree.Argument
+of_argument = ap syntax (sym made.rolls-Argument) ∙ fold-roll-Tree Syntax Factors Terms Members level (λ fs. factors fs.items.items) (λ ts. terms ts.items.items) (λ es. members es.items.items) one.Argument
+
+pub of_call : (w : List ℕ) (e : Box Tree Global) → syntax (made.Call w e) ≡ tree.Call w (syntax e.value)
+of_call w e = ap syntax (sym (made.rolls-Call w e)) ∙ fold-roll-Tree Syntax Factors Terms Members level (λ fs. factors fs.items.items) (λ ts. terms ts.items.items) (λ es. members es.items.items) (one.Call w e)
+
+pub of_inverse : (w : List ℕ) (e : Box Tree Global) → syntax (made.Inverse w e) ≡ tree.Inverse w (syntax e.value)
+of_inverse w e = ap syntax (sym (made.rolls-Inverse w e)) ∙ fold-roll-Tree Syntax Factors Terms Members level (λ fs. factors fs.items.items) (λ ts. terms ts.items.items) (λ es. members es.items.items) (one.Inverse w e)
+
+pub of_root : (n : ℕ) (e : Box Tree Global) → syntax (made.Root n e) ≡ tree.Root n (syntax e.value)
+of_root n e = ap syntax (sym (made.rolls-Root n e)) ∙ fold-roll-Tree Syntax Factors Terms Members level (λ fs. factors fs.items.items) (λ ts. terms ts.items.items) (λ es. members es.items.items) (one.Root n e)
+
+pub of_group : (e : Box Tree Global) → syntax (made.Group e) ≡ tree.Group (syntax e.value)
+of_group e = ap syntax (sym (made.rolls-Group e)) ∙ fold-roll-Tree Syntax Factors Terms Members level (λ fs. factors fs.items.items) (λ ts. terms ts.items.items) (λ es. members es.items.items) (one.Group e)
+
+pub of_negate : (e : Box Tree Global) → syntax (made.Negate e) ≡ tree.Negate (syntax e.value)
+of_negate e = ap syntax (sym (made.rolls-Negate e)) ∙ fold-roll-Tree Syntax Factors Terms Members level (λ fs. factors fs.items.items) (λ ts. terms ts.items.items) (λ es. members es.items.items) (one.Negate e)
+
+pub of_power : (e f : Box Tree Global) → syntax (made.Power e f) ≡ tree.Power (syntax e.value) (syntax f.value)
+of_power e f = ap syntax (sym (made.rolls-Power e f)) ∙ fold-roll-Tree Syntax Factors Terms Members level (λ fs. factors fs.items.items) (λ ts. terms ts.items.items) (λ es. members es.items.items) (one.Power e f)
 
 pub of_juxtaposed : (es : Trees) → syntax (made.Juxtaposed es) ≡ tree.Juxtaposed (members (trees_of es))
 of_juxtaposed es = ap syntax (sym (made.rolls-Juxtaposed es)) ∙ (fold-roll-Tree Syntax Factors Terms Members level (λ fs. factors fs.items.items) (λ ts. terms ts.items.items) (λ es. members es.items.items) (one.Juxtaposed es) ∙ ap tree.Juxtaposed (fold_out-Trees Syntax Factors Terms Members level (λ fs. factors fs.items.items) (λ ts. terms ts.items.items) (λ es. members es.items.items) es))

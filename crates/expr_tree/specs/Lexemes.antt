@@ -7,7 +7,8 @@ use Rattle.frac128.specs.Decimals.{Decimal, read}
 use Rattle.frac128.specs.Numerals.{is_digit, numeral_len_of}
 use Rattle.frac128.specs.declared.numeral.NumeralFault.{NumeralFault}
 use Rattle.frac128.specs.declared.numeral.NumeralFault.TheVariants as fault
-use Rattle.expr_tree.specs.Names.{base, has_power, is_blank, is_name, is_refused, is_word_byte, last_byte, word_of}
+use Rattle.units_io.specs.Blanks.{is_blank}
+use Rattle.expr_tree.specs.Names.{base, has_power, is_name, is_refused, is_word_byte, last_byte, word_of}
 use Rattle.expr_tree.specs.Tokens.{Token, Numeral, Word, WordWithPower, Head, Root}
 use Rattle.expr_tree.specs.Tokens.{Plus, Minus, Star, Slash, Bar, Caret, Tilde, Open, Close}
 

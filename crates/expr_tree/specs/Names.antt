@@ -4,10 +4,7 @@ use Rattle.std.specs.Prelude.{List, [], ◌∷◌, length, take, slice_index}
 use Rattle.std.specs.List.{list_all, list_any, take_while}
 use Rattle.std.specs.Str.{bytes_eq}
 use Rattle.frac128.specs.Numerals.{is_digit}
-
--- a space or a tab
-abbrev pub is_blank : ℕ → Bool
-is_blank b = b == 32 || b == 9
+use Rattle.units_io.specs.Blanks.{is_blank}
 
 -- below 32 and no tab, or 127
 abbrev pub is_control : ℕ → Bool

@@ -1,18 +1,37 @@
 -- The tokens and lexemes that the program makes, as those of the grammar.
+use Rattle.std.specs.Prelude.{ℕ, pos}
+use Rattle.frac128.specs.Decimals.{Decimal}
 use Rattle.expr_tree.specs.declared.lexeme.Lexeme.{Lexeme as MadeLexeme}
 use Rattle.expr_tree.specs.declared.lexeme.Lexeme.TheVariants as lexeme
 use Rattle.expr_tree.specs.declared.lexeme.Piece.{Piece as MadePiece}
+use Rattle.expr_tree.specs.declared.power_digit.PowerDigit.{PowerDigit}
+use Rattle.expr_tree.specs.declared.power_digit.PowerDigit.TheVariants.{Two, Three, Four, Five, Six, Seven, Eight, Nine}
 use Rattle.expr_tree.specs.declared.token.Token.{Token as Made}
 use Rattle.expr_tree.specs.declared.token.Token.TheVariants as made
 use Rattle.expr_tree.specs.Lexemes.{Lexeme, Blank, Whole, TooLong, Malformed, Piece}
 use Rattle.expr_tree.specs.Tokens.{Token, Numeral, Word, WordWithPower, Head, Root}
 use Rattle.expr_tree.specs.Tokens.{Plus, Minus, Star, Slash, Bar, Caret, Tilde, Open, Close}
 
+-- the digit of a word with a power
+abbrev pub seen_digit : PowerDigit → ℕ
+seen_digit Two = 2
+seen_digit Three = 3
+seen_digit Four = 4
+seen_digit Five = 5
+seen_digit Six = 6
+seen_digit Seven = 7
+seen_digit Eight = 8
+seen_digit Nine = 9
+
+-- the digit as a numeral
+abbrev pub power_numeral : PowerDigit → Decimal
+power_numeral digit = record { coefficient = seen_digit digit; scale = pos 0 }
+
 -- the token, whose words are bytes wherever they lie
 abbrev pub seen : Made → Token
 seen (made.Numeral n) = Numeral n
 seen (made.Word w) = Word w.now
-seen (made.WordWithPower w n) = WordWithPower w.now n
+seen (made.WordWithPower w digit) = WordWithPower w.now (power_numeral digit)
 seen (made.Head w) = Head w.now
 seen (made.Root degree) = Root degree
 seen made.Plus = Plus

@@ -7,7 +7,7 @@ use crate::tree::{Factors, Terms, Tree, Trees};
 use std::alloc::{AllocError, Global};
 
 impl Tree {
-    /// A tree that is equal.
+    /// A tree that is equal. The only error is want of memory.
     #[cycle(copy)]
     #[tactic(auto, using(crate::proofs::Says::says))]
     pub fn copy(&self, alloc: Global) -> Result<Tree, AllocError>
@@ -50,10 +50,10 @@ impl Tree {
 }
 
 impl Trees {
-    // Trees that are equal.
+    /// Equal trees, in their order. The only error is want of memory.
     #[cycle(copy)]
     #[tactic(auto, using(crate::proofs::Says::copies))]
-    fn copy(&self, alloc: Global) -> Result<Trees, AllocError>
+    pub fn copy(&self, alloc: Global) -> Result<Trees, AllocError>
         ensures { IfOk result (λ trees. trees_of trees ≡ trees_of self.now) }
     {
         let mut items = Vec::with_capacity(alloc, self.items.len())?;

@@ -192,9 +192,10 @@ fn atom_at(
             None => Ok((Tree::Number(n), at + 1)),
         },
         Token::Word(word) => Ok((word_tree(alloc, word, binder)?, at + 1)),
-        Token::WordWithPower(word, n) => {
+        Token::WordWithPower(word, digit) => {
             let base = word_tree(alloc, word, binder)?;
-            Ok((power_tree(alloc, base, Tree::Number(n))?, at + 1))
+            let power = Tree::Number(digit.numeral());
+            Ok((power_tree(alloc, base, power)?, at + 1))
         }
         Token::Head(word) => {
             let (operand, next) = closed_sum_at(alloc, tokens, at + 1, opened, binder)?;

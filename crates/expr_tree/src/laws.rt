@@ -3,23 +3,23 @@
 ghost use Rattle.expr_tree.specs.Examples.{ExamplesLaw};
 ghost use Rattle.expr_tree.specs.Formed.{FormedLaw};
 ghost use Rattle.expr_tree.specs.Grammar.{OneTreeLaw};
-ghost use Rattle.expr_tree.specs.Laws.{CompleteLaw};
+ghost use Rattle.expr_tree.specs.Laws.{CompleteLaw, ToldLaw};
 ghost use Rattle.expr_tree.specs.Parsed.{ParsedLaw};
 ghost use Rattle.expr_tree.specs.Reading.{TreeOfLaw};
 ghost use Rattle.expr_tree.specs.TextExamples.{TextExamplesLaw};
 
 /// Tokens give one tree at most, with each binder and without one.
-pub fn one_tree()
+pub fn one_tree_law()
     ensures { OneTreeLaw }
 {}
 
 /// Tokens give a tree exactly where each of them may stand and they may end.
-pub fn complete()
+pub fn complete_law()
     ensures { CompleteLaw }
 {}
 
 /// The function that reads tokens gives a tree exactly where the grammar gives it.
-pub fn reading()
+pub fn reading_law()
     ensures { TreeOfLaw }
 {}
 
@@ -30,7 +30,7 @@ pub fn parsed_law()
 {}
 
 /// A few token lists give the trees that were found by hand.
-pub fn examples()
+pub fn examples_law()
     ensures { ExamplesLaw }
 {}
 
@@ -41,6 +41,11 @@ pub fn formed_law()
 {}
 
 /// A few texts have the tokens and the first faults that were found by hand.
-pub fn text_examples()
+pub fn text_examples_law()
     ensures { TextExamplesLaw }
+{}
+
+/// What a text is parsed to is a tree or a fault of the text, never want of memory.
+pub fn told_law()
+    ensures { ToldLaw }
 {}

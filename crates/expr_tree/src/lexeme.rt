@@ -7,9 +7,11 @@ ghost use Rattle.expr_tree.specs.Lexemes.{word_piece as word_piece_of, word_with
 ghost use Rattle.expr_tree.specs.Names.{is_word_byte as is_of_words};
 ghost use Rattle.expr_tree.specs.Seen.{seen_lexeme, seen_piece};
 
-use crate::name::{has_power, is_blank, is_name, is_refused, is_word_byte, word_len};
+use crate::name::{has_power, is_name, is_refused, is_word_byte, word_len};
+use crate::power_digit::PowerDigit;
 use crate::token::Token;
 use frac128::{NumeralFault, numeral_len, read_numeral};
+use units_io::is_blank;
 
 // A part of a text.
 #[derive(Clone, Copy)]
@@ -171,11 +173,9 @@ fn word_with_power(word: &[u8]) -> Lexeme<'_>
     if !has_power(word) {
         return Lexeme::Malformed;
     }
-    let (base, digit) = word.split_at(word.len() - 1);
-    match read_numeral(digit) {
-        Ok(power) => Lexeme::Whole(Token::WordWithPower(base, power)),
-        Err(_) => Lexeme::Malformed,
-    }
+    let last = word.len() - 1;
+    let digit = PowerDigit::of_byte(word[last]);
+    Lexeme::Whole(Token::WordWithPower(&word[..last], digit))
 }
 
 // Two stars, or a byte that is a token by itself.

@@ -12,6 +12,7 @@ mod making;
 mod name;
 mod operator;
 mod parse;
+mod power_digit;
 mod rules;
 mod scan;
 mod standing;
@@ -21,7 +22,10 @@ mod word_list;
 
 pub use collecting::words;
 pub use fault::ParseFault;
-pub use laws::{complete, examples, formed_law, one_tree, parsed_law, reading, text_examples};
+pub use laws::{
+    complete_law, examples_law, formed_law, one_tree_law, parsed_law, reading_law,
+    text_examples_law, told_law,
+};
 pub use name::{is_name, is_refused};
 pub use operator::{Scale, Sign};
 pub use parse::parse_expr;

@@ -3,7 +3,7 @@
 ghost use Rattle.std.specs.Prelude.{◌≡◌};
 ghost use Rattle.std.specs.List.{list_all, prefix_len};
 ghost use Rattle.expr_tree.specs.Names.{ends_in_count as ends_in_count_of, has_index as has_index_in, has_power as has_power_of, is_among};
-ghost use Rattle.expr_tree.specs.Names.{is_blank as is_blank_byte, is_count as is_count_byte, is_index_byte as is_index};
+ghost use Rattle.expr_tree.specs.Names.{is_count as is_count_byte, is_index_byte as is_index};
 ghost use Rattle.expr_tree.specs.Names.{is_name as is_name_of, is_refused as is_refused_name, is_spelled as is_spelled_name};
 ghost use Rattle.expr_tree.specs.Names.{is_power_byte as is_power, is_word_byte as is_of_words, keywords, may_begin as may_begin_name, may_end as may_end_name};
 
@@ -89,13 +89,6 @@ fn is_keyword(bytes: &[u8]) -> bool
     ensures { result ≡ is_among keywords bytes.now }
 {
     bytes == b"per".as_slice() || bytes == b"sqrt".as_slice() || bytes == b"cuberoot".as_slice()
-}
-
-// A space or a tab.
-pub(crate) fn is_blank(byte: u8) -> bool
-    ensures { result ≡ is_blank_byte byte }
-{
-    matches!(byte, b' ' | b'\t')
 }
 
 // Whether a word may hold the byte.

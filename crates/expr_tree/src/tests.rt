@@ -227,6 +227,9 @@ fn lists_take_members(rt: HostRuntime) -> Result<(), Fail> {
     assert_eq!(rt; trees.len(), 1);
     assert!(rt; matches!(trees.get(0), Some(Tree::Argument)));
     assert!(rt; trees.get(1).is_none());
+    let copies = trees.copy(alloc)?;
+    assert_eq!(rt; copies.len(), 1);
+    assert!(rt; matches!(copies.get(0), Some(Tree::Argument)));
     let mut factors = Factors::new(alloc);
     factors.push(alloc, (crate::Scale::Divide, Tree::Argument))?;
     assert_eq!(rt; factors.len(), 1);

@@ -4,6 +4,7 @@ ghost use Rattle.std.specs.Prelude.{◌≡◌};
 ghost use Rattle.expr_tree.specs.Lexemes.{is_numeral_token};
 ghost use Rattle.expr_tree.specs.Seen.{seen};
 
+use crate::power_digit::PowerDigit;
 use frac128::Numeral;
 
 // A token, whose words are slices of the text.
@@ -11,7 +12,7 @@ use frac128::Numeral;
 pub(crate) enum Token<'a> {
     Numeral(Numeral),
     Word(&'a [u8]),
-    WordWithPower(&'a [u8], Numeral),
+    WordWithPower(&'a [u8], PowerDigit),
     Head(&'a [u8]),
     Root(u32),
     Plus,

@@ -12,7 +12,7 @@ use std::alloc::{AllocError, Global};
 
 // Puts a tree at the end.
 #[cycle(put)]
-#[tactic(auto, using(crate::proofs::Sizes::sizes, crate::proofs::Written::written))]
+#[tactic(auto, using(expr_tree::proofs::Sizes::sizes, crate::proofs::Written::written))]
 pub(crate) fn put_tree(alloc: Global, out: &mut Vec<u8>, tree: &Tree) -> Result<(), AllocError>
     ensures { IfOk result (λ _. out.new.items ≡ out.old.items ++ tree_text (syntax tree.now)) }
 {
@@ -61,7 +61,7 @@ pub(crate) fn put_tree(alloc: Global, out: &mut Vec<u8>, tree: &Tree) -> Result<
 
 // Puts the last part of a tree at the end.
 #[cycle(put)]
-#[tactic(auto, using(crate::proofs::Sizes::sizes, crate::proofs::Written::written))]
+#[tactic(auto, using(expr_tree::proofs::Sizes::sizes, crate::proofs::Written::written))]
 fn put_last(alloc: Global, out: &mut Vec<u8>, tree: &Tree) -> Result<(), AllocError>
     ensures { IfOk result (λ _. out.new.items ≡ out.old.items ++ codes " " ++ tree_text (syntax tree.now) ++ codes ")") }
 {
@@ -72,7 +72,7 @@ fn put_last(alloc: Global, out: &mut Vec<u8>, tree: &Tree) -> Result<(), AllocEr
 
 // Puts operands side by side at the end.
 #[cycle(put)]
-#[tactic(auto, using(crate::proofs::Sizes::sizes, crate::proofs::Written::members_written))]
+#[tactic(auto, using(expr_tree::proofs::Sizes::sizes, crate::proofs::Written::members_written))]
 fn put_members(alloc: Global, out: &mut Vec<u8>, members: &Trees) -> Result<(), AllocError>
     ensures { IfOk result (λ _. out.new.items ≡ out.old.items ++ codes "(side" ++ members_text (members_in (trees_of members.now)) ++ codes ")") }
 {
@@ -88,7 +88,7 @@ fn put_members(alloc: Global, out: &mut Vec<u8>, members: &Trees) -> Result<(), 
 
 // Puts a product at the end.
 #[cycle(put)]
-#[tactic(auto, using(crate::proofs::Sizes::sizes, crate::proofs::Written::factors_written))]
+#[tactic(auto, using(expr_tree::proofs::Sizes::sizes, crate::proofs::Written::factors_written))]
 fn put_factors(alloc: Global, out: &mut Vec<u8>, members: &Factors) -> Result<(), AllocError>
     ensures { IfOk result (λ _. out.new.items ≡ out.old.items ++ codes "(product" ++ factors_text (factors (factors_of members.now)) ++ codes ")") }
 {
@@ -104,7 +104,7 @@ fn put_factors(alloc: Global, out: &mut Vec<u8>, members: &Factors) -> Result<()
 
 // Puts a sum at the end.
 #[cycle(put)]
-#[tactic(auto, using(crate::proofs::Sizes::sizes, crate::proofs::Written::terms_written))]
+#[tactic(auto, using(expr_tree::proofs::Sizes::sizes, crate::proofs::Written::terms_written))]
 fn put_terms(alloc: Global, out: &mut Vec<u8>, members: &Terms) -> Result<(), AllocError>
     ensures { IfOk result (λ _. out.new.items ≡ out.old.items ++ codes "(sum" ++ terms_text (terms (terms_of members.now)) ++ codes ")") }
 {

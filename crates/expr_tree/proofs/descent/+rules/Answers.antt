@@ -2,6 +2,7 @@ use Rattle.std.proofs.Common.{◌≡◌, ◌<◌, ◌≤◌, ◌∷◌, true, fa
 use Rattle.std.specs.Option.{option_copied}
 use Rattle.std.specs.declared.alloc.AllocError.{AllocError}
 use Rattle.expr_tree.specs.Front.{SumAt, PowerAt, ExponentAt, tokens_from}
+use Rattle.expr_tree.specs.Seen.{power_numeral}
 use Rattle.expr_tree.specs.Syntax as tree
 use Rattle.expr_tree.specs.Tokens.{Tilde}
 use Rattle.expr_tree.specs.Trees.{syntax}
@@ -56,9 +57,9 @@ atom_at-returns-in_ok-word_tree-in-Word t c =
 pub atom_at-returns-in_ok-power_tree-in-WordWithPower : goal.atom_at-returns-in_ok-power_tree-in-WordWithPower
 atom_at-returns-in_ok-power_tree-in-WordWithPower t c =
     let l = begun c.args.tokens.now c.args.at c.requires.begun in (
-      word_power_front (option_copied c.args.binder) c.args.opened c.in-WordWithPower.word.now c.in-WordWithPower.n _ _ _ _ (stands_as c.args.tokens.now c.args.at _ _ l c.in-WordWithPower.is) c.requires.fit
+      word_power_front (option_copied c.args.binder) c.args.opened c.in-WordWithPower.word.now (power_numeral c.in-WordWithPower.digit) _ _ _ _ (stands_as c.args.tokens.now c.args.at _ _ l c.in-WordWithPower.is) c.requires.fit
           c.in_ok-base-in-WordWithPower.ensures
-          (c.in_ok-power_tree-in-WordWithPower.ensures ∙ ap (tree.Power (syntax c.in_ok-base-in-WordWithPower.base)) (of_number c.in-WordWithPower.n)),
+          (c.in_ok-power_tree-in-WordWithPower.ensures ∙ ap (tree.Power (syntax c.in_ok-base-in-WordWithPower.base)) (of_number _ ∙ ap tree.Number c.numeral.ensures)),
       omega arith,
       omega (arith, l),
     )
@@ -73,14 +74,14 @@ atom_at-returns-in_ok-call_tree-in-Head t c = (
 pub atom_at-returns-in_ok-new-in-Root : goal.atom_at-returns-in_ok-new-in-Root
 atom_at-returns-in_ok-new-in-Root t c =
     let r = rooted c.args.tokens.now c.args.at c.args.opened c.in-Root.degree _ (begun c.args.tokens.now c.args.at c.requires.begun) c.in-Root.is c.requires.fit in (
-      root_front (option_copied c.args.binder) c.args.opened c.in-Root.degree _ _ _ _ _ r.is c.in_ok-radicand-in-Root.ensures.0 (of_root c.in-Root.degree c.in_ok-new-in-Root.field-0 c.in_ok-radicand-in-Root.radicand c.in_ok-new-in-Root.ensures.ok),
+      root_front (option_copied c.args.binder) c.args.opened c.in-Root.degree _ _ _ _ _ r.is c.in_ok-radicand-in-Root.ensures.0 (of_root c.in-Root.degree c.in_ok-new-in-Root.field-0 ∙ ap (λ x. tree.Root c.in-Root.degree (syntax x)) c.in_ok-new-in-Root.ensures.ok),
       omega (arith, c.in_ok-radicand-in-Root.ensures.1),
       c.in_ok-radicand-in-Root.ensures.2,
     )
 
 pub atom_at-returns-in_ok-new-in-Open : goal.atom_at-returns-in_ok-new-in-Open
 atom_at-returns-in_ok-new-in-Open t c = (
-  group_front (option_copied c.args.binder) c.args.opened _ _ _ _ _ (stands_as c.args.tokens.now c.args.at _ _ (begun c.args.tokens.now c.args.at c.requires.begun) c.in-Open.is) c.in_ok-sum-in-Open.ensures.0 (of_group c.in_ok-new-in-Open.field-0 c.in_ok-sum-in-Open.sum c.in_ok-new-in-Open.ensures.ok),
+  group_front (option_copied c.args.binder) c.args.opened _ _ _ _ _ (stands_as c.args.tokens.now c.args.at _ _ (begun c.args.tokens.now c.args.at c.requires.begun) c.in-Open.is) c.in_ok-sum-in-Open.ensures.0 (of_group c.in_ok-new-in-Open.field-0 ∙ ap (λ x. tree.Group (syntax x)) c.in_ok-new-in-Open.ensures.ok),
   omega (arith, c.in_ok-sum-in-Open.ensures.1),
   c.in_ok-sum-in-Open.ensures.2,
 )

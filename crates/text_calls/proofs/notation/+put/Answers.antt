@@ -1,6 +1,6 @@
 use Rattle.std.proofs.Common.{◌++◌, ap, ◌∙◌, arith}
 use Rattle.expr_tree.specs.Trees.{factors_of, terms_of, trees_of}
-use Rattle.text_calls.proofs.Sizes.{factor_smaller, member_smaller, term_smaller}
+use Rattle.expr_tree.proofs.Sizes.{factor_smaller, member_smaller, term_smaller}
 use Rattle.text_calls.proofs.Written.{factor_put, member_put, none_before, term_put}
 use Rattle.text_calls.proofs.notation.+put.Goals as goal
 use Rattle.text_calls.proofs.notation.+put.Goals.{put_factors-in-Some+in_ok-extend_from_slice-2+in_ok-put_tree, put_factors-in_default}

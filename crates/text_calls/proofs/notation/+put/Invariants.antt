@@ -1,7 +1,7 @@
 use Rattle.std.proofs.Common.{◌≡◌, ◌+◌, ◌*◌, ◌++◌, drop}
 use Rattle.expr_tree.specs.Trees.{factors, factors_of, members, syntax, terms, terms_of, trees_of}
 use Rattle.text_calls.specs.Notation.{factors_text, members_text, terms_text}
-use Rattle.text_calls.proofs.Sizes.{factors_size, members_size, size, terms_size}
+use Rattle.expr_tree.proofs.Sizes.{factors_size, members_size, size, terms_size}
 use Rattle.text_calls.proofs.notation.+put.Given as goal
 
 abbrev pub decreases-put_tree : goal.decreases-put_tree

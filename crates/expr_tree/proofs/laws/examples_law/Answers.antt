@@ -1,6 +1,6 @@
 use Rattle.std.proofs.Common.{refl}
 use Rattle.expr_tree.specs.Reading.{tree_of}
-use Rattle.expr_tree.proofs.laws.examples.Goals as goal
+use Rattle.expr_tree.proofs.laws.examples_law.Goals as goal
 
 pub returns : goal.returns
 unfolding tree_of

@@ -1,5 +1,5 @@
 use Rattle.expr_tree.proofs.OneTree as laws
-use Rattle.expr_tree.proofs.laws.one_tree.Goals as goal
+use Rattle.expr_tree.proofs.laws.one_tree_law.Goals as goal
 
 pub returns : goal.returns
 returns c = laws.one_tree

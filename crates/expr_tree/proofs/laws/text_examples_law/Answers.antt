@@ -2,7 +2,7 @@ use Rattle.std.proofs.Common.{refl}
 use Rattle.frac128.specs.Numerals.{greatest}
 use Rattle.expr_tree.specs.Faults.{fault_from}
 use Rattle.expr_tree.specs.Lexemes.{lexemes_from, tokens_in}
-use Rattle.expr_tree.proofs.laws.text_examples.Goals as goal
+use Rattle.expr_tree.proofs.laws.text_examples_law.Goals as goal
 
 pub returns : goal.returns
 unfolding greatest fault_from lexemes_from tokens_in

@@ -11,8 +11,7 @@ use Rattle.expr_tree.specs.declared.tree.Trees.{Trees}
 use Rattle.expr_tree.specs.Syntax.{Syntax, Members, NoMember, Member, Factors, NoFactor, Factor, Terms, NoTerm, Term}
 use Rattle.expr_tree.specs.Syntax as tree
 use Rattle.expr_tree.specs.Trees.{factors, factors_of, members, syntax, terms, terms_of, trees_of}
-use Rattle.expr_tree.proofs.Says.{of_call, of_inverse, of_root, of_group, of_negate, of_power}
-use Rattle.expr_tree.proofs.Views.{of_juxtaposed, of_product, of_sum}
+use Rattle.expr_tree.proofs.Views.{of_call, of_inverse, of_root, of_group, of_negate, of_power, of_juxtaposed, of_product, of_sum}
 
 abbrev mutual
   pub size : Syntax → ℕ

@@ -1,7 +1,7 @@
 use Rattle.expr_tree.proofs.Derived.{given}
 use Rattle.expr_tree.proofs.Places.{fits_exactly}
 use Rattle.expr_tree.proofs.Spelled.{given_fits}
-use Rattle.expr_tree.proofs.laws.complete.Goals as goal
+use Rattle.expr_tree.proofs.laws.complete_law.Goals as goal
 
 pub returns : goal.returns
 returns c = λ binder ts. (

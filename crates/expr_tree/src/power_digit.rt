@@ -1,0 +1,67 @@
+//! The digit of a word with a power.
+
+ghost use Rattle.std.specs.Prelude.{◌≡◌, ◌-◌, IsTrue, Ok};
+ghost use Rattle.frac128.specs.Decimals.{read};
+ghost use Rattle.expr_tree.specs.Names.{is_power_byte};
+ghost use Rattle.expr_tree.specs.Seen.{power_numeral, seen_digit};
+
+use frac128::{Numeral, read_numeral};
+
+// A digit from 2 to 9. A token with this byte is smaller than one with a numeral behind its word.
+#[derive(Clone, Copy)]
+pub(crate) enum PowerDigit {
+    Two,
+    Three,
+    Four,
+    Five,
+    Six,
+    Seven,
+    Eight,
+    Nine,
+}
+
+impl PowerDigit {
+    // The digit that the byte is.
+    pub(crate) fn of_byte(byte: u8) -> PowerDigit
+        requires { IsTrue (is_power_byte byte) }
+        ensures { seen_digit result ≡ byte - 48 }
+    {
+        match byte {
+            b'2' => PowerDigit::Two,
+            b'3' => PowerDigit::Three,
+            b'4' => PowerDigit::Four,
+            b'5' => PowerDigit::Five,
+            b'6' => PowerDigit::Six,
+            b'7' => PowerDigit::Seven,
+            b'8' => PowerDigit::Eight,
+            b'9' => PowerDigit::Nine,
+            _ => unreachable!(),
+        }
+    }
+
+    // The digit as a numeral.
+    pub(crate) fn numeral(self) -> Numeral
+        ensures { result ≡ power_numeral self }
+    {
+        match read_numeral(self.text()) {
+            Ok(numeral) => numeral,
+            Err(_) => unreachable!(),
+        }
+    }
+
+    // The digit in writing.
+    fn text(self) -> &'static [u8]
+        ensures { read result.now ≡ Ok (power_numeral self) }
+    {
+        match self {
+            PowerDigit::Two => b"2",
+            PowerDigit::Three => b"3",
+            PowerDigit::Four => b"4",
+            PowerDigit::Five => b"5",
+            PowerDigit::Six => b"6",
+            PowerDigit::Seven => b"7",
+            PowerDigit::Eight => b"8",
+            PowerDigit::Nine => b"9",
+        }
+    }
+}
