@@ -1,2 +1,9 @@
-pub mod Copies
+pub mod Choices
+pub mod CutParts
+pub mod Examples
 pub mod KeyTexts
+pub mod Parts
+pub mod PointRuns
+pub mod PointWords
+pub mod Texts
+pub mod Told

@@ -1,10 +1,11 @@
 -- What is told of a line that gives no entry.
-use Rattle.std.specs.Prelude.{◌++◌, ℕ, Bool, true, false, List, [], codes}
+use Rattle.std.specs.Prelude.{◌≡◌, ◌++◌, ℕ, Bool, true, false, List, [], codes, Err}
 use Rattle.std.specs.Fmt.{decimal}
 use Rattle.expr_tree.specs.declared.fault.ParseFault.{ParseFault}
 use Rattle.expr_tree.specs.declared.fault.ParseFault.TheVariants as parse
 use Rattle.def_entry.specs.declared.fault.EntryFault.{EntryFault}
 use Rattle.def_entry.specs.declared.fault.EntryFault.TheVariants as entry
+use Rattle.def_entry.specs.Reading.{entry_of}
 
 -- the fault is of the line, and no want of memory
 abbrev pub is_told : EntryFault → Bool
@@ -26,3 +27,7 @@ entry_fault_text entry.BadForm = codes "bad definition"
 entry_fault_text entry.BadTable = codes "bad table"
 entry_fault_text (entry.Parse fault) = parse_fault_text fault
 entry_fault_text entry.OutOfMemory = []
+
+-- law: a fault that a line has is never want of memory
+abbrev pub ToldLaw : Type 0
+ToldLaw = (line : List ℕ) (fault : EntryFault) → entry_of line ≡ Err fault → is_told fault ≡ true

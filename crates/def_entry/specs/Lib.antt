@@ -1,4 +1,16 @@
+pub mod Cuts
 pub mod Entries
+pub mod Examples
 pub mod Faults
+pub mod Forms
+pub mod Headings
+pub mod Intervals
 pub mod Keys
+pub mod Numbers
+pub mod Options
+pub mod Outcomes
+pub mod PointLists
+pub mod Reading
+pub mod Seen
+pub mod Steps
 pub mod Views

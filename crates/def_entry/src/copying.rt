@@ -1,11 +1,11 @@
 //! Copies of entries.
 
 ghost use Rattle.std.specs.Prelude.{◌≡◌, IfOk, option_map};
-ghost use Rattle.expr_tree.specs.Trees.{syntax, trees_of};
+ghost use Rattle.expr_tree.specs.Trees.{syntax};
 ghost use Rattle.def_entry.specs.Views.{entry_view, function_view, table_view, what_view};
 
 use crate::entry::{Entry, FunctionDef, TableDef, What};
-use expr_tree::{Tree, Trees};
+use expr_tree::Tree;
 use std::alloc::{AllocError, Global};
 
 impl Entry {
@@ -31,7 +31,7 @@ impl What {
             What::Function(function) => Ok(What::Function(function.copy(alloc)?)),
             What::Alias(target) => Ok(What::Alias(target.copy()?)),
             What::Table(table) => Ok(What::Table(table.copy(alloc)?)),
-            What::ListOf(parts) => Ok(What::ListOf(copied_trees(alloc, parts)?)),
+            What::ListOf(parts) => Ok(What::ListOf(parts.copy(alloc)?)),
         }
     }
 }
@@ -75,15 +75,4 @@ fn copied_tree(alloc: Global, tree: &Option<Tree>) -> Result<Option<Tree>, Alloc
         Some(tree) => Ok(Some(tree.copy(alloc)?)),
         None => Ok(None),
     }
-}
-
-// Equal trees, in their order.
-fn copied_trees(alloc: Global, trees: &Trees) -> Result<Trees, AllocError>
-    ensures { IfOk result (λ copies. trees_of copies ≡ trees_of trees.now) }
-{
-    let mut copies = Trees::new(alloc);
-    while let Some(tree) = trees.get(copies.len()) {
-        copies.push(alloc, tree.copy(alloc)?)?;
-    }
-    Ok(copies)
 }

@@ -1,13 +1,31 @@
-//! Laws of keys and their texts.
+//! Laws of keys, of their texts and of entries.
 
+ghost use Rattle.def_entry.specs.Examples.{ExamplesLaw};
+ghost use Rattle.def_entry.specs.Faults.{ToldLaw};
 ghost use Rattle.def_entry.specs.Keys.{KeyOfLaw, OneKeyLaw};
+ghost use Rattle.def_entry.specs.Reading.{SameTextLaw};
 
 /// A text is read as a key exactly where that key has a name and is written so.
-pub fn key_texts()
+pub fn key_text_law()
     ensures { KeyOfLaw }
 {}
 
 /// Keys that have names have one text only where they are one key.
-pub fn one_key()
+pub fn one_key_law()
     ensures { OneKeyLaw }
+{}
+
+/// Two entries of one key that lines give are equal exactly where their texts are.
+pub fn same_text_law()
+    ensures { SameTextLaw }
+{}
+
+/// A fault that a line has is never want of memory.
+pub fn told_law()
+    ensures { ToldLaw }
+{}
+
+/// A few lines have the keys, the entries and the faults that were found by hand.
+pub fn examples_law()
+    ensures { ExamplesLaw }
 {}

@@ -2,21 +2,34 @@
 #![tactic(auto)]
 
 mod copying;
+mod cuts;
 mod entry;
+mod expression;
 mod fault;
 mod fault_text;
+mod form;
+mod function;
+mod heading;
+mod interval;
 mod joined;
 mod key;
 mod keys;
 mod laws;
+mod list;
+mod number;
+mod options;
+mod point_list;
+mod reading;
 mod spelling;
 #[cfg(test)]
 mod tests;
+mod what;
 
 pub use entry::{Bound, Entry, FunctionDef, Span, TableDef, What};
 pub use fault::EntryFault;
 pub use fault_text::entry_fault_text;
 pub use key::{Key, Kind};
 pub use keys::Keys;
-pub use laws::{key_texts, one_key};
+pub use laws::{examples_law, key_text_law, one_key_law, same_text_law, told_law};
+pub use reading::read_entry;
 pub use spelling::{KeyFault, key_text, read_key};

@@ -1,5 +1,9 @@
 //! Rows whose expected values come from the rules of the format.
 
+mod built_in;
+mod reading;
+mod telling;
+
 use crate::{
     Bound, Entry, EntryFault, FunctionDef, Key, KeyFault, Keys, Kind, Span, TableDef, What,
     entry_fault_text, key_text, read_key,
@@ -10,6 +14,15 @@ use piecewise::Points;
 use std::alloc::{AllocError, Global};
 use std::test::Fail;
 use units_io::Text;
+
+// The key that bytes are read as, if they are the text of one.
+fn key_read(alloc: Global, bytes: &[u8]) -> Result<Option<Key>, AllocError> {
+    match read_key(alloc, bytes) {
+        Ok(key) => Ok(Some(key)),
+        Err(KeyFault::NotKey) => Ok(None),
+        Err(KeyFault::OutOfMemory) => Err(AllocError),
+    }
+}
 
 #[test]
 fn writes_and_reads_keys(rt: HostRuntime) -> Result<(), Fail> {
@@ -27,12 +40,12 @@ fn writes_and_reads_keys(rt: HostRuntime) -> Result<(), Fail> {
         let key = Key { kind, name };
         let text = key_text(rt.alloc(), &key)?;
         assert_eq!(rt; text.as_bytes(), want.as_bytes(), "{want}");
-        match read_key(rt.alloc(), want.as_bytes()) {
-            Ok(read) => {
+        match key_read(rt.alloc(), want.as_bytes())? {
+            Some(read) => {
                 assert_eq!(rt; read.kind, kind, "{want}");
                 assert_eq!(rt; read.name.as_bytes(), key.name.as_bytes(), "{want}");
             }
-            Err(_) => assert!(rt; false, "{want}"),
+            None => assert!(rt; false, "{want}"),
         }
     }
     Ok(())
@@ -69,10 +82,8 @@ fn refuses_what_is_no_key(rt: HostRuntime) -> Result<(), Fail> {
         "a()()",
     ];
     for row in rows {
-        match read_key(rt.alloc(), row.as_bytes()) {
-            Ok(_) => assert!(rt; false, "{row}"),
-            Err(fault) => assert_eq!(rt; fault, KeyFault::NotKey, "{row}"),
-        }
+        let read = key_read(rt.alloc(), row.as_bytes())?;
+        assert!(rt; read.is_none(), "{row}");
     }
     Ok(())
 }
@@ -138,10 +149,11 @@ fn entry(alloc: Global, what: What) -> Result<Entry, AllocError> {
 }
 
 // The tree of an expression, or an argument where it has none.
-fn tree(alloc: Global, text: &[u8]) -> Tree {
+fn tree(alloc: Global, text: &[u8]) -> Result<Tree, AllocError> {
     match parse_expr(alloc, text, None) {
-        Ok(tree) => tree,
-        Err(_) => Tree::Argument,
+        Ok(tree) => Ok(tree),
+        Err(ParseFault::OutOfMemory) => Err(AllocError),
+        Err(_) => Ok(Tree::Argument),
     }
 }
 
@@ -158,64 +170,82 @@ fn weight(alloc: Global, entry: &Entry) -> Result<usize, AllocError> {
     }
 }
 
+// Three units.
+fn parts(alloc: Global) -> Result<Trees, AllocError> {
+    let mut parts = Trees::new(alloc);
+    for part in ["hr", "min", "sec"] {
+        parts.push(alloc, tree(alloc, part.as_bytes())?)?;
+    }
+    Ok(parts)
+}
+
+// The numbers from this one on.
+fn numbers_from(at: Frac) -> Span {
+    let low = Bound { at, closed: true };
+    Span {
+        low: Some(low),
+        high: None,
+    }
+}
+
+// A function with an in unit, a domain and an inverse.
+fn function(alloc: Global, domain: Span) -> Result<FunctionDef, AllocError> {
+    let in_unit = tree(alloc, b"m")?;
+    let forward = tree(alloc, b"x m + y")?;
+    let inverse = tree(alloc, b"f")?;
+    Ok(FunctionDef {
+        in_unit: Some(in_unit),
+        out_unit: None,
+        domain: Some(domain),
+        range: None,
+        forward,
+        inverse: Some(inverse),
+    })
+}
+
+// A table of two points.
+fn table(alloc: Global, one: Frac, two: Frac) -> Result<TableDef, AllocError> {
+    let unit = tree(alloc, b"in")?;
+    let points = Points::new(alloc, &[(one, two), (two, one)]).or(Err(AllocError))?;
+    Ok(TableDef { unit, points })
+}
+
 #[test]
 fn copies_entries(rt: HostRuntime) -> Result<(), Fail> {
-    let mut parts = Trees::new(rt.alloc());
-    for part in ["hr", "min", "sec"] {
-        parts.push(rt.alloc(), tree(rt.alloc(), part.as_bytes()))?;
-    }
-    let low = Bound {
-        at: Frac::new(0, 1)?,
-        closed: true,
-    };
-    let function = FunctionDef {
-        in_unit: Some(tree(rt.alloc(), b"m")),
-        out_unit: None,
-        domain: Some(Span {
-            low: Some(low),
-            high: None,
-        }),
-        range: None,
-        forward: tree(rt.alloc(), b"x m + y"),
-        inverse: Some(tree(rt.alloc(), b"f")),
-    };
-    let points = [
-        (Frac::new(1, 1)?, Frac::new(2, 1)?),
-        (Frac::new(2, 1)?, Frac::new(4, 1)?),
-    ];
-    let Ok(points) = Points::new(rt.alloc(), &points) else {
-        assert!(rt; false, "points");
-        return Ok(());
-    };
-    let unit = tree(rt.alloc(), b"in");
+    let one = Frac::new(1, 1)?;
+    let two = Frac::new(2, 1)?;
     let target = Text::from_bytes(rt.alloc(), b"tempC")?;
     let rows = [
         (What::Primitive, 100),
         (What::Dimensionless, 101),
-        (What::Body(tree(rt.alloc(), b"a b + c")), 3),
-        (What::Function(function), 3),
+        (What::Body(tree(rt.alloc(), b"a b + c")?), 3),
+        (What::Function(function(rt.alloc(), numbers_from(one))?), 3),
         (What::Alias(target), 5),
-        (What::Table(TableDef { unit, points }), 1),
-        (What::ListOf(parts), 3),
+        (What::Table(table(rt.alloc(), one, two)?), 1),
+        (What::ListOf(parts(rt.alloc())?), 3),
     ];
     for (what, want) in rows {
         let copy = entry(rt.alloc(), what)?.copy(rt.alloc())?;
         assert_eq!(rt; copy.text.as_bytes(), b"text".as_slice());
         assert_eq!(rt; weight(rt.alloc(), &copy)?, want);
-        if let What::Function(function) = &copy.what {
-            assert_eq!(rt;
-                function.domain,
-                Some(Span {
-                    low: Some(low),
-                    high: None
-                })
-            );
-            assert!(rt;
-                function.in_unit.is_some()
-                    && function.out_unit.is_none()
-                    && function.inverse.is_some()
-            );
+    }
+    Ok(())
+}
+
+#[test]
+fn copies_functions(rt: HostRuntime) -> Result<(), Fail> {
+    let domain = numbers_from(Frac::new(1, 1)?);
+    let function = function(rt.alloc(), domain)?;
+    let copy = entry(rt.alloc(), What::Function(function))?.copy(rt.alloc())?;
+    match &copy.what {
+        What::Function(function) => {
+            assert_eq!(rt; function.domain, Some(domain));
+            assert!(rt; function.range.is_none());
+            assert!(rt; function.in_unit.is_some());
+            assert!(rt; function.out_unit.is_none());
+            assert!(rt; function.inverse.is_some());
         }
+        _ => assert!(rt; false, "no function"),
     }
     Ok(())
 }

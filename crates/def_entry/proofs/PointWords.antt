@@ -1,0 +1,136 @@
+-- The words of a text taken two and two, as the pairs of numbers that they are.
+use Rattle.std.proofs.Common.{◌≡◌, ◌<◌, ◌++◌, ◌==◌, ℕ, List, [], ◌∷◌, true, false, length, Option, Some, None, option_map, refl, sym, ap, ◌∙◌, arith, append_assoc}
+use Rattle.std.proofs.lemmas.List.{append-nil}
+use Rattle.def_lines.specs.Blanks.{after_blanks}
+use Rattle.def_lines.specs.Parts.{is_begun}
+use Rattle.def_lines.specs.Words.{after_word, first_word, words_of}
+use Rattle.def_lines.proofs.Listing.{is_begun-after_word, length-after_word, shorter-after_word, words_of-after_blanks, words_of-first}
+use Rattle.def_lines.proofs.Trimming.{empty-nil, is_begun-after_blanks}
+use Rattle.frac128.specs.Fraction.{Fraction}
+use Rattle.piecewise.specs.Lines.{Point}
+use Rattle.def_entry.specs.Numbers.{number_of}
+use Rattle.def_entry.specs.PointLists.{pairs_of, some_pairs}
+use Rattle.def_entry.specs.Steps.{◌>>=◌}
+
+-- a number and another, and the pairs behind them
+abbrev pub paired : Option Point → Option (List Point) → Option (List Point)
+paired point points = point >>= (λ p. points >>= (λ ps. Some (p ∷ ps)))
+
+-- the numbers at the front of a text
+abbrev pub front_pair : List ℕ → Option Point
+front_pair text = number_of (first_word text) >>= (λ x. number_of (first_word (after_word text)) >>= (λ y. Some (x, y)))
+
+-- no number
+abbrev nothing : Option Fraction
+nothing = None
+
+-- no text has no words
+words_of-nil : words_of [] ≡ []
+unfolding words_of
+words_of-nil = refl
+
+-- no text is no number
+number_of-nil : number_of [] ≡ None
+unfolding number_of
+number_of-nil = refl
+
+-- one step of reading pairs
+pub pairs-step : (b : ℕ) (text : List ℕ) → is_begun (b ∷ text) ≡ true
+    → pairs_of (words_of (b ∷ text)) ≡ paired (front_pair (b ∷ text)) (pairs_of (words_of (after_word (after_word (b ∷ text)))))
+pairs-step b text begun =
+    ap pairs_of (words_of-first b text begun) ∙ behind (after_word (b ∷ text)) (is_begun-after_word (b ∷ text))
+  where
+    none : (x y : Option Fraction) (points : Option (List Point)) → y ≡ None → None ≡ paired (x >>= (λ v. y >>= (λ w. Some (v, w)))) points
+    none None y points e = refl
+    none (Some v) None points e = refl
+    none (Some v) (Some w) points e = cc
+
+    some : (x y : Option Fraction) (points : Option (List Point))
+        → (x >>= (λ v. y >>= (λ w. points >>= (λ ps. Some ((v, w) ∷ ps))))) ≡ paired (x >>= (λ v. y >>= (λ w. Some (v, w)))) points
+    some None y points = refl
+    some (Some v) None points = refl
+    some (Some v) (Some w) points = refl
+
+    behind : (rest : List ℕ) → is_begun rest ≡ true
+        → pairs_of (first_word (b ∷ text) ∷ words_of rest)
+        ≡ paired (number_of (first_word (b ∷ text)) >>= (λ v. number_of (first_word rest) >>= (λ w. Some (v, w)))) (pairs_of (words_of (after_word rest)))
+    behind [] begun =
+        ap (λ ws. pairs_of (first_word (b ∷ text) ∷ ws)) words_of-nil
+        ∙ none (number_of (first_word (b ∷ text))) (number_of (first_word [])) (pairs_of (words_of (after_word []))) number_of-nil
+    behind (d ∷ rest) begun =
+        ap (λ ws. pairs_of (first_word (b ∷ text) ∷ ws)) (words_of-first d rest begun)
+        ∙ some (number_of (first_word (b ∷ text))) (number_of (first_word (d ∷ rest))) (pairs_of (words_of (after_word (d ∷ rest))))
+
+-- pairs behind some points
+abbrev pub onto : List Point → Option (List Point) → Option (List Point)
+onto front given = option_map (λ pairs. front ++ pairs) given
+
+join-pair : (front new : List Point) (pair : Point) (given : Option (List Point)) → new ≡ front ++ pair ∷ [] → onto new given ≡ onto front (paired (Some pair) given)
+join-pair front new pair None made = refl
+join-pair front new pair (Some pairs) made = ap Some (ap (λ t. t ++ pairs) made ∙ append_assoc front (pair ∷ []) pairs)
+
+-- one more pair
+pub pairs-more : (front new : List Point) (text word behind word' behind' : List ℕ) (x y : Fraction) → is_begun text ≡ true → (length text == 0) ≡ false
+    → word ≡ first_word text → behind ≡ after_word text → number_of word ≡ Some x
+    → word' ≡ first_word behind → behind' ≡ after_word behind → number_of word' ≡ Some y
+    → new ≡ front ++ (x, y) ∷ [] → onto new (pairs_of (words_of behind')) ≡ onto front (pairs_of (words_of text))
+pairs-more front new [] word behind word' behind' x y begun some is from value is' from' value' made = cc
+pairs-more front new (b ∷ text) word behind word' behind' x y begun some is from value is' from' value' made =
+    let first : number_of (first_word (b ∷ text)) ≡ Some x = ap number_of (sym is) ∙ value in
+    let second : number_of (first_word (after_word (b ∷ text))) ≡ Some y =
+    ap (λ t. number_of (first_word t)) (sym from) ∙ ap number_of (sym is') ∙ value' in
+    let pair : front_pair (b ∷ text) ≡ Some (x, y) = λ i. first i >>= (λ v. second i >>= (λ w. Some (v, w))) in
+    join-pair front new (x, y) (pairs_of (words_of behind')) made
+    ∙ ap (λ t. onto front (paired (Some (x, y)) (pairs_of (words_of t)))) (from' ∙ ap after_word from)
+    ∙ ap (λ p. onto front (paired p (pairs_of (words_of (after_word (after_word (b ∷ text))))))) (sym pair)
+    ∙ ap (onto front) (sym (pairs-step b text begun))
+
+-- no number at the front
+pub pairs-no_first : (front : List Point) (text word : List ℕ) → is_begun text ≡ true → (length text == 0) ≡ false → word ≡ first_word text → number_of word ≡ None
+    → onto front (pairs_of (words_of text)) ≡ None
+pairs-no_first front [] word begun some is none = cc
+pairs-no_first front (b ∷ text) word begun some is none =
+    ap (onto front) (pairs-step b text begun)
+    ∙ ap (λ x. onto front (paired (x >>= (λ v. number_of (first_word (after_word (b ∷ text))) >>= (λ w. Some (v, w)))) (pairs_of (words_of (after_word (after_word (b ∷ text)))))))
+    (ap number_of (sym is) ∙ none)
+
+-- no number behind the first
+pub pairs-no_second : (front : List Point) (text behind word' : List ℕ) → is_begun text ≡ true → (length text == 0) ≡ false → behind ≡ after_word text → word' ≡ first_word behind
+    → number_of word' ≡ None → onto front (pairs_of (words_of text)) ≡ None
+pairs-no_second front [] behind word' begun some from is' none = cc
+pairs-no_second front (b ∷ text) behind word' begun some from is' none =
+    ap (onto front) (pairs-step b text begun)
+    ∙ ap (λ y. onto front (paired (number_of (first_word (b ∷ text)) >>= (λ v. y >>= (λ w. Some (v, w)))) (pairs_of (words_of (after_word (after_word (b ∷ text)))))))
+    (ap (λ t. number_of (first_word t)) (sym from) ∙ ap number_of (sym is') ∙ none)
+    ∙ lost (number_of (first_word (b ∷ text)))
+  where
+    lost : (x : Option Fraction) → onto front (paired (x >>= (λ v. nothing >>= (λ w. Some (v, w)))) (pairs_of (words_of (after_word (after_word (b ∷ text)))))) ≡ None
+    lost None = refl
+    lost (Some v) = refl
+
+-- what is left gets shorter
+pub shorter-pair : (text behind behind' : List ℕ) → is_begun text ≡ true → (length text == 0) ≡ false → behind ≡ after_word text → behind' ≡ after_word behind → length behind' < length text
+shorter-pair [] behind behind' begun some from from' = cc
+shorter-pair (b ∷ text) behind behind' begun some from from' =
+    omega (arith, ap length from, ap length from', length-after_word behind, shorter-after_word b text begun)
+
+-- no text has no pairs
+pub pairs-nil : (front : List Point) (text : List ℕ) → (length text == 0) ≡ true → onto front (pairs_of (words_of text)) ≡ Some front
+pairs-nil front text none =
+    ap (λ t. onto front (pairs_of (words_of t))) (empty-nil text none) ∙ ap (λ ws. onto front (pairs_of ws)) words_of-nil ∙ ap Some (append-nil front)
+
+-- blanks have no words
+words_of-blanks : (text rest : List ℕ) → rest ≡ after_blanks text → (length rest == 0) ≡ true → words_of text ≡ []
+words_of-blanks text rest is none = sym (words_of-after_blanks text) ∙ ap words_of (sym is ∙ empty-nil rest none) ∙ words_of-nil
+
+-- blanks have no pair
+pub some_pairs-none : (front : List Point) (text rest : List ℕ) → rest ≡ after_blanks text → (length rest == 0) ≡ true → onto front (some_pairs (words_of text)) ≡ None
+some_pairs-none front text rest is none = ap (λ ws. onto front (some_pairs ws)) (words_of-blanks text rest is none)
+
+-- any other text has to have one
+pub some_pairs-some : (text rest : List ℕ) → rest ≡ after_blanks text → (length rest == 0) ≡ false → some_pairs (words_of text) ≡ pairs_of (words_of text)
+some_pairs-some text [] is some = cc
+some_pairs-some text (b ∷ rest) is some =
+    let words : words_of text ≡ first_word (b ∷ rest) ∷ words_of (after_word (b ∷ rest)) =
+    sym (words_of-after_blanks text) ∙ ap words_of (sym is) ∙ words_of-first b rest (ap is_begun is ∙ is_begun-after_blanks text) in
+    ap some_pairs words ∙ sym (ap pairs_of words)

@@ -1,0 +1,40 @@
+-- What an entry says follows from its key and its text.
+use Rattle.std.proofs.Common.{◌≡◌, ℕ, List, Result, Ok, Err, refl, sym, ap, ◌∙◌}
+use Rattle.def_entry.specs.declared.fault.EntryFault.{EntryFault}
+use Rattle.def_entry.specs.declared.key.Key.{Key}
+use Rattle.def_entry.specs.Entries.{Entry, What}
+use Rattle.def_entry.specs.Headings.{Heading, heading}
+use Rattle.def_entry.specs.Keys.{key}
+use Rattle.def_entry.specs.Outcomes.{◌>>=◌}
+use Rattle.def_entry.specs.Reading.{SameTextLaw, entry_by, what_of}
+
+abbrev value_or : {A : Type 0} → A → Result A EntryFault → A
+value_or x (Ok y) = y
+value_or x (Err fault) = x
+
+-- the heading of a key and a text
+abbrev heading_by : Key → List ℕ → Heading
+heading_by k text = record { kind = k.kind; name = k.name; text = text }
+
+abbrev entry_with : Heading → What → Result (Key × Entry) EntryFault
+entry_with h what = Ok (key h.kind h.name, record { text = h.text; what = what })
+
+told : (h : Heading) (k : Key) (e : Entry) → entry_by h ≡ Ok (k, e) → what_of (heading_by k e.text) ≡ Ok e.what
+told h k e is = go (what_of h) refl is
+  where
+    go : (w : Result What EntryFault) → what_of h ≡ w → (w >>= entry_with h) ≡ Ok (k, e)
+        → what_of (heading_by k e.text) ≡ Ok e.what
+    go (Ok what) said is =
+        let made : Key × Entry = (key h.kind h.name, record { text = h.text; what = what }) in
+        let same : made ≡ (k, e) = ap (value_or made) is in
+        ap (λ (p : Key × Entry). what_of (heading_by p.0 p.1.text)) (sym same) ∙ said ∙ ap (λ (p : Key × Entry). Ok p.1.what) same
+    go (Err fault) said is = cc
+
+pub same_text : SameTextLaw
+same_text k line other e f first second = (
+  (λ same. ap (λ (x : Entry). x.text) same),
+  (λ same.
+      let what : e.what ≡ f.what =
+      ap (value_or e.what) (sym (told (heading line) k e first) ∙ ap (λ t. what_of (heading_by k t)) same ∙ told (heading other) k f second) in
+      (λ i. record { text = same i; what = what i })),
+)

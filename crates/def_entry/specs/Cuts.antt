@@ -1,0 +1,12 @@
+-- Where the parts of a line end.
+use Rattle.std.specs.Prelude.{◌==◌, ◌+◌, ℕ, List, [], ◌∷◌, take, drop, if◌then◌else◌, Option, Some, None, option_map}
+use Rattle.std.specs.List.{position}
+
+-- what stands behind the byte that the text begins with
+abbrev pub behind_byte : ℕ → List ℕ → Option (List ℕ)
+behind_byte mark [] = None
+behind_byte mark (b ∷ text) = if b == mark then Some text else None
+
+-- what stands before the first such byte, and what stands behind it
+abbrev pub cut_at : ℕ → List ℕ → Option (List ℕ × List ℕ)
+cut_at mark text = option_map (λ n. (take n text, drop (n + 1) text)) (position (λ b. b == mark) text)

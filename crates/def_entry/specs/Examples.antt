@@ -1,0 +1,86 @@
+-- The keys and entries of a few lines, and the faults of others, found by hand.
+use Rattle.std.specs.Prelude.{◌≡◌, ℕ, pos, negsuc, true, List, [], ◌∷◌, Some, None, Result, Ok, Err, codes}
+use Rattle.expr_tree.specs.declared.fault.ParseFault.TheVariants.{Syntax as SyntaxFault, NumeralTooLong}
+use Rattle.expr_tree.specs.Syntax.{Syntax, Number, Word, Argument, Juxtaposed, NoMember, Member}
+use Rattle.frac128.specs.Fraction.{whole}
+use Rattle.def_entry.specs.declared.fault.EntryFault.{EntryFault}
+use Rattle.def_entry.specs.declared.fault.EntryFault.TheVariants.{BadName, BadForm, BadTable, Parse}
+use Rattle.def_entry.specs.declared.key.Key.{Key}
+use Rattle.def_entry.specs.declared.key.Kind.{Kind}
+use Rattle.def_entry.specs.declared.key.Kind.TheVariants as kind
+use Rattle.def_entry.specs.Entries.{Entry, What, Primitive, Dimensionless, Body, Function, Alias, Table, ListOf}
+use Rattle.def_entry.specs.Intervals.{bound}
+use Rattle.def_entry.specs.Keys.{key}
+use Rattle.def_entry.specs.Reading.{entry_of}
+
+-- a key of this kind and this name, whose entry has this text and says this
+abbrev pub gives : Kind → List ℕ → List ℕ → What → Result (Key × Entry) EntryFault
+gives k name text what = Ok (key k name, record { text = text; what = what })
+
+-- a whole number
+abbrev pub number : ℕ → Syntax
+number n = Number (record { coefficient = n; scale = pos 0 })
+
+-- a function of x with an inverse of its own name, from meters that are not negative
+abbrev pub from_meters : What
+from_meters = Function (record {
+  in_unit = Some (Word (codes "m"));
+  out_unit = None;
+  domain = Some (record { low = Some (bound true (whole (pos 0))); high = None });
+  range = None;
+  forward = Argument;
+  inverse = Some Argument;
+})
+
+-- a function without any option
+abbrev pub constant : Syntax → What
+constant tree = Function (record {
+  in_unit = None;
+  out_unit = None;
+  domain = None;
+  range = None;
+  forward = tree;
+  inverse = None;
+})
+
+-- a table from 1 to 3, in feet
+abbrev pub short_table : What
+short_table = Table (record {
+  unit = Word (codes "ft");
+  points = (whole (pos 1), whole (pos 2)) ∷ (whole (pos 3), record { num = negsuc 0; den = 2 }) ∷ [];
+})
+
+-- law: keys and entries, one of each form
+abbrev pub EntriesLaw : Type 0
+EntriesLaw =
+    (entry_of (codes "m !") ≡ gives kind.Unit (codes "m") (codes "!") Primitive)
+    × (entry_of (codes "+ one !dimensionless") ≡ gives kind.Unit (codes "one") (codes "!dimensionless") Dimensionless)
+    × (entry_of (codes "ft 12 in")
+    ≡ gives kind.Unit (codes "ft") (codes "12 in") (Body (Juxtaposed (Member (number 12) (Member (Word (codes "in")) NoMember)))))
+    × (entry_of (codes "k-  kilo") ≡ gives kind.Prefix (codes "k") (codes "kilo") (Body (Word (codes "kilo"))))
+    × (entry_of (codes "f(x) units=[m;] domain=[0,) x ; f")
+    ≡ gives kind.Func (codes "f") (codes "(x) units=[m;] domain=[0,) x ; f") from_meters)
+    × (entry_of (codes "f( x ) noerror 2") ≡ gives kind.Func (codes "f") (codes "( x ) noerror 2") (constant (number 2)))
+    × (entry_of (codes "g() f()") ≡ gives kind.Func (codes "g") (codes "() f()") (Alias (codes "f")))
+    × (entry_of (codes "t[ft] 1 2, 3 -1|2") ≡ gives kind.Func (codes "t") (codes "[ft] 1 2, 3 -1|2") short_table)
+    × (entry_of (codes "!unitlist l ft;m")
+    ≡ gives kind.List (codes "l") (codes "ft;m") (ListOf (Word (codes "ft") ∷ Word (codes "m") ∷ [])))
+
+-- law: faults, the first of those that a line has
+abbrev pub FaultsLaw : Type 0
+FaultsLaw =
+    (entry_of (codes "foo2 m") ≡ Err (BadName (codes "foo2")))
+    × (entry_of (codes "- 3") ≡ Err (BadName []))
+    × (entry_of (codes "f(2 x) units=[") ≡ Err (BadName (codes "2 x")))
+    × (entry_of (codes "g() f ()") ≡ Err (BadName (codes "f ")))
+    × (entry_of (codes "f(x) ; x") ≡ Err BadForm)
+    × (entry_of (codes "f(x) domain= [0,1] x") ≡ Err BadForm)
+    × (entry_of (codes "t[] 1") ≡ Err BadForm)
+    × (entry_of (codes "!unitlist") ≡ Err BadForm)
+    × (entry_of (codes "t[(] 1 2, 1 3") ≡ Err BadTable)
+    × (entry_of (codes "!unitlist l m;;s") ≡ Err (Parse (SyntaxFault 0)))
+    × (entry_of (codes "a 1e10000 m") ≡ Err (Parse NumeralTooLong))
+
+-- law: both
+abbrev pub ExamplesLaw : Type 0
+ExamplesLaw = EntriesLaw × FaultsLaw

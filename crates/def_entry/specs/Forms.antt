@@ -1,0 +1,33 @@
+-- The bodies of a function, behind its parameter.
+use Rattle.std.specs.Prelude.{ℕ, List, [], ◌∷◌, Option, Some, None}
+use Rattle.def_lines.specs.Blanks.{trimmed}
+use Rattle.def_entry.specs.Cuts.{cut_at}
+use Rattle.def_entry.specs.Options.{Options, options_at}
+use Rattle.def_entry.specs.Steps.{◌>>=◌}
+
+-- the options of a function and the texts of its bodies
+pub record Form : Type 0 where
+  pub options : Options
+  pub forward : List ℕ
+  pub inverse : Option (List ℕ)
+
+-- a text, but none where it is empty
+abbrev pub some_text : List ℕ → Option (List ℕ)
+some_text [] = None
+some_text (b ∷ text) = Some (b ∷ text)
+
+-- the bodies, by how the first `;` parts them; none of them is empty
+abbrev pub form_parted : Options → Option (List ℕ × List ℕ) → List ℕ → Option Form
+form_parted options None text = do
+  forward ← some_text (trimmed text)
+  Some (record { options = options; forward = forward; inverse = None })
+form_parted options (Some parts) text = do
+  forward ← some_text (trimmed parts.0)
+  inverse ← some_text (trimmed parts.1)
+  Some (record { options = options; forward = forward; inverse = Some inverse })
+
+-- the options, and the bodies behind them
+unfoldable pub form_of : List ℕ → Option Form
+form_of text = do
+  found ← options_at text
+  form_parted found.0 (cut_at 59 found.1) found.1

@@ -1,0 +1,67 @@
+-- The head of a line: the kind of its key, its name, and what stands behind that.
+use Rattle.std.specs.Prelude.{◌==◌, ◌||◌, ◌&&◌, ℕ, List, [], ◌∷◌, Bool, true, false, length, drop, nat_lt, if◌then◌else◌}
+use Rattle.std.specs.List.{before_first}
+use Rattle.units_io.specs.Blanks.{is_blank}
+use Rattle.def_lines.specs.Blanks.{after_blanks, trimmed}
+use Rattle.def_lines.specs.Words.{behind_word, first_word}
+use Rattle.expr_tree.specs.Names.{base, last_byte}
+use Rattle.def_entry.specs.declared.key.Kind.{Kind}
+use Rattle.def_entry.specs.declared.key.Kind.TheVariants.{Unit as UnitKind, Prefix, Func, List as ListKind}
+
+-- the kind of a line's key, its name, and the text of its entry
+pub record Heading : Type 0 where
+  pub kind : Kind
+  pub name : List ℕ
+  pub text : List ℕ
+
+-- the byte `(` or `[`
+abbrev pub is_opening : ℕ → Bool
+is_opening b = b == 40 || b == 91
+
+-- a blank, `(` or `[`
+abbrev pub ends_head : ℕ → Bool
+ends_head b = is_blank b || is_opening b
+
+-- a blank is at the front, or nothing
+abbrev pub stands_apart : List ℕ → Bool
+stands_apart [] = true
+stands_apart (b ∷ text) = is_blank b
+
+-- `(` or `[` is at the front
+abbrev pub is_opened : List ℕ → Bool
+is_opened [] = false
+is_opened (b ∷ text) = is_opening b
+
+-- the last byte is `-`
+abbrev pub ends_in_minus : List ℕ → Bool
+ends_in_minus head = nat_lt 0 (length head) && last_byte head == 45
+
+-- a head, and what stands behind it
+abbrev pub heading_of : List ℕ → List ℕ → Heading
+heading_of head behind =
+    if ends_in_minus head && stands_apart behind
+    then record { kind = Prefix; name = base head; text = trimmed behind }
+    else record {
+      kind = if is_opened behind then Func else UnitKind;
+      name = head;
+      text = trimmed behind;
+    }
+
+-- a line that defines a unit, a prefix or a function
+abbrev pub definition_heading : List ℕ → Heading
+definition_heading line =
+    let head = before_first ends_head line in heading_of head (drop (length head) line)
+
+-- a line that defines a list, by what stands behind its `!`
+abbrev pub list_heading : List ℕ → Heading
+list_heading directive =
+    let rest = behind_word (after_blanks directive) in
+    record { kind = ListKind; name = first_word rest; text = behind_word rest }
+
+-- the head of a line; one leading `+` does not count, nor do the blanks behind it
+unfoldable pub heading : List ℕ → Heading
+heading [] = definition_heading []
+heading (b ∷ line) =
+    if b == 33
+    then list_heading line
+    else (if b == 43 then definition_heading (after_blanks line) else definition_heading (b ∷ line))

@@ -1,0 +1,42 @@
+-- The numbers of tables and intervals: an optional sign, and a numeral or two with `|` between.
+use Rattle.std.specs.Prelude.{◌==◌, ℕ, List, [], ◌∷◌, if◌then◌else◌, Option, Some, None, option_map, Result, Ok, Err}
+use Rattle.std.specs.Result.{result_ok}
+use Rattle.frac128.specs.declared.numeral.NumeralFault.{NumeralFault}
+use Rattle.frac128.specs.Decimals.{Decimal, read, value_of}
+use Rattle.frac128.specs.Fraction.{Fraction, negated}
+use Rattle.frac128.specs.Steps.{over}
+use Rattle.def_entry.specs.Cuts.{cut_at}
+use Rattle.def_entry.specs.Steps.{◌>>=◌}
+
+-- the value of what was read, if it has one
+abbrev pub value_read : Result Decimal NumeralFault → Option Fraction
+value_read (Ok numeral) = result_ok (value_of numeral)
+value_read (Err fault) = None
+
+-- the value of a numeral
+abbrev pub numeral_value : List ℕ → Option Fraction
+numeral_value bytes = value_read (read bytes)
+
+-- the value of two numerals with `|` between
+abbrev pub quotient_value : List ℕ → List ℕ → Option Fraction
+quotient_value above below = do
+  x ← numeral_value above
+  y ← numeral_value below
+  result_ok (over x y)
+
+-- the value of a number, by how `|` parts it
+abbrev pub parted_value : Option (List ℕ × List ℕ) → List ℕ → Option Fraction
+parted_value None text = numeral_value text
+parted_value (Some parts) text = quotient_value parts.0 parts.1
+
+-- the value of a number without a sign
+abbrev pub unsigned_value : List ℕ → Option Fraction
+unsigned_value text = parted_value (cut_at 124 text) text
+
+-- the value of a number
+unfoldable pub number_of : List ℕ → Option Fraction
+number_of [] = None
+number_of (b ∷ text) =
+    if b == 45
+    then option_map negated (unsigned_value text)
+    else (if b == 43 then unsigned_value text else unsigned_value (b ∷ text))

@@ -1,0 +1,105 @@
+-- The options of a function.
+use Rattle.std.specs.Prelude.{◌&&◌, ℕ, zero, suc, List, Bool, true, false, length, drop, codes, nat_eq, if◌then◌else◌, Option, Some, None, option_map}
+use Rattle.std.specs.List.{starts_with}
+use Rattle.std.specs.Option.{is_some}
+use Rattle.def_lines.specs.Blanks.{after_blanks, trimmed}
+use Rattle.def_entry.specs.declared.entry.Span.{Span}
+use Rattle.def_entry.specs.declared.options.Choice.{Choice}
+use Rattle.def_entry.specs.declared.options.Choice.TheVariants.{Units as UnitsChoice, Domain, Range, NoError}
+use Rattle.def_entry.specs.Cuts.{behind_byte, cut_at}
+use Rattle.def_entry.specs.Headings.{stands_apart}
+use Rattle.def_entry.specs.Intervals.{interval_at}
+use Rattle.def_entry.specs.Steps.{◌>>=◌}
+
+-- the texts of the in unit and of the out unit, each of which may be empty
+pub record Units : Type 0 where
+  pub in_unit : List ℕ
+  pub out_unit : List ℕ
+
+-- the options that stand in a line
+pub record Options : Type 0 where
+  pub units : Option Units
+  pub domain : Option Span
+  pub range : Option Span
+  pub no_error : Bool
+
+-- none of them
+abbrev pub no_options : Options
+no_options = record { units = None; domain = None; range = None; no_error = false }
+
+-- what each option begins with
+abbrev pub word : Choice → List ℕ
+word UnitsChoice = codes "units="
+word Domain = codes "domain="
+word Range = codes "range="
+word NoError = codes "noerror"
+
+-- the text begins with the word of an option
+abbrev pub begins_with : Choice → List ℕ → Bool
+begins_with choice text = starts_with nat_eq text (word choice)
+
+-- what stands behind the word of an option
+abbrev pub behind : Choice → List ℕ → List ℕ
+behind choice text = drop (length (word choice)) text
+
+-- `noerror` is at the front, with a blank or the end behind it
+abbrev pub begins_with_no_error : List ℕ → Bool
+begins_with_no_error text = begins_with NoError text && stands_apart (behind NoError text)
+
+-- the option that begins at the front
+abbrev pub choice_at : List ℕ → Option Choice
+choice_at text =
+    if begins_with UnitsChoice text
+    then Some UnitsChoice
+    else (if begins_with Domain text then Some Domain
+    else (if begins_with Range text then Some Range
+    else (if begins_with_no_error text then Some NoError
+    else None)))
+
+-- `[A;B]`: A runs to the next `;`, and B from there to the next `]`
+abbrev pub units_at : List ℕ → Option (Units × List ℕ)
+units_at text = do
+  inside ← behind_byte 91 text
+  first ← cut_at 59 inside
+  second ← cut_at 93 first.1
+  Some (record { in_unit = trimmed first.0; out_unit = trimmed second.0 }, second.1)
+
+-- the options with one more, whose value stands at the front, and what stands behind it; none where
+-- it has no value, or the same option stood before
+abbrev pub with_choice : Choice → Options → List ℕ → Option (Options × List ℕ)
+with_choice UnitsChoice options text =
+    if is_some options.units
+    then None
+    else option_map (λ found. (record options { units = Some found.0 }, found.1)) (units_at text)
+with_choice Domain options text =
+    if is_some options.domain
+    then None
+    else option_map (λ found. (record options { domain = Some found.0 }, found.1)) (interval_at text)
+with_choice Range options text =
+    if is_some options.range
+    then None
+    else option_map (λ found. (record options { range = Some found.0 }, found.1)) (interval_at text)
+with_choice NoError options text =
+    if options.no_error then None else Some (record options { no_error = true }, text)
+
+-- the most options: one of each kind
+abbrev pub most_options : ℕ
+most_options = 4
+
+-- the options with the one that begins at the front, if one does, and how they go on behind it
+abbrev pub with_next : (Options → List ℕ → Option (Options × List ℕ)) → Option Choice → Options
+    → List ℕ → Option (Options × List ℕ)
+with_next go_on None options text = Some (options, text)
+with_next go_on (Some choice) options text = do
+  found ← with_choice choice options (behind choice text)
+  go_on found.0 found.1
+
+-- the options with those at the front, fewer than n, and what stands behind them
+unfoldable pub options_from : ℕ → Options → List ℕ → Option (Options × List ℕ)
+options_from zero options text = None
+options_from (suc n) options text =
+    let rest = after_blanks text in with_next (options_from n) (choice_at rest) options rest
+
+-- the options at the front, blanks passed over, and what stands behind them
+abbrev pub options_at : List ℕ → Option (Options × List ℕ)
+options_at text = options_from (suc most_options) no_options text

@@ -1,0 +1,52 @@
+-- The points of a table: pairs of numbers, with an optional comma behind each pair.
+use Rattle.std.specs.Prelude.{◌==◌, ◌++◌, ℕ, List, [], ◌∷◌, Bool, if◌then◌else◌, Option, Some, None}
+use Rattle.std.specs.List.{slice_split}
+use Rattle.def_lines.specs.Blanks.{after_blanks}
+use Rattle.def_lines.specs.Words.{words_of}
+use Rattle.piecewise.specs.Lines.{Point}
+use Rattle.piecewise.specs.Points.{is_table}
+use Rattle.def_entry.specs.declared.options.Choice.TheVariants.{NoError}
+use Rattle.def_entry.specs.Numbers.{number_of}
+use Rattle.def_entry.specs.Options.{begins_with_no_error, behind}
+use Rattle.def_entry.specs.Steps.{◌>>=◌}
+
+-- words as numbers, two and two
+abbrev pub pairs_of : List (List ℕ) → Option (List Point)
+pairs_of [] = Some []
+pairs_of (x ∷ []) = None
+pairs_of (x ∷ y ∷ words) = do
+  a ← number_of x
+  b ← number_of y
+  points ← pairs_of words
+  Some ((a, b) ∷ points)
+
+-- the same, where at least one pair has to stand
+abbrev pub some_pairs : List (List ℕ) → Option (List Point)
+some_pairs [] = None
+some_pairs (x ∷ words) = pairs_of (x ∷ words)
+
+-- the points of what stands between commas: some pairs each time, but behind the last comma perhaps
+-- none
+abbrev pub points_between : List (List ℕ) → Option (List Point)
+points_between [] = Some []
+points_between (run ∷ []) = pairs_of (words_of run)
+points_between (run ∷ next ∷ runs) = do
+  front ← some_pairs (words_of run)
+  points ← points_between (next ∷ runs)
+  Some (front ++ points)
+
+-- the byte `,`
+abbrev pub is_comma : ℕ → Bool
+is_comma b = b == 44
+
+-- a text without a leading `noerror`
+abbrev pub behind_no_error : List ℕ → List ℕ
+behind_no_error text = if begins_with_no_error text then behind NoError text else text
+
+-- the points of a list, if it is one
+unfoldable pub points_of : List ℕ → Option (List Point)
+points_of text = points_between (slice_split is_comma (behind_no_error (after_blanks text)))
+
+-- those of a table
+abbrev pub table_points : List Point → Option (List Point)
+table_points points = if is_table points then Some points else None

@@ -1,0 +1,190 @@
+-- The key and the entry of a line.
+use Rattle.std.specs.Prelude.{◌≡◌, ◌↔◌, ◌==◌, ◌-◌, ℕ, List, [], ◌∷◌, Bool, true, false, length, take, codes, nat_eq, if◌then◌else◌, Option, Some, None, Result, Ok, Err}
+use Rattle.std.specs.List.{ends_with, slice_split}
+use Rattle.def_lines.specs.Blanks.{trimmed}
+use Rattle.def_lines.specs.Kinds.{Kind as LineKind, Definition, UnitList}
+use Rattle.def_lines.specs.Words.{same_bytes}
+use Rattle.expr_tree.specs.Syntax.{Syntax}
+use Rattle.piecewise.specs.Lines.{Point}
+use Rattle.def_entry.specs.declared.key.Key.{Key}
+use Rattle.def_entry.specs.declared.key.Kind.{Kind}
+use Rattle.def_entry.specs.declared.key.Kind.TheVariants as kind
+use Rattle.def_entry.specs.declared.fault.EntryFault.{EntryFault}
+use Rattle.def_entry.specs.declared.fault.EntryFault.TheVariants.{BadForm, BadTable}
+use Rattle.def_entry.specs.Cuts.{cut_at}
+use Rattle.def_entry.specs.Entries.{Entry, What, Primitive, Dimensionless, Body, Function, Alias, Table, ListOf}
+use Rattle.def_entry.specs.Outcomes.{◌>>=◌, named, or_fault, tree_in}
+use Rattle.def_entry.specs.Forms.{Form, form_of, some_text}
+use Rattle.def_entry.specs.Headings.{Heading, heading}
+use Rattle.def_entry.specs.Keys.{key}
+use Rattle.def_entry.specs.Options.{Units}
+use Rattle.def_entry.specs.PointLists.{points_of, table_points}
+
+-- a text that the form wants, which an empty one does not fit
+abbrev pub wanted : List ℕ → Result (List ℕ) EntryFault
+wanted text = or_fault BadForm (some_text text)
+
+-- a unit or a prefix by an expression
+abbrev pub body_in : List ℕ → Result What EntryFault
+body_in text = do
+  body ← wanted text
+  tree ← tree_in None body
+  Ok (Body tree)
+
+-- a unit
+abbrev pub unit_in : List ℕ → Result What EntryFault
+unit_in text =
+    if same_bytes text (codes "!")
+    then Ok Primitive
+    else (if same_bytes text (codes "!dimensionless") then Ok Dimensionless else body_in text)
+
+-- a text without a final `()`
+abbrev pub without_call : List ℕ → List ℕ
+without_call text =
+    if ends_with nat_eq text (codes "()") then take (length text - 2) text else text
+
+-- the function of another name
+abbrev pub alias_in : List ℕ → Result What EntryFault
+alias_in text = do
+  target ← wanted (without_call (trimmed text))
+  name ← named target
+  Ok (Alias name)
+
+-- a unit of a function, if its text is not empty
+abbrev pub unit_tree : List ℕ → Result (Option Syntax) EntryFault
+unit_tree [] = Ok None
+unit_tree (b ∷ text) = do
+  tree ← tree_in None (b ∷ text)
+  Ok (Some tree)
+
+-- the in unit and the out unit, where that option stands
+abbrev pub units_in : Option Units → Result (Option Syntax × Option Syntax) EntryFault
+units_in None = Ok (None, None)
+units_in (Some units) = do
+  in_unit ← unit_tree units.in_unit
+  out_unit ← unit_tree units.out_unit
+  Ok (in_unit, out_unit)
+
+-- the inverse, in which the name of the function stands for its argument
+abbrev pub inverse_in : List ℕ → Option (List ℕ) → Result (Option Syntax) EntryFault
+inverse_in name None = Ok None
+inverse_in name (Some text) = do
+  tree ← tree_in (Some name) text
+  Ok (Some tree)
+
+-- a function of these parts
+abbrev pub function : Form → Option Syntax × Option Syntax → Syntax → Option Syntax → What
+function form units forward inverse = Function (record {
+  in_unit = units.0;
+  out_unit = units.1;
+  domain = form.options.domain;
+  range = form.options.range;
+  forward = forward;
+  inverse = inverse;
+})
+
+-- the function of a form
+abbrev pub function_of : List ℕ → List ℕ → Form → Result What EntryFault
+function_of name parameter form = do
+  units ← units_in form.options.units
+  forward ← tree_in (Some parameter) form.forward
+  inverse ← inverse_in name form.inverse
+  Ok (function form units forward inverse)
+
+-- a function by its parameter, which is empty for an alias, and what stands behind it
+abbrev pub call_in : List ℕ → List ℕ → List ℕ → Result What EntryFault
+call_in name [] behind = alias_in behind
+call_in name (b ∷ bytes) behind = do
+  parameter ← named (b ∷ bytes)
+  form ← or_fault BadForm (form_of behind)
+  function_of name parameter form
+
+-- the points of a table
+abbrev pub points_in : List ℕ → Result (List Point) EntryFault
+points_in text = do
+  points ← or_fault BadTable (points_of text)
+  or_fault BadTable (table_points points)
+
+-- a table by its unit and what stands behind it
+abbrev pub table_in : List ℕ → List ℕ → Result What EntryFault
+table_in text behind = do
+  unit ← wanted text
+  points ← points_in behind
+  tree ← tree_in None unit
+  Ok (Table (record { unit = tree; points = points }))
+
+-- a function, by how `)` parts what stands behind its `(`
+abbrev pub parted_call : List ℕ → Option (List ℕ × List ℕ) → Result What EntryFault
+parted_call name found = do
+  parts ← or_fault BadForm found
+  call_in name (trimmed parts.0) parts.1
+
+-- a table, by how `]` parts what stands behind its `[`
+abbrev pub parted_table : Option (List ℕ × List ℕ) → Result What EntryFault
+parted_table found = do
+  parts ← or_fault BadForm found
+  table_in (trimmed parts.0) parts.1
+
+-- a function, whose text begins with `(`, or a table, whose text begins with `[`
+abbrev pub func_in : List ℕ → List ℕ → Result What EntryFault
+func_in name [] = Err BadForm
+func_in name (b ∷ text) =
+    if b == 40 then parted_call name (cut_at 41 text) else parted_table (cut_at 93 text)
+
+-- the byte `;`
+abbrev pub is_semicolon : ℕ → Bool
+is_semicolon b = b == 59
+
+-- the trees of some parts, from left to right
+abbrev pub trees_in : List (List ℕ) → Result (List Syntax) EntryFault
+trees_in [] = Ok []
+trees_in (part ∷ parts) = do
+  tree ← tree_in None (trimmed part)
+  trees ← trees_in parts
+  Ok (tree ∷ trees)
+
+-- a list, whose parts `;` parts
+abbrev pub list_in : List ℕ → Result What EntryFault
+list_in text = do
+  parts ← wanted text
+  trees ← trees_in (slice_split is_semicolon parts)
+  Ok (ListOf trees)
+
+-- what a text says of a name of this kind
+abbrev pub what_in : Kind → List ℕ → List ℕ → Result What EntryFault
+what_in kind.Unit name text = unit_in text
+what_in kind.Prefix name text = body_in text
+what_in kind.Func name text = func_in name text
+what_in kind.List name text = list_in text
+
+-- a name that is none is the first fault, but a list without a name has no form
+abbrev pub name_in : Kind → List ℕ → Result (List ℕ) EntryFault
+name_in kind.List [] = Err BadForm
+name_in _ name = named name
+
+-- what a line says of its key
+unfoldable pub what_of : Heading → Result What EntryFault
+what_of h = do
+  name ← name_in h.kind h.name
+  what_in h.kind name h.text
+
+-- the key and the entry of a heading
+abbrev pub entry_by : Heading → Result (Key × Entry) EntryFault
+entry_by h = do
+  what ← what_of h
+  Ok (key h.kind h.name, record { text = h.text; what = what })
+
+-- the key and the entry of a line, or its first fault
+abbrev pub entry_of : List ℕ → Result (Key × Entry) EntryFault
+entry_of line = entry_by (heading line)
+
+-- lines of these kinds have an entry or a fault of one
+abbrev pub has_entry : LineKind → Bool
+has_entry Definition = true
+has_entry UnitList = true
+has_entry _ = false
+
+-- law: two entries of one key that lines give are equal exactly where their texts are
+abbrev pub SameTextLaw : Type 0
+SameTextLaw = (k : Key) (line other : List ℕ) (e f : Entry)
+    → entry_of line ≡ Ok (k, e) → entry_of other ≡ Ok (k, f) → (e ≡ f) ↔ (e.text ≡ f.text)

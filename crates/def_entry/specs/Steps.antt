@@ -1,0 +1,7 @@
+-- Steps that may give nothing.
+use Rattle.std.specs.Prelude.{Option, Some, None}
+
+infixl 10 ◌>>=◌
+abbrev pub ◌>>=◌ : {A B : Type 0} → Option A → (A → Option B) → Option B
+None >>= step = None
+(Some x) >>= step = step x

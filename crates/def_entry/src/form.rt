@@ -1,0 +1,55 @@
+//! The options and the bodies of a function, behind its parameter.
+
+ghost use Rattle.std.specs.Prelude.{◌≡◌, option_map};
+ghost use Rattle.std.specs.Option.{option_copied};
+ghost use Rattle.def_entry.specs.Forms.{form_of as form_of_text, form_parted as form_parted_by, some_text as some_text_of};
+ghost use Rattle.def_entry.specs.Seen.{seen_form, seen_options, seen_pair};
+
+use crate::cuts::cut_at;
+use crate::options::{Options, options_at};
+use def_lines::trim;
+
+// The options of a function and the texts of its bodies.
+#[derive(Drop)]
+pub(crate) struct Form<'a> {
+    pub options: Options<'a>,
+    pub forward: &'a [u8],
+    pub inverse: Option<&'a [u8]>,
+}
+
+// The options, and the bodies behind them, which the first `;` parts. None where an option is not
+// whole or stands twice, or a body is empty.
+#[tactic(auto, unfolding(crate::specs::Forms::form_of))]
+pub(crate) fn form_of(text: &[u8]) -> Option<Form<'_>>
+    ensures { option_map seen_form result ≡ form_of_text text.now }
+{
+    let Some((options, bodies)) = options_at(text) else {
+        return None;
+    };
+    match cut_at(bodies, b';') {
+        Some((forward, inverse)) => {
+            let forward = some_text(trim(forward))?;
+            let inverse = some_text(trim(inverse))?;
+            Some(Form {
+                options,
+                forward,
+                inverse: Some(inverse),
+            })
+        }
+        None => {
+            let forward = some_text(trim(bodies))?;
+            Some(Form {
+                options,
+                forward,
+                inverse: None,
+            })
+        }
+    }
+}
+
+// The text, but none where it is empty.
+pub(crate) fn some_text(text: &[u8]) -> Option<&[u8]>
+    ensures { option_copied result ≡ some_text_of text.now }
+{
+    if text.is_empty() { None } else { Some(text) }
+}

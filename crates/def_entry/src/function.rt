@@ -1,0 +1,73 @@
+//! Functions by expressions.
+
+ghost use Rattle.std.specs.Prelude.{option_map};
+ghost use Rattle.std.specs.Option.{option_copied};
+ghost use Rattle.def_entry.specs.Outcomes.{Gives};
+ghost use Rattle.def_entry.specs.Reading.{function_of as function_of_form, inverse_in, unit_tree as unit_tree_of, units_in};
+ghost use Rattle.def_entry.specs.Seen.{seen_form, seen_tree, seen_trees, seen_units};
+ghost use Rattle.def_entry.specs.Views.{what_view};
+
+use crate::entry::{FunctionDef, What};
+use crate::expression::tree_of;
+use crate::fault::EntryFault;
+use crate::form::Form;
+use crate::options::Units;
+use expr_tree::Tree;
+use std::alloc::Global;
+
+// The function of a form, in whose forward expression the parameter stands for the argument.
+pub(crate) fn function_of(
+    alloc: Global,
+    name: &[u8],
+    parameter: &[u8],
+    form: &Form,
+) -> Result<What, EntryFault>
+    ensures { Gives what_view result (function_of_form name.now parameter.now (seen_form form.now)) }
+{
+    let (in_unit, out_unit) = unit_trees(alloc, form.options.units)?;
+    let forward = tree_of(alloc, form.forward, Some(parameter))?;
+    let inverse = inverse_tree(alloc, name, form.inverse)?;
+    Ok(What::Function(FunctionDef {
+        in_unit,
+        out_unit,
+        domain: form.options.domain,
+        range: form.options.range,
+        forward,
+        inverse,
+    }))
+}
+
+// The in unit and the out unit, where that option stands.
+fn unit_trees(
+    alloc: Global,
+    units: Option<Units>,
+) -> Result<(Option<Tree>, Option<Tree>), EntryFault>
+    ensures { Gives seen_trees result (units_in (option_map seen_units units.entry)) }
+{
+    let Some(units) = units else {
+        return Ok((None, None));
+    };
+    let in_unit = unit_tree(alloc, units.in_unit)?;
+    let out_unit = unit_tree(alloc, units.out_unit)?;
+    Ok((in_unit, out_unit))
+}
+
+// A unit of a function, if its text is not empty.
+fn unit_tree(alloc: Global, text: &[u8]) -> Result<Option<Tree>, EntryFault>
+    ensures { Gives seen_tree result (unit_tree_of text.now) }
+{
+    if text.is_empty() {
+        return Ok(None);
+    }
+    Ok(Some(tree_of(alloc, text, None)?))
+}
+
+// The inverse, in which the name of the function stands for its argument.
+fn inverse_tree(alloc: Global, name: &[u8], text: Option<&[u8]>) -> Result<Option<Tree>, EntryFault>
+    ensures { Gives seen_tree result (inverse_in name.now (option_copied text.entry)) }
+{
+    match text {
+        Some(text) => Ok(Some(tree_of(alloc, text, Some(name))?)),
+        None => Ok(None),
+    }
+}

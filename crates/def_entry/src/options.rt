@@ -1,0 +1,171 @@
+//! The options of a function.
+
+ghost use Rattle.std.specs.Prelude.{◌≡◌, option_map, true};
+ghost use Rattle.def_entry.specs.Options.{begins_with as begins_with_word, begins_with_no_error as begins_with_no_error_word, behind as behind_word_of, choice_at as choice_of};
+ghost use Rattle.def_entry.specs.Options.{no_options, options_at as options_of, units_at as units_of, with_choice, word as word_of_choice};
+ghost use Rattle.def_entry.specs.Seen.{seen_found, seen_options, seen_units_found};
+
+use crate::cuts::{behind_byte, cut_at};
+use crate::entry::Span;
+use crate::heading::stands_apart;
+use crate::interval::interval_at;
+use def_lines::{trim, trim_front};
+
+// The most options: one of each kind.
+const MOST_OPTIONS: usize = 4;
+
+// The kind of an option.
+#[derive(Clone, Copy)]
+pub(crate) enum Choice {
+    Units,
+    Domain,
+    Range,
+    NoError,
+}
+
+// The texts of the in unit and of the out unit, each of which may be empty.
+#[derive(Clone, Copy)]
+pub(crate) struct Units<'a> {
+    pub in_unit: &'a [u8],
+    pub out_unit: &'a [u8],
+}
+
+// The options that stand in a line.
+#[derive(Drop)]
+pub(crate) struct Options<'a> {
+    pub units: Option<Units<'a>>,
+    pub domain: Option<Span>,
+    pub range: Option<Span>,
+    pub no_error: bool,
+}
+
+// The options at the front, blanks passed over, and what stands behind them. None where one has no
+// value, or stands twice.
+pub(crate) fn options_at(text: &[u8]) -> Option<(Options<'_>, &[u8])>
+    ensures { option_map seen_found result ≡ options_of text.now }
+{
+    let mut options = Options::new();
+    let mut rest = text;
+    for _ in 0..=MOST_OPTIONS {
+        rest = trim_front(rest);
+        match choice_at(rest) {
+            Some(choice) => rest = options.add(choice, choice.behind(rest))?,
+            None => return Some((options, rest)),
+        }
+    }
+    None
+}
+
+impl<'a> Options<'a> {
+    // None of them.
+    fn new() -> Options<'a>
+        ensures { seen_options result ≡ no_options }
+    {
+        Options {
+            units: None,
+            domain: None,
+            range: None,
+            no_error: false,
+        }
+    }
+
+    // Adds one more, whose value stands at the front, and gives what stands behind that. None where
+    // it has no value, or the same option stood before.
+    fn add(&mut self, choice: Choice, text: &'a [u8]) -> Option<&'a [u8]>
+        ensures { option_map (λ behind. (seen_options self.new, behind.now)) result ≡ with_choice choice (seen_options self.old) text.now }
+    {
+        match choice {
+            Choice::Units if self.units.is_none() => {
+                let (units, behind) = units_at(text)?;
+                self.units = Some(units);
+                Some(behind)
+            }
+            Choice::Domain if self.domain.is_none() => {
+                let Some((span, behind)) = interval_at(text) else {
+                    return None;
+                };
+                self.domain = Some(span);
+                Some(behind)
+            }
+            Choice::Range if self.range.is_none() => {
+                let Some((span, behind)) = interval_at(text) else {
+                    return None;
+                };
+                self.range = Some(span);
+                Some(behind)
+            }
+            Choice::NoError if !self.no_error => {
+                self.no_error = true;
+                Some(text)
+            }
+            _ => None,
+        }
+    }
+}
+
+impl Choice {
+    // What the option begins with.
+    fn word(self) -> &'static [u8]
+        ensures { result.now ≡ word_of_choice self }
+    {
+        match self {
+            Choice::Units => b"units=",
+            Choice::Domain => b"domain=",
+            Choice::Range => b"range=",
+            Choice::NoError => b"noerror",
+        }
+    }
+
+    // Whether the text begins with the word of the option.
+    fn begins(self, text: &[u8]) -> bool
+        ensures { result ≡ begins_with_word self text.now }
+    {
+        text.starts_with(self.word())
+    }
+
+    // What stands behind the word of the option.
+    pub(crate) fn behind(self, text: &[u8]) -> &[u8]
+        requires { begins_with_word self text.now ≡ true }
+        ensures { result.now ≡ behind_word_of self text.now }
+    {
+        &text[self.word().len()..]
+    }
+}
+
+// The option that begins at the front.
+fn choice_at(text: &[u8]) -> Option<Choice>
+    ensures { result ≡ choice_of text.now }
+{
+    if Choice::Units.begins(text) {
+        Some(Choice::Units)
+    } else if Choice::Domain.begins(text) {
+        Some(Choice::Domain)
+    } else if Choice::Range.begins(text) {
+        Some(Choice::Range)
+    } else if begins_with_no_error(text) {
+        Some(Choice::NoError)
+    } else {
+        None
+    }
+}
+
+// Whether `noerror` is at the front, with a blank or the end behind it.
+pub(crate) fn begins_with_no_error(text: &[u8]) -> bool
+    ensures { result ≡ begins_with_no_error_word text.now }
+{
+    Choice::NoError.begins(text) && stands_apart(Choice::NoError.behind(text))
+}
+
+// `[A;B]`: A runs to the next `;`, and B from there to the next `]`.
+fn units_at(text: &[u8]) -> Option<(Units<'_>, &[u8])>
+    ensures { option_map seen_units_found result ≡ units_of text.now }
+{
+    let inside = behind_byte(text, b'[')?;
+    let (in_unit, behind) = cut_at(inside, b';')?;
+    let (out_unit, behind) = cut_at(behind, b']')?;
+    let units = Units {
+        in_unit: trim(in_unit),
+        out_unit: trim(out_unit),
+    };
+    Some((units, behind))
+}

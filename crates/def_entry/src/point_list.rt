@@ -1,0 +1,81 @@
+//! The points of a table.
+
+ghost use Rattle.std.specs.Prelude.{◌≡◌, ◌++◌, option_map};
+ghost use Rattle.def_lines.specs.Words.{words_of};
+ghost use Rattle.def_entry.specs.Outcomes.{Gives, or_fault};
+ghost use Rattle.def_entry.specs.PointLists.{behind_no_error as behind_no_error_word, pairs_of, points_of as points_of_list, some_pairs};
+ghost use Rattle.def_entry.specs.Reading.{points_in};
+
+use crate::cuts::cut_at;
+use crate::fault::EntryFault;
+use crate::number::number;
+use crate::options::{Choice, begins_with_no_error};
+use def_lines::{cut_word, trim_front};
+use frac128::Frac;
+use piecewise::{Points, PointsFault};
+use std::alloc::Global;
+
+// The table of a list of points.
+pub(crate) fn table_points(alloc: Global, text: &[u8]) -> Result<Points, EntryFault>
+    ensures { Gives (λ points. points) result (points_in text.now) }
+{
+    let points = points_of(alloc, text)?;
+    match Points::new(alloc, &points) {
+        Ok(table) => Ok(table),
+        Err(PointsFault::BadPoints) => Err(EntryFault::BadTable),
+        Err(PointsFault::OutOfMemory) => Err(EntryFault::OutOfMemory),
+    }
+}
+
+// The points of a list, whose pairs commas may part.
+fn points_of(alloc: Global, text: &[u8]) -> Result<Vec<(Frac, Frac)>, EntryFault>
+    ensures { Gives (λ points. points.items) result (or_fault EntryFault.BadTable (points_of_list text.now)) }
+{
+    let mut points = Vec::new(alloc);
+    let mut rest = behind_no_error(trim_front(text));
+    while let Some((part, behind)) = cut_at(rest, b',') {
+        push_some_pairs(&mut points, part)?;
+        rest = behind;
+    }
+    push_pairs(&mut points, rest)?;
+    Ok(points)
+}
+
+// The text without a leading `noerror`.
+fn behind_no_error(text: &[u8]) -> &[u8]
+    ensures { result.now ≡ behind_no_error_word text.now }
+{
+    if begins_with_no_error(text) {
+        Choice::NoError.behind(text)
+    } else {
+        text
+    }
+}
+
+// Puts the pairs of numbers in a text, at least one, behind the points.
+fn push_some_pairs(points: &mut Vec<(Frac, Frac)>, text: &[u8]) -> Result<(), EntryFault>
+    ensures { Gives (λ done. points.new.items) result
+        (or_fault EntryFault.BadTable (option_map (λ pairs. points.old.items ++ pairs) (some_pairs (words_of text.now)))) }
+{
+    if trim_front(text).is_empty() {
+        return Err(EntryFault::BadTable);
+    }
+    push_pairs(points, text)
+}
+
+// Puts the pairs of numbers in a text behind the points.
+fn push_pairs(points: &mut Vec<(Frac, Frac)>, text: &[u8]) -> Result<(), EntryFault>
+    ensures { Gives (λ done. points.new.items) result
+        (or_fault EntryFault.BadTable (option_map (λ pairs. points.old.items ++ pairs) (pairs_of (words_of text.now)))) }
+{
+    let mut rest = trim_front(text);
+    while !rest.is_empty() {
+        let (x, behind) = cut_word(rest);
+        let (y, behind) = cut_word(behind);
+        let x = number(x).ok_or(EntryFault::BadTable)?;
+        let y = number(y).ok_or(EntryFault::BadTable)?;
+        points.push((x, y))?;
+        rest = behind;
+    }
+    Ok(())
+}

@@ -1,0 +1,35 @@
+//! The key and the entry of a line.
+
+ghost use Rattle.std.specs.Prelude.{◌≡◌, true};
+ghost use Rattle.def_lines.specs.Kinds.{kind_of};
+ghost use Rattle.def_entry.specs.Outcomes.{Gives};
+ghost use Rattle.def_entry.specs.Reading.{entry_of, has_entry};
+ghost use Rattle.def_entry.specs.Seen.{seen_entry};
+
+use crate::entry::Entry;
+use crate::fault::EntryFault;
+use crate::heading::heading_in;
+use crate::key::Key;
+use crate::what::what_of;
+use std::alloc::Global;
+use units_io::Text;
+
+/// The key and the entry of a line that `classify` takes for a definition or a unit list.
+///
+/// The first fault in this order: `BadName` with the name, the parameter or the alias target that
+/// is no name; `BadForm` where the line has no form of a definition; `BadTable` where the points
+/// are no table; `Parse` with the first fault of its expressions.
+pub fn read_entry(alloc: Global, line: &[u8]) -> Result<(Key, Entry), EntryFault>
+    requires { has_entry (kind_of line.now) ≡ true }
+    ensures { Gives seen_entry result (entry_of line.now) }
+{
+    let heading = heading_in(line);
+    let what = what_of(alloc, &heading)?;
+    let name = Text::from_bytes(alloc, heading.name)?;
+    let text = Text::from_bytes(alloc, heading.text)?;
+    let key = Key {
+        kind: heading.kind,
+        name,
+    };
+    Ok((key, Entry { text, what }))
+}

@@ -1,0 +1,154 @@
+//! What a line says of its key.
+
+ghost use Rattle.std.specs.Prelude.{◌≡◌};
+ghost use Rattle.std.specs.Option.{option_copied};
+ghost use Rattle.def_entry.specs.Outcomes.{Gives, named as named_text};
+ghost use Rattle.def_entry.specs.Reading.{alias_in, body_in, call_in, func_in, list_in, name_in, table_in, unit_in, wanted as wanted_text, what_in, what_of as what_of_heading, without_call as without_final_call};
+ghost use Rattle.def_entry.specs.Seen.{seen_heading, seen_text};
+ghost use Rattle.def_entry.specs.Views.{what_view};
+
+use crate::cuts::cut_at;
+use crate::entry::{TableDef, What};
+use crate::expression::tree_of;
+use crate::fault::EntryFault;
+use crate::form::{form_of, some_text};
+use crate::function::function_of;
+use crate::heading::Heading;
+use crate::key::Kind;
+use crate::list::part_trees;
+use crate::point_list::table_points;
+use def_lines::trim;
+use expr_tree::is_name;
+use std::alloc::Global;
+use units_io::Text;
+
+// What a line says of its key, by its heading.
+#[tactic(auto, unfolding(crate::specs::Reading::what_of))]
+pub(crate) fn what_of(alloc: Global, heading: &Heading) -> Result<What, EntryFault>
+    ensures { Gives what_view result (what_of_heading (seen_heading heading.now)) }
+{
+    check_heading(alloc, heading)?;
+    let (name, text) = (heading.name, heading.text);
+    match heading.kind {
+        Kind::Unit => unit_of(alloc, text),
+        Kind::Prefix => body_of(alloc, text),
+        Kind::Func => func_of(alloc, name, text),
+        Kind::List => list_of(alloc, text),
+    }
+}
+
+// That the name of a heading is one. A list without a name has no form.
+fn check_heading(alloc: Global, heading: &Heading) -> Result<(), EntryFault>
+    ensures { Gives (λ done. heading.now.name.now) result (name_in heading.now.kind heading.now.name.now) }
+{
+    match heading.kind {
+        Kind::List if heading.name.is_empty() => Err(EntryFault::BadForm),
+        _ => check_name(alloc, heading.name),
+    }
+}
+
+// That a word is a name.
+pub(crate) fn check_name(alloc: Global, word: &[u8]) -> Result<(), EntryFault>
+    ensures { Gives (λ done. word.now) result (named_text word.now) }
+{
+    if is_name(word) {
+        return Ok(());
+    }
+    Err(EntryFault::BadName(Text::from_bytes(alloc, word)?))
+}
+
+// The text, which the form wants: an empty one does not fit it.
+fn wanted(text: &[u8]) -> Result<&[u8], EntryFault>
+    ensures { Gives seen_text result (wanted_text text.now) }
+{
+    some_text(text).ok_or(EntryFault::BadForm)
+}
+
+// A unit.
+fn unit_of(alloc: Global, text: &[u8]) -> Result<What, EntryFault>
+    ensures { Gives what_view result (unit_in text.now) }
+{
+    if text == b"!".as_slice() {
+        return Ok(What::Primitive);
+    }
+    if text == b"!dimensionless".as_slice() {
+        return Ok(What::Dimensionless);
+    }
+    body_of(alloc, text)
+}
+
+// A unit or a prefix by an expression.
+fn body_of(alloc: Global, text: &[u8]) -> Result<What, EntryFault>
+    ensures { Gives what_view result (body_in text.now) }
+{
+    let body = wanted(text)?;
+    Ok(What::Body(tree_of(alloc, body, None)?))
+}
+
+// A function, whose text begins with `(`, or a table, whose text begins with `[`.
+fn func_of(alloc: Global, name: &[u8], text: &[u8]) -> Result<What, EntryFault>
+    ensures { Gives what_view result (func_in name.now text.now) }
+{
+    let Some((bracket, inside)) = text.split_first() else {
+        return Err(EntryFault::BadForm);
+    };
+    if *bracket == b'(' {
+        let (parameter, behind) = cut_at(inside, b')').ok_or(EntryFault::BadForm)?;
+        call_of(alloc, name, trim(parameter), behind)
+    } else {
+        let (unit, behind) = cut_at(inside, b']').ok_or(EntryFault::BadForm)?;
+        table_of(alloc, trim(unit), behind)
+    }
+}
+
+// A function by its parameter, which is empty for an alias, and what stands behind it.
+fn call_of(alloc: Global, name: &[u8], parameter: &[u8], behind: &[u8]) -> Result<What, EntryFault>
+    ensures { Gives what_view result (call_in name.now parameter.now behind.now) }
+{
+    if parameter.is_empty() {
+        return alias_of(alloc, behind);
+    }
+    check_name(alloc, parameter)?;
+    match form_of(behind) {
+        Some(form) => function_of(alloc, name, parameter, &form),
+        None => Err(EntryFault::BadForm),
+    }
+}
+
+// The function of another name.
+fn alias_of(alloc: Global, text: &[u8]) -> Result<What, EntryFault>
+    ensures { Gives what_view result (alias_in text.now) }
+{
+    let target = wanted(without_call(trim(text)))?;
+    check_name(alloc, target)?;
+    Ok(What::Alias(Text::from_bytes(alloc, target)?))
+}
+
+// The text without a final `()`.
+fn without_call(text: &[u8]) -> &[u8]
+    ensures { result.now ≡ without_final_call text.now }
+{
+    if text.ends_with(b"()") {
+        &text[..text.len() - 2]
+    } else {
+        text
+    }
+}
+
+// A table by its unit and what stands behind it.
+fn table_of(alloc: Global, text: &[u8], behind: &[u8]) -> Result<What, EntryFault>
+    ensures { Gives what_view result (table_in text.now behind.now) }
+{
+    let unit = wanted(text)?;
+    let points = table_points(alloc, behind)?;
+    let unit = tree_of(alloc, unit, None)?;
+    Ok(What::Table(TableDef { unit, points }))
+}
+
+// A list, whose parts `;` parts.
+fn list_of(alloc: Global, text: &[u8]) -> Result<What, EntryFault>
+    ensures { Gives what_view result (list_in text.now) }
+{
+    let parts = wanted(text)?;
+    Ok(What::ListOf(part_trees(alloc, parts)?))
+}
