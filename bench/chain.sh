@@ -3,6 +3,7 @@
 # lengths up to the longest that a first file may have. Prints the seconds, the lowest of five runs.
 set -u
 root=$(cd "$(dirname "${BASH_SOURCE[0]}")/.." && pwd)
+program=$("$root/tools/built.sh" units) || exit
 folder=$(mktemp -d)
 trap 'rm -rf "$folder"' EXIT
 
@@ -22,13 +23,12 @@ chain() {
     }'
 }
 
-"$root/bin/units" --exact -f "$root/examples/first.units" yd m > /dev/null || exit 1
 for lines in 12500 25000 50000 100000; do
     chain $lines > "$folder/chain.units"
     best=999999999999
     for round in 1 2 3 4 5; do
         from=$(date +%s%N)
-        "$root/crates/units/out/units" --exact -f "$folder/chain.units" last first > "$folder/out.txt" || exit 1
+        "$program" --exact -f "$folder/chain.units" last first > "$folder/out.txt" || exit 1
         to=$(date +%s%N)
         [ $((to - from)) -lt $best ] && best=$((to - from))
     done

@@ -1,10 +1,9 @@
 #!/usr/bin/env bash
 # Times the program of crates/text_calls on long texts of a few kinds, of 4, 8 and 16 MiB: it reads the text, parses it, and
 # writes its fault or that there is a tree. Prints the seconds, the lower of two runs, the greatest memory, and the answer.
-# Build the program first: cd crates/text_calls && rt run < /dev/null
 set -u
 root=$(cd "$(dirname "${BASH_SOURCE[0]}")/.." && pwd)
-program=$root/crates/text_calls/out/text_calls
+program=$("$root/tools/built.sh" text_calls) || exit
 folder=$(mktemp -d)
 trap 'rm -rf "$folder"' EXIT
 

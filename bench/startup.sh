@@ -3,7 +3,7 @@
 # Prints the milliseconds of one run, the lowest of five rounds.
 set -u
 root=$(cd "$(dirname "${BASH_SOURCE[0]}")/.." && pwd)
-program=$root/crates/units/out/units
+program=$("$root/tools/built.sh" units) || exit
 runs=100
 
 # per_run COMMAND WORD..: the milliseconds of one of so many runs, the lowest of five rounds.
@@ -18,7 +18,6 @@ per_run() {
     awk -v total="$best" -v runs="$runs" 'BEGIN { printf "%.2f ms\n", total / runs / 1e6 }'
 }
 
-"$root/bin/units" --exact -f "$root/examples/first.units" yd m > /dev/null || exit 1
 echo "units      $(per_run "$program" --exact -f "$root/examples/first.units" yd m)"
 echo "/bin/true  $(per_run /bin/true)"
 if gnu=$(command -v units); then echo "GNU units  $(per_run "$gnu" yd m)"; fi

@@ -1,0 +1,54 @@
+-- The report on a definition file.
+use Rattle.std.specs.Prelude.{◌++◌, ℕ, List, [], Bool, true, false, codes, length, flat_map, count_by, nat_le, if◌then◌else◌}
+use Rattle.std.specs.Fmt.{decimal}
+use Rattle.units_io.specs.FileMap.{longest_file}
+use Rattle.def_lines.specs.declared.line.Line.{Line}
+use Rattle.def_lines.specs.Lines.{logical_lines}
+use Rattle.def_entry.specs.Faults.{entry_fault_text}
+use Rattle.entry_calls.specs.declared.finding.Finding.{Finding}
+use Rattle.entry_calls.specs.declared.finding.Finding.TheVariants as finding
+use Rattle.entry_calls.specs.Findings.{finding_of}
+
+-- a refused line has its number, a tab and its fault, and no other has a row
+abbrev pub row : ℕ → Finding → List ℕ
+row number (finding.Refused fault) = decimal number ++ codes "\t" ++ entry_fault_text fault ++ codes "\n"
+row number _ = []
+
+-- that of a line
+abbrev pub row_of : Line → List ℕ
+row_of line = row line.number (finding_of line.text)
+
+-- an entry, or the fault of one
+abbrev pub is_entry : Finding → Bool
+is_entry finding.Other = false
+is_entry _ = true
+
+-- a definition or a list
+abbrev pub is_entry_line : Line → Bool
+is_entry_line line = is_entry (finding_of line.text)
+
+-- a fault
+abbrev pub is_refused : Finding → Bool
+is_refused (finding.Refused fault) = true
+is_refused _ = false
+
+-- a definition or a list that is refused
+abbrev pub is_refused_line : Line → Bool
+is_refused_line line = is_refused (finding_of line.text)
+
+-- how many lines there are and are refused
+abbrev pub totals_text : ℕ → ℕ → List ℕ
+totals_text entries refusals =
+    decimal entries ++ codes " lines, " ++ decimal refusals ++ codes " refused\n"
+
+-- the report on some lines
+abbrev pub report_on : List Line → List ℕ
+report_on lines = flat_map row_of lines ++ totals_text (count_by is_entry_line lines) (count_by is_refused_line lines)
+
+-- the report on a file
+abbrev pub report_of : List ℕ → List ℕ
+report_of bytes = report_on (logical_lines bytes)
+
+-- the same, or that the file is longer than any that is read
+abbrev pub answer_of : List ℕ → List ℕ
+answer_of bytes = if nat_le (length bytes) longest_file then report_of bytes else codes "file too long\n"

@@ -1,0 +1,21 @@
+//! Reads a definition file on standard input, and writes which of its lines are refused on standard
+//! output.
+#![tactic(auto)]
+
+mod finding;
+mod report;
+#[cfg(test)]
+mod tests;
+
+use std::io;
+use std::io::{Read, Write};
+
+fn main(rt: HostRuntime) -> io::Result<()> {
+    let alloc = rt.alloc();
+    let mut file = Vec::new(alloc);
+    rt.reader().read_to_end(&mut file)?;
+    let answer = report::answer_to(alloc, &file)?;
+    let mut output = io::writer(&rt);
+    output.write_all(&answer)?;
+    output.flush()
+}

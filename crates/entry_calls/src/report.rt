@@ -1,0 +1,117 @@
+//! The report on a definition file.
+
+ghost use Rattle.std.specs.Prelude.{◌≡◌, ◌≤◌, ◌<◌, ◌+◌, ◌^◌, ◌++◌, [], length, true, if◌then◌else◌, IfOk, OnOk};
+ghost use Rattle.units_io.specs.FileMap.{longest_file};
+ghost use Rattle.entry_calls.specs.declared.finding.Finding.TheVariants as found;
+ghost use Rattle.entry_calls.specs.Findings.{is_told};
+ghost use Rattle.entry_calls.specs.Report.{answer_of, is_entry_line, is_refused_line, report_of, row, row_of, totals_text};
+
+use crate::finding::{Finding, finding_on};
+use def_entry::{EntryFault, entry_fault_text};
+use def_lines::{Line, split_lines};
+use std::alloc::{AllocError, Global};
+use units_io::LONGEST_FILE;
+
+// The report on a file, or that it is too long.
+pub(crate) fn answer_to(alloc: Global, bytes: &[u8]) -> Result<Vec<u8>, AllocError>
+    ensures { IfOk result (λ out. out.items ≡ answer_of bytes.now) }
+{
+    if bytes.len() > LONGEST_FILE {
+        return Vec::from_slice(alloc, b"file too long\n");
+    }
+    report_on(alloc, bytes)
+}
+
+// The report on a file: each refused line, and how many there are.
+fn report_on(alloc: Global, bytes: &[u8]) -> Result<Vec<u8>, AllocError>
+    requires { length bytes.now ≤ longest_file }
+    ensures { IfOk result (λ out. out.items ≡ report_of bytes.now) }
+{
+    let lines = split_lines(alloc, bytes)?;
+    let mut report = Report::new(alloc);
+    let mut rest = lines.as_slice();
+    while let Some((line, behind)) = rest.split_first() {
+        report.add(alloc, line)?;
+        rest = behind;
+    }
+    report.finished(alloc)
+}
+
+// The report on the lines so far.
+#[derive(Drop)]
+struct Report {
+    // A row for each refused line.
+    rows: Vec<u8>,
+    // How many definitions and lists there are.
+    entries: usize,
+    // How many of them are refused.
+    refusals: usize,
+}
+
+impl Report {
+    // The report on no line.
+    fn new(alloc: Global) -> Report
+        ensures rows { result.rows.items ≡ [] }
+        ensures entries { result.entries ≡ 0 }
+        ensures refusals { result.refusals ≡ 0 }
+    {
+        Report {
+            rows: Vec::new(alloc),
+            entries: 0,
+            refusals: 0,
+        }
+    }
+
+    // Goes on with a line.
+    fn add(&mut self, alloc: Global, line: &Line) -> Result<(), AllocError>
+        requires few_entries { self.old.entries + 1 < 2 ^ 64 }
+        requires few_refusals { self.old.refusals + 1 < 2 ^ 64 }
+        ensures rows { OnOk result (self.new.rows.items ≡ self.old.rows.items ++ row_of line.now) }
+        ensures entries { OnOk result (self.new.entries ≡ self.old.entries + (if is_entry_line line.now then 1 else 0)) }
+        ensures refusals { OnOk result (self.new.refusals ≡ self.old.refusals + (if is_refused_line line.now then 1 else 0)) }
+    {
+        match finding_on(alloc, line.text.as_bytes())? {
+            Finding::Other => {}
+            Finding::Entry => self.entries += 1,
+            Finding::Refused(fault) => {
+                self.entries += 1;
+                self.refusals += 1;
+                self.put_row(alloc, line.number, &fault)?;
+            }
+        }
+        Ok(())
+    }
+
+    // Puts the row of a refused line at the end.
+    fn put_row(&mut self, alloc: Global, number: u32, fault: &EntryFault) -> Result<(), AllocError>
+        requires { is_told (found.Refused fault.now) ≡ true }
+        ensures rows { OnOk result (self.new.rows.items ≡ self.old.rows.items ++ row number (found.Refused fault.now)) }
+        ensures entries { self.new.entries ≡ self.old.entries }
+        ensures refusals { self.new.refusals ≡ self.old.refusals }
+    {
+        self.rows
+            .extend_from_slice(number.to_string(alloc)?.as_bytes())?;
+        self.rows.push(b'\t')?;
+        self.rows
+            .extend_from_slice(entry_fault_text(alloc, fault)?.as_bytes())?;
+        self.rows.push(b'\n')?;
+        Ok(())
+    }
+
+    // The rows, and how many lines there are and are refused.
+    fn finished(self, alloc: Global) -> Result<Vec<u8>, AllocError>
+        ensures { IfOk result (λ out. out.items ≡ self.rows.items ++ totals_text self.entries self.refusals) }
+    {
+        let Report {
+            rows,
+            entries,
+            refusals,
+        } = self;
+        let mut out = rows;
+        out.extend_from_slice(entries.to_string(alloc)?.as_bytes())?;
+        out.extend_from_slice(b" lines, ")?;
+        out.extend_from_slice(refusals.to_string(alloc)?.as_bytes())?;
+        out.extend_from_slice(b" refused\n")?;
+        Ok(out)
+    }
+}
