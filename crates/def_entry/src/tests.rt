@@ -51,39 +51,39 @@ fn writes_and_reads_keys(rt: HostRuntime) -> Result<(), Fail> {
     Ok(())
 }
 
+// Texts that are no key, a line each.
+const NO_KEYS: &[u8] = b"\
+-
+()
+)
+!
+!unitlist
+!unitlist 
+!unitlist  z
+!unitlist z 
+a b
+a--
+a-()
+a()-
+a(x)
+a)
+2m
+foo2
+sin
+sin()
+per-
+!unitlist z-
+!Unitlist z
+!unitlist !z
+ m
+m 
+a()()
+";
+
 #[test]
 fn refuses_what_is_no_key(rt: HostRuntime) -> Result<(), Fail> {
-    let rows = [
-        "",
-        "-",
-        "()",
-        ")",
-        "!",
-        "!unitlist",
-        "!unitlist ",
-        "!unitlist  z",
-        "!unitlist z ",
-        "a b",
-        "a--",
-        "a-()",
-        "a()-",
-        "a(x)",
-        "a)",
-        "2m",
-        "foo2",
-        "sin",
-        "sin()",
-        "per-",
-        "!unitlist z-",
-        "!Unitlist z",
-        "!unitlist !z",
-        " m",
-        "m ",
-        "a()()",
-    ];
-    for row in rows {
-        let read = key_read(rt.alloc(), row.as_bytes())?;
-        assert!(rt; read.is_none(), "{row}");
+    for row in NO_KEYS.split(|byte| *byte == b'\n') {
+        assert!(rt; key_read(rt.alloc(), row)?.is_none());
     }
     Ok(())
 }
