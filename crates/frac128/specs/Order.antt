@@ -1,5 +1,5 @@
 -- The order of fractions.
-use Rattle.std.specs.Prelude.{◌≡◌, ◌<◌, ◌*ℤ◌, pos}
+use Rattle.std.specs.Prelude.{◌≡◌, ◌<◌, ◌*ℤ◌, ◌<ℤ◌, ◌≤ℤ◌, pos}
 use Rattle.std.specs.declared.cmp.Ordering.{Ordering}
 use Rattle.std.specs.declared.cmp.Ordering.TheVariants.{Less, Equal}
 use Rattle.std.specs.Ordering.{int_cmp, ordering_reverse}
@@ -8,6 +8,14 @@ use Rattle.frac128.specs.Fraction.{Fraction, IsReduced}
 -- how the value of x stands to that of y: by the cross products
 abbrev pub compared : Fraction → Fraction → Ordering
 compared x y = int_cmp (x.num *ℤ pos y.den) (y.num *ℤ pos x.den)
+
+-- x is less than y
+abbrev pub IsLess : Fraction → Fraction → Type 0
+IsLess x y = (x.num *ℤ pos y.den) <ℤ (y.num *ℤ pos x.den)
+
+-- x is at most y
+abbrev pub IsAtMost : Fraction → Fraction → Type 0
+IsAtMost x y = (x.num *ℤ pos y.den) ≤ℤ (y.num *ℤ pos x.den)
 
 -- law: an exchange of two fractions turns the answer round, less is transitive, and reduced
 -- fractions that stand equal are equal

@@ -35,3 +35,9 @@ times x y = ratio (x.num *ℤ y.num) (pos (x.den * y.den))
 -- the quotient of two fractions
 abbrev pub over : Fraction → Fraction → Result Fraction FracFault
 over x y = ratio (x.num *ℤ pos y.den) (pos x.den *ℤ y.num)
+
+-- a step, and then another on what it gives; a fault is the answer of both
+infixl 10 ◌>>=◌
+abbrev pub ◌>>=◌ : {A B : Type 0} → Result A FracFault → (A → Result B FracFault) → Result B FracFault
+Ok x >>= step = step x
+Err fault >>= step = Err fault
