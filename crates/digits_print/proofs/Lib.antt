@@ -1,3 +1,4 @@
+pub mod Backs
 pub mod DigitSteps
 pub mod EndZeros
 pub mod ExactTexts

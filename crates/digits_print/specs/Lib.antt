@@ -3,3 +3,4 @@ pub mod Exact
 pub mod Layout
 pub mod Nearest
 pub mod Rounding
+pub mod Back

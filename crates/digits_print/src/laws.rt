@@ -1,9 +1,10 @@
 //! Laws of the definitions that the contracts cite.
 
+ghost use Rattle.digits_print.specs.Back.{BackLaw};
 ghost use Rattle.digits_print.specs.Exact.{ExactLaw};
 ghost use Rattle.digits_print.specs.Rounding.{NearestLaw};
 
-use frac128::{nearest_whole_law, reduced_law};
+use frac128::{digits_law, nearest_whole_law, reduced_law};
 
 /// The exact text of a fraction reads as that fraction.
 pub fn exact_law()
@@ -17,4 +18,11 @@ pub fn nearest_law()
     ensures { NearestLaw }
 {
     nearest_whole_law();
+}
+
+/// Digits read back.
+pub fn back_law()
+    ensures { BackLaw }
+{
+    digits_law();
 }

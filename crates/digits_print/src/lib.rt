@@ -13,4 +13,4 @@ mod tests;
 
 pub use digits::print_digits;
 pub use exact::print_exact;
-pub use laws::{exact_law, nearest_law};
+pub use laws::{back_law, exact_law, nearest_law};

@@ -6,6 +6,7 @@ pub mod Euclid
 pub mod Lowest
 pub mod Multiples
 pub mod NearestWholes
+pub mod NumeralValues
 pub mod Ordered
 pub mod Powers
 pub mod Quotients

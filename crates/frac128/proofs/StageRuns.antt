@@ -1,83 +1,123 @@
 -- Numerals that are read byte by byte.
-use Rattle.std.proofs.Common.{inl, inr, add-one, subst, ◌≡◌, ◌+◌, ◌<◌, ◌≤◌, ℕ, suc, zero, Bool, true, false, List, [], ◌∷◌, ◌++◌, take, drop, length, get_or, map, Option, Some, None, arith, refl, sym, ap, ◌∙◌}
+use Rattle.std.proofs.Common.{inl, inr, add-one, subst, ◌≡◌, ◌+◌, ◌-◌, ◌<◌, ◌≤◌, ℕ, suc, zero, Bool, true, false, List, [], ◌∷◌, take, drop, length, get_or, Option, Some, None, arith, refl, sym, ap, ◌∙◌}
 use Rattle.std.specs.Prelude.{nat_eq, ◌&&◌, if◌then◌else◌}
-use Rattle.std.specs.List.{list_any}
+use Rattle.std.specs.List.{list_all}
 use Rattle.std.proofs.lemmas.Bool.{cases_lt}
 use Rattle.std.proofs.lemmas.Bool.Decides.{nat_tests}
-use Rattle.std.proofs.lemmas.List.{take_all, map-append, take-append-drop, take-take, take_more}
+use Rattle.std.proofs.lemmas.List.{drop_more, take_all}
 use Rattle.frac128.specs.declared.spelling.Kind.{Kind}
-use Rattle.frac128.specs.declared.spelling.Kind.TheVariants.{Digit, Point, Mark, Sign, Other}
 use Rattle.frac128.specs.declared.spelling.Stage.{Stage}
 use Rattle.frac128.specs.declared.spelling.Stage.TheVariants.{Start, Whole, Pointed, Fraction, Marked, Signed, Exponent}
-use Rattle.frac128.specs.Numerals.{all_digits, before, from, greatest, is_digit_kind, is_exponent, is_mark, is_numeral, is_pointed, is_spelled, is_whole, kind_of, numeral_len_of}
-use Rattle.frac128.specs.Stages.{may_end, stage_after}
+use Rattle.frac128.specs.Numerals.{before, behind_sign, from, greatest, is_digit, is_exponent, is_mark_byte, is_numeral, is_point_byte, is_pointed, is_sign_byte, is_whole, numeral_len_of}
+use Rattle.frac128.specs.Stages.{kind_of, may_end, stage_after}
 use Rattle.frac128.proofs.Comparisons.{and-false}
 
--- the stage after some bytes
-abbrev pub run : Option Stage → List Kind → Option Stage
-run None ks = None
-run (Some s) [] = Some s
-run (Some s) (k ∷ ks) = run (stage_after s k) ks
-
--- what the kinds after a stage must be for a numeral
-abbrev rest_of : Stage → List Kind → Bool
-rest_of Start ks = is_spelled ks
-rest_of Whole ks = is_pointed (before is_mark ks) && is_exponent (from is_mark ks)
-rest_of Pointed ks = (list_any is_digit_kind (before is_mark ks) && all_digits (before is_mark ks)) && is_exponent (from is_mark ks)
-rest_of Fraction ks = all_digits (before is_mark ks) && is_exponent (from is_mark ks)
-rest_of Marked ks = is_exponent (Mark ∷ ks)
-rest_of Signed ks = is_whole ks
-rest_of Exponent ks = all_digits ks
+-- what the bytes after a stage must be for a numeral
+abbrev rest_of : Stage → List ℕ → Bool
+rest_of Start bs = is_numeral bs
+rest_of Whole bs = is_pointed (before is_mark_byte bs) && is_exponent (from is_mark_byte bs)
+rest_of Pointed bs = is_whole (before is_mark_byte bs) && is_exponent (from is_mark_byte bs)
+rest_of Fraction bs = list_all is_digit (before is_mark_byte bs) && is_exponent (from is_mark_byte bs)
+rest_of Marked bs = is_whole (behind_sign bs)
+rest_of Signed bs = is_whole bs
+rest_of Exponent bs = list_all is_digit bs
 
 -- the same where there may be no stage
-abbrev rest_of_some : Option Stage → List Kind → Bool
-rest_of_some None ks = false
-rest_of_some (Some s) ks = rest_of s ks
+abbrev rest_of_some : Option Stage → List ℕ → Bool
+rest_of_some None bs = false
+rest_of_some (Some s) bs = rest_of s bs
 
--- a numeral may end there
-abbrev ends : Option Stage → Bool
-ends None = false
-ends (Some s) = may_end s
+-- what the tests say of a byte
+record AreTests (b : ℕ) (digit point mark sign : Bool) : Type 0 where
+  digit_is : is_digit b ≡ digit
+  point_is : is_point_byte b ≡ point
+  mark_is : is_mark_byte b ≡ mark
+  sign_is : is_sign_byte b ≡ sign
 
--- one more kind
-rest_step : (s : Stage) (k : Kind) (ks : List Kind) → rest_of s (k ∷ ks) ≡ rest_of_some (stage_after s k) ks
-rest_step Start Digit ks = refl
-rest_step Start Point ks = refl
-rest_step Start Mark ks = refl
-rest_step Start Sign ks = simp and-false
-rest_step Start Other ks = simp and-false
-rest_step Whole Digit ks = refl
-rest_step Whole Point ks = refl
-rest_step Whole Mark ks = refl
-rest_step Whole Sign ks = refl
-rest_step Whole Other ks = refl
-rest_step Pointed Digit ks = refl
-rest_step Pointed Point ks = simp and-false
-rest_step Pointed Mark ks = refl
-rest_step Pointed Sign ks = simp and-false
-rest_step Pointed Other ks = simp and-false
-rest_step Fraction Digit ks = refl
-rest_step Fraction Point ks = refl
-rest_step Fraction Mark ks = refl
-rest_step Fraction Sign ks = refl
-rest_step Fraction Other ks = refl
-rest_step Marked Digit ks = refl
-rest_step Marked Point ks = simp and-false
-rest_step Marked Mark ks = simp and-false
-rest_step Marked Sign ks = refl
-rest_step Marked Other ks = simp and-false
-rest_step Signed Digit ks = refl
-rest_step Signed Point ks = simp and-false
-rest_step Signed Mark ks = simp and-false
-rest_step Signed Sign ks = simp and-false
-rest_step Signed Other ks = simp and-false
-rest_step Exponent Digit ks = refl
-rest_step Exponent Point ks = refl
-rest_step Exponent Mark ks = refl
-rest_step Exponent Sign ks = refl
-rest_step Exponent Other ks = refl
+-- the tests exclude each other
+data IsTested (b : ℕ) : Type 0 where
+  IsDigit : AreTests b true false false false → IsTested b
+  IsPoint : AreTests b false true false false → IsTested b
+  IsMark : AreTests b false false true false → IsTested b
+  IsSign : AreTests b false false false true → IsTested b
+  IsOther : AreTests b false false false false → IsTested b
 
--- no kinds more
+-- a digit is no point
+pub digit_no_point : (b : ℕ) → is_digit b ≡ true → is_point_byte b ≡ false
+digit_no_point b h = grind (arith, nat_tests)
+
+-- nor a mark
+pub digit_no_mark : (b : ℕ) → is_digit b ≡ true → is_mark_byte b ≡ false
+digit_no_mark b h = grind (arith, nat_tests)
+
+-- nor a sign
+digit_no_sign : (b : ℕ) → is_digit b ≡ true → is_sign_byte b ≡ false
+digit_no_sign b h = grind (arith, nat_tests)
+
+-- a point is no mark
+point_no_mark : (b : ℕ) → is_point_byte b ≡ true → is_mark_byte b ≡ false
+point_no_mark b h = grind (arith, nat_tests)
+
+-- nor a sign
+point_no_sign : (b : ℕ) → is_point_byte b ≡ true → is_sign_byte b ≡ false
+point_no_sign b h = grind (arith, nat_tests)
+
+-- a mark is no sign
+mark_no_sign : (b : ℕ) → is_mark_byte b ≡ true → is_sign_byte b ≡ false
+mark_no_sign b h = grind (arith, nat_tests)
+
+tested : (b : ℕ) → IsTested b
+tested b = by_tests (is_digit b) (is_point_byte b) (is_mark_byte b) (is_sign_byte b) refl refl refl refl
+  where
+    by_tests : (d p m s : Bool) → is_digit b ≡ d → is_point_byte b ≡ p → is_mark_byte b ≡ m → is_sign_byte b ≡ s → IsTested b
+    by_tests true p m s d_is p_is m_is s_is = IsDigit (record { digit_is = d_is; point_is = digit_no_point b d_is; mark_is = digit_no_mark b d_is; sign_is = digit_no_sign b d_is })
+    by_tests false true m s d_is p_is m_is s_is = IsPoint (record { digit_is = d_is; point_is = p_is; mark_is = point_no_mark b p_is; sign_is = point_no_sign b p_is })
+    by_tests false false true s d_is p_is m_is s_is = IsMark (record { digit_is = d_is; point_is = p_is; mark_is = m_is; sign_is = mark_no_sign b m_is })
+    by_tests false false false true d_is p_is m_is s_is = IsSign (record { digit_is = d_is; point_is = p_is; mark_is = m_is; sign_is = s_is })
+    by_tests false false false false d_is p_is m_is s_is = IsOther (record { digit_is = d_is; point_is = p_is; mark_is = m_is; sign_is = s_is })
+
+-- one more byte
+rest_step : (s : Stage) (b : ℕ) (bs : List ℕ) → rest_of s (b ∷ bs) ≡ rest_of_some (stage_after s (kind_of b)) bs
+rest_step s b bs = by_tests s (tested b)
+  where
+    by_tests : (s : Stage) → IsTested b → rest_of s (b ∷ bs) ≡ rest_of_some (stage_after s (kind_of b)) bs
+    by_tests Start (IsDigit t) = simp (t.digit_is, t.point_is, t.mark_is, t.sign_is)
+    by_tests Start (IsPoint t) = simp (t.digit_is, t.point_is, t.mark_is, t.sign_is)
+    by_tests Start (IsMark t) = simp (t.digit_is, t.point_is, t.mark_is, t.sign_is)
+    by_tests Start (IsSign t) = simp (t.digit_is, t.point_is, t.mark_is, t.sign_is, and-false)
+    by_tests Start (IsOther t) = simp (t.digit_is, t.point_is, t.mark_is, t.sign_is, and-false)
+    by_tests Whole (IsDigit t) = simp (t.digit_is, t.point_is, t.mark_is, t.sign_is)
+    by_tests Whole (IsPoint t) = simp (t.digit_is, t.point_is, t.mark_is, t.sign_is)
+    by_tests Whole (IsMark t) = simp (t.digit_is, t.point_is, t.mark_is, t.sign_is)
+    by_tests Whole (IsSign t) = simp (t.digit_is, t.point_is, t.mark_is, t.sign_is)
+    by_tests Whole (IsOther t) = simp (t.digit_is, t.point_is, t.mark_is, t.sign_is)
+    by_tests Pointed (IsDigit t) = simp (t.digit_is, t.point_is, t.mark_is, t.sign_is)
+    by_tests Pointed (IsPoint t) = simp (t.digit_is, t.point_is, t.mark_is, t.sign_is, and-false)
+    by_tests Pointed (IsMark t) = simp (t.digit_is, t.point_is, t.mark_is, t.sign_is)
+    by_tests Pointed (IsSign t) = simp (t.digit_is, t.point_is, t.mark_is, t.sign_is, and-false)
+    by_tests Pointed (IsOther t) = simp (t.digit_is, t.point_is, t.mark_is, t.sign_is, and-false)
+    by_tests Fraction (IsDigit t) = simp (t.digit_is, t.point_is, t.mark_is, t.sign_is)
+    by_tests Fraction (IsPoint t) = simp (t.digit_is, t.point_is, t.mark_is, t.sign_is)
+    by_tests Fraction (IsMark t) = simp (t.digit_is, t.point_is, t.mark_is, t.sign_is)
+    by_tests Fraction (IsSign t) = simp (t.digit_is, t.point_is, t.mark_is, t.sign_is)
+    by_tests Fraction (IsOther t) = simp (t.digit_is, t.point_is, t.mark_is, t.sign_is)
+    by_tests Marked (IsDigit t) = simp (t.digit_is, t.point_is, t.mark_is, t.sign_is)
+    by_tests Marked (IsPoint t) = simp (t.digit_is, t.point_is, t.mark_is, t.sign_is, and-false)
+    by_tests Marked (IsMark t) = simp (t.digit_is, t.point_is, t.mark_is, t.sign_is, and-false)
+    by_tests Marked (IsSign t) = simp (t.digit_is, t.point_is, t.mark_is, t.sign_is)
+    by_tests Marked (IsOther t) = simp (t.digit_is, t.point_is, t.mark_is, t.sign_is, and-false)
+    by_tests Signed (IsDigit t) = simp (t.digit_is, t.point_is, t.mark_is, t.sign_is)
+    by_tests Signed (IsPoint t) = simp (t.digit_is, t.point_is, t.mark_is, t.sign_is, and-false)
+    by_tests Signed (IsMark t) = simp (t.digit_is, t.point_is, t.mark_is, t.sign_is, and-false)
+    by_tests Signed (IsSign t) = simp (t.digit_is, t.point_is, t.mark_is, t.sign_is, and-false)
+    by_tests Signed (IsOther t) = simp (t.digit_is, t.point_is, t.mark_is, t.sign_is, and-false)
+    by_tests Exponent (IsDigit t) = simp (t.digit_is, t.point_is, t.mark_is, t.sign_is)
+    by_tests Exponent (IsPoint t) = simp (t.digit_is, t.point_is, t.mark_is, t.sign_is)
+    by_tests Exponent (IsMark t) = simp (t.digit_is, t.point_is, t.mark_is, t.sign_is)
+    by_tests Exponent (IsSign t) = simp (t.digit_is, t.point_is, t.mark_is, t.sign_is)
+    by_tests Exponent (IsOther t) = simp (t.digit_is, t.point_is, t.mark_is, t.sign_is)
+
+-- no byte more
 rest_end : (s : Stage) → rest_of s [] ≡ may_end s
 rest_end Start = refl
 rest_end Whole = refl
@@ -87,48 +127,36 @@ rest_end Marked = refl
 rest_end Signed = refl
 rest_end Exponent = refl
 
--- all kinds
-rest_run : (s : Option Stage) (ks : List Kind) → rest_of_some s ks ≡ ends (run s ks)
-rest_run None ks = refl
-rest_run (Some s) [] = rest_end s
-rest_run (Some s) (k ∷ ks) = rest_step s k ks ∙ rest_run (stage_after s k) ks
-
--- the stages tell numerals
-is_numeral-run : (bytes : List ℕ) → is_numeral bytes ≡ ends (run (Some Start) (map kind_of bytes))
-is_numeral-run bytes = rest_run (Some Start) (map kind_of bytes)
-
--- the stages of two lists in turn
-run-append : (s : Option Stage) (xs ys : List Kind) → run s (xs ++ ys) ≡ run (run s xs) ys
-run-append None xs ys = refl
-run-append (Some s) [] ys = refl
-run-append (Some s) (k ∷ xs) ys = run-append (stage_after s k) xs ys
-
--- the first i bytes have been read: the stage after them, and the longest numeral among them
+-- the first i bytes have been read: what the rest must be for a numeral, and the longest one among them
 pub record IsReadTo (bytes : List ℕ) (i : ℕ) (stage : Stage) (len : ℕ) : Type 0 where
   pub within : i ≤ length bytes
-  pub bound : len ≤ i
-  pub stage_is : run (Some Start) (map kind_of (take i bytes)) ≡ Some stage
+  pub rest : (n : ℕ) → is_numeral (take (i + n) bytes) ≡ rest_of stage (take n (drop i bytes))
   pub longest : len ≡ greatest (λ n. is_numeral (take n bytes)) i
 
 -- no byte has been read
 pub read_start : (bytes : List ℕ) → IsReadTo bytes 0 Start 0
 unfolding greatest
-read_start bytes = record { within = omega arith; bound = omega arith; stage_is = refl; longest = refl }
-
--- the stages of one byte more
-stages_more : (bytes : List ℕ) (i : ℕ) (s : Stage) (k : Kind) → i < length bytes → k ≡ kind_of (get_or bytes i 0) → run (Some Start) (map kind_of (take i bytes)) ≡ Some s
-    → run (Some Start) (map kind_of (take (i + 1) bytes)) ≡ stage_after s k
-stages_more bytes i s k h k_is is =
-    ap (λ xs. run (Some Start) (map kind_of xs)) (take_more bytes i 0 h)
-    ∙ ap (run (Some Start)) (map-append kind_of (take i bytes) (get_or bytes i 0 ∷ []))
-    ∙ run-append (Some Start) (map kind_of (take i bytes)) (kind_of (get_or bytes i 0) ∷ [])
-    ∙ ap (λ t. run t (kind_of (get_or bytes i 0) ∷ [])) is
-    ∙ run-nil (stage_after s (kind_of (get_or bytes i 0)))
-    ∙ ap (stage_after s) (sym k_is)
+read_start bytes = record {
+  within = omega arith;
+  rest = λ n. ap (λ k. is_numeral (take k bytes)) (plain n);
+  longest = refl;
+}
   where
-    run-nil : (t : Option Stage) → run t [] ≡ t
-    run-nil None = refl
-    run-nil (Some s) = refl
+    plain : (n : ℕ) → 0 + n ≡ n
+    plain n = omega arith
+
+-- what the rest must be, one byte on
+rest_on : (bytes : List ℕ) (i len : ℕ) (s : Stage) (k : Kind) → IsReadTo bytes i s len → i < length bytes → k ≡ kind_of (get_or bytes i 0)
+    → (n : ℕ) → is_numeral (take (i + 1 + n) bytes) ≡ rest_of_some (stage_after s k) (take n (drop (i + 1) bytes))
+rest_on bytes i len s k is h k_is n =
+    ap (λ m. is_numeral (take m bytes)) (moved i n)
+    ∙ is.rest (suc n)
+    ∙ ap (λ xs. rest_of s (take (suc n) xs)) (drop_more bytes i 0 h)
+    ∙ rest_step s (get_or bytes i 0) (take n (drop (i + 1) bytes))
+    ∙ ap (λ t. rest_of_some (stage_after s t) (take n (drop (i + 1) bytes))) (sym k_is)
+  where
+    moved : (i n : ℕ) → i + 1 + n ≡ i + suc n
+    moved i n = omega arith
 
 -- one number more
 greatest_more : (test : ℕ → Bool) (i : ℕ) (b : Bool) → test (i + 1) ≡ b → greatest test (i + 1) ≡ (if b then i + 1 else greatest test i)
@@ -142,18 +170,17 @@ greatest_more test i b e = subst (λ n. test n ≡ b → greatest test n ≡ (if
 pub read_more : (bytes : List ℕ) (i : ℕ) (s next : Stage) (k : Kind) (len more : ℕ) → IsReadTo bytes i s len → i < length bytes → k ≡ kind_of (get_or bytes i 0)
     → Some next ≡ stage_after s k → more ≡ (if may_end next then i + 1 else len) → IsReadTo bytes (i + 1) next more
 read_more bytes i s next k len more is h k_is next_is more_is =
-    let stage = stages_more bytes i s k h k_is is.stage_is ∙ sym next_is in
-    let test : is_numeral (take (i + 1) bytes) ≡ may_end next = is_numeral-run (take (i + 1) bytes) ∙ ap ends stage in
+    let on : (n : ℕ) → is_numeral (take (i + 1 + n) bytes) ≡ rest_of next (take n (drop (i + 1) bytes)) =
+    λ n. rest_on bytes i len s k is h k_is n ∙ ap (λ t. rest_of_some t (take n (drop (i + 1) bytes))) (sym next_is) in
+    let test : is_numeral (take (i + 1) bytes) ≡ may_end next = ap (λ n. is_numeral (take n bytes)) (plain (i + 1)) ∙ on 0 ∙ rest_end next in
     record {
       within = omega arith;
-      bound = rw more_is (bounded (may_end next) i len is.bound);
-      stage_is = stage;
+      rest = on;
       longest = more_is ∙ ap (λ n. if may_end next then i + 1 else n) is.longest ∙ sym (greatest_more (λ n. is_numeral (take n bytes)) i (may_end next) test);
     }
   where
-    bounded : (b : Bool) (i len : ℕ) → len ≤ i → (if b then i + 1 else len) ≤ i + 1
-    bounded true i len h = omega arith
-    bounded false i len h = omega arith
+    plain : (n : ℕ) → n ≡ n + 0
+    plain n = omega arith
 
 -- where no number above i passes the test
 greatest-stays : (test : ℕ → Bool) (i n : ℕ) → i ≤ n → ((m : ℕ) → i < m → m ≤ n → test m ≡ false) → greatest test n ≡ greatest test i
@@ -172,12 +199,11 @@ read_end bytes i s k len is h k_is none =
   where
     longer : (m : ℕ) → i < m → is_numeral (take m bytes) ≡ false
     longer m p =
-        let split : take (i + 1) bytes ++ drop (i + 1) (take m bytes) ≡ take m bytes =
-        ap (λ xs. xs ++ drop (i + 1) (take m bytes)) (sym (take-take (i + 1) m bytes (omega arith))) ∙ take-append-drop (i + 1) (take m bytes) in
-        is_numeral-run (take m bytes) ∙ ap (λ xs. ends (run (Some Start) (map kind_of xs))) (sym split)
-        ∙ ap (λ ks. ends (run (Some Start) ks)) (map-append kind_of (take (i + 1) bytes) (drop (i + 1) (take m bytes)))
-        ∙ ap ends (run-append (Some Start) (map kind_of (take (i + 1) bytes)) (map kind_of (drop (i + 1) (take m bytes))))
-        ∙ ap (λ t. ends (run t (map kind_of (drop (i + 1) (take m bytes))))) (stages_more bytes i s k h k_is is.stage_is ∙ sym none)
+        let n : ℕ = m - (i + 1) in
+        ap (λ j. is_numeral (take j bytes)) (parts m p) ∙ rest_on bytes i len s k is h k_is n ∙ ap (λ t. rest_of_some t (take n (drop (i + 1) bytes))) (sym none)
+      where
+        parts : (m : ℕ) → i < m → m ≡ i + 1 + (m - (i + 1))
+        parts m p = omega arith
 
 -- the greatest number that passes is at most the last
 greatest-le : (test : ℕ → Bool) (n : ℕ) → greatest test n ≤ n

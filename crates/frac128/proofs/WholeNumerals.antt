@@ -1,17 +1,17 @@
 -- Digits alone are a numeral.
-use Rattle.std.proofs.Common.{◌≡◌, ◌-◌, ◌*◌, ◌^◌, ◌<◌, ◌≤◌, ◌+ℤ◌, ◌-ℤ◌, ℕ, suc, zero, pos, Bool, true, false, List, [], ◌∷◌, length, map, arith, refl, sym, ap, ◌∙◌, lit<}
-use Rattle.std.specs.Prelude.{if◌then◌else◌, ◌==◌, ◌&&◌, Ok}
+use Rattle.std.proofs.Common.{◌≡◌, ◌-◌, ◌*◌, ◌^◌, ◌<◌, ◌≤◌, ◌+ℤ◌, ◌-ℤ◌, ℕ, suc, zero, pos, Bool, true, false, List, [], ◌∷◌, length, drop, arith, refl, sym, ap, ◌∙◌, lit<}
+use Rattle.std.specs.Prelude.{if◌then◌else◌, ◌==◌, ◌&&◌, ◌||◌, Ok}
 use Rattle.std.specs.List.{list_all, list_any}
 use Rattle.std.proofs.lemmas.Bool.Decides.{nat_tests}
 use Rattle.std.proofs.lemmas.Int.{ints}
 use Rattle.std.proofs.Math.Nat.{le-mul_of_pos_right, zero-mul}
-use Rattle.frac128.specs.declared.spelling.Kind.TheVariants.{Digit}
 use Rattle.frac128.specs.Decimals.{Decimal, DigitsLaw, coefficient_of, digits_of, end_zeros, number, places, value_of}
 use Rattle.frac128.specs.Fraction.{most, whole}
-use Rattle.frac128.specs.Numerals.{is_mark_byte, is_point_byte, before, from, is_digit, is_digit_kind, is_exponent, is_mantissa, is_mark, is_numeral, is_pointed, kind_of}
+use Rattle.frac128.specs.Numerals.{before, from, is_digit, is_exponent, is_mantissa, is_mark_byte, is_numeral, is_point_byte}
 use Rattle.frac128.proofs.DigitRuns.{kept, number-without}
 use Rattle.frac128.proofs.Powers.{pow_some}
 use Rattle.frac128.proofs.Readings.{IsSplit, read_short}
+use Rattle.frac128.proofs.StageRuns.{digit_no_mark, digit_no_point}
 use Rattle.frac128.proofs.TenPowers.{whole_ratio, zero_power}
 
 -- two tests that pass
@@ -19,54 +19,9 @@ both : (x y : Bool) → (x && y) ≡ true → (x ≡ true) × (y ≡ true)
 both true y h = (refl, h)
 both false y h = absurd (cc)
 
--- what a digit is, and is not
-digit_kind : (b : ℕ) → is_digit b ≡ true → kind_of b ≡ Digit
-digit_kind b h = rw h refl
-
--- a digit is no mark
-digit_no_mark : (b : ℕ) → is_digit b ≡ true → is_mark_byte b ≡ false
-digit_no_mark b h = grind (arith, nat_tests)
-
--- a digit is no point
-digit_no_point : (b : ℕ) → is_digit b ≡ true → (b == 46) ≡ false
-digit_no_point b h = grind (arith, nat_tests)
-
 -- nothing but digits
 abbrev all : List ℕ → Type 0
 all bs = list_all is_digit bs ≡ true
-
--- the kinds of digits
-before_kinds : (bs : List ℕ) → all bs → before is_mark (map kind_of bs) ≡ map kind_of bs
-before_kinds [] h = refl
-before_kinds (b ∷ bs) h =
-    let parts = both (is_digit b) (list_all is_digit bs) h in
-    let is = digit_kind b parts.0 in
-    ap (λ k. before is_mark (k ∷ map kind_of bs)) is ∙ ap (λ ks. Digit ∷ ks) (before_kinds bs parts.1) ∙ ap (λ k. k ∷ map kind_of bs) (sym is)
-
--- no exponent follows digits
-from_kinds : (bs : List ℕ) → all bs → from is_mark (map kind_of bs) ≡ []
-from_kinds [] h = refl
-from_kinds (b ∷ bs) h =
-    let parts = both (is_digit b) (list_all is_digit bs) h in
-    ap (λ k. from is_mark (k ∷ map kind_of bs)) (digit_kind b parts.0) ∙ from_kinds bs parts.1
-
--- digits stand in a mantissa
-pointed_kinds : (bs : List ℕ) → all bs → is_pointed (map kind_of bs) ≡ true
-pointed_kinds [] h = refl
-pointed_kinds (b ∷ bs) h =
-    let parts = both (is_digit b) (list_all is_digit bs) h in
-    ap (λ k. is_pointed (k ∷ map kind_of bs)) (digit_kind b parts.0) ∙ pointed_kinds bs parts.1
-
--- digits are a numeral
-digits_numeral : (bs : List ℕ) → 0 < length bs → all bs → is_numeral bs ≡ true
-digits_numeral [] some h = absurd (omega arith)
-digits_numeral (b ∷ bs) some h =
-    let parts = both (is_digit b) (list_all is_digit bs) h in
-    let ks = map kind_of (b ∷ bs) in
-    ap (λ xs. is_mantissa xs && is_exponent (from is_mark ks)) (before_kinds (b ∷ bs) h)
-    ∙ ap (λ xs. is_mantissa ks && is_exponent xs) (from_kinds (b ∷ bs) h)
-    ∙ ap (λ k. (list_any is_digit_kind (k ∷ map kind_of bs) && is_pointed ks) && true) (digit_kind b parts.0)
-    ∙ ap (λ t. t && true) (pointed_kinds (b ∷ bs) h)
 
 -- no mark and no point stands among digits
 before_digits : (test : ℕ → Bool) (bs : List ℕ) → ((b : ℕ) → is_digit b ≡ true → test b ≡ false) → all bs → before test bs ≡ bs
@@ -81,6 +36,19 @@ from_digits test [] none h = refl
 from_digits test (b ∷ bs) none h =
     let parts = both (is_digit b) (list_all is_digit bs) h in
     rw (none b parts.0) (from_digits test bs none parts.1)
+
+-- digits are a numeral
+digits_numeral : (bs : List ℕ) → 0 < length bs → all bs → is_numeral bs ≡ true
+digits_numeral [] some h = absurd (omega arith)
+digits_numeral (b ∷ bs) some h =
+    let ds = b ∷ bs in
+    let parts = both (is_digit b) (list_all is_digit bs) h in
+    ap (λ xs. is_mantissa xs && is_exponent (from is_mark_byte ds)) (before_digits is_mark_byte ds digit_no_mark h)
+    ∙ ap (λ xs. is_mantissa ds && is_exponent xs) (from_digits is_mark_byte ds digit_no_mark h)
+    ∙ ap (λ xs. (list_any is_digit ds && (list_all is_digit xs && list_all is_digit (drop 1 (from is_point_byte ds)))) && true) (before_digits is_point_byte ds digit_no_point h)
+    ∙ ap (λ xs. (list_any is_digit ds && (list_all is_digit ds && list_all is_digit (drop 1 xs))) && true) (from_digits is_point_byte ds digit_no_point h)
+    ∙ ap (λ t. (list_any is_digit ds && (t && true)) && true) h
+    ∙ ap (λ t. ((t || list_any is_digit bs) && true) && true) parts.0
 
 -- the value of a coefficient and the zeros at its end
 value_zeros : (c z n : ℕ) → n ≡ c * 10 ^ z → n ≤ most

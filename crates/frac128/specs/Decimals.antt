@@ -114,3 +114,10 @@ DigitsLaw = (bytes : List ℕ) → 0 < length bytes → IsTrue (list_all is_digi
     → number (digits_of bytes) ≤ most
     → (x : Decimal) × (read bytes ≡ Ok x)
     × (value_of x ≡ Ok (whole (pos (number (digits_of bytes)))))
+
+-- law: a numeral within the limits has the value of the whole number of all its digits, times ten to the exponent less
+-- the number of digits after the point
+abbrev pub NumeralLaw : Type 0
+NumeralLaw = (bytes : List ℕ) → is_numeral bytes ≡ true → is_short bytes ≡ true
+    → (x : Decimal) × (read bytes ≡ Ok x)
+    × (value_of x ≡ times_power (number (digits_of (mantissa bytes))) (exponent_of (exponent_text bytes) -ℤ pos (places (mantissa bytes))))

@@ -1,9 +1,7 @@
 -- How decimal numerals are written.
-use Rattle.std.specs.Prelude.{ℕ, suc, zero, Bool, true, false, ◌&&◌, ◌||◌, ◌==◌, nat_le, if◌then◌else◌}
-use Rattle.std.specs.Prelude.{List, [], ◌∷◌, map, take, length}
-use Rattle.std.specs.List.{list_any}
-use Rattle.frac128.specs.declared.spelling.Kind.{Kind}
-use Rattle.frac128.specs.declared.spelling.Kind.TheVariants.{Digit, Point, Mark, Sign, Other}
+use Rattle.std.specs.Prelude.{ℕ, suc, zero, Bool, true, ◌&&◌, ◌||◌, ◌==◌, nat_le, if◌then◌else◌}
+use Rattle.std.specs.Prelude.{List, [], ◌∷◌, take, drop, length}
+use Rattle.std.specs.List.{list_all, list_any}
 
 -- the members before the first one that passes the test, or all where none does
 abbrev pub before : {X : Type 0} → (X → Bool) → List X → List X
@@ -35,60 +33,33 @@ is_minus_byte b = b == 45
 abbrev pub is_sign_byte : ℕ → Bool
 is_sign_byte b = b == 43 || is_minus_byte b
 
--- what a byte is in a numeral
-abbrev pub kind_of : ℕ → Kind
-kind_of b =
-    if is_digit b then Digit
-    else (if is_point_byte b then Point
-    else (if is_mark_byte b then Mark
-    else (if is_sign_byte b then Sign
-    else Other)))
+-- one digit or more, and nothing else
+abbrev pub is_whole : List ℕ → Bool
+is_whole bytes = list_any is_digit bytes && list_all is_digit bytes
 
--- a byte of that kind is a mark
-abbrev pub is_mark : Kind → Bool
-is_mark Mark = true
-is_mark _ = false
+-- digits, with at most one point before, among or after them
+abbrev pub is_pointed : List ℕ → Bool
+is_pointed bytes =
+    list_all is_digit (before is_point_byte bytes)
+    && list_all is_digit (drop 1 (from is_point_byte bytes))
 
--- a byte of that kind is a digit
-abbrev pub is_digit_kind : Kind → Bool
-is_digit_kind Digit = true
-is_digit_kind _ = false
+-- the same with one digit or more
+abbrev pub is_mantissa : List ℕ → Bool
+is_mantissa bytes = list_any is_digit bytes && is_pointed bytes
 
--- nothing but digits
-abbrev pub all_digits : List Kind → Bool
-all_digits [] = true
-all_digits (Digit ∷ ks) = all_digits ks
-all_digits (_ ∷ ks) = false
-
--- nothing but digits and at most one point
-abbrev pub is_pointed : List Kind → Bool
-is_pointed [] = true
-is_pointed (Digit ∷ ks) = is_pointed ks
-is_pointed (Point ∷ ks) = all_digits ks
-is_pointed (_ ∷ ks) = false
-
--- one digit or more
-abbrev pub is_whole : List Kind → Bool
-is_whole ks = list_any is_digit_kind ks && all_digits ks
-
--- one digit or more, with at most one point before, among or after them
-abbrev pub is_mantissa : List Kind → Bool
-is_mantissa ks = list_any is_digit_kind ks && is_pointed ks
+-- what stands behind a sign at the front, or all where none stands there
+abbrev pub behind_sign : List ℕ → List ℕ
+behind_sign [] = []
+behind_sign (b ∷ bytes) = if is_sign_byte b then bytes else b ∷ bytes
 
 -- nothing, or a mark, perhaps a sign, and one digit or more
-abbrev pub is_exponent : List Kind → Bool
+abbrev pub is_exponent : List ℕ → Bool
 is_exponent [] = true
-is_exponent (Mark ∷ Sign ∷ ks) = is_whole ks
-is_exponent (Mark ∷ ks) = is_whole ks
-is_exponent (_ ∷ ks) = false
+is_exponent (mark ∷ bytes) = is_whole (behind_sign bytes)
 
--- a mantissa before the first mark, and an exponent from there on
-abbrev pub is_spelled : List Kind → Bool
-is_spelled ks = is_mantissa (before is_mark ks) && is_exponent (from is_mark ks)
-
--- the bytes are a numeral
+-- the bytes are a numeral: a mantissa before the first mark, and an exponent from there on
 abbrev pub is_numeral : List ℕ → Bool
-is_numeral bytes = is_spelled (map kind_of bytes)
+is_numeral bytes = is_mantissa (before is_mark_byte bytes) && is_exponent (from is_mark_byte bytes)
 
 -- the greatest number from 1 to n that passes the test, or 0 where none does
 unfoldable pub greatest : (ℕ → Bool) → ℕ → ℕ

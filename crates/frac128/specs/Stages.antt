@@ -1,9 +1,19 @@
 -- The stages of a numeral that is read byte by byte.
-use Rattle.std.specs.Prelude.{Bool, true, false, Option, Some, None}
+use Rattle.std.specs.Prelude.{ℕ, Bool, true, false, Option, Some, None, if◌then◌else◌}
 use Rattle.frac128.specs.declared.spelling.Kind.{Kind}
-use Rattle.frac128.specs.declared.spelling.Kind.TheVariants.{Digit, Point, Mark, Sign}
+use Rattle.frac128.specs.declared.spelling.Kind.TheVariants.{Digit, Point, Mark, Sign, Other}
 use Rattle.frac128.specs.declared.spelling.Stage.{Stage}
 use Rattle.frac128.specs.declared.spelling.Stage.TheVariants.{Start, Whole, Pointed, Fraction, Marked, Signed, Exponent}
+use Rattle.frac128.specs.Numerals.{is_digit, is_mark_byte, is_point_byte, is_sign_byte}
+
+-- what a byte is in a numeral
+abbrev pub kind_of : ℕ → Kind
+kind_of b =
+    if is_digit b then Digit
+    else (if is_point_byte b then Point
+    else (if is_mark_byte b then Mark
+    else (if is_sign_byte b then Sign
+    else Other)))
 
 -- the stage after one more byte, where a numeral can go on by it
 abbrev pub stage_after : Stage → Kind → Option Stage

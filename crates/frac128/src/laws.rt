@@ -1,6 +1,6 @@
 //! Laws of the definitions that the contracts cite.
 
-ghost use Rattle.frac128.specs.Decimals.{DigitsLaw};
+ghost use Rattle.frac128.specs.Decimals.{DigitsLaw, NumeralLaw};
 ghost use Rattle.frac128.specs.Divisors.{GcdLaw, LcmLaw};
 ghost use Rattle.frac128.specs.Floor.{FloorLaw};
 ghost use Rattle.frac128.specs.Nearest.{NearestWholeLaw};
@@ -54,4 +54,9 @@ pub fn floor_law()
 /// Rounding by the remainder gives the nearest whole number, and of two the even one.
 pub fn nearest_whole_law()
     ensures { NearestWholeLaw }
+{}
+
+/// The value of a numeral is that of all its digits, times ten to the exponent less the places.
+pub fn numeral_law()
+    ensures { NumeralLaw }
 {}

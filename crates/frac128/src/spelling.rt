@@ -1,8 +1,8 @@
 //! How numerals are written.
 
 ghost use Rattle.std.specs.Prelude.{◌≡◌};
-ghost use Rattle.frac128.specs.Numerals.{kind_of, numeral_len_of};
-ghost use Rattle.frac128.specs.Stages.{may_end, stage_after};
+ghost use Rattle.frac128.specs.Numerals.{numeral_len_of};
+ghost use Rattle.frac128.specs.Stages.{kind_of, may_end, stage_after};
 
 // What a byte is in a numeral.
 #[derive(Clone, Copy)]

@@ -1,0 +1,14 @@
+-- Numbers in decimal digits, read back by the numerals.
+use Rattle.std.specs.Prelude.{◌≡◌, ◌≤◌, ℕ, List, pos, Ok}
+use Rattle.std.specs.Fmt.{decimal}
+use Rattle.frac128.specs.Decimals.{Decimal, read, value_of}
+use Rattle.frac128.specs.Fraction.{most, whole}
+
+-- the bytes are read as a numeral of the value n
+pub record IsReadAs (bytes : List ℕ) (n : ℕ) : Type 0 where
+  pub numeral : Decimal
+  pub read_is : read bytes ≡ Ok numeral
+  pub value_is : value_of numeral ≡ Ok (whole (pos n))
+
+abbrev pub BackLaw : Type 0
+BackLaw = (n : ℕ) → n ≤ most → IsReadAs (decimal n) n
