@@ -1,49 +1,110 @@
--- Pairs of a name and a value: one more pair, and a look-up from the front.
-use Rattle.std.proofs.Common.{◌≡◌, ◌≢◌, ℕ, ◌+◌, ◌<◌, List, [], ◌∷◌, ◌++◌, length, drop, get_or, sym, subst, ◌∙◌, ap, Some, true, false, cond}
-use Rattle.std.specs.Cmp.Lexicographic.{texts_ties}
+-- Pairs of a name and a value: what a look-up finds, and pairs with one more value.
+use Rattle.std.proofs.Common.{◌≡◌, ◌≢◌, ℕ, List, [], ◌∷◌, ◌++◌, Option, Some, None, refl, sym, ap, subst, ◌∙◌, Bool, true, false, cond, Vec, Bor}
+use Rattle.std.specs.Prelude.{IfNone}
+use Rattle.std.specs.Option.{option_copied}
+use Rattle.std.specs.Map.{lookup}
 use Rattle.std.specs.Str.{bytes_eq}
-use Rattle.std.proofs.lemmas.List.{at_drop_more}
 use Rattle.std.proofs.lemmas.Slice.Eq.{bytes_eq-Decides}
-use Rattle.std.proofs.lemmas.Bool.{false≢true}
-use Rattle.units_io.specs.Named.{Pairs, value_of, HasNoName, HasDistinctNames}
+use Rattle.indexmap.specs.IndexMap.{insert_entry}
+use Rattle.units_io.specs.Named.{Pairs, value_of, with_value, Sets, HasNoName, HasDistinctNames, pairs_of}
+
+-- a test that is false tells two names apart
+differ : (name other : List ℕ) → bytes_eq name other ≡ false → other ≢ name
+differ name other differs same = let both : true ≡ false = sym ((bytes_eq-Decides name other).1 (sym same)) ∙ differs in cc
+
+same : (name other : List ℕ) → bytes_eq name other ≡ true → name ≡ other
+same name other is = (bytes_eq-Decides name other).0 is
+
+-- two names that differ fail the test
+apart : (name other : List ℕ) → other ≢ name → bytes_eq name other ≡ false
+apart name other differs = by _ refl
+  where
+    by : (b : Bool) → bytes_eq name other ≡ b → bytes_eq name other ≡ false
+    by true is = absurd (differs (sym (same name other is)))
+    by false is = is
+
+-- a name that is not found is in no pair
+HasNoName-from_value_of : (pairs : Pairs) (name : List ℕ) → value_of pairs name ≡ None → HasNoName pairs name
+HasNoName-from_value_of [] name none = tt
+HasNoName-from_value_of (pair ∷ pairs) name none = by _ refl (HasNoName-from_value_of pairs name)
+  where
+    by : (b : Bool) → bytes_eq name pair.0 ≡ b → (value_of pairs name ≡ None → HasNoName pairs name) → HasNoName (pair ∷ pairs) name
+    by true is later = let found : Some pair.1 ≡ None = sym (ap (λ b. cond b (Some pair.1) (value_of pairs name)) is) ∙ none in cc
+    by false is later = (differ name pair.0 is, later (sym (ap (λ b. cond b (Some pair.1) (value_of pairs name)) is) ∙ none))
+
+-- a name that a look-up does not find is in no pair
+pub HasNoName-not_found : (pairs : Pairs) (name : List ℕ) (found : Option (Bor (List ℕ))) → option_copied found ≡ value_of pairs name → IfNone found (HasNoName pairs name)
+HasNoName-not_found pairs name None is = HasNoName-from_value_of pairs name (sym is)
+HasNoName-not_found pairs name (Some value) is = tt
+
+-- a value for a name that no pair has is put at the end
+pub with_value-new : (pairs : Pairs) (name value : List ℕ) → HasNoName pairs name → with_value pairs name value ≡ pairs ++ (name, value) ∷ []
+with_value-new [] name value none = refl
+with_value-new (pair ∷ pairs) name value none =
+    ap (λ b. cond b ((pair.0, value) ∷ pairs) (pair ∷ with_value pairs name value)) (apart name pair.0 none.0)
+    ∙ ap (λ (ps : Pairs). pair ∷ ps) (with_value-new pairs name value none.1)
+
+-- what a look-up finds after a value is set
+pub with_value-Sets : (pairs : Pairs) (name value : List ℕ) → Sets pairs (with_value pairs name value) name value
+with_value-Sets [] name value other = refl
+with_value-Sets (pair ∷ pairs) name value other = by _ _ refl refl (with_value-Sets pairs name value other)
+  where
+    by : (b at : Bool) → bytes_eq name pair.0 ≡ b → bytes_eq other pair.0 ≡ at
+        → value_of (with_value pairs name value) other ≡ cond (bytes_eq other name) (Some value) (value_of pairs other)
+        → value_of (with_value (pair ∷ pairs) name value) other ≡ cond (bytes_eq other name) (Some value) (value_of (pair ∷ pairs) other)
+    by true true is found later = rw (is, same name pair.0 is, found) refl
+    by true false is found later = rw (is, same name pair.0 is, found) refl
+    by false true is found later = rw (is, found, apart other name (λ e. differ name pair.0 is (sym (e ∙ same other pair.0 found)))) refl
+    by false false is found later = rw (is, found) later
 
 -- a pair of another name leaves a name absent
-HasNoName-push : (pairs : Pairs) (pair : List ℕ × List ℕ) (name : List ℕ) → HasNoName pairs name → (pair.0 ≢ name) → HasNoName (pairs ++ pair ∷ []) name
-HasNoName-push [] pair name none other = (other, tt)
-HasNoName-push (p ∷ pairs) pair name none other = (none.0, HasNoName-push pairs pair name none.1 other)
+HasNoName-with_value : (pairs : Pairs) (name value other : List ℕ) → HasNoName pairs other → name ≢ other → HasNoName (with_value pairs name value) other
+HasNoName-with_value [] name value other none differs = (differs, tt)
+HasNoName-with_value (pair ∷ pairs) name value other none differs = by _ refl (HasNoName-with_value pairs name value other none.1 differs)
+  where
+    by : (b : Bool) → bytes_eq name pair.0 ≡ b → HasNoName (with_value pairs name value) other → HasNoName (with_value (pair ∷ pairs) name value) other
+    by true is later = rw is (none.0, none.1)
+    by false is later = rw is (none.0, later)
 
--- names stay distinct where a pair of a new name is put at the end
-pub HasDistinctNames-push : (pairs : Pairs) (pair : List ℕ × List ℕ) → HasDistinctNames pairs → HasNoName pairs pair.0 → HasDistinctNames (pairs ++ pair ∷ [])
-HasDistinctNames-push [] pair distinct new = (tt, tt)
-HasDistinctNames-push (p ∷ pairs) pair distinct new =
-    (HasNoName-push pairs pair p.0 distinct.0 (λ e. new.0 (sym e)), HasDistinctNames-push pairs pair distinct.1 new.1)
+-- names stay distinct where a value is set
+pub HasDistinctNames-with_value : (pairs : Pairs) (name value : List ℕ) → HasDistinctNames pairs → HasDistinctNames (with_value pairs name value)
+HasDistinctNames-with_value [] name value distinct = (tt, tt)
+HasDistinctNames-with_value (pair ∷ pairs) name value distinct = by _ refl (HasDistinctNames-with_value pairs name value distinct.1)
+  where
+    by : (b : Bool) → bytes_eq name pair.0 ≡ b → HasDistinctNames (with_value pairs name value) → HasDistinctNames (with_value (pair ∷ pairs) name value)
+    by true is later = rw is (distinct.0, distinct.1)
+    by false is later = rw is (HasNoName-with_value pairs name value pair.0 distinct.0 (λ e. differ name pair.0 is (sym e)), later)
 
--- the pairs from a place on, as the pair there and the rest
-drop-pair : (pairs : Pairs) (i : ℕ) (pair : List ℕ × List ℕ) → i < length pairs → pair ≡ get_or pairs i pair → drop i pairs ≡ pair ∷ drop (i + 1) pairs
-drop-pair pairs i pair within is =
-    at_drop_more (λ (ps : Pairs). ps) pairs i pair within ∙ ap (λ (p : List ℕ × List ℕ). p ∷ drop (i + 1) pairs) (sym is)
+-- the name of a pair is not that of a pair before it
+pub HasNoName-before : (before : Pairs) (pair : List ℕ × List ℕ) (behind : Pairs) → HasDistinctNames (before ++ pair ∷ behind) → HasNoName before pair.0
+HasNoName-before [] pair behind distinct = tt
+HasNoName-before (p ∷ before) pair behind distinct = (first before distinct.0, HasNoName-before before pair behind distinct.1)
+  where
+    first : (before : Pairs) → HasNoName (before ++ pair ∷ behind) p.0 → p.0 ≢ pair.0
+    first [] none = λ e. none.0 (sym e)
+    first (q ∷ before) none = first before none.1
 
-value_of-pair : (pairs : Pairs) (i : ℕ) (pair : List ℕ × List ℕ) (name : List ℕ) → i < length pairs → pair ≡ get_or pairs i pair
-    → value_of (drop i pairs) name ≡ cond (bytes_eq name pair.0) (Some pair.1) (value_of (drop (i + 1) pairs) name)
-value_of-pair pairs i pair name within is =
-    ap (λ (ps : Pairs). value_of ps name) (drop-pair pairs i pair within is)
-    ∙ ap (λ b. cond b (Some pair.1) (value_of (drop (i + 1) pairs) name)) (sym (texts_ties name pair.0))
+module _ {Y : Type 0} where
+  -- a look-up in an index map is one among its pairs
+  pub value_of-pairs_of : (entries : List (Vec ℕ Y × List ℕ)) (name : List ℕ) → lookup (λ key. bytes_eq name key.items) entries ≡ value_of (pairs_of entries) name
+  value_of-pairs_of [] name = refl
+  value_of-pairs_of (entry ∷ entries) name = ap (λ o. cond (bytes_eq name entry.0.items) (Some entry.1) o) (value_of-pairs_of entries name)
 
--- the first pair has the name
-pub value_of-found : (pairs : Pairs) (i : ℕ) (pair : List ℕ × List ℕ) (name : List ℕ) → i < length pairs → pair ≡ get_or pairs i pair → bytes_eq name pair.0 ≡ true
-    → value_of (drop i pairs) name ≡ Some pair.1
-value_of-found pairs i pair name within is same =
-    value_of-pair pairs i pair name within is ∙ ap (λ b. cond b (Some pair.1) (value_of (drop (i + 1) pairs) name)) same
+  -- an insertion into an index map sets a value among its pairs
+  pub pairs_of-insert : (entries : List (Vec ℕ Y × List ℕ)) (key : Vec ℕ Y) (value : List ℕ)
+      → pairs_of (insert_entry (λ x y. bytes_eq x.items y.items) entries key value) ≡ with_value (pairs_of entries) key.items value
+  pairs_of-insert [] key value = refl
+  pairs_of-insert (entry ∷ entries) key value = by _ refl (pairs_of-insert entries key value)
+    where
+      by : (b : Bool) → bytes_eq key.items entry.0.items ≡ b
+          → pairs_of (insert_entry (λ x y. bytes_eq x.items y.items) entries key value) ≡ with_value (pairs_of entries) key.items value
+          → pairs_of (insert_entry (λ x y. bytes_eq x.items y.items) (entry ∷ entries) key value) ≡ with_value (pairs_of (entry ∷ entries)) key.items value
+      by true is later = rw is refl
+      by false is later = rw is (ap (λ (ps : Pairs). (entry.0.items, entry.1) ∷ ps) later)
 
--- the first pair has another name
-pub value_of-other : (pairs : Pairs) (i : ℕ) (pair : List ℕ × List ℕ) (name : List ℕ) → i < length pairs → pair ≡ get_or pairs i pair → bytes_eq name pair.0 ≡ false
-    → value_of (drop i pairs) name ≡ value_of (drop (i + 1) pairs) name
-value_of-other pairs i pair name within is differs =
-    value_of-pair pairs i pair name within is ∙ ap (λ b. cond b (Some pair.1) (value_of (drop (i + 1) pairs) name)) differs
-
--- a name that the first pair does not have is absent where the rest lacks it
-pub HasNoName-other : (pairs : Pairs) (i : ℕ) (pair : List ℕ × List ℕ) (name : List ℕ) → i < length pairs → pair ≡ get_or pairs i pair → bytes_eq name pair.0 ≡ false
-    → HasNoName (drop (i + 1) pairs) name → HasNoName (drop i pairs) name
-HasNoName-other pairs i pair name within is differs rest =
-    let other : pair.0 ≢ name = λ e. false≢true (sym differs ∙ (bytes_eq-Decides name pair.0).1 (sym e)) in
-    subst (λ (ps : Pairs). HasNoName ps name) (sym (drop-pair pairs i pair within is)) (other, rest)
+  -- the next name to copy is none of those that were copied
+  pub HasNoName-next : (pairs copied : Pairs) (rest behind : List (Vec ℕ Y × List ℕ)) (key : Vec ℕ Y) (value name : List ℕ) → HasDistinctNames pairs
+      → copied ++ pairs_of rest ≡ pairs → rest ≡ (key, value) ∷ behind → name ≡ key.items → HasNoName copied name
+  HasNoName-next pairs copied rest behind key value name distinct whole is named =
+      let parts : pairs ≡ copied ++ (key.items, value) ∷ pairs_of behind = sym whole ∙ ap (λ (es : List (Vec ℕ Y × List ℕ)). copied ++ pairs_of es) is in
+      subst (HasNoName copied) (sym named) (HasNoName-before copied (key.items, value) (pairs_of behind) (subst HasDistinctNames parts distinct))

@@ -1,5 +1,5 @@
 -- Files by their names.
-use Rattle.std.specs.Prelude.{ℕ, List, Vec, map as mapped}
+use Rattle.std.specs.Prelude.{ℕ, List}
 use Rattle.std.specs.Ordering.{nat_cmp}
 use Rattle.std.specs.Cmp.Lexicographic.{slice_cmp}
 use Rattle.std.specs.FinMap as map
@@ -21,10 +21,6 @@ file_of files name = map.get files name
 -- the files of a list, of which the first of a name stands
 abbrev pub files_of : List (List ℕ × List ℕ) → FileMap
 files_of entries = map.from_entries entries
-
--- the files of a table's entries, each name as its bytes
-abbrev pub table_of : {Y : Type 0} → List (Vec ℕ Y × List ℕ) → FileMap
-table_of entries = files_of (mapped (λ entry. (entry.0.items, entry.1)) entries)
 
 -- the files with this one added, or put in the place of that of its name
 abbrev pub with_file : FileMap → List ℕ → List ℕ → FileMap

@@ -6,4 +6,5 @@ pub mod Fetching
 pub mod FileMap
 pub mod Memory
 pub mod Named
+pub mod Outcomes
 pub mod Storing

@@ -1,8 +1,7 @@
 -- Names with their values, as a list of pairs.
-use Rattle.std.specs.Prelude.{◌≢◌, ℕ, List, [], ◌∷◌, Option, ⊤}
-use Rattle.std.specs.Ordering.{nat_cmp}
-use Rattle.std.specs.Cmp.Lexicographic.{slice_cmp}
-use Rattle.std.specs.FinMap.{find}
+use Rattle.std.specs.Prelude.{◌≡◌, ◌≢◌, ℕ, List, [], ◌∷◌, Option, Some, Vec, ⊤, map, if◌then◌else◌}
+use Rattle.std.specs.Map.{lookup}
+use Rattle.std.specs.Str.{bytes_eq}
 
 -- pairs of a name and its value
 abbrev pub Pairs : Type 0
@@ -10,7 +9,18 @@ Pairs = List (List ℕ × List ℕ)
 
 -- the value of the first pair that has this name
 abbrev pub value_of : Pairs → List ℕ → Option (List ℕ)
-value_of pairs name = find (slice_cmp nat_cmp) name pairs
+value_of pairs name = lookup (bytes_eq name) pairs
+
+-- the pairs with this value at the first pair that has this name, or in a new pair at the end
+abbrev pub with_value : Pairs → List ℕ → List ℕ → Pairs
+with_value [] name value = (name, value) ∷ []
+with_value (pair ∷ pairs) name value =
+    if bytes_eq name pair.0 then (pair.0, value) ∷ pairs else pair ∷ with_value pairs name value
+
+-- one name has this value, and each other name what it had
+abbrev pub Sets : Pairs → Pairs → List ℕ → List ℕ → Type 0
+Sets old new name value =
+    (other : List ℕ) → value_of new other ≡ (if bytes_eq other name then Some value else value_of old other)
 
 -- no pair has this name
 abbrev pub HasNoName : Pairs → List ℕ → Type 0
@@ -21,3 +31,7 @@ HasNoName (pair ∷ pairs) name = (pair.0 ≢ name) × HasNoName pairs name
 abbrev pub HasDistinctNames : Pairs → Type 0
 HasDistinctNames [] = ⊤
 HasDistinctNames (pair ∷ pairs) = HasNoName pairs pair.0 × HasDistinctNames pairs
+
+-- the pairs of the entries of an index map
+abbrev pub pairs_of : {Y : Type 0} → List (Vec ℕ Y × List ℕ) → Pairs
+pairs_of entries = map (λ entry. (entry.0.items, entry.1)) entries

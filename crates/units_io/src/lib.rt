@@ -3,24 +3,24 @@
 
 mod blanks;
 mod files;
+mod list;
 mod memory;
 mod sink;
 mod source;
 mod steps;
 mod system;
 mod text;
-mod texts;
 mod vars;
 
 pub use blanks::is_blank;
 pub use files::{FetchFault, Files, LONGEST_FILE, StoreFault};
+pub use list::{List, Texts};
 pub use memory::{MemFiles, MemSink, MemSource};
 pub use sink::{Sink, put_all};
 pub use source::{Failed, Source};
 pub use steps::Steps;
 pub use system::{DirFiles, StdSink, StdSource};
 pub use text::Text;
-pub use texts::Texts;
 pub use vars::Vars;
 
 #[cfg(test)]

@@ -7,6 +7,3 @@ mod table;
 pub use files::MemFiles;
 pub use sink::MemSink;
 pub use source::MemSource;
-
-#[cfg(test)]
-mod tests;

@@ -5,7 +5,7 @@ use std::alloc::{AllocError, Global};
 use std::marker::Model;
 
 /// Bytes of its own, which need not be UTF-8.
-#[derive(Clone, Drop)]
+#[derive(Debug, Drop)]
 pub struct Text {
     bytes: Vec<u8>,
 }
@@ -32,13 +32,18 @@ impl Text {
         self.bytes.as_slice()
     }
 
+    /// The bytes as a vector, with no copy.
+    pub fn into_bytes(self) -> Vec<u8>
+        ensures { result.items ≡ self }
+    {
+        self.bytes
+    }
+
     /// A second text of the same bytes.
-    pub fn copy(&self) -> Result<Text, AllocError>
+    pub fn copy(&self, alloc: Global) -> Result<Text, AllocError>
         ensures { IfOk result (λ text. text ≡ self.now) }
     {
-        Ok(Text {
-            bytes: self.bytes.clone()?,
-        })
+        Text::from_bytes(alloc, self.as_bytes())
     }
 }
 

@@ -4,24 +4,24 @@ ghost use Rattle.std.specs.Option.{option_copied};
 ghost use Rattle.units_io.specs.FileMap.{no_files, file_of, with_file};
 
 use crate::text::Text;
-use indexmap::IndexMap;
+use crate::vars::Vars;
 use std::alloc::{AllocError, Global};
 use std::marker::Model;
 
-/// Texts under names. A look-up takes a slice and no memory.
+/// Texts under names, which contracts see as a map.
 #[derive(Drop)]
 pub(super) struct FileTable {
-    map: IndexMap<Vec<u8>, Text>,
+    texts: Vars,
 }
 
 impl Model for FileTable {
-    ghost use Rattle.units_io.specs.FileMap.{FileMap, file_map_code, table_of};
+    ghost use Rattle.units_io.specs.FileMap.{FileMap, file_map_code, files_of};
 
     ghost Value = { FileMap };
 
     ghost coded = { file_map_code };
 
-    ghost view = { λ t. table_of t.map.entries };
+    ghost view = { λ t. files_of t.texts };
 }
 
 impl FileTable {
@@ -29,14 +29,14 @@ impl FileTable {
         ensures { result ≡ no_files }
     {
         FileTable {
-            map: IndexMap::new(alloc),
+            texts: Vars::new(alloc),
         }
     }
 
     pub(super) fn get(&self, name: &[u8]) -> Option<&Text>
         ensures { option_copied result ≡ file_of self.now name.now }
     {
-        self.map.get(name)
+        self.texts.value(name)
     }
 
     /// Gives the name these bytes, in the place of those that it had. A refusal changes nothing.
@@ -49,9 +49,8 @@ impl FileTable {
         ensures ok { OnOk result (self.new ≡ with_file self.old name.now bytes.now) }
         ensures err { OnErr result (self.new ≡ self.old) }
     {
-        let name = Vec::from_slice(alloc, name)?;
+        let name = Text::from_bytes(alloc, name)?;
         let bytes = Text::from_bytes(alloc, bytes)?;
-        self.map.insert(name, bytes)?;
-        Ok(())
+        self.texts.set(alloc, name, bytes)
     }
 }

@@ -1,9 +1,7 @@
-use Rattle.std.proofs.Common.{sym, subst}
-use Rattle.units_io.specs.Named.{HasNoName}
-use Rattle.units_io.proofs.Names.{HasDistinctNames-push}
+use Rattle.std.proofs.Common.{◌∙◌}
+use Rattle.std.proofs.lemmas.Result.{on_ok_weaker}
+use Rattle.units_io.proofs.Names.{with_value-new}
 use Rattle.units_io.proofs.vars.Vars.push.Goals as goal
 
-pub invariant_of-self-2 : goal.invariant_of-self-2
-invariant_of-self-2 c =
-    let new = subst (λ pairs. HasNoName pairs c.args.item.0) (sym c.self.view_is) c.requires in
-    rw c.in_ok-push.ensures.items (HasDistinctNames-push _ _ c.self.invariant new)
+pub returns-clause-ok : goal.returns-clause-ok
+returns-clause-ok c = on_ok_weaker c.set.result (λ set. set ∙ with_value-new _ _ _ c.requires) c.set.ensures.ok

@@ -1,0 +1,99 @@
+//! A list, which contracts see as the values of its items.
+ghost use Rattle.std.specs.Prelude.{◌≡◌, ◌++◌, ◌∷◌, [], length, OnOk, OnErr, slice_get};
+ghost use Rattle.std.specs.Option.{option_copied};
+ghost use Rattle.std.specs.Vec.Iter.{into_iter_items, into_iter_len};
+
+use crate::text::Text;
+use std::alloc::{AllocError, Global};
+use std::marker::Model;
+use std::vec::IntoIter;
+
+/// Items in order.
+#[derive(Debug, Drop)]
+pub struct List<T> {
+    items: Vec<T>,
+}
+
+/// A list of texts, in order.
+pub type Texts = List<Text>;
+
+impl<T> Model for List<T> {
+    ghost use Rattle.std.specs.Prelude.{List as Listed};
+
+    ghost Value = { Listed T };
+
+    ghost view = { λ list. list.items.items };
+}
+
+impl<T> List<T> {
+    /// The empty list.
+    pub fn new(alloc: Global) -> List<T>
+        ensures { result ≡ [] }
+    {
+        List {
+            items: Vec::new(alloc),
+        }
+    }
+
+    /// How many items there are.
+    pub fn len(&self) -> usize
+        ensures { result ≡ length self.now }
+    {
+        self.items.len()
+    }
+
+    /// The item at place `i`, from 0, or `None` from the length on.
+    pub fn get(&self, i: usize) -> Option<&T>
+        ensures { option_copied result ≡ slice_get self.now i }
+    {
+        self.items.get(i)
+    }
+
+    /// All items, in order.
+    pub fn as_slice(&self) -> &[T]
+        ensures { result.now ≡ self.now }
+    {
+        self.items.as_slice()
+    }
+
+    /// The items as a vector, with no copy.
+    pub fn into_vec(self) -> Vec<T>
+        ensures { result.items ≡ self }
+    {
+        self.items
+    }
+}
+
+impl<T: Drop> List<T> {
+    /// Puts an item at the end. A refusal changes nothing.
+    pub fn push(&mut self, _alloc: Global, item: T) -> Result<(), AllocError>
+        ensures ok { OnOk result (self.new ≡ self.old ++ item ∷ []) }
+        ensures err { OnErr result (self.new ≡ self.old) }
+    {
+        self.items.push(item)?;
+        Ok(())
+    }
+}
+
+/// Takes the items over, with no copy.
+impl<T> From<Vec<T>> for List<T> {
+    ghost from_gives = { λ items list. list ≡ items.items };
+
+    fn from(items: Vec<T>) -> Self {
+        List { items }
+    }
+}
+
+/// Gives the items, in order.
+impl<T: Drop> IntoIterator for List<T> {
+    type Item = T;
+
+    type IntoIter = IntoIter<T>;
+
+    ghost into_iter_gives = { λ list iter. (into_iter_items iter ≡ list)
+        × (into_iter_len iter ≡ length list) };
+
+    fn into_iter(self) -> IntoIter<T> {
+        self.items.into_iter()
+    }
+}
