@@ -12,7 +12,7 @@ use Rattle.expr_tree.specs.Names.{is_name, is_spelled, is_word_byte, last_byte, 
 use Rattle.def_entry.specs.declared.key.Key.{Key}
 use Rattle.def_entry.specs.declared.key.Kind.{Kind}
 use Rattle.def_entry.specs.declared.key.Kind.TheVariants as kind
-use Rattle.def_entry.specs.Keys.{IsNamed, KeyOfLaw, OneKeyLaw, is_key_of, key, key_of, key_shown, key_text, kind_shown, name_shown, written}
+use Rattle.def_entry.specs.Keys.{IsNamed, IsNoKey, KeyOfLaw, OneKeyLaw, is_key_of, key, key_of, key_shown, key_text, kind_shown, name_shown, written}
 
 -- what a test on bytes refuses is no byte that it passes
 apart : (p : ℕ → Bool) (n b : ℕ) → p n ≡ false → p b ≡ true → (b == n) ≡ false
@@ -122,6 +122,10 @@ read_key-none bytes f =
     none_chosen (is_key_of bytes (key_shown bytes)) (key_shown bytes)
     (λ e. let parts : (is_name (key_shown bytes).name ≡ true) × (bytes_eq (key_text (key_shown bytes)) bytes ≡ true) = and_parts _ _ e in
     f (key_shown bytes).name parts.0 ((bytes_eq-Decides (key_text (key_shown bytes)) bytes).0 parts.1))
+
+-- then it is the text of no key
+pub no_key : (bytes : List ℕ) → key_of bytes ≡ None → IsNoKey bytes
+no_key bytes none k h e = let some : key_of bytes ≡ Some k = read_key-some bytes k h e in cc
 
 pub key_texts : KeyOfLaw
 key_texts bytes k = (read_is_written bytes k, λ h. read_key-some bytes k h.0 h.1)

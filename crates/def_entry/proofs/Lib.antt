@@ -1,9 +1,14 @@
 pub mod Choices
 pub mod CutParts
+pub mod CutTexts
 pub mod Examples
 pub mod KeyTexts
+pub mod OptionRuns
 pub mod Parts
 pub mod PointRuns
 pub mod PointWords
+pub mod SameKeys
 pub mod Texts
 pub mod Told
+pub mod WrittenIntervals
+pub mod WrittenOptions

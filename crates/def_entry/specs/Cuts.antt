@@ -1,6 +1,6 @@
 -- Where the parts of a line end.
-use Rattle.std.specs.Prelude.{◌==◌, ◌+◌, ℕ, List, [], ◌∷◌, take, drop, if◌then◌else◌, Option, Some, None, option_map}
-use Rattle.std.specs.List.{position}
+use Rattle.std.specs.Prelude.{◌==◌, ◌+◌, ℕ, List, [], ◌∷◌, Bool, not, take, drop, if◌then◌else◌, Option, Some, None, option_map}
+use Rattle.std.specs.List.{list_all, position}
 
 -- what stands behind the byte that the text begins with
 abbrev pub behind_byte : ℕ → List ℕ → Option (List ℕ)
@@ -10,3 +10,7 @@ behind_byte mark (b ∷ text) = if b == mark then Some text else None
 -- what stands before the first such byte, and what stands behind it
 abbrev pub cut_at : ℕ → List ℕ → Option (List ℕ × List ℕ)
 cut_at mark text = option_map (λ n. (take n text, drop (n + 1) text)) (position (λ b. b == mark) text)
+
+-- no such byte stands in the text
+abbrev pub lacks : ℕ → List ℕ → Bool
+lacks mark text = list_all (λ b. not (b == mark)) text

@@ -1,5 +1,5 @@
 -- Keys, and how they are written.
-use Rattle.std.specs.Prelude.{◌≡◌, ◌↔◌, ◌==◌, ◌&&◌, ℕ, ◌-◌, Bool, true, if◌then◌else◌}
+use Rattle.std.specs.Prelude.{◌≡◌, ◌≢◌, ◌↔◌, ◌==◌, ◌&&◌, ℕ, ◌-◌, Bool, true, if◌then◌else◌}
 use Rattle.std.specs.Prelude.{List, ◌++◌, length, take, drop, slice_index, codes, Option, Some, None}
 use Rattle.std.specs.Str.{bytes_eq}
 use Rattle.expr_tree.specs.Names.{is_name, last_byte}
@@ -25,6 +25,10 @@ written kind.List w = codes "!unitlist " ++ w
 -- the text of a key
 abbrev pub key_text : Key → List ℕ
 key_text k = written k.kind k.name
+
+-- the text of no key that has a name
+abbrev pub IsNoKey : List ℕ → Type 0
+IsNoKey bytes = (k : Key) → IsNamed k → key_text k ≢ bytes
 
 -- the kind of key that the last and the first byte of a text tell
 abbrev pub kind_shown : List ℕ → Kind

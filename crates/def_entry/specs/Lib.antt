@@ -5,12 +5,15 @@ pub mod Faults
 pub mod Forms
 pub mod Headings
 pub mod Intervals
+pub mod KeyOrder
 pub mod Keys
 pub mod Numbers
+pub mod OptionGrammar
 pub mod Options
 pub mod Outcomes
 pub mod PointLists
 pub mod Reading
+pub mod SameKeys
 pub mod Seen
 pub mod Steps
 pub mod Views

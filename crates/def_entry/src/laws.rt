@@ -2,8 +2,11 @@
 
 ghost use Rattle.def_entry.specs.Examples.{ExamplesLaw};
 ghost use Rattle.def_entry.specs.Faults.{ToldLaw};
+ghost use Rattle.def_entry.specs.KeyOrder.{KeyOrderLaw};
 ghost use Rattle.def_entry.specs.Keys.{KeyOfLaw, OneKeyLaw};
+ghost use Rattle.def_entry.specs.OptionGrammar.{AnyOrderLaw, OptionsLaw};
 ghost use Rattle.def_entry.specs.Reading.{SameTextLaw};
+ghost use Rattle.def_entry.specs.SameKeys.{SameKeysLaw};
 
 /// A text is read as a key exactly where that key has a name and is written so.
 pub fn key_text_law()
@@ -28,4 +31,25 @@ pub fn told_law()
 /// A few lines have the keys, the entries and the faults that were found by hand.
 pub fn examples_law()
     ensures { ExamplesLaw }
+{}
+
+/// Options are read exactly where they are written as the grammar says.
+pub fn options_law()
+    ensures { OptionsLaw }
+{}
+
+/// Options that change places say the same.
+pub fn any_order_law()
+    ensures { AnyOrderLaw }
+{}
+
+/// Keys of one kind and one name are one key.
+pub fn same_keys_law()
+    ensures { SameKeysLaw }
+{}
+
+/// Keys are in a total order: the byte order of their names, and then units, prefixes, functions
+/// and lists. Only equal keys tie.
+pub fn key_order_law()
+    ensures { KeyOrderLaw }
 {}

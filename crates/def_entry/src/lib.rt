@@ -30,6 +30,9 @@ pub use fault::EntryFault;
 pub use fault_text::entry_fault_text;
 pub use key::{Key, Kind};
 pub use keys::Keys;
-pub use laws::{examples_law, key_text_law, one_key_law, same_text_law, told_law};
+pub use laws::{
+    any_order_law, examples_law, key_order_law, key_text_law, one_key_law, options_law,
+    same_keys_law, same_text_law, told_law,
+};
 pub use reading::read_entry;
 pub use spelling::{KeyFault, key_text, read_key};

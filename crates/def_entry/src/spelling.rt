@@ -1,7 +1,7 @@
 //! The texts of keys, written and read.
 
 ghost use Rattle.std.specs.Prelude.{◌≡◌, ◌≢◌, ◌⊎◌, ℕ, List, IfOk, MatchOption, MatchResult, Some, None};
-ghost use Rattle.def_entry.specs.Keys.{key_of, key_text as text_of_key, kind_shown, written};
+ghost use Rattle.def_entry.specs.Keys.{IsNamed, IsNoKey, key_of, key_text as text_of_key, kind_shown, written};
 ghost use Rattle.def_entry.specs.declared.spelling.KeyFault.TheVariants as key_fault;
 
 use crate::joined::joined;
@@ -47,7 +47,10 @@ pub fn key_text(alloc: Global, key: &Key) -> Result<Text, AllocError>
 
 /// The key that has a name and is written so. `NotKey` where there is none.
 pub fn read_key(alloc: Global, bytes: &[u8]) -> Result<Key, KeyFault>
-    ensures { MatchResult result
+    ensures is { MatchResult result
+        (λ key. IsNamed key × (text_of_key key ≡ bytes.now))
+        (λ fault. (fault ≡ key_fault.OutOfMemory) ⊎ ((fault ≡ key_fault.NotKey) × IsNoKey bytes.now)) }
+    ensures computed { MatchResult result
         (λ key. key_of bytes.now ≡ Some key)
         (λ fault. (fault ≡ key_fault.OutOfMemory) ⊎ ((fault ≡ key_fault.NotKey) × (key_of bytes.now ≡ None))) }
 {

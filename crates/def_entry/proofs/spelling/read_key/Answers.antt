@@ -1,27 +1,31 @@
-use Rattle.std.proofs.Common.{inr, refl, sym, ap, ◌∙◌, true≢false}
+use Rattle.std.proofs.Common.{◌≡◌, None, inr, refl, sym, ap, ◌∙◌, true≢false}
 use Rattle.expr_tree.specs.Names.{is_name}
-use Rattle.def_entry.specs.Keys.{kind_shown, written}
-use Rattle.def_entry.proofs.KeyTexts.{read_key-none, read_key-some, written_once}
+use Rattle.def_entry.specs.Keys.{key_of, kind_shown, written}
+use Rattle.def_entry.proofs.KeyTexts.{no_key, read_key-none, read_key-some, written_once}
 use Rattle.def_entry.proofs.spelling.read_key.Goals as goal
 
 pub returns-in_default : goal.returns-in_default
 returns-in_default c =
-    inr (refl, read_key-none c.args.bytes.now (λ w h e. c.in_default.ensures w (ap (λ k. written k w) c.shown_kind-kind.ensures ∙ e)))
+    let none : key_of c.args.bytes.now ≡ None =
+    read_key-none c.args.bytes.now (λ w h e. c.in_default.ensures w (ap (λ k. written k w) c.shown_kind-kind.ensures ∙ e)) in
+    record { is = inr (refl, no_key c.args.bytes.now none); computed = inr (refl, none) }
 
 pub returns-then-not-is_name : goal.returns-then-not-is_name
 returns-then-not-is_name c =
-    inr (
-      refl,
-      read_key-none c.args.bytes.now
-          (λ w h e. true≢false
-          (sym h
-          ∙ (ap is_name (written_once (kind_shown c.args.bytes.now) w c.in-Some.shown.now
-          (e ∙ (sym c.in-Some.ensures ∙ ap (λ k. written k c.in-Some.shown.now) c.shown_kind-kind.ensures)))
-          ∙ (sym c.is_name.ensures ∙ c.if-not-is_name.true)))),
-    )
+    let none : key_of c.args.bytes.now ≡ None =
+    read_key-none c.args.bytes.now
+    (λ w h e. true≢false
+    (sym h
+    ∙ (ap is_name (written_once (kind_shown c.args.bytes.now) w c.in-Some.shown.now
+    (e ∙ (sym c.in-Some.ensures ∙ ap (λ k. written k c.in-Some.shown.now) c.shown_kind-kind.ensures)))
+    ∙ (sym c.is_name.ensures ∙ c.if-not-is_name.true)))) in
+    record { is = inr (refl, no_key c.args.bytes.now none); computed = inr (refl, none) }
 
 pub returns : goal.returns
 returns c =
-    read_key-some c.args.bytes.now (record { kind = c.shown_kind-kind.result; name = c.in_ok-name.name })
-    (ap is_name c.in_ok-name.ensures ∙ (sym c.is_name.ensures ∙ c.if-not-is_name.false))
-    (ap (written c.shown_kind-kind.result) c.in_ok-name.ensures ∙ c.in-Some.ensures)
+    let named = ap is_name c.in_ok-name.ensures ∙ (sym c.is_name.ensures ∙ c.if-not-is_name.false) in
+    let text = ap (written c.shown_kind-kind.result) c.in_ok-name.ensures ∙ c.in-Some.ensures in
+    record {
+      is = (named, text);
+      computed = read_key-some c.args.bytes.now (record { kind = c.shown_kind-kind.result; name = c.in_ok-name.name }) named text;
+    }

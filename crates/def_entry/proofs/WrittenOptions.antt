@@ -1,0 +1,313 @@
+-- Options are read as they are written.
+use Rattle.std.proofs.Common.{◌≡◌, ◌==◌, ◌&&◌, ◌||◌, ◌∷◌, [], ◌++◌, ℕ, List, Bool, true, false, not, cond, length, take, drop, codes, Option, Some, None, option_map, refl, sym, ap, ◌∙◌}
+use Rattle.std.specs.List.{list_all, starts_with}
+use Rattle.std.specs.Option.{is_some}
+use Rattle.std.specs.Prelude.{nat_eq}
+use Rattle.std.proofs.lemmas.Bool.{and_parts, eqb-true}
+use Rattle.std.proofs.lemmas.List.{take-append-drop}
+use Rattle.std.proofs.lemmas.Slice.Eq.{bytes_eq-Decides}
+use Rattle.units_io.specs.Blanks.{is_blank}
+use Rattle.def_lines.specs.Blanks.{after_blanks, trimmed}
+use Rattle.def_lines.specs.Parts.{is_begun}
+use Rattle.def_lines.proofs.Trimming.{after_blanks-blank, after_blanks-word}
+use Rattle.def_entry.specs.declared.entry.Span.{Span}
+use Rattle.def_entry.specs.declared.options.Choice.{Choice}
+use Rattle.def_entry.specs.declared.options.Choice.TheVariants.{Units as UnitsChoice, Domain, Range, NoError}
+use Rattle.def_entry.specs.Cuts.{behind_byte, cut_at, lacks}
+use Rattle.def_entry.specs.Headings.{stands_apart}
+use Rattle.def_entry.specs.Intervals.{interval_at}
+use Rattle.def_entry.specs.OptionGrammar.{WrittenOption, UnitsOption, DomainOption, RangeOption, NoErrorOption}
+use Rattle.def_entry.specs.OptionGrammar.{has_ended, interval, is_whole, option, span_of}
+use Rattle.def_entry.specs.Options.{Options, Units, begins_with, begins_with_no_error, behind, choice_at, units_at, with_choice}
+use Rattle.def_entry.specs.Steps.{◌>>=◌}
+use Rattle.def_entry.proofs.Choices.{begins-choice_at}
+use Rattle.def_entry.proofs.CutTexts.{cut-at, cut-is, not_true}
+use Rattle.def_entry.proofs.WrittenIntervals.{Interval, bind_some, interval-at, interval-is, mapped_some, one_pair}
+
+-- blanks
+
+pub after_blanks-front : (blanks text : List ℕ) → list_all is_blank blanks ≡ true → is_begun text ≡ true → after_blanks (blanks ++ text) ≡ text
+after_blanks-front [] [] clear begun = refl
+after_blanks-front [] (b ∷ text) clear begun = after_blanks-word b text (not_true (is_blank b) begun)
+after_blanks-front (b ∷ blanks) text clear begun = go (and_parts (is_blank b) (list_all is_blank blanks) clear) (after_blanks-front blanks text)
+  where
+    go : (is_blank b ≡ true) × (list_all is_blank blanks ≡ true) → (list_all is_blank blanks ≡ true → is_begun text ≡ true → after_blanks (blanks ++ text) ≡ text)
+        → after_blanks ((b ∷ blanks) ++ text) ≡ text
+    go parts rest = after_blanks-blank b (blanks ++ text) parts.0 ∙ rest parts.1 begun
+
+-- a text with the blanks at its front
+pub record Fronted (text : List ℕ) : Type 0 where
+  pub blanks : List ℕ
+  pub whole : text ≡ blanks ++ after_blanks text
+  pub clear : list_all is_blank blanks ≡ true
+
+pub fronted : (text : List ℕ) → Fronted text
+fronted [] = record { blanks = []; whole = refl; clear = refl }
+fronted (b ∷ text) = go (is_blank b) refl (fronted text)
+  where
+    go : (t : Bool) → is_blank b ≡ t → Fronted text → Fronted (b ∷ text)
+    go true e rest = record {
+      blanks = b ∷ rest.blanks;
+      whole = ap (λ t. b ∷ t) rest.whole ∙ ap (λ t. b ∷ (rest.blanks ++ t)) (sym (after_blanks-blank b text e));
+      clear = (λ i. e i && rest.clear i);
+    }
+    go false e rest = record { blanks = []; whole = sym (after_blanks-word b text e); clear = refl }
+
+-- what a text begins with
+starts-is : (text front : List ℕ) → starts_with nat_eq text front ≡ true → text ≡ front ++ drop (length front) text
+starts-is text front e =
+    sym (take-append-drop (length front) text)
+    ∙ ap (λ t. t ++ drop (length front) text) (sym ((bytes_eq-Decides front (take (length front) text)).0 e))
+
+-- the kind of an option
+abbrev pub choice_of : WrittenOption → Choice
+choice_of (UnitsOption a b) = UnitsChoice
+choice_of (DomainOption i) = Domain
+choice_of (RangeOption i) = Range
+choice_of NoErrorOption = NoError
+
+-- it begins as such
+pub choice-at : (w : WrittenOption) (rest : List ℕ) → is_whole w rest ≡ true → choice_at (option w rest) ≡ Some (choice_of w)
+choice-at (UnitsOption a b) rest whole = refl
+choice-at (DomainOption i) rest whole = refl
+choice-at (RangeOption i) rest whole = refl
+choice-at NoErrorOption rest whole = ap (λ t. cond t (Some NoError) None) whole
+
+pub begun-option : (w : WrittenOption) (rest : List ℕ) → is_begun (option w rest) ≡ true
+begun-option (UnitsOption a b) rest = refl
+begun-option (DomainOption i) rest = refl
+begun-option (RangeOption i) rest = refl
+begun-option NoErrorOption rest = refl
+
+-- the end of the options, by the tests of their words
+ended-cases : (u d r n b : Bool) → (not (u || d || r || n) && b) ≡ true
+    → (cond u (Some UnitsChoice) (cond d (Some Domain) (cond r (Some Range) (cond n (Some NoError) None))) ≡ None) × (b ≡ true)
+ended-cases false false false false true e = (refl, refl)
+ended-cases false false false false false e = cc
+ended-cases true d r n b e = cc
+ended-cases false true d r b e = cc
+ended-cases false false true n b e = cc
+ended-cases false false false true b e = cc
+
+pub no-choice : (rest : List ℕ) → has_ended rest ≡ true → (choice_at rest ≡ None) × (is_begun rest ≡ true)
+no-choice rest e =
+    ended-cases (begins_with UnitsChoice rest) (begins_with Domain rest) (begins_with Range rest) (begins_with_no_error rest) (is_begun rest) e
+
+cases-ended : (u d r n b : Bool) → cond u (Some UnitsChoice) (cond d (Some Domain) (cond r (Some Range) (cond n (Some NoError) None))) ≡ None → b ≡ true
+    → (not (u || d || r || n) && b) ≡ true
+cases-ended false false false false b e f = f
+cases-ended true d r n b e f = cc
+cases-ended false true r n b e f = cc
+cases-ended false false true n b e f = cc
+cases-ended false false false true b e f = cc
+
+pub has-ended : (rest : List ℕ) → choice_at rest ≡ None → is_begun rest ≡ true → has_ended rest ≡ true
+has-ended rest none begun =
+    cases-ended (begins_with UnitsChoice rest) (begins_with Domain rest) (begins_with Range rest) (begins_with_no_error rest) (is_begun rest) none begun
+
+-- one option
+
+-- the units of two texts
+abbrev units_by : List ℕ → List ℕ → Units
+units_by a b = record { in_unit = trimmed a; out_unit = trimmed b }
+
+abbrev with_units : Options → Units × List ℕ → Options × List ℕ
+with_units o found = (record o { units = Some found.0 }, found.1)
+
+abbrev with_domain : Options → Span × List ℕ → Options × List ℕ
+with_domain o found = (record o { domain = Some found.0 }, found.1)
+
+abbrev with_range : Options → Span × List ℕ → Options × List ℕ
+with_range o found = (record o { range = Some found.0 }, found.1)
+
+abbrev with_no_error : Options → Options
+with_no_error o = record o { no_error = true }
+
+-- the options with one more
+abbrev pub added : WrittenOption → Options → Options
+added (UnitsOption a b) o = record o { units = Some (units_by a b) }
+added (DomainOption i) o = record o { domain = span_of i }
+added (RangeOption i) o = record o { range = span_of i }
+added NoErrorOption o = with_no_error o
+
+-- no such option stood before
+abbrev pub is_free : WrittenOption → Options → Bool
+is_free (UnitsOption a b) o = not (is_some o.units)
+is_free (DomainOption i) o = not (is_some o.domain)
+is_free (RangeOption i) o = not (is_some o.range)
+is_free NoErrorOption o = not o.no_error
+
+pub some_value : {A : Type 0} (v : Option A) → is_some v ≡ true → (x : A) × (v ≡ Some x)
+some_value None e = cc
+some_value (Some x) e = (x, refl)
+
+units-at : (a b rest : List ℕ) → lacks 59 a ≡ true → lacks 93 b ≡ true → units_at (91 ∷ (a ++ (59 ∷ (b ++ (93 ∷ rest))))) ≡ Some (units_by a b, rest)
+units-at a b rest clear clear' =
+    (λ i. cut-at 59 a (b ++ (93 ∷ rest)) clear i >>= (λ first. cut_at 93 first.1 >>= (λ second. Some (units_by first.0 second.0, second.1))))
+    ∙ (λ i. cut-at 93 b rest clear' i >>= (λ second. Some (units_by a second.0, second.1)))
+
+-- its value is read
+pub value-at : (w : WrittenOption) (o : Options) (rest : List ℕ) → is_whole w rest ≡ true → is_free w o ≡ true
+    → with_choice (choice_of w) o (behind (choice_of w) (option w rest)) ≡ Some (added w o, rest)
+value-at (UnitsOption a b) o rest whole free =
+    let clear : (lacks 59 a ≡ true) × (lacks 93 b ≡ true) = and_parts _ _ whole in
+    let value : List ℕ = 91 ∷ (a ++ (59 ∷ (b ++ (93 ∷ rest)))) in
+    ap (λ t. cond t None (option_map (with_units o) (units_at value))) (not_true (is_some o.units) free)
+    ∙ ap (option_map (with_units o)) (units-at a b rest clear.0 clear.1)
+value-at (DomainOption i) o rest whole free =
+    let value : (s : Span) × (span_of i ≡ Some s) = some_value (span_of i) (and_parts _ _ whole).1 in
+    ap (λ t. cond t None (option_map (with_domain o) (interval_at (interval i rest)))) (not_true (is_some o.domain) free)
+    ∙ ap (option_map (with_domain o)) (interval-at i rest value.0 whole value.1)
+    ∙ ap (λ v. domain_set v) (sym value.1)
+  where
+    domain_set : Option Span → Option (Options × List ℕ)
+    domain_set v = Some (record o { domain = v }, rest)
+value-at (RangeOption i) o rest whole free =
+    let value : (s : Span) × (span_of i ≡ Some s) = some_value (span_of i) (and_parts _ _ whole).1 in
+    ap (λ t. cond t None (option_map (with_range o) (interval_at (interval i rest)))) (not_true (is_some o.range) free)
+    ∙ ap (option_map (with_range o)) (interval-at i rest value.0 whole value.1)
+    ∙ ap (λ v. range_set v) (sym value.1)
+  where
+    range_set : Option Span → Option (Options × List ℕ)
+    range_set v = Some (record o { range = v }, rest)
+value-at NoErrorOption o rest whole free = ap (λ t. cond t None (Some (with_no_error o, rest))) (not_true o.no_error free)
+
+-- an option that is read, as it is written
+pub record Added (text : List ℕ) (o new : Options) (rest : List ℕ) : Type 0 where
+  pub written : WrittenOption
+  pub spelled : text ≡ option written rest
+  pub whole : is_whole written rest ≡ true
+  pub free : is_free written o ≡ true
+  pub made : new ≡ added written o
+
+byte-is : (mark : ℕ) (text inside : List ℕ) → behind_byte mark text ≡ Some inside → text ≡ mark ∷ inside
+byte-is mark [] inside e = cc
+byte-is mark (b ∷ text) inside e = go (b == mark) refl e
+  where
+    go : (t : Bool) → (b == mark) ≡ t → cond t (Some text) None ≡ Some inside → b ∷ text ≡ mark ∷ inside
+    go true f e = let same : text ≡ inside = cc in let byte : b ≡ mark = eqb-true b mark f in (λ i. byte i ∷ same i)
+    go false f e = cc
+
+-- the units of a text, as they are written
+record UnitsWritten (text rest : List ℕ) (u : Units) : Type 0 where
+  in_unit : List ℕ
+  out_unit : List ℕ
+  spelled : text ≡ 91 ∷ (in_unit ++ (59 ∷ (out_unit ++ (93 ∷ rest))))
+  clear : (lacks 59 in_unit && lacks 93 out_unit) ≡ true
+  value : u ≡ units_by in_unit out_unit
+
+units-is : (text rest : List ℕ) (u : Units) → units_at text ≡ Some (u, rest) → UnitsWritten text rest u
+units-is text rest u e =
+    let one = bind_some (behind_byte 91 text) (λ inside. cut_at 59 inside >>= (λ first. cut_at 93 first.1 >>= (λ second. Some (units_by first.0 second.0, second.1)))) (u, rest) e in
+    let two = bind_some (cut_at 59 one.0) (λ first. cut_at 93 first.1 >>= (λ second. Some (units_by first.0 second.0, second.1))) (u, rest) one.2 in
+    let three = bind_some (cut_at 93 two.0.1) (λ second. Some (units_by two.0.0 second.0, second.1)) (u, rest) two.2 in
+    done one.0 two.0.0 two.0.1 three.0.0 three.0.1 one.1 two.1 three.1 three.2
+  where
+    done : (inside a more b left : List ℕ) → behind_byte 91 text ≡ Some inside → cut_at 59 inside ≡ Some (a, more) → cut_at 93 more ≡ Some (b, left)
+        → ◌≡◌ {A = Option (Units × List ℕ)} (Some (units_by a b, left)) (Some (u, rest)) → UnitsWritten text rest u
+    done inside a more b left first second third last =
+        let front : text ≡ 91 ∷ inside = byte-is 91 text inside first in
+        let s : (inside ≡ a ++ (59 ∷ more)) × (lacks 59 a ≡ true) = cut-is 59 inside a more second in
+        let t : (more ≡ b ++ (93 ∷ left)) × (lacks 93 b ≡ true) = cut-is 93 more b left third in
+        let pair : (units_by a b ≡ u) × (left ≡ rest) = one_pair (units_by a b) u left rest last in
+        record {
+          in_unit = a;
+          out_unit = b;
+          spelled =
+              front
+              ∙ ap (λ x. 91 ∷ x) s.0
+              ∙ ap (λ x. 91 ∷ (a ++ (59 ∷ x))) t.0
+              ∙ ap (λ x. 91 ∷ (a ++ (59 ∷ (b ++ (93 ∷ x))))) pair.1;
+          clear = (λ i. s.1 i && t.1 i);
+          value = sym pair.0;
+        }
+
+-- where an option with a value is taken, it is free, and the value is read
+taken : {A : Type 0} (had : Bool) (put : A → Options × List ℕ) (given : Option A) (made : Options × List ℕ)
+    → cond had None (option_map put given) ≡ Some made → (not had ≡ true) × ((x : A) × (given ≡ Some x) × (put x ≡ made))
+taken true put given made e = cc
+taken false put given made e = (refl, mapped_some put given made e)
+
+-- `noerror` stands apart
+apart : (text : List ℕ) → choice_at text ≡ Some NoError → stands_apart (behind NoError text) ≡ true
+apart text e = go (begins_with UnitsChoice text) (begins_with Domain text) (begins_with Range text) (begins_with NoError text) (stands_apart (behind NoError text)) e
+  where
+    go : (u d r n s : Bool) → cond u (Some UnitsChoice) (cond d (Some Domain) (cond r (Some Range) (cond (n && s) (Some NoError) None))) ≡ Some NoError → s ≡ true
+    go true d r n s e = cc
+    go false true r n s e = cc
+    go false false true n s e = cc
+    go false false false true true e = refl
+    go false false false true false e = cc
+    go false false false false s e = cc
+
+pub value-is : (c : Choice) (text : List ℕ) (o new : Options) (rest : List ℕ) → choice_at text ≡ Some c → with_choice c o (behind c text) ≡ Some (new, rest) → Added text o new rest
+value-is UnitsChoice text o new rest begins e =
+    let front : text ≡ codes "units=" ++ behind UnitsChoice text = starts-is text (codes "units=") (begins-choice_at text (choice_at text) UnitsChoice refl begins) in
+    let read = taken (is_some o.units) (with_units o) (units_at (behind UnitsChoice text)) (new, rest) e in
+    done front read.0 read.1.0.0 read.1.0.1 read.1.1 read.1.2
+  where
+    done : text ≡ codes "units=" ++ behind UnitsChoice text → not (is_some o.units) ≡ true → (u : Units) (left : List ℕ) → units_at (behind UnitsChoice text) ≡ Some (u, left)
+        → ◌≡◌ {A = Options × List ℕ} (with_units o (u, left)) (new, rest) → Added text o new rest
+    done front free u left value made =
+        let is : UnitsWritten (behind UnitsChoice text) left u = units-is (behind UnitsChoice text) left u value in
+        let left_is : left ≡ rest = ap (λ (p : Options × List ℕ). p.1) made in
+        let new_is : ◌≡◌ {A = Options} (record o { units = Some u }) new = ap (λ (p : Options × List ℕ). p.0) made in
+        record {
+          written = UnitsOption is.in_unit is.out_unit;
+          spelled = front ∙ ap (λ t. codes "units=" ++ t) is.spelled ∙ ap (λ t. option (UnitsOption is.in_unit is.out_unit) t) left_is;
+          whole = is.clear;
+          free = free;
+          made = sym new_is ∙ ap (λ (v : Units). record o { units = Some v }) is.value;
+        }
+value-is Domain text o new rest begins e =
+    let front : text ≡ codes "domain=" ++ behind Domain text = starts-is text (codes "domain=") (begins-choice_at text (choice_at text) Domain refl begins) in
+    let read = taken (is_some o.domain) (with_domain o) (interval_at (behind Domain text)) (new, rest) e in
+    done front read.0 read.1.0.0 read.1.0.1 read.1.1 read.1.2
+  where
+    done : text ≡ codes "domain=" ++ behind Domain text → not (is_some o.domain) ≡ true → (s : Span) (left : List ℕ) → interval_at (behind Domain text) ≡ Some (s, left)
+        → ◌≡◌ {A = Options × List ℕ} (with_domain o (s, left)) (new, rest) → Added text o new rest
+    done front free s left value made =
+        let is : Interval (behind Domain text) left s = interval-is (behind Domain text) left s value in
+        let left_is : left ≡ rest = ap (λ (p : Options × List ℕ). p.1) made in
+        let new_is : ◌≡◌ {A = Options} (record o { domain = Some s }) new = ap (λ (p : Options × List ℕ). p.0) made in
+        record {
+          written = DomainOption is.written;
+          spelled = front ∙ ap (λ t. codes "domain=" ++ t) is.spelled ∙ ap (λ t. option (DomainOption is.written) t) left_is;
+          whole = is.whole;
+          free = free;
+          made = sym new_is ∙ ap (λ (v : Option Span). record o { domain = v }) (sym is.value);
+        }
+value-is Range text o new rest begins e =
+    let front : text ≡ codes "range=" ++ behind Range text = starts-is text (codes "range=") (begins-choice_at text (choice_at text) Range refl begins) in
+    let read = taken (is_some o.range) (with_range o) (interval_at (behind Range text)) (new, rest) e in
+    done front read.0 read.1.0.0 read.1.0.1 read.1.1 read.1.2
+  where
+    done : text ≡ codes "range=" ++ behind Range text → not (is_some o.range) ≡ true → (s : Span) (left : List ℕ) → interval_at (behind Range text) ≡ Some (s, left)
+        → ◌≡◌ {A = Options × List ℕ} (with_range o (s, left)) (new, rest) → Added text o new rest
+    done front free s left value made =
+        let is : Interval (behind Range text) left s = interval-is (behind Range text) left s value in
+        let left_is : left ≡ rest = ap (λ (p : Options × List ℕ). p.1) made in
+        let new_is : ◌≡◌ {A = Options} (record o { range = Some s }) new = ap (λ (p : Options × List ℕ). p.0) made in
+        record {
+          written = RangeOption is.written;
+          spelled = front ∙ ap (λ t. codes "range=" ++ t) is.spelled ∙ ap (λ t. option (RangeOption is.written) t) left_is;
+          whole = is.whole;
+          free = free;
+          made = sym new_is ∙ ap (λ (v : Option Span). record o { range = v }) (sym is.value);
+        }
+value-is NoError text o new rest begins e =
+    let front : text ≡ codes "noerror" ++ behind NoError text = starts-is text (codes "noerror") (begins-choice_at text (choice_at text) NoError refl begins) in
+    go o.no_error refl e front
+  where
+    go : (t : Bool) → o.no_error ≡ t → cond {A = Option (Options × List ℕ)} t None (Some (with_no_error o, behind NoError text)) ≡ Some (new, rest) → text ≡ codes "noerror" ++ behind NoError text
+        → Added text o new rest
+    go true f e front = cc
+    go false f e front =
+        let pair : (with_no_error o ≡ new) × (behind NoError text ≡ rest) = one_pair (with_no_error o) new (behind NoError text) rest e in
+        record {
+          written = NoErrorOption;
+          spelled = front ∙ ap (λ t. codes "noerror" ++ t) pair.1;
+          whole = ap stands_apart (sym pair.1) ∙ apart text begins;
+          free = ap not f;
+          made = sym pair.0;
+        }

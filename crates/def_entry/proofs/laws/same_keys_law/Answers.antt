@@ -1,0 +1,5 @@
+use Rattle.def_entry.proofs.SameKeys.{same_keys}
+use Rattle.def_entry.proofs.laws.same_keys_law.Goals as goal
+
+pub returns : goal.returns
+returns c = same_keys

@@ -1,0 +1,47 @@
+-- The order of keys, and their code.
+use Rattle.std.specs.Prelude.{◌≡◌, ℕ, List, [], ◌∷◌, refl, slice_index_or}
+use Rattle.std.specs.Cmp.{IsTotalOrder}
+use Rattle.std.specs.Cmp.Lexicographic.{slice_cmp}
+use Rattle.std.specs.Coded.{Coded, code_by, coded×, coded_list, coded_ℕ}
+use Rattle.std.specs.FinSet as set
+use Rattle.std.specs.declared.cmp.Ordering.{Ordering}
+use Rattle.std.specs.declared.cmp.Ordering.TheVariants.{Equal}
+use Rattle.std.specs.Ordering.{nat_cmp, on, then_cmp}
+use Rattle.def_entry.specs.declared.key.Key.{Key}
+use Rattle.def_entry.specs.declared.key.Kind.{Kind}
+use Rattle.def_entry.specs.declared.key.Kind.TheVariants as kind
+
+-- the order of kinds
+abbrev pub kind_number : Kind → ℕ
+kind_number kind.Unit = 0
+kind_number kind.Prefix = 1
+kind_number kind.Func = 2
+kind_number kind.List = 3
+
+abbrev pub kind_at : ℕ → Kind
+kind_at n = slice_index_or (kind.Unit ∷ kind.Prefix ∷ kind.Func ∷ []) n kind.List
+
+-- in byte order of names, and then by kind
+abbrev pub key_cmp : Key → Key → Ordering
+key_cmp = then_cmp (on (λ k. k.name) (slice_cmp nat_cmp)) (on (λ k. kind_number k.kind) nat_cmp)
+
+-- some keys in that order, each once
+abbrev pub keys_in_order : List Key → List Key
+keys_in_order keys = set.items (set.from_list {R = key_cmp} keys)
+
+abbrev pub kind_back : (k : Kind) → kind_at (kind_number k) ≡ k
+kind_back kind.Unit = refl
+kind_back kind.Prefix = refl
+kind_back kind.Func = refl
+kind_back kind.List = refl
+
+-- a kind by its number, and a name
+abbrev pub key_code : Coded Key
+key_code =
+    code_by _ (coded× coded_ℕ (coded_list coded_ℕ)) (λ k. (kind_number k.kind, k.name))
+    (λ p. record { kind = kind_at p.0; name = p.1 }) (λ k i. record { kind = kind_back k.kind i; name = k.name })
+
+-- law: keys are in a total order, in which only equal keys tie
+pub record KeyOrderLaw : Type 0 where
+  pub total : IsTotalOrder key_cmp
+  pub exact : (k l : Key) → key_cmp k l ≡ Equal → k ≡ l

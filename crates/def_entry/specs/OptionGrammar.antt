@@ -1,0 +1,148 @@
+-- How the options of a function are written: each at most once, in any order, blanks between.
+use Rattle.std.specs.Prelude.{◌≡◌, ◌↔◌, ◌||◌, ◌&&◌, ◌++◌, ℕ, List, [], ◌∷◌, Bool, true, not}
+use Rattle.std.specs.Prelude.{codes, drop, nat_eq, if◌then◌else◌, Option, Some, None}
+use Rattle.std.specs.List.{filter_map, list_all, starts_with}
+use Rattle.std.specs.Option.{is_some}
+use Rattle.units_io.specs.Blanks.{is_blank}
+use Rattle.def_lines.specs.Blanks.{trimmed}
+use Rattle.def_lines.specs.Parts.{is_begun}
+use Rattle.def_entry.specs.declared.entry.Span.{Span}
+use Rattle.def_entry.specs.Cuts.{lacks}
+use Rattle.def_entry.specs.Headings.{stands_apart}
+use Rattle.def_entry.specs.Intervals.{bound_in, is_closing}
+use Rattle.def_entry.specs.Options.{Options, Units, options_at}
+use Rattle.def_entry.specs.Steps.{◌>>=◌}
+
+-- an interval: its brackets, and what stands in the places of its bounds
+pub record WrittenInterval : Type 0 where
+  pub low_closed : Bool
+  pub low : List ℕ
+  pub high : List ℕ
+  pub high_closed : Bool
+
+pub data WrittenOption : Type 0 where
+  -- "units=[" in unit ";" out unit "]"
+  UnitsOption : List ℕ → List ℕ → WrittenOption
+  -- "domain=" interval
+  DomainOption : WrittenInterval → WrittenOption
+  -- "range=" interval
+  RangeOption : WrittenInterval → WrittenOption
+  -- "noerror"
+  NoErrorOption : WrittenOption
+
+-- { blanks option } blanks
+pub data WrittenOptions : Type 0 where
+  NoOption : List ℕ → WrittenOptions
+  NextOption : List ℕ → WrittenOption → WrittenOptions → WrittenOptions
+
+-- the bytes `[` and `(`, and `]` and `)`
+
+abbrev pub opening : Bool → ℕ
+opening is_closed = if is_closed then 91 else 40
+
+abbrev pub closing : Bool → ℕ
+closing is_closed = if is_closed then 93 else 41
+
+-- the bytes of each, before others
+
+abbrev pub interval : WrittenInterval → List ℕ → List ℕ
+interval i rest = opening i.low_closed ∷ (i.low ++ (44 ∷ (i.high ++ (closing i.high_closed ∷ rest))))
+
+abbrev pub option : WrittenOption → List ℕ → List ℕ
+option (UnitsOption in_unit out_unit) rest =
+    codes "units=[" ++ (in_unit ++ (59 ∷ (out_unit ++ (93 ∷ rest))))
+option (DomainOption i) rest = codes "domain=" ++ interval i rest
+option (RangeOption i) rest = codes "range=" ++ interval i rest
+option NoErrorOption rest = codes "noerror" ++ rest
+
+abbrev pub options : WrittenOptions → List ℕ → List ℕ
+options (NoOption blanks) rest = blanks ++ rest
+options (NextOption blanks o os) rest = blanks ++ option o (options os rest)
+
+-- the value of an interval; it has none where something else than a number stands in the place of
+-- a bound
+abbrev pub span_of : WrittenInterval → Option Span
+span_of i = do
+  low ← bound_in i.low_closed (trimmed i.low)
+  high ← bound_in i.high_closed (trimmed i.high)
+  Some (record { low = low; high = high })
+
+-- the low bound runs to the first `,`, the high one to the first bracket behind that
+abbrev pub is_interval : WrittenInterval → Bool
+is_interval i = lacks 44 i.low && list_all (λ b. not (is_closing b)) i.high && is_some (span_of i)
+
+-- the option is whole, before these bytes: the in unit runs to the first `;`, the out unit to the
+-- first `]` behind that, and a blank or the end is behind `noerror`
+abbrev pub is_whole : WrittenOption → List ℕ → Bool
+is_whole (UnitsOption in_unit out_unit) rest = lacks 59 in_unit && lacks 93 out_unit
+is_whole (DomainOption i) rest = is_interval i
+is_whole (RangeOption i) rest = is_interval i
+is_whole NoErrorOption rest = stands_apart rest
+
+abbrev pub are_whole : WrittenOptions → List ℕ → Bool
+are_whole (NoOption blanks) rest = list_all is_blank blanks
+are_whole (NextOption blanks o os) rest =
+    list_all is_blank blanks && is_whole o (options os rest) && are_whole os rest
+
+-- no further option begins at the front, and no blank is there
+abbrev pub has_ended : List ℕ → Bool
+has_ended rest =
+    not
+    (starts_with nat_eq rest (codes "units=")
+    || starts_with nat_eq rest (codes "domain=")
+    || starts_with nat_eq rest (codes "range=")
+    || (starts_with nat_eq rest (codes "noerror") && stands_apart (drop 7 rest)))
+    && is_begun rest
+
+-- the options, one behind another
+abbrev pub in_order : WrittenOptions → List WrittenOption
+in_order (NoOption blanks) = []
+in_order (NextOption blanks o os) = o ∷ in_order os
+
+-- what each says of the function
+
+abbrev pub units_of : WrittenOption → Option Units
+units_of (UnitsOption in_unit out_unit) =
+    Some (record { in_unit = trimmed in_unit; out_unit = trimmed out_unit })
+units_of _ = None
+
+abbrev pub domain_of : WrittenOption → Option Span
+domain_of (DomainOption i) = span_of i
+domain_of _ = None
+
+abbrev pub range_of : WrittenOption → Option Span
+range_of (RangeOption i) = span_of i
+range_of _ = None
+
+abbrev pub no_error_of : WrittenOption → Option Bool
+no_error_of NoErrorOption = Some true
+no_error_of _ = None
+
+-- one value at most, as a list
+abbrev pub at_most : {A : Type 0} → Option A → List A
+at_most None = []
+at_most (Some x) = x ∷ []
+
+-- each option stands at most once, and says this
+pub record AreStated (os : List WrittenOption) (o : Options) : Type 0 where
+  pub units : filter_map units_of os ≡ at_most o.units
+  pub domain : filter_map domain_of os ≡ at_most o.domain
+  pub range : filter_map range_of os ≡ at_most o.range
+  pub no_error : filter_map no_error_of os ≡ at_most (if o.no_error then Some true else None)
+
+-- the text is options and what is left of it, and they say this
+pub record AreOptions (text rest : List ℕ) (o : Options) : Type 0 where
+  pub written : WrittenOptions
+  pub spelled : text ≡ options written rest
+  pub whole : are_whole written rest ≡ true
+  pub ended : has_ended rest ≡ true
+  pub stated : AreStated (in_order written) o
+
+-- law: options are read exactly where they are so written
+abbrev pub OptionsLaw : Type 0
+OptionsLaw = (text rest : List ℕ) (o : Options) → (options_at text ≡ Some (o, rest)) ↔ AreOptions text rest o
+
+-- law: options that change places say the same
+abbrev pub AnyOrderLaw : Type 0
+AnyOrderLaw = (front : List WrittenOption) (x y : WrittenOption) (back : List WrittenOption) (o : Options)
+    → AreStated (front ++ (x ∷ y ∷ back)) o → AreStated (front ++ (y ∷ x ∷ back)) o

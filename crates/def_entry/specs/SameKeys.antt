@@ -1,0 +1,26 @@
+-- One key and another.
+use Rattle.std.specs.Prelude.{◌≡◌, ◌↔◌, ◌&&◌, Bool, true, false, List}
+use Rattle.std.specs.List.{list_any}
+use Rattle.std.specs.Str.{bytes_eq}
+use Rattle.def_entry.specs.declared.key.Key.{Key}
+use Rattle.def_entry.specs.declared.key.Kind.{Kind}
+use Rattle.def_entry.specs.declared.key.Kind.TheVariants as kind
+
+abbrev pub is_same_kind : Kind → Kind → Bool
+is_same_kind kind.Unit kind.Unit = true
+is_same_kind kind.Prefix kind.Prefix = true
+is_same_kind kind.Func kind.Func = true
+is_same_kind kind.List kind.List = true
+is_same_kind _ _ = false
+
+-- one kind and one name
+abbrev pub is_same : Key → Key → Bool
+is_same a b = is_same_kind a.kind b.kind && bytes_eq a.name b.name
+
+-- the key is one of these
+abbrev pub is_among : List Key → Key → Bool
+is_among keys k = list_any (is_same k) keys
+
+-- law: keys of one kind and one name are one key
+abbrev pub SameKeysLaw : Type 0
+SameKeysLaw = (a b : Key) → (is_same a b ≡ true) ↔ (a ≡ b)
