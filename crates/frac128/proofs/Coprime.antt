@@ -20,7 +20,7 @@ pub is_coprime : (a b : ℕ) → IsCoprime a b → IsGcd a b 1
 is_coprime a b h = subst (λ g. IsGcd a b g) h.one (gcd_is a b)
 
 -- what divides one of two coprime numbers and the other's product with a third divides the third
-euclid_lemma : (a b c d : ℕ) → IsCoprime a b → d ∣ a * c → d ∣ b * c → d ∣ c
+pub euclid_lemma : (a b c d : ℕ) → IsCoprime a b → d ∣ a * c → d ∣ b * c → d ∣ c
 euclid_lemma a b c d h p q =
     let whole : gcd (c * a) (c * b) ≡ c = gcd-mul c a b ∙ ap (λ g. c * g) h.one ∙ mul-one c in
     let p' = subst (λ n. d ∣ n) (mul_comm a c) p in

@@ -1,3 +1,4 @@
+pub mod BinarySteps
 pub mod Comparisons
 pub mod ComputedRoots
 pub mod Coprime
@@ -16,6 +17,7 @@ pub mod RootSearch
 pub mod Roots
 pub mod Signs
 pub mod StageRuns
+pub mod SumDivisors
 pub mod Sums
 pub mod TenPowers
 pub mod WholeNumerals

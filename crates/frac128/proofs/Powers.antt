@@ -19,7 +19,7 @@ pub pow_some : (a n : ℕ) → 0 < a → 0 < a ^ n
 pow_some a n h = one-le-pow n a h
 
 -- a number coprime to another, and to its powers
-coprime-pow_right : (a b n : ℕ) → IsCoprime a b → IsCoprime a (b ^ n)
+pub coprime-pow_right : (a b n : ℕ) → IsCoprime a b → IsCoprime a (b ^ n)
 coprime-pow_right a b zero h = rw (pow-zero b) (coprime_is a 1 (one-dvd a, one-dvd 1, λ d p q. q))
 coprime-pow_right a b (suc n) h = rw (pow-suc b n) (coprime-mul a (b ^ n) b (coprime-pow_right a b n h) h)
 

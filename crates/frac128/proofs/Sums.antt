@@ -1,6 +1,7 @@
 -- Sums over a common multiple.
 use Rattle.std.proofs.Common.{◌≡◌, ◌*◌, ◌/◌, ◌<◌, ◌≤◌, ◌+ℤ◌, ◌-ℤ◌, ◌*ℤ◌, ℕ, ℤ, pos, neg_ℤ, suc, zero, Bool, true, false, unsigned_abs, arith, refl, sym, ap, ◌∙◌}
 use Rattle.std.specs.Prelude.{int_lt, Ok, Err, if◌then◌else◌}
+use Rattle.std.specs.Int.{IsGcd}
 use Rattle.std.proofs.Math.Nat.{mul_comm, mul-div_cancel', mul-div_cancel_left, mul-pos, mul-zero, div-le_self}
 use Rattle.frac128.specs.declared.fault.FracFault.{FracFault}
 use Rattle.frac128.specs.declared.fault.FracFault.TheVariants.{Overflow}
@@ -12,6 +13,7 @@ use Rattle.frac128.specs.Sums.{in_range, joined, minus, numerator_over, plus, su
 use Rattle.frac128.proofs.Euclid.{gcd_is}
 use Rattle.frac128.proofs.Multiples.{lcm-left, lcm-right}
 use Rattle.frac128.proofs.Reduced.{reduced_is}
+use Rattle.frac128.proofs.SumDivisors.{sum_shares}
 use Rattle.frac128.proofs.Signs.{abs-neg, abs-signed, differ-false, mul-signed, neg-signed, signed_is}
 use Rattle.frac128.proofs.Comparisons.{le-true}
 
@@ -22,11 +24,13 @@ lcm-div b d some_b some_d = (
   ap (λ n. n / d) (lcm-left b d ∙ mul_comm (b / gcd b d) d) ∙ mul-div_cancel_left (b / gcd b d) some_d,
 )
 
--- the magnitudes of two fractions, and the divisor of their denominators
-pub record IsParts (x y : Fraction) (b d g top other : ℕ) : Type 0 where
+-- the magnitudes of two fractions, and their denominators over the divisor of these
+pub record IsParts (x y : Fraction) (b d g p q top other : ℕ) : Type 0 where
   pub b_is : b ≡ x.den
   pub d_is : d ≡ y.den
   pub g_is : g ≡ gcd b d
+  pub p_is : p ≡ b / g
+  pub q_is : q ≡ d / g
   pub some_b : 0 < b
   pub some_d : 0 < d
   pub top_is : top ≡ unsigned_abs x.num
@@ -88,10 +92,10 @@ joined-sum step m l r n k j p q h =
     rw (n_is.0, k_is.0, j_is.0, n_is.1, k_is.1, j_is.1) refl
 
 -- the sum by the parts that the code makes
-plus_by : (x y : Fraction) (b d g top other : ℕ) (s t : Bool) → IsParts x y b d g top other → s ≡ int_lt x.num (pos 0) → t ≡ int_lt y.num (pos 0)
-    → plus x y ≡ joined ◌+ℤ◌ (b / g * d) (signed s (top * (d / g))) (signed t (other * (b / g)))
-plus_by x y b d g top other s t is s_is t_is =
-    rw (sym (numerator-signed x.num s top (d / g) s_is is.top_is), sym (numerator-signed y.num t other (b / g) t_is is.other_is), is.g_is, is.b_is, is.d_is)
+plus_by : (x y : Fraction) (b d g p q top other : ℕ) (s t : Bool) → IsParts x y b d g p q top other → s ≡ int_lt x.num (pos 0) → t ≡ int_lt y.num (pos 0)
+    → plus x y ≡ joined ◌+ℤ◌ (p * d) (signed s (top * q)) (signed t (other * p))
+plus_by x y b d g p q top other s t is s_is t_is =
+    rw (sym (numerator-signed x.num s top q s_is is.top_is), sym (numerator-signed y.num t other p t_is is.other_is), is.p_is, is.q_is, is.g_is, is.b_is, is.d_is)
     (by_divisor x y (rw (← is.b_is) is.some_b) (rw (← is.d_is) is.some_d))
   where
     by_divisor : (x y : Fraction) → 0 < x.den → 0 < y.den → plus x y ≡ joined ◌+ℤ◌ (x.den / gcd x.den y.den * y.den) (x.num *ℤ pos (y.den / gcd x.den y.den)) (y.num *ℤ pos (x.den / gcd x.den y.den))
@@ -102,38 +106,49 @@ plus_by x y b d g top other s t is s_is t_is =
         ∙ ap (λ m. joined ◌+ℤ◌ m (x.num *ℤ pos (y.den / gcd x.den y.den)) (y.num *ℤ pos (x.den / gcd x.den y.den))) (lcm-left x.den y.den)
 
 -- the least common multiple is above 0
-pub multiple_some : (b d g : ℕ) → g ≡ gcd b d → 0 < b → 0 < d → 0 < b / g * d
-multiple_some b d g is some_b some_d = mul-pos (above (b / g) refl) some_d
+pub multiple_some : (x y : Fraction) (b d g p q top other : ℕ) → IsParts x y b d g p q top other → 0 < p * d
+multiple_some x y b d g p q top other is = mul-pos (above p refl) is.some_d
   where
-    above : (q : ℕ) → b / g ≡ q → 0 < q
+    above : (n : ℕ) → p ≡ n → 0 < n
     above zero e =
-        let none : g * 0 ≡ b = ap (λ n. g * n) (sym e) ∙ mul-div_cancel' g (rw is (gcd_is b d).0) in
+        let none : g * 0 ≡ b = ap (λ n. g * n) (sym e ∙ is.p_is) ∙ mul-div_cancel' g (rw is.g_is (gcd_is b d).0) in
+        let some = is.some_b in
         absurd (omega (arith, mul-zero g))
-    above (suc q) e = omega arith
+    above (suc n) e = omega arith
 
 -- the sum where the multiple is out of range
-pub plus-multiple : (x y : Fraction) (b d g top other : ℕ) (e : FracFault) → IsParts x y b d g top other → Err e ≡ within (pos (b / g * d)) → plus x y ≡ Err e
-plus-multiple x y b d g top other e is h = plus_by x y b d g top other _ _ is refl refl ∙ joined-multiple ◌+ℤ◌ (b / g * d) (signed (int_lt x.num (pos 0)) (top * (d / g))) (signed (int_lt y.num (pos 0)) (other * (b / g))) e h
+pub plus-multiple : (x y : Fraction) (b d g p q top other : ℕ) (e : FracFault) → IsParts x y b d g p q top other → Err e ≡ within (pos (p * d)) → plus x y ≡ Err e
+plus-multiple x y b d g p q top other e is h =
+    plus_by x y b d g p q top other _ _ is refl refl ∙ joined-multiple ◌+ℤ◌ (p * d) (signed (int_lt x.num (pos 0)) (top * q)) (signed (int_lt y.num (pos 0)) (other * p)) e h
 
 -- the sum where the first numerator is
-pub plus-left : (x y : Fraction) (b d g top other : ℕ) (s : Bool) (n : ℤ) (e : FracFault) → IsParts x y b d g top other → s ≡ int_lt x.num (pos 0)
-    → Ok n ≡ within (pos (b / g * d)) → Err e ≡ within (signed s (top * (d / g))) → plus x y ≡ Err e
-plus-left x y b d g top other s n e is s_is p h = plus_by x y b d g top other s _ is s_is refl ∙ joined-left ◌+ℤ◌ (b / g * d) (signed s (top * (d / g))) (signed (int_lt y.num (pos 0)) (other * (b / g))) n e p h
+pub plus-left : (x y : Fraction) (b d g p q top other : ℕ) (s : Bool) (n : ℤ) (e : FracFault) → IsParts x y b d g p q top other → s ≡ int_lt x.num (pos 0)
+    → Ok n ≡ within (pos (p * d)) → Err e ≡ within (signed s (top * q)) → plus x y ≡ Err e
+plus-left x y b d g p q top other s n e is s_is m h =
+    plus_by x y b d g p q top other s _ is s_is refl ∙ joined-left ◌+ℤ◌ (p * d) (signed s (top * q)) (signed (int_lt y.num (pos 0)) (other * p)) n e m h
 
 -- the sum where the second numerator is
-pub plus-right : (x y : Fraction) (b d g top other : ℕ) (s t : Bool) (n k : ℤ) (e : FracFault) → IsParts x y b d g top other
+pub plus-right : (x y : Fraction) (b d g p q top other : ℕ) (s t : Bool) (n k : ℤ) (e : FracFault) → IsParts x y b d g p q top other
     → s ≡ int_lt x.num (pos 0) → t ≡ int_lt y.num (pos 0)
-    → Ok n ≡ within (pos (b / g * d)) → Ok k ≡ within (signed s (top * (d / g))) → Err e ≡ within (signed t (other * (b / g))) → plus x y ≡ Err e
-plus-right x y b d g top other s t n k e is s_is t_is p q h =
-    plus_by x y b d g top other s t is s_is t_is ∙ joined-right ◌+ℤ◌ (b / g * d) (signed s (top * (d / g))) (signed t (other * (b / g))) n k e p q h
+    → Ok n ≡ within (pos (p * d)) → Ok k ≡ within (signed s (top * q)) → Err e ≡ within (signed t (other * p)) → plus x y ≡ Err e
+plus-right x y b d g p q top other s t n k e is s_is t_is m l h =
+    plus_by x y b d g p q top other s t is s_is t_is ∙ joined-right ◌+ℤ◌ (p * d) (signed s (top * q)) (signed t (other * p)) n k e m l h
 
 -- the sum where all parts are in range
-pub plus-sum : (x y : Fraction) (b d g top other : ℕ) (s t : Bool) (n k j : ℤ) → IsParts x y b d g top other
+pub plus-sum : (x y : Fraction) (b d g p q top other : ℕ) (s t : Bool) (n k j : ℤ) → IsParts x y b d g p q top other
     → s ≡ int_lt x.num (pos 0) → t ≡ int_lt y.num (pos 0)
-    → Ok n ≡ within (pos (b / g * d)) → Ok k ≡ within (signed s (top * (d / g))) → Ok j ≡ within (signed t (other * (b / g)))
+    → Ok n ≡ within (pos (p * d)) → Ok k ≡ within (signed s (top * q)) → Ok j ≡ within (signed t (other * p))
     → plus x y ≡ sum_over (unsigned_abs n) (k +ℤ j)
-plus-sum x y b d g top other s t n k j is s_is t_is p q h =
-    plus_by x y b d g top other s t is s_is t_is ∙ joined-sum ◌+ℤ◌ (b / g * d) (signed s (top * (d / g))) (signed t (other * (b / g))) n k j p q h
+plus-sum x y b d g p q top other s t n k j is s_is t_is m l h =
+    plus_by x y b d g p q top other s t is s_is t_is ∙ joined-sum ◌+ℤ◌ (p * d) (signed s (top * q)) (signed t (other * p)) n k j m l h
+
+-- what the sum shares with the multiple, it shares with the divisor
+pub sum-shared : (x y : Fraction) (b d g p q top other : ℕ) (s t : Bool) (n k j : ℤ) → IsParts x y b d g p q top other → IsGcd top b 1 → IsGcd other d 1
+    → Ok n ≡ within (pos (p * d)) → Ok k ≡ within (signed s (top * q)) → Ok j ≡ within (signed t (other * p))
+    → gcd (unsigned_abs (k +ℤ j)) g ≡ gcd (unsigned_abs (k +ℤ j)) (unsigned_abs n)
+sum-shared x y b d g p q top other s t n k j is first second m l h =
+    rw ((within_ok n (pos (p * d)) m).1, (within_ok k (signed s (top * q)) l).1, (within_ok j (signed t (other * p)) h).1, is.p_is, is.q_is, is.g_is)
+    (sym (sum_shares s t top b other d is.some_b is.some_d first second))
 
 -- a difference is the sum with the other sign
 pub minus-negated : (x y : Fraction) → minus x y ≡ plus x (negated y)

@@ -1,38 +1,112 @@
 //! The greatest common divisor.
 
-ghost use Rattle.std.specs.Prelude.{◌≡◌, ◌<◌, ◌^◌};
+ghost use Rattle.std.specs.Prelude.{◌≡◌, ◌<◌, ◌/◌, ◌%◌};
 ghost use Rattle.frac128.specs.Divisors.{gcd as gcd_of};
 
-// The greatest common divisor: wide steps while they are needed, since a wide division is slow.
-#[tactic(auto, using(crate::proofs::Euclid::euclid))]
+// The greatest number of one word.
+const NARROW: u128 = u64::MAX as u128;
+
+// The greatest common divisor. Where one number has one word, a division leaves two such; the rest
+// is done without division, which is slow.
 pub(crate) fn gcd(a: u128, b: u128) -> u128
     ensures is { result ≡ gcd_of a b }
     ensures some { 0 < b → 0 < result }
 {
-    let mut x = a;
-    let mut y = b;
-    while y >= 1 << 64 {
-        let rest = x % y;
-        x = y;
-        y = rest;
-    }
-    if y == 0 {
-        return x;
-    }
-    u128::from(narrow_gcd(y as u64, (x % y) as u64))
+    if a < b { ordered_gcd(b, a) } else { ordered_gcd(a, b) }
 }
 
-// The greatest common divisor of two numbers of one word.
-#[tactic(auto, using(crate::proofs::Euclid::euclid))]
+// The same, where the second number is often the less.
+fn ordered_gcd(a: u128, b: u128) -> u128
+    ensures { result ≡ gcd_of a b }
+{
+    if b > NARROW {
+        return wide_gcd(a, b);
+    }
+    let divisor = b as u64;
+    match divisor {
+        0 => a,
+        1 => 1,
+        _ => u128::from(narrow_gcd(rest(a, divisor), divisor)),
+    }
+}
+
+// What a division leaves, which is quick where the number has one word.
+fn rest(a: u128, b: u64) -> u64
+    requires { 0 < b }
+    ensures { result ≡ a % b }
+{
+    if a > NARROW {
+        (a % u128::from(b)) as u64
+    } else {
+        a as u64 % b
+    }
+}
+
+// The greatest common divisor of two numbers, the second of which is above 0: that of their odd
+// parts, times the less power of two.
 fn narrow_gcd(a: u64, b: u64) -> u64
-    ensures is { result ≡ gcd_of a b }
+    requires { 0 < b }
+    ensures { result ≡ gcd_of a b }
+{
+    if a == 0 {
+        return b;
+    }
+    let (i, j) = (a.trailing_zeros(), b.trailing_zeros());
+    narrow_odd_gcd(a >> i, b >> j) << i.min(j)
+}
+
+// The same in two words.
+fn wide_gcd(a: u128, b: u128) -> u128
+    requires { 0 < b }
+    ensures { result ≡ gcd_of a b }
+{
+    if a == 0 {
+        return b;
+    }
+    let (i, j) = (a.trailing_zeros(), b.trailing_zeros());
+    wide_odd_gcd(a >> i, b >> j) << i.min(j)
+}
+
+// The greatest common divisor of two odd numbers. Their difference is even, and its factors of two
+// do not count.
+fn narrow_odd_gcd(a: u64, b: u64) -> u64
+    requires odd_a { a % 2 ≡ 1 }
+    requires odd_b { b % 2 ≡ 1 }
+    ensures { result ≡ gcd_of a b }
 {
     let mut x = a;
     let mut y = b;
-    while y != 0 {
-        let rest = x % y;
-        x = y;
-        y = rest;
+    while x != y {
+        let difference = x.abs_diff(y);
+        x = x.min(y);
+        y = difference >> difference.trailing_zeros();
     }
     x
+}
+
+// The same in two words, as long as one of the numbers needs them.
+fn wide_odd_gcd(a: u128, b: u128) -> u128
+    requires odd_a { a % 2 ≡ 1 }
+    requires odd_b { b % 2 ≡ 1 }
+    ensures { result ≡ gcd_of a b }
+{
+    let mut x = a;
+    let mut y = b;
+    while x > NARROW || y > NARROW {
+        if x == y {
+            return x;
+        }
+        let difference = x.abs_diff(y);
+        x = x.min(y);
+        y = difference >> difference.trailing_zeros();
+    }
+    u128::from(narrow_odd_gcd(x as u64, y as u64))
+}
+
+// The quotient. A division by 1 is spared.
+pub(crate) fn quotient(a: u128, divisor: u128) -> u128
+    requires { 0 < divisor }
+    ensures { result ≡ a / divisor }
+{
+    if divisor == 1 { a } else { a / divisor }
 }

@@ -2,11 +2,12 @@
 
 ghost use Rattle.std.specs.Prelude.{◌≡◌, ◌<◌, ◌≤◌, ◌↔◌, pos, int_lt, unsigned_abs, IsTrue};
 ghost use Rattle.std.specs.Int.{IsGcd};
+ghost use Rattle.frac128.specs.Divisors.{gcd as gcd_of};
 ghost use Rattle.frac128.specs.Fraction.{IsKept, IsReduced, most, negated, whole};
 ghost use Rattle.frac128.specs.Sign.{signed as signed_of};
 ghost use Rattle.frac128.specs.Steps.{fitting, ratio};
 
-use crate::divisors::gcd;
+use crate::divisors::{gcd, quotient};
 use crate::fault::FracFault;
 use crate::sign::{differ, signed};
 use std::marker::Model;
@@ -44,8 +45,7 @@ impl Frac {
         }
         let top = n.unsigned_abs();
         let bottom = d.unsigned_abs();
-        let divisor = gcd(top, bottom);
-        Frac::fitting(differ(n < 0, d < 0), top / divisor, bottom / divisor)
+        Frac::lowered(differ(n < 0, d < 0), top, bottom, gcd(top, bottom))
     }
 
     /// The numerator, which has the fraction's sign.
@@ -125,5 +125,19 @@ impl Frac {
         }
         let num = signed(negative, top);
         Ok(Frac { num, den: bottom })
+    }
+
+    // The number of this sign and magnitude over another one, by their greatest common divisor.
+    pub(crate) fn lowered(
+        negative: bool,
+        top: u128,
+        bottom: u128,
+        divisor: u128,
+    ) -> Result<Frac, FracFault>
+        requires some { 0 < bottom }
+        requires divisor { divisor ≡ gcd_of top bottom }
+        ensures { result ≡ ratio (signed_of negative top) (pos bottom) }
+    {
+        Frac::fitting(negative, quotient(top, divisor), quotient(bottom, divisor))
     }
 }

@@ -1,11 +1,11 @@
 //! Products and quotients, reduced crosswise before they are made.
 
-ghost use Rattle.std.specs.Prelude.{◌≡◌, ◌<◌, ◌*◌, IfSome, IfNone};
+ghost use Rattle.std.specs.Prelude.{◌≡◌, ◌<◌, ◌*◌, ◌/◌, ◌^◌, IfSome, IfNone, SomeIff};
 ghost use Rattle.std.specs.Int.{IsGcd};
 ghost use Rattle.frac128.specs.Divisors.{IsLowest, IsWide};
 ghost use Rattle.frac128.specs.Steps.{times, over};
 
-use crate::divisors::gcd;
+use crate::divisors::{gcd, quotient};
 use crate::fault::FracFault;
 use crate::fraction::Frac;
 use crate::sign::differ;
@@ -50,7 +50,16 @@ fn lowest_product(a: u128, b: u128, c: u128, d: u128) -> Option<(u128, u128)>
 {
     let left = gcd(a, d);
     let right = gcd(c, b);
-    let top = (a / left).checked_mul(c / right)?;
-    let bottom = (b / right).checked_mul(d / left)?;
+    let top = reduced_product(a, left, c, right)?;
+    let bottom = reduced_product(b, right, d, left)?;
     Some((top, bottom))
+}
+
+// The product of two quotients, or none where it has more than 128 bits.
+fn reduced_product(a: u128, left: u128, c: u128, right: u128) -> Option<u128>
+    requires left { 0 < left }
+    requires right { 0 < right }
+    ensures { SomeIff result (a / left * (c / right) < 2 ^ 128) (a / left * (c / right)) }
+{
+    quotient(a, left).checked_mul(quotient(c, right))
 }

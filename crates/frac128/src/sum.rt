@@ -1,11 +1,12 @@
 //! Sums and differences, over the least common multiple of the denominators.
 
 ghost use Rattle.std.specs.Prelude.{◌≡◌, ◌*◌, ◌+ℤ◌, ◌<ℤ◌, ◌≤◌, pos, unsigned_abs};
+ghost use Rattle.frac128.specs.Divisors.{gcd as gcd_of};
 ghost use Rattle.frac128.specs.Fraction.{most};
 ghost use Rattle.frac128.specs.Sign.{signed as signed_of};
 ghost use Rattle.frac128.specs.Sums.{minus, plus, sum_over, within};
 
-use crate::divisors::gcd;
+use crate::divisors::{gcd, quotient};
 use crate::fault::FracFault;
 use crate::fraction::{Frac, MOST};
 use crate::sign::signed;
@@ -18,11 +19,12 @@ impl Frac {
     {
         let (a, b) = (self.top(), self.bottom());
         let (c, d) = (other.top(), other.bottom());
-        let divisor = gcd(b, d);
-        let multiple = product(false, b / divisor, d)?;
-        let left = product(self.is_negative(), a, d / divisor)?;
-        let right = product(other.is_negative(), c, b / divisor)?;
-        Frac::sum_over(multiple, left, right)
+        let shared = gcd(b, d);
+        let (ours, theirs) = (quotient(b, shared), quotient(d, shared));
+        let multiple = product(false, ours, d)?;
+        let left = product(self.is_negative(), a, theirs)?;
+        let right = product(other.is_negative(), c, ours)?;
+        Frac::sum_over(multiple, left, right, shared)
     }
 
     /// The difference. `Overflow` where the least common multiple of the denominators, one of
@@ -33,16 +35,27 @@ impl Frac {
         self.add(&other.negate())
     }
 
-    // The sum of two numerators over a denominator.
-    fn sum_over(multiple: i128, left: i128, right: i128) -> Result<Frac, FracFault>
+    // The sum of two numerators over a denominator. What the sum shares with the denominator, it
+    // shares with the number `shared`, which is less.
+    fn sum_over(
+        multiple: i128,
+        left: i128,
+        right: i128,
+        shared: u128,
+    ) -> Result<Frac, FracFault>
         requires some { pos 0 <ℤ multiple }
         requires multiple { unsigned_abs multiple ≤ most }
         requires left { unsigned_abs left ≤ most }
         requires right { unsigned_abs right ≤ most }
+        requires shared { gcd_of (unsigned_abs (left +ℤ right)) shared
+            ≡ gcd_of (unsigned_abs (left +ℤ right)) (unsigned_abs multiple) }
         ensures { result ≡ sum_over (unsigned_abs multiple) (left +ℤ right) }
     {
         match left.checked_add(right) {
-            Some(sum) if sum != i128::MIN => Frac::new(sum, multiple),
+            Some(sum) if sum != i128::MIN => {
+                let (top, bottom) = (sum.unsigned_abs(), multiple.unsigned_abs());
+                Frac::lowered(sum < 0, top, bottom, gcd(top, shared))
+            }
             _ => Err(FracFault::Overflow),
         }
     }

@@ -1,37 +1,31 @@
-use Rattle.std.proofs.Common.{◌≡◌, ◌/◌, ℕ, ℤ, refl, sym, ap, ◌∙◌, unsigned_abs, of_z}
+use Rattle.std.proofs.Common.{◌≡◌, ◌<◌, ℤ, pos, refl, sym, ap, ◌∙◌, unsigned_abs, of_z}
 use mir.Syntax.{w128}
 use Rattle.std.proofs.lemmas.Int.{to_z-of_z}
-use Rattle.frac128.specs.Divisors.{IsLowest, gcd}
-use Rattle.frac128.specs.Sign.{signed}
-use Rattle.frac128.specs.Steps.{fitting}
-use Rattle.frac128.proofs.Lowest.{lowest_gcd, lowest_some}
-use Rattle.frac128.proofs.Signs.{ratio_is, some_abs}
+use Rattle.frac128.specs.Sign.{signed, signs_differ}
+use Rattle.frac128.specs.Steps.{ratio}
+use Rattle.frac128.proofs.Signs.{ratio-signed, ratio_is, some_abs}
 use Rattle.frac128.proofs.fraction.Frac.new.Goals as goal
 
--- two numbers divided by their greatest common divisor
-divided : (n d : ℤ) (a b g : ℕ) → a ≡ unsigned_abs n → b ≡ unsigned_abs d → g ≡ gcd a b → IsLowest (unsigned_abs n) (unsigned_abs d) (a / g) (b / g)
-divided n d a b g p q e = rw (e, p, q) (record { top_is = refl; bottom_is = refl })
+-- a quotient by its sign and magnitudes
+by_signs : (n d : ℤ) → 0 < unsigned_abs d → ratio n d ≡ ratio (signed (signs_differ n d) (unsigned_abs n)) (pos (unsigned_abs d))
+by_signs n d some =
+    ratio_is n d _ _ some (record { top_is = refl; bottom_is = refl })
+    ∙ sym (ratio-signed _ (unsigned_abs n) (unsigned_abs d) _ _ some (record { top_is = refl; bottom_is = refl }))
 
-pub fitting-requires-clause-some : goal.fitting-requires-clause-some
-fitting-requires-clause-some c =
-    let fits_n = c.ranges.n in
+pub lowered-requires-clause-some : goal.lowered-requires-clause-some
+lowered-requires-clause-some c =
     let fits_d = c.ranges.d in
-    let low = divided c.args.n c.args.d _ _ _ (simp to_z-of_z at c.unsigned_abs-top.ensures.value) (simp to_z-of_z at c.unsigned_abs-bottom.ensures.value) c.gcd-divisor.ensures.is in
-    lowest_some _ _ _ _ (some_abs c.args.d (λ e. c.if-d-eq0.false (ap (of_z w128) e))) low
-
-pub fitting-requires-clause-lowest : goal.fitting-requires-clause-lowest
-fitting-requires-clause-lowest c =
-    let fits_n = c.ranges.n in
-    let fits_d = c.ranges.d in
-    let low = divided c.args.n c.args.d _ _ _ (simp to_z-of_z at c.unsigned_abs-top.ensures.value) (simp to_z-of_z at c.unsigned_abs-bottom.ensures.value) c.gcd-divisor.ensures.is in
-    lowest_gcd _ _ _ _ (some_abs c.args.d (λ e. c.if-d-eq0.false (ap (of_z w128) e))) low
+    rw (simp to_z-of_z at c.unsigned_abs-bottom.ensures.value) (some_abs c.args.d (λ e. c.if-d-eq0.false (ap (of_z w128) e)))
 
 pub returns : goal.returns
 returns c =
     let fits_n = c.ranges.n in
     let fits_d = c.ranges.d in
-    let low = divided c.args.n c.args.d _ _ _ (simp to_z-of_z at c.unsigned_abs-top.ensures.value) (simp to_z-of_z at c.unsigned_abs-bottom.ensures.value) c.gcd-divisor.ensures.is in
+    let top = simp to_z-of_z at c.unsigned_abs-top.ensures.value in
+    let bottom = simp to_z-of_z at c.unsigned_abs-bottom.ensures.value in
     let signs = simp to_z-of_z at c.differ.ensures in
-    c.fitting.ensures
-    ∙ ap (λ s. fitting (record { num = signed s (c.unsigned_abs-top.result / c.gcd-divisor.result); den = c.unsigned_abs-bottom.result / c.gcd-divisor.result })) signs
-    ∙ sym (ratio_is c.args.n c.args.d _ _ (some_abs c.args.d (λ e. c.if-d-eq0.false (ap (of_z w128) e))) low)
+    c.lowered.ensures
+    ∙ ap (λ s. ratio (signed s c.unsigned_abs-top.result) (pos c.unsigned_abs-bottom.result)) signs
+    ∙ ap (λ k. ratio (signed (signs_differ c.args.n c.args.d) k) (pos c.unsigned_abs-bottom.result)) top
+    ∙ ap (λ k. ratio (signed (signs_differ c.args.n c.args.d) (unsigned_abs c.args.n)) (pos k)) bottom
+    ∙ sym (by_signs c.args.n c.args.d (some_abs c.args.d (λ e. c.if-d-eq0.false (ap (of_z w128) e))))

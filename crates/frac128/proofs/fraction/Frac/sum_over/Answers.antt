@@ -1,9 +1,11 @@
-use Rattle.std.proofs.Common.{◌≡◌, ◌<ℤ◌, ◌≤◌, ◌^◌, ℤ, pos, negsuc, unsigned_abs, SFits, of_z, arith, ap, ◌∙◌}
+use Rattle.std.proofs.Common.{◌≡◌, ◌<◌, ◌<ℤ◌, ◌≤◌, ◌^◌, ℕ, ℤ, pos, negsuc, unsigned_abs, int_lt, SFits, of_z, to_z, arith, sym, ap, ◌∙◌}
 use mir.Syntax.{w128}
 use Rattle.std.proofs.lemmas.Int.{ints, to_z-of_z}
 use Rattle.frac128.specs.Fraction.{most}
+use Rattle.frac128.specs.Sign.{signed}
 use Rattle.frac128.specs.Steps.{ratio}
 use Rattle.frac128.specs.Sums.{sum_over}
+use Rattle.frac128.proofs.Signs.{signed_is}
 use Rattle.frac128.proofs.Sums.{sum_over-ratio}
 use Rattle.frac128.proofs.fraction.Frac.sum_over.Goals as goal
 
@@ -12,10 +14,36 @@ not_least : (z : ℤ) → SFits w128 z → (of_z w128 z ≡ 2 ^ 127 → ⊥) →
 not_least (pos n) fits other = let h = fits.sfits in omega arith
 not_least (negsuc n) fits other = let h = fits.sfits in omega arith
 
--- a ratio over a number above 0
-ratio_over : (sum m : ℤ) → pos 0 <ℤ m → unsigned_abs m ≤ most → unsigned_abs sum ≤ most → ratio sum m ≡ sum_over (unsigned_abs m) sum
-ratio_over sum (pos m) some low h = sum_over-ratio m sum (omega (arith, ints)) low h
-ratio_over sum (negsuc m) some low h = absurd (omega (arith, ints))
+-- a ratio by its sign and magnitudes, over a number above 0
+ratio_over : (sum m : ℤ) (top bottom : ℕ) → top ≡ unsigned_abs sum → bottom ≡ unsigned_abs m → pos 0 <ℤ m → unsigned_abs m ≤ most → unsigned_abs sum ≤ most
+    → ratio (signed (int_lt sum (pos 0)) top) (pos bottom) ≡ sum_over (unsigned_abs m) sum
+ratio_over sum (pos m) top bottom p q some low h =
+    ap (λ k. ratio (signed (int_lt sum (pos 0)) k) (pos bottom)) p
+    ∙ ap (λ k. ratio (signed (int_lt sum (pos 0)) (unsigned_abs sum)) (pos k)) q
+    ∙ ap (λ z. ratio z (pos m)) (sym (signed_is sum))
+    ∙ sum_over-ratio m sum (omega (arith, ints)) low h
+ratio_over sum (negsuc m) top bottom p q some low h = absurd (omega (arith, ints))
+
+-- a number above 0 has a magnitude above 0
+some_abs : (m : ℤ) (n : ℕ) → pos 0 <ℤ m → n ≡ unsigned_abs m → 0 < n
+some_abs (pos m) n some e = omega (arith, ints)
+some_abs (negsuc m) n some e = absurd (omega (arith, ints))
+
+pub lowered-requires-clause-some : goal.lowered-requires-clause-some
+lowered-requires-clause-some c =
+    let fits_multiple : SFits w128 c.args.multiple = c.ranges.multiple in
+    some_abs _ _ c.requires.some (simp to_z-of_z at c.unsigned_abs-bottom.ensures.value)
+
+pub lowered-requires-clause-divisor : goal.lowered-requires-clause-divisor
+lowered-requires-clause-divisor c =
+    let fits_left : SFits w128 c.args.left = c.ranges.left in
+    let fits_right : SFits w128 c.args.right = c.ranges.right in
+    let fits_multiple : SFits w128 c.args.multiple = c.ranges.multiple in
+    let facts = simp to_z-of_z at c.in-Some.ensures in
+    let fits_sum : SFits w128 c.in-Some.sum = rw facts.1 facts.0 in
+    let top = simp to_z-of_z at c.unsigned_abs-top.ensures.value in
+    let bottom = simp to_z-of_z at c.unsigned_abs-bottom.ensures.value in
+    c.gcd.ensures.is ∙ rw (top, facts.1, bottom) c.requires.shared
 
 pub returns-in-Some : goal.returns-in-Some
 returns-in-Some c =
@@ -24,6 +52,10 @@ returns-in-Some c =
     let fits_multiple : SFits w128 c.args.multiple = c.ranges.multiple in
     let facts = simp to_z-of_z at c.in-Some.ensures in
     let fits_sum : SFits w128 c.in-Some.sum = rw facts.1 facts.0 in
-    let value = simp to_z-of_z at c.new.ensures in
-    value ∙ ratio_over c.in-Some.sum c.args.multiple c.requires.some c.requires.multiple (not_least _ fits_sum c.if-sum.true)
+    let top = simp to_z-of_z at c.unsigned_abs-top.ensures.value in
+    let bottom = simp to_z-of_z at c.unsigned_abs-bottom.ensures.value in
+    let back : to_z w128 (of_z w128 c.in-Some.sum) ≡ c.in-Some.sum = simp to_z-of_z in
+    c.lowered.ensures
+    ∙ ap (λ z. ratio (signed (int_lt z (pos 0)) c.unsigned_abs-top.result) (pos c.unsigned_abs-bottom.result)) back
+    ∙ ratio_over c.in-Some.sum c.args.multiple _ _ top bottom c.requires.some c.requires.multiple (not_least _ fits_sum c.if-sum.true)
     ∙ ap (sum_over (unsigned_abs c.args.multiple)) facts.1
