@@ -2,7 +2,7 @@
 use Rattle.std.proofs.Common.{◌≡◌, ◌==◌, ℕ, List, [], ◌∷◌, Bool, true, false, if◌then◌else◌, Option, Some, None, Result, Ok, Err, codes, refl, sym, ap, ◌∙◌}
 use Rattle.std.specs.List.{slice_split}
 use Rattle.def_lines.specs.Blanks.{trimmed}
-use Rattle.def_lines.specs.Words.{same_bytes}
+use Rattle.std.specs.Str.{bytes_eq}
 use Rattle.expr_tree.specs.declared.fault.ParseFault.{ParseFault}
 use Rattle.expr_tree.specs.declared.fault.ParseFault.TheVariants as parse
 use Rattle.expr_tree.specs.Names.{is_name}
@@ -65,8 +65,8 @@ of_body text =
 
 of_unit : (text : List ℕ) → tells (unit_in text) ≡ true
 of_unit text =
-    either (same_bytes text (codes "!")) (Ok Primitive) (if same_bytes text (codes "!dimensionless") then Ok Dimensionless else body_in text) refl
-    (either (same_bytes text (codes "!dimensionless")) (Ok Dimensionless) (body_in text) refl (of_body text))
+    either (bytes_eq text (codes "!")) (Ok Primitive) (if bytes_eq text (codes "!dimensionless") then Ok Dimensionless else body_in text) refl
+    (either (bytes_eq text (codes "!dimensionless")) (Ok Dimensionless) (body_in text) refl (of_body text))
 
 of_alias : (text : List ℕ) → tells (alias_in text) ≡ true
 of_alias text =

@@ -3,7 +3,7 @@ use Rattle.std.specs.Prelude.{◌≡◌, ◌↔◌, ◌==◌, ◌-◌, ℕ, List
 use Rattle.std.specs.List.{ends_with, slice_split}
 use Rattle.def_lines.specs.Blanks.{trimmed}
 use Rattle.def_lines.specs.Kinds.{Kind as LineKind, Definition, UnitList}
-use Rattle.def_lines.specs.Words.{same_bytes}
+use Rattle.std.specs.Str.{bytes_eq}
 use Rattle.expr_tree.specs.Syntax.{Syntax}
 use Rattle.piecewise.specs.Lines.{Point}
 use Rattle.def_entry.specs.declared.key.Key.{Key}
@@ -34,9 +34,9 @@ body_in text = do
 -- a unit
 abbrev pub unit_in : List ℕ → Result What EntryFault
 unit_in text =
-    if same_bytes text (codes "!")
+    if bytes_eq text (codes "!")
     then Ok Primitive
-    else (if same_bytes text (codes "!dimensionless") then Ok Dimensionless else body_in text)
+    else (if bytes_eq text (codes "!dimensionless") then Ok Dimensionless else body_in text)
 
 -- a text without a final `()`
 abbrev pub without_call : List ℕ → List ℕ

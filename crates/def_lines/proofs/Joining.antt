@@ -1,10 +1,9 @@
 -- Lines that go on.
-use Rattle.std.proofs.Common.{◌≡◌, ◌++◌, ◌∷◌, [], ℕ, List, Option, Some, map, refl, sym, ap, ◌∙◌, append_assoc}
+use Rattle.std.proofs.Common.{◌≡◌, ◌++◌, ◌∷◌, [], ℕ, List, false, cond, ◌+◌, map, refl, sym, ap, ◌∙◌, append_assoc}
 use Rattle.std.proofs.lemmas.List.{append-nil}
 use Rattle.def_lines.specs.declared.line.Line.{Line}
 use Rattle.def_lines.specs.Blanks.{trimmed}
-use Rattle.def_lines.specs.Lines.{joined, trimmed_line}
-use Rattle.def_lines.specs.Parts.{behind_part}
+use Rattle.def_lines.specs.Lines.{cleaned, continued, ends_with, front, joined, lines_from, physical_lines, trimmed_line}
 
 -- what is joined to a line that is joined
 pub joined-joined : (n m : ℕ) (front text : List ℕ) (lines : List Line) → joined n front (joined m text lines) ≡ joined n (front ++ text) lines
@@ -19,12 +18,21 @@ trimmed-joined n a b same [] =
 trimmed-joined n a b same (line ∷ lines) =
     ap (λ (t : List ℕ). record { number = n; text = t } ∷ map trimmed_line lines) (same line.text)
 
--- a line that ends takes in the line that went on
-pub line-ended : (held : Option Line) (part line : Line) (n : ℕ) (new bytes : List ℕ) → held ≡ Some part → line.number ≡ part.number → line.text ≡ trimmed new
-    → ((behind : List ℕ) → trimmed (new ++ behind) ≡ trimmed (part.text ++ (bytes ++ behind)))
-    → (lines : List Line) → line ∷ map trimmed_line lines ≡ map trimmed_line (behind_part held (record { number = n; text = bytes } ∷ lines))
-line-ended held part line n new bytes is number text put lines =
-    let all : line.text ≡ trimmed (part.text ++ bytes) =
-    text ∙ ap trimmed (sym (append-nil new)) ∙ put [] ∙ ap (λ t. trimmed (part.text ++ t)) (append-nil bytes) in
-    (λ i. (record { number = number i; text = all i } ∷ map trimmed_line lines))
-    ∙ ap (λ h. map trimmed_line (behind_part h (record { number = n; text = bytes } ∷ lines))) (sym is)
+-- a line that these bytes end
+pub line-ended : (number : ℕ) (line : Line) (old new bytes : List ℕ) → line.number ≡ number → line.text ≡ trimmed new
+    → ((behind : List ℕ) → trimmed (new ++ behind) ≡ trimmed (old ++ (bytes ++ behind)))
+    → (more : List Line) → line ∷ map trimmed_line more ≡ trimmed_line (record { number = number; text = old ++ bytes }) ∷ map trimmed_line more
+line-ended number line old new bytes named text put more =
+    let all : line.text ≡ trimmed (old ++ bytes) =
+    text ∙ ap trimmed (sym (append-nil new)) ∙ put [] ∙ ap (λ t. trimmed (old ++ t)) (append-nil bytes) in
+    (λ i. (record { number = named i; text = all i } ∷ map trimmed_line more))
+
+-- the logical lines from a physical line on that does not go on
+pub lines_from-ended : (number : ℕ) (bytes line behind left : List ℕ) → physical_lines bytes ≡ line ∷ physical_lines behind → left ≡ cleaned line
+    → ends_with 92 left ≡ false
+    → lines_from number (physical_lines bytes) ≡ record { number = number; text = left } ∷ lines_from (number + 1) (physical_lines behind)
+lines_from-ended number bytes line behind left first clean ends =
+    ap (lines_from number) first
+    ∙ ap (λ text. continued number text (lines_from (number + 1) (physical_lines behind))) (sym clean)
+    ∙ ap (λ b. cond b (joined number (front left ++ 32 ∷ []) (lines_from (number + 1) (physical_lines behind)))
+    (record { number = number; text = left } ∷ lines_from (number + 1) (physical_lines behind))) ends

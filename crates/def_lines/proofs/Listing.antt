@@ -2,9 +2,10 @@
 use Rattle.std.proofs.Common.{◌≡◌, ◌<◌, ◌≤◌, ◌+◌, ◌∷◌, [], ◌||◌, ℕ, suc, List, Bool, true, false, cond, not, length, take, drop, refl, sym, ap, ◌∙◌, arith, one-add, ◌==◌, length-drop}
 use Rattle.std.specs.List.{list_any, position_or_len, slice_split, onto_first}
 use Rattle.units_io.specs.Blanks.{is_blank}
+use Rattle.std.specs.Str.{bytes_eq}
 use Rattle.def_lines.specs.Blanks.{after_blanks}
 use Rattle.def_lines.specs.Parts.{is_begun}
-use Rattle.def_lines.specs.Words.{after_word, first_word, is_listed, nonempty, same_bytes, words_of}
+use Rattle.def_lines.specs.Words.{after_word, first_word, is_listed, nonempty, words_of}
 use Rattle.def_lines.proofs.Trimming.{after_blanks-blank, after_blanks-word, empty-nil, is_begun-after_blanks, length-after_blanks}
 
 -- where the first blank stands
@@ -111,7 +112,7 @@ is_begun-after_word text = is_begun-after_blanks (drop (length (first_word text)
 
 -- blanks at the front change nothing
 pub is_listed-after_blanks : (text value : List ℕ) → is_listed (after_blanks text) value ≡ is_listed text value
-is_listed-after_blanks text value = ap (λ ws. list_any (λ word. same_bytes word value) ws) (words_of-after_blanks text)
+is_listed-after_blanks text value = ap (λ ws. list_any (λ word. bytes_eq word value) ws) (words_of-after_blanks text)
 
 -- nothing is listed in no text
 pub is_listed-none : (text value : List ℕ) → (length text == 0) ≡ true → is_listed text value ≡ false
@@ -120,10 +121,10 @@ is_listed-none text value none = ap (λ t. is_listed t value) (empty-nil text no
 
 -- a value is listed where it is the first word, or where it is one behind that
 pub is_listed-first : (text value : List ℕ) → is_begun text ≡ true → (length text == 0) ≡ false
-    → is_listed text value ≡ (same_bytes (first_word text) value || is_listed (after_word text) value)
+    → is_listed text value ≡ (bytes_eq (first_word text) value || is_listed (after_word text) value)
 is_listed-first [] value begun some = cc
 is_listed-first (b ∷ text) value begun some =
-    ap (λ ws. list_any (λ w. same_bytes w value) ws) (words_of-first b text begun)
+    ap (λ ws. list_any (λ w. bytes_eq w value) ws) (words_of-first b text begun)
 
 -- what stands behind the first word is shorter
 pub shorter : (text : List ℕ) → is_begun text ≡ true → (length text == 0) ≡ false → length (after_word text) < length text

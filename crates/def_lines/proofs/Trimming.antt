@@ -1,5 +1,6 @@
 -- Blanks at the ends of texts that are put together.
-use Rattle.std.proofs.Common.{◌≡◌, ◌≤◌, ◌++◌, ◌∷◌, [], ℕ, List, Bool, true, false, cond, not, reverse, length, if◌then◌else◌, Result, Ok, Err, OnOk, is_ok, ◌==◌, refl, sym, ap, ◌∙◌, arith}
+use Rattle.std.proofs.Common.{◌≡◌, ◌≤◌, ◌++◌, ◌∷◌, [], ℕ, List, Bool, true, false, cond, not, reverse, length, drop, ◌+◌, one-add, if◌then◌else◌, Result, Ok, Err, OnOk, is_ok, ◌==◌, refl, sym, ap, ◌∙◌, arith}
+use Rattle.std.specs.List.{prefix_len}
 use Rattle.std.proofs.lemmas.List.{reverse-append}
 use Rattle.std.proofs.lemmas.Bool.Decides.{Decides-eqb}
 use Rattle.units_io.specs.Blanks.{is_blank}
@@ -13,6 +14,19 @@ after_blanks-blank b bytes blank = ap (λ t. cond t (after_blanks bytes) (b ∷ 
 -- and no other byte is
 pub after_blanks-word : (b : ℕ) (bytes : List ℕ) → is_blank b ≡ false → after_blanks (b ∷ bytes) ≡ b ∷ bytes
 after_blanks-word b bytes word = ap (λ t. cond t (after_blanks bytes) (b ∷ bytes)) word
+
+-- the blanks at the front are the longest front of blanks
+pub passed_over : (bytes : List ℕ) → drop (prefix_len is_blank bytes) bytes ≡ after_blanks bytes
+passed_over [] = refl
+passed_over (b ∷ bytes) = go (is_blank b) refl (passed_over bytes)
+  where
+    go : (t : Bool) → is_blank b ≡ t → drop (prefix_len is_blank bytes) bytes ≡ after_blanks bytes
+        → drop (prefix_len is_blank (b ∷ bytes)) (b ∷ bytes) ≡ after_blanks (b ∷ bytes)
+    go true e rest =
+        ap (λ t. drop (cond t (1 + prefix_len is_blank bytes) 0) (b ∷ bytes)) e ∙ ap (λ n. drop n (b ∷ bytes)) (one-add (prefix_len is_blank bytes))
+        ∙ rest ∙ sym (after_blanks-blank b bytes e)
+    go false e rest =
+        ap (λ t. drop (cond t (1 + prefix_len is_blank bytes) 0) (b ∷ bytes)) e ∙ sym (after_blanks-word b bytes e)
 
 -- nothing is added
 pub length-after_blanks : (bytes : List ℕ) → length (after_blanks bytes) ≤ length bytes

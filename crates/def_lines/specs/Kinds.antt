@@ -1,9 +1,10 @@
 -- The kinds of lines.
 use Rattle.std.specs.Prelude.{◌==◌, ℕ, List, [], ◌∷◌, if◌then◌else◌, codes, Option, Some, None}
+use Rattle.std.specs.Str.{bytes_eq}
 use Rattle.def_lines.specs.declared.directive.Directive.{Directive}
 use Rattle.def_lines.specs.declared.directive.Directive.TheVariants as directive
 use Rattle.def_lines.specs.Blanks.{after_blanks}
-use Rattle.def_lines.specs.Words.{behind_word, first_word, is_empty, is_word, same_bytes}
+use Rattle.def_lines.specs.Words.{behind_word, first_word, is_empty, is_word}
 
 -- what kind of line it is, with its arguments
 pub data Kind : Type 0 where
@@ -44,7 +45,7 @@ directives =
 -- what stands beside a word in such a list
 abbrev pub beside : List ℕ → List (List ℕ × Directive) → Option Directive
 beside word [] = None
-beside word (d ∷ ds) = if same_bytes word d.0 then Some d.1 else beside word ds
+beside word (d ∷ ds) = if bytes_eq word d.0 then Some d.1 else beside word ds
 
 -- an argument of one word
 abbrev pub with_word : (List ℕ → Kind) → List ℕ → Kind

@@ -1,7 +1,7 @@
 pub mod Blanks
+pub mod Examples
 pub mod Kinds
 pub mod Lines
 pub mod Parts
 pub mod Seen
-pub mod Views
 pub mod Words

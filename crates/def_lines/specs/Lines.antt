@@ -64,6 +64,10 @@ lines_from number (line ∷ lines) = continued number (cleaned line) (lines_from
 abbrev pub trimmed_line : Line → Line
 trimmed_line line = record { number = line.number; text = trimmed line.text }
 
+-- the logical lines of bytes that stand behind so many physical lines
+abbrev pub lines_behind : ℕ → List ℕ → List Line
+lines_behind count bytes = map trimmed_line (lines_from (count + 1) (physical_lines bytes))
+
 -- the logical lines of a file, each with the number of its first physical line
 abbrev pub logical_lines : List ℕ → List Line
-logical_lines bytes = map trimmed_line (lines_from 1 (physical_lines bytes))
+logical_lines bytes = lines_behind 0 bytes

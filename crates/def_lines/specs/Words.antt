@@ -1,7 +1,7 @@
 -- The words of a text, which blanks part.
-use Rattle.std.specs.Prelude.{◌&&◌, ℕ, List, [], ◌∷◌, Bool, true, false, not, length, drop, nat_eq}
+use Rattle.std.specs.Prelude.{◌&&◌, ℕ, List, [], ◌∷◌, Bool, true, false, not, length, drop}
 use Rattle.std.specs.List.{before_first, list_any, slice_split}
-use Rattle.std.specs.Cmp.Lexicographic.{pointwise}
+use Rattle.std.specs.Str.{bytes_eq}
 use Rattle.units_io.specs.Blanks.{is_blank}
 use Rattle.def_lines.specs.Blanks.{after_blanks, trimmed}
 
@@ -36,10 +36,6 @@ is_empty (b ∷ bytes) = false
 abbrev pub is_word : List ℕ → Bool
 is_word text = not (is_empty text) && not (list_any is_blank text)
 
--- two texts have the same bytes
-abbrev pub same_bytes : List ℕ → List ℕ → Bool
-same_bytes left right = pointwise nat_eq left right
-
 -- the value is one of the words of a text
 abbrev pub is_listed : List ℕ → List ℕ → Bool
-is_listed values value = list_any (λ word. same_bytes word value) (words_of values)
+is_listed values value = list_any (λ word. bytes_eq word value) (words_of values)

@@ -1,9 +1,10 @@
 //! Blanks at the ends of a text.
-
-ghost use Rattle.std.specs.Prelude.{◌≡◌};
+ghost use Rattle.std.specs.Prelude.{◌≡◌, ◌≤◌, length, take};
+ghost use Rattle.std.specs.List.{prefix_len as prefix_len_of};
+ghost use Rattle.units_io.specs.Blanks.{is_blank as is_blank_byte};
 ghost use Rattle.def_lines.specs.Blanks.{after_blanks, before_blanks, trimmed};
 
-use units_io::is_blank;
+use units_io::{is_blank, prefix_len};
 
 /// The text without the blanks at both ends.
 pub fn trim(text: &[u8]) -> &[u8]
@@ -13,29 +14,37 @@ pub fn trim(text: &[u8]) -> &[u8]
 }
 
 /// The text without the blanks at its front.
+#[tactic(auto, using(crate::proofs::Trimming::passed_over))]
 pub fn trim_front(text: &[u8]) -> &[u8]
     ensures { result.now ≡ after_blanks text.now }
 {
-    let mut rest = text;
-    while let Some((first, behind)) = rest.split_first() {
-        if !is_blank(*first) {
-            break;
-        }
-        rest = behind;
-    }
+    let (_, rest) = text.split_at(blank_len(text));
     rest
+}
+
+// How many blanks are at the front of the text.
+fn blank_len(text: &[u8]) -> usize
+    ensures is { result ≡ prefix_len_of is_blank_byte text.now }
+    ensures within { result ≤ length text.now }
+{
+    prefix_len(text, |byte| is_blank(byte))
 }
 
 // The text without the blanks at its end.
 pub(crate) fn trim_end(text: &[u8]) -> &[u8]
     ensures { result.now ≡ before_blanks text.now }
 {
-    let mut rest = text;
-    while let Some((last, front)) = rest.split_last() {
-        if !is_blank(*last) {
-            break;
-        }
-        rest = front;
+    &text[..kept_len(text)]
+}
+
+// How long the text is without the blanks at its end.
+pub(crate) fn kept_len(text: &[u8]) -> usize
+    ensures is { take result text.now ≡ before_blanks text.now }
+    ensures within { result ≤ length text.now }
+{
+    let mut len = text.len();
+    while len > 0 && is_blank(text[len - 1]) {
+        len -= 1;
     }
-    rest
+    len
 }

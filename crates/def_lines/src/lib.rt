@@ -2,20 +2,19 @@
 #![tactic(auto)]
 
 mod blanks;
+mod cursor;
 mod directive;
+mod examples;
 mod kind;
 mod line;
-mod lines;
 mod part;
 mod physical;
-mod split;
-#[cfg(test)]
-mod tests;
 mod words;
 
 pub use blanks::{trim, trim_front};
+pub use cursor::{Cursor, split_lines};
+pub use examples::examples_law;
 pub use kind::{LineKind, classify};
-pub use line::Line;
-pub use lines::Lines;
-pub use split::split_lines;
+pub use line::{LentLine, Line, Lines};
+pub use physical::clean;
 pub use words::{cut_word, listed, split_word};

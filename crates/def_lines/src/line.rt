@@ -1,6 +1,12 @@
 //! A logical line.
+ghost use Rattle.std.specs.Prelude.{◌≡◌, IfOk};
+ghost use Rattle.def_lines.specs.Blanks.{trimmed};
 
-use units_io::Text;
+use crate::blanks::trim;
+use std::alloc::{AllocError, Global};
+use std::borrow::CowSlice;
+use std::marker::Model;
+use units_io::{List, Text};
 
 /// A logical line of a file.
 #[derive(Drop)]
@@ -9,4 +15,69 @@ pub struct Line {
     pub number: u32,
     /// What it says, without blanks at the ends.
     pub text: Text,
+}
+
+/// Lines, in order.
+pub type Lines = List<Line>;
+
+/// A logical line of a file, whose text is lent from the file where it stands on one physical line.
+#[derive(Drop)]
+pub struct LentLine<'a> {
+    number: u32,
+    text: CowSlice<'a, u8>,
+}
+
+impl<'a> Model for LentLine<'a> {
+    ghost use Rattle.std.specs.Cow.{cow_slice_items};
+    ghost use Rattle.def_lines.specs.declared.line.Line.{Line};
+
+    ghost Value = { Line };
+
+    ghost view = { λ line. record { number = line.number; text = cow_slice_items line.text } };
+}
+
+impl<'a> LentLine<'a> {
+    // A line that stands on one physical line.
+    pub(crate) fn lent(number: u32, text: &'a [u8]) -> LentLine<'a>
+        ensures { result ≡ record { number = number; text = trimmed text.now } }
+    {
+        LentLine {
+            number,
+            text: CowSlice::Borrowed(trim(text)),
+        }
+    }
+
+    // A line that was made of more.
+    pub(crate) fn made(line: Line) -> LentLine<'a>
+        ensures { result ≡ line }
+    {
+        LentLine {
+            number: line.number,
+            text: CowSlice::Owned(line.text.into_bytes()),
+        }
+    }
+
+    /// The number of its first physical line, from 1.
+    pub fn number(&self) -> u32
+        ensures { result ≡ self.now.number }
+    {
+        self.number
+    }
+
+    /// What it says, without blanks at the ends.
+    pub fn text(&self) -> &[u8]
+        ensures { result.now ≡ self.now.text }
+    {
+        self.text.as_slice()
+    }
+
+    /// The line in memory of its own. A text that was lent is copied.
+    pub fn into_line(self, alloc: Global) -> Result<Line, AllocError>
+        ensures { IfOk result (λ line. line ≡ self.entry) }
+    {
+        Ok(Line {
+            number: self.number,
+            text: Text::from(self.text.into_owned(alloc)?),
+        })
+    }
 }

@@ -1,13 +1,14 @@
 //! The front of a logical line that goes on.
-
-ghost use Rattle.std.specs.Prelude.{◌≡◌, ◌≤◌, ◌++◌, [], List, ℕ, OnOk, length, take, true};
-ghost use Rattle.def_lines.specs.Blanks.{before_blanks, trimmed};
+ghost use Rattle.std.specs.Prelude.{◌≡◌, ◌++◌, ◌∷◌, [], List, ℕ, IfOk, OnOk, map, true};
+ghost use Rattle.def_lines.specs.declared.line.Line.{Line as LineValue};
+ghost use Rattle.def_lines.specs.Blanks.{trimmed};
+ghost use Rattle.def_lines.specs.Lines.{joined, trimmed_line};
 ghost use Rattle.def_lines.specs.Parts.{is_begun};
 
-use crate::blanks::trim_front;
+use crate::blanks::{kept_len, trim_front};
 use crate::line::Line;
 use std::alloc::{AllocError, Global};
-use units_io::{Text, is_blank};
+use units_io::Text;
 
 // The number of its first physical line, and its text so far without the blanks at its front.
 #[derive(Drop)]
@@ -30,7 +31,7 @@ impl Part {
     }
 
     // Puts bytes at the end.
-    pub(crate) fn put(&mut self, bytes: &[u8]) -> Result<(), AllocError>
+    fn put(&mut self, bytes: &[u8]) -> Result<(), AllocError>
         ensures number { self.new.number ≡ self.old.number }
         ensures text { OnOk result ((behind : List ℕ) → trimmed (self.new.text.items ++ behind)
             ≡ trimmed (self.old.text.items ++ (bytes.now ++ behind))) }
@@ -42,28 +43,35 @@ impl Part {
         }
     }
 
+    // Goes on with what stands before a `\`, in whose place comes a space.
+    pub(crate) fn go_on(&mut self, start: &[u8]) -> Result<(), AllocError>
+        ensures { OnOk result ((number : ℕ) (more : List LineValue) →
+            map trimmed_line (joined self.new.number self.new.text.items more)
+            ≡ map trimmed_line (joined self.old.number self.old.text.items (joined number (start.now ++ 32 ∷ []) more))) }
+    {
+        self.put(start)?;
+        self.put(b" ")
+    }
+
     // The line, where nothing more comes.
     pub(crate) fn finished(self) -> Line
         ensures number { result.number ≡ self.number }
         ensures text { result.text ≡ trimmed self.text.items }
     {
         let Part { number, mut text } = self;
-        text.truncate(trimmed_len(text.as_slice()));
+        text.truncate(kept_len(text.as_slice()));
         Line {
             number,
             text: Text::from(text),
         }
     }
-}
 
-// How long the text is without the blanks at its end.
-fn trimmed_len(text: &[u8]) -> usize
-    ensures is { take result text.now ≡ before_blanks text.now }
-    ensures within { result ≤ length text.now }
-{
-    let mut len = text.len();
-    while len > 0 && is_blank(text[len - 1]) {
-        len -= 1;
+    // The line that these bytes end.
+    pub(crate) fn ended(mut self, bytes: &[u8]) -> Result<Line, AllocError>
+        ensures { IfOk result (λ line. (number : ℕ) (more : List LineValue) → line ∷ map trimmed_line more
+            ≡ map trimmed_line (joined self.number self.text.items (record { number = number; text = bytes.now } ∷ more))) }
+    {
+        self.put(bytes)?;
+        Ok(self.finished())
     }
-    len
 }

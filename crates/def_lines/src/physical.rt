@@ -2,9 +2,10 @@
 
 ghost use Rattle.std.specs.Prelude.{◌≡◌, ◌==◌, ◌≤◌, ◌<◌, ◌∷◌, length, true, false, MatchOption};
 ghost use Rattle.std.specs.List.{position_or_len};
-ghost use Rattle.def_lines.specs.Lines.{before_byte, cleaned, ends_with, front, physical_lines};
+ghost use Rattle.def_lines.specs.Lines.{cleaned, ends_with, front, physical_lines};
 
 use crate::blanks::trim_end;
+use units_io::prefix_len;
 
 // The first physical line, and the bytes behind it.
 pub(crate) fn next_line(bytes: &[u8]) -> (&[u8], &[u8])
@@ -19,8 +20,9 @@ pub(crate) fn next_line(bytes: &[u8]) -> (&[u8], &[u8])
     }
 }
 
-// A physical line without its final carriage return, its comment and then its trailing blanks.
-pub(crate) fn clean(line: &[u8]) -> &[u8]
+/// A physical line without its final carriage return, then without `#` and what follows, then without its
+/// trailing blanks.
+pub fn clean(line: &[u8]) -> &[u8]
     ensures { result.now ≡ cleaned line.now }
 {
     let line = strip_last(line, b'\r').unwrap_or(line);
@@ -44,9 +46,5 @@ fn place_of(text: &[u8], byte: u8) -> usize
     ensures is { result ≡ position_or_len (λ b. b == byte) text.now }
     ensures within { result ≤ length text.now }
 {
-    let mut place = 0;
-    while place < text.len() && text[place] != byte {
-        place += 1;
-    }
-    place
+    prefix_len(text, |b| b != byte)
 }

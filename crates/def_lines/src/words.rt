@@ -6,7 +6,7 @@ ghost use Rattle.units_io.specs.Blanks.{is_blank as is_blank_byte};
 ghost use Rattle.def_lines.specs.Words.{after_word, behind_word, first_word, is_listed, is_word as is_word_text};
 
 use crate::blanks::{trim, trim_front};
-use units_io::is_blank;
+use units_io::{is_blank, prefix_len};
 
 /// What stands before the first blank, or all where there is none, and what stands behind that,
 /// trimmed.
@@ -62,9 +62,5 @@ fn word_len(text: &[u8]) -> usize
     ensures is { result ≡ position_or_len is_blank_byte text.now }
     ensures within { result ≤ length text.now }
 {
-    let mut len = 0;
-    while len < text.len() && !is_blank(text[len]) {
-        len += 1;
-    }
-    len
+    prefix_len(text, |byte| !is_blank(byte))
 }

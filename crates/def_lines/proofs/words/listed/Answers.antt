@@ -1,5 +1,6 @@
 use Rattle.std.proofs.Common.{◌||◌, length, arith, sym, ap, ◌∙◌}
-use Rattle.def_lines.specs.Words.{after_word, is_listed, same_bytes}
+use Rattle.std.specs.Str.{bytes_eq}
+use Rattle.def_lines.specs.Words.{after_word, is_listed}
 use Rattle.def_lines.specs.Parts.{is_begun}
 use Rattle.def_lines.proofs.Trimming.{is_begun-after_blanks}
 use Rattle.def_lines.proofs.Listing.{is_begun-after_word, is_listed-after_blanks, is_listed-first, is_listed-none, shorter}
@@ -13,7 +14,7 @@ loop-value-init c = record {
 
 pub returns-then-eq : goal.returns-then-eq
 returns-then-eq c =
-    ap (λ t. t || is_listed (after_word c.loop-value.rest.now) c.args.value.now) (sym c.if-eq.true ∙ c.eq.ensures ∙ ap (λ w. same_bytes w c.args.value.now) c.cut_word.ensures.word)
+    ap (λ t. t || is_listed (after_word c.loop-value.rest.now) c.args.value.now) (sym c.if-eq.true ∙ c.eq.ensures ∙ ap (λ w. bytes_eq w c.args.value.now) c.cut_word.ensures.word)
     ∙ sym (is_listed-first c.loop-value.rest.now c.args.value.now c.loop-value.invariant.begun (sym c.is_empty.ensures ∙ c.loop-value-test.true))
     ∙ c.loop-value.invariant.same
 
@@ -27,7 +28,7 @@ loop-value-preserved c = record {
   begun = ap is_begun c.cut_word.ensures.behind ∙ is_begun-after_word c.loop-value.rest.now;
   same =
       ap (λ t. is_listed t c.args.value.now) c.cut_word.ensures.behind
-      ∙ ap (λ t. t || is_listed (after_word c.loop-value.rest.now) c.args.value.now) (sym c.if-eq.false ∙ c.eq.ensures ∙ ap (λ w. same_bytes w c.args.value.now) c.cut_word.ensures.word)
+      ∙ ap (λ t. t || is_listed (after_word c.loop-value.rest.now) c.args.value.now) (sym c.if-eq.false ∙ c.eq.ensures ∙ ap (λ w. bytes_eq w c.args.value.now) c.cut_word.ensures.word)
       ∙ sym (is_listed-first c.loop-value.rest.now c.args.value.now c.loop-value.invariant.begun (sym c.is_empty.ensures ∙ c.loop-value-test.true))
       ∙ c.loop-value.invariant.same;
 }

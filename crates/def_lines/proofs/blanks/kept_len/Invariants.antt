@@ -1,6 +1,6 @@
 use Rattle.std.proofs.Common.{◌≡◌, ◌≤◌, length, take}
 use Rattle.def_lines.specs.Blanks.{before_blanks}
-use Rattle.def_lines.proofs.part.trimmed_len.Given as goal
+use Rattle.def_lines.proofs.blanks.kept_len.Given as goal
 
 abbrev pub invariant-loop-len : goal.invariant-loop-len
 invariant-loop-len l = record {

@@ -1,0 +1,113 @@
+-- The lines of a few files, the kinds of a few lines and the words of a few texts, found by hand from the rules of the format.
+use Rattle.std.specs.Prelude.{◌≡◌, ℕ, List, [], ◌∷◌, Bool, true, false, codes, map}
+use Rattle.def_lines.specs.declared.line.Line.{Line}
+use Rattle.def_lines.specs.Kinds.{Kind, kind_of, Blank, Definition, Include, Locale, EndLocale, Set, Var, VarNot, EndVar, Utf8, EndUtf8, Message, Prompt, UnitList, UnknownDirective, BadDirective}
+use Rattle.def_lines.specs.Lines.{logical_lines}
+use Rattle.def_lines.specs.Words.{is_listed}
+
+-- a line of this number that says this
+abbrev pub at : ℕ → List ℕ → Line
+at number text = record { number = number; text = text }
+
+-- files with their lines
+abbrev pub files : List (List ℕ × List Line)
+files =
+    (codes "", [])
+    ∷ (codes "\n", at 1 [] ∷ [])
+    ∷ (codes "m !", at 1 (codes "m !") ∷ [])
+    ∷ (codes "m !\n", at 1 (codes "m !") ∷ [])
+    ∷ (codes "m !\ns !\n", at 1 (codes "m !") ∷ at 2 (codes "s !") ∷ [])
+    ∷ (codes "  m\t! \t\n", at 1 (codes "m\t!") ∷ [])
+    ∷ (codes "a 2 \\\n m\nb 3 m\n", at 1 (codes "a 2   m") ∷ at 3 (codes "b 3 m") ∷ [])
+    ∷ (codes "a \\\n\\\n  2 m\nb", at 1 (codes "a     2 m") ∷ at 4 (codes "b") ∷ [])
+    ∷ (codes "a 2 m \\", at 1 (codes "a 2 m") ∷ [])
+    ∷ (codes "m !\na 2 m \\\n", at 1 (codes "m !") ∷ at 2 (codes "a 2 m") ∷ [])
+    ∷ (codes "\\", at 1 [] ∷ [])
+    ∷ (codes " \\\n \\\n m !", at 1 (codes "m !") ∷ [])
+    ∷ (codes "# all\nm ! # metre\n#\n", at 1 [] ∷ at 2 (codes "m !") ∷ at 3 [] ∷ [])
+    ∷ (codes "a 2 \\ # more\nm", at 1 (codes "a 2  m") ∷ [])
+    ∷ (codes "a 2 # no \\\nm", at 1 (codes "a 2") ∷ at 2 (codes "m") ∷ [])
+    ∷ (codes "m !\r\ns !\r", at 1 (codes "m !") ∷ at 2 (codes "s !") ∷ [])
+    ∷ (codes "a \\\r\n2 m\r\n", at 1 (codes "a  2 m") ∷ [])
+    ∷ (codes "m !\r\r\n", at 1 (codes "m !\r") ∷ [])
+    ∷ (codes "a # b\r\n\nc", at 1 (codes "a") ∷ at 2 [] ∷ at 3 (codes "c") ∷ [])
+    ∷ []
+
+-- lines with their kinds
+abbrev pub kinds : List (List ℕ × Kind)
+kinds =
+    (codes "", Blank)
+    ∷ (codes " ", Definition)
+    ∷ (codes "m !", Definition)
+    ∷ (codes " m !", Definition)
+    ∷ (codes " !endvar", Definition)
+    ∷ (codes "+!unitlist z m;s", Definition)
+    ∷ (codes "!include a.units", Include (codes "a.units"))
+    ∷ (codes "! \t include  sub/b.units ", Include (codes "sub/b.units"))
+    ∷ (codes "!include", BadDirective)
+    ∷ (codes "!include a b", BadDirective)
+    ∷ (codes "!locale en_GB", Locale (codes "en_GB"))
+    ∷ (codes "!locale", BadDirective)
+    ∷ (codes "!locale en GB", BadDirective)
+    ∷ (codes "!endlocale", EndLocale)
+    ∷ (codes "!endlocale en_GB", BadDirective)
+    ∷ (codes "!set SIZE big", Set (codes "SIZE") (codes "big"))
+    ∷ (codes "!set SIZE  very  big ", Set (codes "SIZE") (codes "very  big"))
+    ∷ (codes "!set SIZE", BadDirective)
+    ∷ (codes "!set", BadDirective)
+    ∷ (codes "!var SIZE big", Var (codes "SIZE") (codes "big"))
+    ∷ (codes "!var SIZE big\tsmall", Var (codes "SIZE") (codes "big\tsmall"))
+    ∷ (codes "!var SIZE", BadDirective)
+    ∷ (codes "!var", BadDirective)
+    ∷ (codes "!varnot SIZE big", VarNot (codes "SIZE") (codes "big"))
+    ∷ (codes "!varnot SIZE", BadDirective)
+    ∷ (codes "!endvar", EndVar)
+    ∷ (codes "! endvar", EndVar)
+    ∷ (codes "!endvar SIZE", BadDirective)
+    ∷ (codes "!utf8", Utf8)
+    ∷ (codes "!utf8 on", BadDirective)
+    ∷ (codes "!endutf8", EndUtf8)
+    ∷ (codes "!endutf8 now", BadDirective)
+    ∷ (codes "!message hello  world ", Message (codes "hello  world"))
+    ∷ (codes "!message", Message [])
+    ∷ (codes "!prompt >", Prompt)
+    ∷ (codes "!prompt", Prompt)
+    ∷ (codes "!unitlist hms hr;min", UnitList)
+    ∷ (codes "!unitlist", UnitList)
+    ∷ (codes "!", UnknownDirective)
+    ∷ (codes "! ", UnknownDirective)
+    ∷ (codes "!nosuch", UnknownDirective)
+    ∷ (codes "!Include a", UnknownDirective)
+    ∷ (codes "!includes a", UnknownDirective)
+    ∷ (codes "!includ", UnknownDirective)
+    ∷ (codes "!message\ttabbed", Message (codes "tabbed"))
+    ∷ (codes "!!include a", UnknownDirective)
+    ∷ (codes "!var\tSIZE\tbig", Var (codes "SIZE") (codes "big"))
+    ∷ []
+
+-- texts and values, and whether the value is one of the words of the text
+abbrev pub listings : List (List ℕ × (List ℕ × Bool))
+listings =
+    (codes "big", (codes "big", true))
+    ∷ (codes "big small", (codes "small", true))
+    ∷ (codes " \tbig\t small  ", (codes "small", true))
+    ∷ (codes "big small", (codes "smal", false))
+    ∷ (codes "big small", (codes "big small", false))
+    ∷ (codes "big small", (codes "", false))
+    ∷ (codes "", (codes "", false))
+    ∷ (codes "  ", (codes " ", false))
+    ∷ (codes "bigger", (codes "big", false))
+    ∷ (codes "a b a", (codes "a", true))
+    ∷ []
+
+-- law: each file has its lines
+abbrev pub LinesLaw : Type 0
+LinesLaw = map (λ file. logical_lines file.0) files ≡ map (λ file. file.1) files
+
+-- law: each line has its kind
+abbrev pub KindsLaw : Type 0
+KindsLaw = map (λ line. kind_of line.0) kinds ≡ map (λ line. line.1) kinds
+
+-- law: each value is listed, or is not
+abbrev pub ListingsLaw : Type 0
+ListingsLaw = map (λ row. is_listed row.0 row.1.0) listings ≡ map (λ row. row.1.1) listings

@@ -1,0 +1,134 @@
+//! The logical lines of a file, taken one by one.
+ghost use Rattle.std.specs.Prelude.{◌≡◌, ◌≤◌, ◌+◌, ◌++◌, ◌∷◌, [], List, IfOk, OnErr, length, map};
+ghost use Rattle.std.specs.Map.Iter.{TakesFirst};
+ghost use Rattle.def_lines.specs.Lines.{joined, lines_behind, lines_from, logical_lines, physical_lines, trimmed_line};
+
+use crate::line::{LentLine, Line, Lines};
+use crate::part::Part;
+use crate::physical::{clean, next_line, strip_last};
+use std::alloc::{AllocError, Global};
+use std::marker::Model;
+
+/// The logical lines of a file that are left, which are taken from the front. Contracts see them as a list.
+#[derive(Drop)]
+pub struct Cursor<'a> {
+    rest: &'a [u8],
+    number: u32,
+}
+
+impl<'a> Model for Cursor<'a> {
+    ghost use Rattle.std.specs.Prelude.{◌≤◌, ◌+◌, List, length};
+    ghost use Rattle.def_lines.specs.declared.line.Line.{Line};
+
+    ghost Value = { List Line };
+
+    ghost use Rattle.def_lines.specs.Lines.{lines_behind};
+
+    ghost view = { λ cursor. lines_behind cursor.number cursor.rest.now };
+
+    ghost invariant = { λ cursor. cursor.number + length cursor.rest.now ≤ 16777216 };
+}
+
+impl<'a> Cursor<'a> {
+    /// All logical lines of a file of at most 16,777,216 bytes, blank ones too. A line ends at a line
+    /// feed or at the end of the file. A final carriage return is dropped, then `#` and what follows,
+    /// then trailing blanks. Where the rest ends in `\`, that is replaced by a space and the next line
+    /// is joined. The number is that of the first physical line, from 1.
+    pub fn new(bytes: &'a [u8]) -> Cursor<'a>
+        requires { length bytes.now ≤ 16777216 }
+        ensures { result ≡ logical_lines bytes.now }
+    {
+        Cursor {
+            rest: bytes,
+            number: 0,
+        }
+    }
+
+    /// The next line, or `None` where none is left. Only a line that is joined takes memory; where that is
+    /// wanting, no line is taken.
+    pub fn take(&mut self, alloc: Global) -> Result<Option<LentLine<'a>>, AllocError>
+        ensures ok { IfOk result (λ line. TakesFirst (λ line. line) self.old line self.new) }
+        ensures err { OnErr result (self.new ≡ self.old) }
+    {
+        if self.rest.is_empty() {
+            return Ok(None);
+        }
+        let (line, behind) = next_line(self.rest);
+        let line = clean(line);
+        let number = self.number + 1;
+        let Some(start) = strip_last(line, b'\\') else {
+            self.rest = behind;
+            self.number = number;
+            return Ok(Some(LentLine::lent(number, line)));
+        };
+        match join_lines(alloc, number, start, behind) {
+            Ok(joined) => {
+                self.rest = joined.behind;
+                self.number = joined.number;
+                Ok(Some(LentLine::made(joined.line)))
+            }
+            Err(e) => Err(e),
+        }
+    }
+}
+
+// A line that was joined, the bytes behind it, and the number of its last physical line.
+#[derive(Drop)]
+struct Joined<'a> {
+    line: Line,
+    behind: &'a [u8],
+    number: u32,
+}
+
+// The line of this number that begins with these bytes and goes on in the next physical line.
+fn join_lines<'a>(
+    alloc: Global,
+    number: u32,
+    start: &[u8],
+    bytes: &'a [u8],
+) -> Result<Joined<'a>, AllocError>
+    requires { number + length bytes.now ≤ 16777216 }
+    ensures lines { IfOk result (λ taken. taken.line ∷ lines_behind taken.number taken.behind.now
+        ≡ map trimmed_line (joined number (start.now ++ 32 ∷ []) (lines_from (number + 1) (physical_lines bytes.now)))) }
+    ensures few { IfOk result (λ taken. taken.number + length taken.behind.now ≤ number + length bytes.now) }
+{
+    let mut part = Part::new(alloc, number);
+    part.go_on(start)?;
+    let mut last = number;
+    let mut rest = bytes;
+    while !rest.is_empty() {
+        let (line, behind) = next_line(rest);
+        let line = clean(line);
+        last += 1;
+        rest = behind;
+        match strip_last(line, b'\\') {
+            Some(start) => part.go_on(start)?,
+            None => {
+                return Ok(Joined {
+                    line: part.ended(line)?,
+                    behind,
+                    number: last,
+                });
+            }
+        }
+    }
+    Ok(Joined {
+        line: part.finished(),
+        behind: rest,
+        number: last,
+    })
+}
+
+/// The logical lines of a file of at most 16,777,216 bytes, as a cursor gives them. The only error is want
+/// of memory.
+pub fn split_lines(alloc: Global, bytes: &[u8]) -> Result<Lines, AllocError>
+    requires { length bytes.now ≤ 16777216 }
+    ensures { IfOk result (λ lines. lines ≡ logical_lines bytes.now) }
+{
+    let mut lines = Lines::new(alloc);
+    let mut cursor = Cursor::new(bytes);
+    while let Some(line) = cursor.take(alloc)? {
+        lines.push(alloc, line.into_line(alloc)?)?;
+    }
+    Ok(lines)
+}
