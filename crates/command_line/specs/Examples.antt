@@ -42,6 +42,8 @@ pub record TakesExamples : Type 0 where
       })
   pub letters_together : AreLine (codes "-qd12" ∷ codes "a" ∷ [])
       (record no_line { digits = Some 12; quiet = true; from = Some (codes "a") })
+  pub digits_after_flags : AreLine (codes "-1t" ∷ codes "--digits=12" ∷ [])
+      (record no_line { digits = Some 12; one_line = true; terse = true })
   pub digits_after_equals : AreLine (codes "--digits=36" ∷ [])
       (record no_line { digits = Some 36 })
   pub digits_after_zero : AreLine (codes "-d" ∷ codes "08" ∷ [])
@@ -50,8 +52,12 @@ pub record TakesExamples : Type 0 where
       (record no_line { digits = Some 8 })
   pub trial_after_zeros : AreLine (codes "--trial" ∷ codes "007" ∷ [])
       (record no_line { trial = Some 7 })
+  pub trial_most : AreLine (codes "--trial" ∷ codes "20000" ∷ [])
+      (record no_line { trial = Some 20000 })
   pub checked_locale : AreLine (codes "-c" ∷ codes "-l" ∷ codes "en_GB" ∷ [])
       (record no_line { check = true; locale = Some (codes "en_GB") })
+  pub long_locale : AreLine (codes "--locale" ∷ codes "en_GB" ∷ [])
+      (record no_line { locale = Some (codes "en_GB") })
   pub all_flags_of_a_reply : AreLine (codes "-1trsv" ∷ codes "--compact" ∷ [])
       (record no_line {
         one_line = true;
@@ -63,6 +69,8 @@ pub record TakesExamples : Type 0 where
       })
   pub minus_after_dashes : AreLine (codes "--" ∷ codes "-5" ∷ [])
       (record no_line { from = Some (codes "-5") })
+  pub dashes_after_dashes : AreLine (codes "--" ∷ codes "-5" ∷ codes "--" ∷ [])
+      (record no_line { from = Some (codes "-5"); to = Some (codes "--") })
   pub flag_after_from : AreLine (codes "m" ∷ codes "-q" ∷ codes "ft" ∷ [])
       (record no_line { quiet = true; from = Some (codes "m"); to = Some (codes "ft") })
   pub empty_from : AreLine (codes "" ∷ []) (record no_line { from = Some [] })
@@ -78,6 +86,7 @@ pub record RefusesExamples : Type 0 where
   pub trial_beyond : are_taken (codes "--trial" ∷ codes "20001" ∷ []) ≡ false
   pub quiet_twice : are_taken (codes "-q" ∷ codes "-q" ∷ codes "m" ∷ codes "ft" ∷ []) ≡ false
   pub file_twice : are_taken (codes "-f" ∷ codes "a" ∷ codes "-f" ∷ codes "a" ∷ []) ≡ false
+  pub file_then_other : are_taken (codes "-f" ∷ codes "a" ∷ codes "-f" ∷ codes "b" ∷ []) ≡ false
   pub file_absent : are_taken (codes "-f" ∷ []) ≡ false
   pub flag_with_value : are_taken (codes "--quiet=true" ∷ []) ≡ false
   pub name_in_part : are_taken (codes "--quie" ∷ []) ≡ false
@@ -87,6 +96,9 @@ pub record RefusesExamples : Type 0 where
   pub version_letter : are_taken (codes "-V" ∷ []) ≡ false
   pub three_operands : are_taken (codes "m" ∷ codes "ft" ∷ codes "yd" ∷ []) ≡ false
   pub check_of_from : are_taken (codes "--check" ∷ codes "m" ∷ []) ≡ false
+  pub check_of_empty_from : are_taken (codes "--check" ∷ codes "" ∷ []) ≡ false
   pub trial_of_from : are_taken (codes "--trial" ∷ codes "9" ∷ codes "m" ∷ []) ≡ false
   pub check_of_trial : are_taken (codes "-c" ∷ codes "--trial" ∷ codes "9" ∷ []) ≡ false
+  pub minus_first : are_taken (codes "-5" ∷ []) ≡ false
   pub no_text : are_taken ((255 ∷ []) ∷ []) ≡ false
+  pub no_text_behind : are_taken (codes "m" ∷ (255 ∷ []) ∷ []) ≡ false

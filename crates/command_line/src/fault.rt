@@ -3,7 +3,7 @@
 use std::alloc::{AllocError, AllocFailed};
 
 /// Why the words of a command line give no `CommandLine`.
-#[derive(Debug, Drop, PartialEq, Eq, Clone, Copy)]
+#[derive(Clone, Copy, Debug)]
 pub enum WordsFault {
     /// The words are not a command line of this program.
     Usage,

@@ -14,6 +14,3 @@ pub use fault::WordsFault;
 pub use fields::CommandLine;
 pub use read::read_words;
 pub use usage::usage_text;
-
-#[cfg(test)]
-mod tests;
