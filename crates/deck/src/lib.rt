@@ -6,6 +6,3 @@ mod first_file;
 pub use first_file::deck::{Deck, FirstEntry};
 pub use first_file::load::FirstFault;
 pub use first_file::names::is_first_name;
-
-#[cfg(test)]
-mod tests;
