@@ -213,6 +213,7 @@ KINDS = {
     "div": two(pair, lambda x, edge: x / edge, quotient_answer),
     "pow": with_number(power, power_answer),
     "root": with_number(rooted, root_answer),
+    "zero": one(lambda x: "true" if x == 0 else "false"),
     "cmp": two(pair, lambda x, _: x, order_answer),
     "exact": one(exact),
     "digits": digits_call,

@@ -1,16 +1,16 @@
 -- Digits of std are digits of numerals.
-use Rattle.std.proofs.Common.{◌≡◌, ◌<◌, ◌≤◌, ◌+◌, ◌-◌, ◌*◌, ◌^◌, ℕ, pos, suc, zero, List, [], ◌∷◌, length, Bool, true, false, arith, refl, sym, ap, subst, ◌∙◌, lit<}
-use Rattle.std.specs.Prelude.{◌&&◌, nat_le, IsTrue, fold, Ok}
+use Rattle.std.proofs.Common.{◌≡◌, ◌<◌, ◌≤◌, ◌+◌, ◌-◌, ◌*◌, ◌^◌, ℕ, pos, List, [], ◌∷◌, true, arith, refl, ap, ◌∙◌, lit<}
+use Rattle.std.specs.Prelude.{fold, Ok}
 use Rattle.std.specs.Char.{digit_value}
 use Rattle.std.specs.Fmt.{decimal}
 use Rattle.std.specs.List.{list_all}
-use Rattle.std.specs.Str.Parse.{AllDigits, IsNumeral, digits_value_after, digits_value}
+use Rattle.std.specs.Str.Parse.{AllDigits, digits_value_after}
 use Rattle.std.proofs.lemmas.Bool.Decides.{nat_tests}
 use Rattle.std.proofs.lemmas.Fmt.{decimal_is_IsNumeral_wide}
-use Rattle.frac128.specs.Decimals.{DigitsLaw, digits_of, number, value_of}
+use Rattle.frac128.specs.Decimals.{DigitsLaw, digits_of, number}
 use Rattle.frac128.specs.Fraction.{most, whole}
 use Rattle.frac128.specs.Numerals.{is_digit}
-use Rattle.digits_print.specs.Back.{BackLaw, IsReadAs}
+use Rattle.digits_print.specs.Back.{BackLaw}
 
 -- a digit of std is one
 digit_is : (c : ℕ) → digit_value c < 10 → (is_digit c ≡ true) × (digit_value c ≡ c - 48)

@@ -1,5 +1,5 @@
 -- The exact text of a fraction reads as that fraction.
-use Rattle.std.proofs.Common.{◌≡◌, ◌<◌, ◌≤◌, ◌^◌, ◌++◌, ℕ, ℤ, pos, negsuc, suc, zero, List, Bool, true, false, unsigned_abs, arith, refl, sym, ap, ◌∙◌, lit<, inl, inr}
+use Rattle.std.proofs.Common.{◌≡◌, ◌<◌, ◌≤◌, ◌^◌, ◌++◌, ℕ, ℤ, pos, negsuc, suc, zero, List, Bool, true, false, unsigned_abs, arith, refl, sym, ap, subst, ◌∙◌, lit<, inl, inr}
 use Rattle.std.specs.Prelude.{◌⊎◌, ◌==◌, ◌&&◌, Ok, nat_le, codes}
 use Rattle.std.specs.Fmt.{decimal, signed_decimal}
 use Rattle.std.specs.Str.Parse.{IsNumeral, digits_value}
@@ -8,6 +8,7 @@ use Rattle.std.proofs.lemmas.Fmt.{decimal_is_IsNumeral_wide}
 use Rattle.frac128.specs.Fraction.{Fraction, IsKept, most}
 use Rattle.frac128.specs.Sign.{signed}
 use Rattle.frac128.specs.Steps.{ReducedLaw, fitting, ratio}
+use Rattle.digits_print.specs.Back.{BackLaw, IsReadAs}
 use Rattle.digits_print.specs.Exact.{ExactLaw, ReadsAsQuotient, ReadsAsWhole, exact_text, sign_text}
 
 -- a fraction that fits
@@ -30,55 +31,63 @@ record IsSpelled (z : ℤ) : Type 0 where
   negative : Bool
   digits : List ℕ
   numeral : IsNumeral 10 digits
+  read : IsReadAs digits (digits_value 10 digits)
   text : signed_decimal z ≡ sign_text negative ++ digits
   value : signed negative (digits_value 10 digits) ≡ z
 
 wide : (n : ℕ) → n ≤ most → n < 10 ^ 64
 wide n h = let big : 2 ^ 127 < 10 ^ 64 = lit< tt in omega arith
 
-spelled : (z : ℤ) → unsigned_abs z ≤ most → IsSpelled z
-spelled (pos n) h =
-    let read = decimal_is_IsNumeral_wide n (wide n h) in
-    record { negative = false; digits = decimal n; numeral = read.0; text = refl; value = ap pos read.1 }
-spelled (negsuc n) h =
-    let read = decimal_is_IsNumeral_wide (suc n) (wide (suc n) h) in
-    record { negative = true; digits = decimal (suc n); numeral = read.0; text = refl; value = ap (signed true) read.1 }
+-- a number in decimal digits, read back
+read_back : BackLaw → (n : ℕ) → n ≤ most → IsReadAs (decimal n) (digits_value 10 (decimal n))
+read_back back n h = subst (IsReadAs (decimal n)) (sym (decimal_is_IsNumeral_wide n (wide n h)).1) (back n h)
 
-reads_as_whole : ReducedLaw → (n : ℤ) → IsKept (record { num = n; den = 1 }) → ReadsAsWhole (signed_decimal n) (record { num = n; den = 1 })
-reads_as_whole law n kept =
-    let top = spelled n kept.num_fits in
+spelled : BackLaw → (z : ℤ) → unsigned_abs z ≤ most → IsSpelled z
+spelled back (pos n) h =
+    let is = decimal_is_IsNumeral_wide n (wide n h) in
+    record { negative = false; digits = decimal n; numeral = is.0; read = read_back back n h; text = refl; value = ap pos is.1 }
+spelled back (negsuc n) h =
+    let is = decimal_is_IsNumeral_wide (suc n) (wide (suc n) h) in
+    record { negative = true; digits = decimal (suc n); numeral = is.0; read = read_back back (suc n) h; text = refl; value = ap (signed true) is.1 }
+
+reads_as_whole : ReducedLaw → BackLaw → (n : ℤ) → IsKept (record { num = n; den = 1 }) → ReadsAsWhole (signed_decimal n) (record { num = n; den = 1 })
+reads_as_whole law back n kept =
+    let top = spelled back n kept.num_fits in
     record {
       negative = top.negative;
       top = top.digits;
       top_digits = top.numeral;
+      top_read = top.read;
       spelled = top.text;
       value = ap (λ z. ratio z (pos 1)) top.value ∙ ratio_kept law n 1 kept;
     }
 
-reads_as_quotient : ReducedLaw → (n : ℤ) (d : ℕ) → IsKept (record { num = n; den = d }) → ReadsAsQuotient (signed_decimal n ++ codes "|" ++ decimal d) (record { num = n; den = d })
-reads_as_quotient law n d kept =
-    let top = spelled n kept.num_fits in
+reads_as_quotient : ReducedLaw → BackLaw → (n : ℤ) (d : ℕ) → IsKept (record { num = n; den = d }) → ReadsAsQuotient (signed_decimal n ++ codes "|" ++ decimal d) (record { num = n; den = d })
+reads_as_quotient law back n d kept =
+    let top = spelled back n kept.num_fits in
     let bottom = decimal_is_IsNumeral_wide d (wide d kept.den_fits) in
     record {
       negative = top.negative;
       top = top.digits;
       bottom = decimal d;
       top_digits = top.numeral;
+      top_read = top.read;
       bottom_digits = bottom.0;
+      bottom_read = read_back back d kept.den_fits;
       spelled = ap (λ t. t ++ codes "|" ++ decimal d) top.text;
       value = ap (λ z. ratio z (pos (digits_value 10 (decimal d)))) top.value ∙ ap (λ m. ratio n (pos m)) bottom.1 ∙ ratio_kept law n d kept;
     }
 
-reads : ReducedLaw → (n : ℤ) (d : ℕ) → IsKept (record { num = n; den = d })
+reads : ReducedLaw → BackLaw → (n : ℤ) (d : ℕ) → IsKept (record { num = n; den = d })
     → ReadsAsWhole (exact_text (record { num = n; den = d })) (record { num = n; den = d })
     ⊎ ReadsAsQuotient (exact_text (record { num = n; den = d })) (record { num = n; den = d })
-reads law n zero kept = inr (reads_as_quotient law n zero kept)
-reads law n (suc zero) kept = inl (reads_as_whole law n kept)
-reads law n (suc (suc d)) kept = inr (rw (other d) (reads_as_quotient law n (suc (suc d)) kept))
+reads law back n zero kept = inr (reads_as_quotient law back n zero kept)
+reads law back n (suc zero) kept = inl (reads_as_whole law back n kept)
+reads law back n (suc (suc d)) kept = inr (rw (other d) (reads_as_quotient law back n (suc (suc d)) kept))
   where
     other : (d : ℕ) → (suc (suc d) == 1) ≡ false
     other d = grind (arith, nat_tests)
 
 -- the exact text of each fraction of the program reads as that fraction
-pub exact_law : ReducedLaw → ExactLaw
-exact_law law x kept = reads law x.num x.den kept
+pub exact_law : ReducedLaw → BackLaw → ExactLaw
+exact_law law back x kept = reads law back x.num x.den kept

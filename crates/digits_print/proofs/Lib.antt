@@ -5,6 +5,7 @@ pub mod ExactTexts
 pub mod Halves
 pub mod Layouts
 pub mod NearestDecimals
+pub mod NearestTexts
 pub mod NearestWholes
 pub mod Products
 pub mod Scales

@@ -10,7 +10,7 @@ use Rattle.std.proofs.lemmas.Bool.Decides.{nat_tests}
 use Rattle.std.proofs.lemmas.Int.{ints}
 use Rattle.std.proofs.lemmas.Nat.{div_below, le-div, mul-le, pow-add}
 use Rattle.std.proofs.Math.Nat.{mul-pos, mul-one}
-use Rattle.digits_print.specs.declared.decimal.Decimal.{Decimal}
+use Rattle.frac128.specs.Decimals.{Decimal}
 use Rattle.frac128.specs.Nearest.{IsNearestWhole, NearestWholeLaw, by_half, nearest_whole}
 use Rattle.digits_print.specs.Nearest.{HasDigits, IsLess, IsNearest, IsPreferred, NoFarther, down, gap, up}
 use Rattle.digits_print.specs.Rounding.{NearestLaw, carried, rounded, rounded_at}
@@ -20,14 +20,14 @@ use Rattle.digits_print.proofs.Scales.{IsScaled, down_some, ordered, scaled, shi
 
 -- d is m steps of ten to the scale s
 pub record IsOnGrid (d : Decimal) (s : ℤ) (m : ℕ) : Type 0 where
-  pub steps : d.digits * up d.scale * down s ≡ m * up s * down d.scale
+  pub steps : d.coefficient * up d.scale * down s ≡ m * up s * down d.scale
 
-on_own_grid : (d : Decimal) → IsOnGrid d d.scale d.digits
+on_own_grid : (d : Decimal) → IsOnGrid d d.scale d.coefficient
 on_own_grid d = record { steps = refl }
 
 -- a finer grid
 on_finer_grid : (d : Decimal) (s t : ℤ) (m k : ℕ) → s ≡ t +ℤ pos k → IsOnGrid d s m → IsOnGrid d t (m * 10 ^ k)
-on_finer_grid d s t m k e on = record { steps = products d.digits (up d.scale) (down d.scale) m (10 ^ k) (up s) (down s) (up t) (down t) on.steps (shifted t s k e) (down_some s) }
+on_finer_grid d s t m k e on = record { steps = products d.coefficient (up d.scale) (down d.scale) m (10 ^ k) (up s) (down s) (up t) (down t) on.steps (shifted t s k e) (down_some s) }
   where
     products : (x ux dx m p us ds ut dt : ℕ) → x * ux * ds ≡ m * us * dx → us * dt ≡ p * (ut * ds) → 0 < ds → x * ux * dt ≡ m * p * ut * dx
     products x ux dx m p us ds ut dt on step some =
@@ -36,16 +36,16 @@ on_finer_grid d s t m k e on = record { steps = products d.digits (up d.scale) (
         let middle : m * us * dx * dt ≡ m * dx * (us * dt) = omega arith in
         cancelled (x * ux * dt) (m * p * ut * dx) ds some (left ∙ middle ∙ ap (λ n. m * dx * n) step ∙ sym right)
 
-on_grid_below : (d : Decimal) (s : ℤ) (k : ℕ) → d.scale ≡ s +ℤ pos k → IsOnGrid d s (d.digits * 10 ^ k)
-on_grid_below d s k e = on_finer_grid d d.scale s d.digits k e (on_own_grid d)
+on_grid_below : (d : Decimal) (s : ℤ) (k : ℕ) → d.scale ≡ s +ℤ pos k → IsOnGrid d s (d.coefficient * 10 ^ k)
+on_grid_below d s k e = on_finer_grid d d.scale s d.coefficient k e (on_own_grid d)
 
 -- a decimal's distance, by its steps
 gap_on : (a b : ℕ) (d : Decimal) (s : ℤ) (m : ℕ) → IsOnGrid d s m → gap a b d * down s ≡ abs_diff (a * down s) (m * (b * up s)) * down d.scale
 unfolding gap
 gap_on a b d s m on =
-    abs_diff-mul (a * down d.scale) (d.digits * up d.scale * b) (down s)
-    ∙ sides (a * down d.scale * down s) (d.digits * up d.scale * b * down s) (a * down s * down d.scale) (m * (b * up s) * down d.scale)
-    (omega arith) (turned (d.digits * up d.scale) b (down s) ∙ ap (λ n. n * b) on.steps ∙ gathered m (up s) (down d.scale) b)
+    abs_diff-mul (a * down d.scale) (d.coefficient * up d.scale * b) (down s)
+    ∙ sides (a * down d.scale * down s) (d.coefficient * up d.scale * b * down s) (a * down s * down d.scale) (m * (b * up s) * down d.scale)
+    (omega arith) (turned (d.coefficient * up d.scale) b (down s) ∙ ap (λ n. n * b) on.steps ∙ gathered m (up s) (down d.scale) b)
     ∙ sym (abs_diff-mul (a * down s) (m * (b * up s)) (down d.scale))
   where
     sides : (x y u v : ℕ) → x ≡ u → y ≡ v → abs_diff x y ≡ abs_diff u v
@@ -83,9 +83,9 @@ steps_closer a b d e s m k on_d on_e h =
 
 -- d is the decimal with n digits of the m steps at s, where m is at most ten to the n
 record IsCarried (n m : ℕ) (s : ℤ) (d : Decimal) : Type 0 where
-  digits : HasDigits n d.digits
+  digits : HasDigits n d.coefficient
   on : IsOnGrid d s m
-  is : ((m < 10 ^ n) × (d.digits ≡ m) × (d.scale ≡ s)) ⊎ ((m ≡ 10 ^ n) × (d.digits ≡ 10 ^ (n - 1)) × (d.scale ≡ s +ℤ pos 1))
+  is : ((m < 10 ^ n) × (d.coefficient ≡ m) × (d.scale ≡ s)) ⊎ ((m ≡ 10 ^ n) × (d.coefficient ≡ 10 ^ (n - 1)) × (d.scale ≡ s +ℤ pos 1))
 
 carried_is : (n m : ℕ) (s : ℤ) → 0 < n → 10 ^ (n - 1) ≤ m → m ≤ 10 ^ n → IsCarried n m s (carried n m s)
 carried_is n m s some low high = elim (cases_eq m (10 ^ n)) [
@@ -99,16 +99,16 @@ carried_is n m s some low high = elim (cases_eq m (10 ^ n)) [
     other : (m ≡ 10 ^ n → ⊥) → (m == 10 ^ n) ≡ false
     other h = grind (arith, nat_tests)
 
-    own : m < 10 ^ n → IsCarried n m s (record { digits = m; scale = s })
+    own : m < 10 ^ n → IsCarried n m s (record { coefficient = m; scale = s })
     own h = record {
       digits = record { least = low; below = h };
-      on = on_own_grid (record { digits = m; scale = s });
+      on = on_own_grid (record { coefficient = m; scale = s });
       is = inl (h, refl, refl);
     }
 
-    next : m ≡ 10 ^ n → IsCarried n m s (record { digits = 10 ^ (n - 1); scale = s +ℤ pos 1 })
+    next : m ≡ 10 ^ n → IsCarried n m s (record { coefficient = 10 ^ (n - 1); scale = s +ℤ pos 1 })
     next h =
-        let d : Decimal = record { digits = 10 ^ (n - 1); scale = s +ℤ pos 1 } in
+        let d : Decimal = record { coefficient = 10 ^ (n - 1); scale = s +ℤ pos 1 } in
         let ten : 10 ^ n ≡ 10 * 10 ^ (n - 1) = ten_before n some in
         let step : 10 ^ (n - 1) * 10 ^ 1 ≡ m = let one : 10 ^ 1 ≡ 10 = refl in rw one (omega arith) in
         record {
@@ -117,11 +117,11 @@ carried_is n m s some low high = elim (cases_eq m (10 ^ n)) [
           is = inr (h, refl, refl);
         }
 
-decimal_is : (d e : Decimal) → d.digits ≡ e.digits → d.scale ≡ e.scale → d ≡ e
-decimal_is d e digits scale = ap (λ v. let x : Decimal = record { digits = v; scale = d.scale } in x) digits ∙ ap (λ v. let x : Decimal = record { digits = e.digits; scale = v } in x) scale
+decimal_is : (d e : Decimal) → d.coefficient ≡ e.coefficient → d.scale ≡ e.scale → d ≡ e
+decimal_is d e digits scale = ap (λ v. let x : Decimal = record { coefficient = v; scale = d.scale } in x) digits ∙ ap (λ v. let x : Decimal = record { coefficient = e.coefficient; scale = v } in x) scale
 
 -- a decimal of n digits and of as many steps is the same
-same_decimal : (n m : ℕ) (s : ℤ) (d e : Decimal) (k : ℕ) → 0 < n → IsCarried n m s d → HasDigits n e.digits → e.scale ≡ s +ℤ pos k → e.digits * 10 ^ k ≡ m → d ≡ e
+same_decimal : (n m : ℕ) (s : ℤ) (d e : Decimal) (k : ℕ) → 0 < n → IsCarried n m s d → HasDigits n e.coefficient → e.scale ≡ s +ℤ pos k → e.coefficient * 10 ^ k ≡ m → d ≡ e
 same_decimal n m s d e k some own digits is same = by_case own.is
   where
     ten : 10 ^ n ≡ 10 * 10 ^ (n - 1)
@@ -136,29 +136,29 @@ same_decimal n m s d e k some own digits is same = by_case own.is
     wider : (k x l p : ℕ) → l ≤ x → p ≡ 10 * (10 * 10 ^ k) → 100 * l ≤ x * p
     wider k x l p h e = let more : l * (10 * (10 * 1)) ≤ x * (10 * (10 * 10 ^ k)) = mul-le l (10 * (10 * 1)) x (10 * (10 * 10 ^ k)) h (omega (arith, ten_some k)) in let is : x * p ≡ x * (10 * (10 * 10 ^ k)) = ap (λ v. x * v) e in omega arith
 
-    by_case : ((m < 10 ^ n) × (d.digits ≡ m) × (d.scale ≡ s)) ⊎ ((m ≡ 10 ^ n) × (d.digits ≡ 10 ^ (n - 1)) × (d.scale ≡ s +ℤ pos 1)) → d ≡ e
+    by_case : ((m < 10 ^ n) × (d.coefficient ≡ m) × (d.scale ≡ s)) ⊎ ((m ≡ 10 ^ n) × (d.coefficient ≡ 10 ^ (n - 1)) × (d.scale ≡ s +ℤ pos 1)) → d ≡ e
     by_case (inl own_scale) = at_steps k is same
       where
-        at_steps : (k : ℕ) → e.scale ≡ s +ℤ pos k → e.digits * 10 ^ k ≡ m → d ≡ e
-        at_steps zero is same = decimal_is d e (own_scale.1 ∙ sym same ∙ mul-one e.digits) (level d.scale s e.scale own_scale.2 is)
-        at_steps (suc k) is same = absurd (let big = wide k e.digits (10 ^ (n - 1)) (10 ^ suc k) digits.least (ten_suc k) in let low = own_scale.0 in omega (arith, ten))
+        at_steps : (k : ℕ) → e.scale ≡ s +ℤ pos k → e.coefficient * 10 ^ k ≡ m → d ≡ e
+        at_steps zero is same = decimal_is d e (own_scale.1 ∙ sym same ∙ mul-one e.coefficient) (level d.scale s e.scale own_scale.2 is)
+        at_steps (suc k) is same = absurd (let big = wide k e.coefficient (10 ^ (n - 1)) (10 ^ suc k) digits.least (ten_suc k) in let low = own_scale.0 in omega (arith, ten))
     by_case (inr next_scale) = at_steps k is same
       where
-        at_steps : (k : ℕ) → e.scale ≡ s +ℤ pos k → e.digits * 10 ^ k ≡ m → d ≡ e
-        at_steps zero is same = absurd (let whole : e.digits ≡ m = sym (mul-one e.digits) ∙ same in let high = next_scale.0 in omega (arith, digits.below))
+        at_steps : (k : ℕ) → e.scale ≡ s +ℤ pos k → e.coefficient * 10 ^ k ≡ m → d ≡ e
+        at_steps zero is same = absurd (let whole : e.coefficient ≡ m = sym (mul-one e.coefficient) ∙ same in let high = next_scale.0 in omega (arith, digits.below))
         at_steps (suc zero) is same =
-            let tenth : e.digits * 10 ≡ m = same in
+            let tenth : e.coefficient * 10 ≡ m = same in
             let high = next_scale.0 in
-            let digits_is : 10 ^ (n - 1) ≡ e.digits = omega (arith, ten) in
+            let digits_is : 10 ^ (n - 1) ≡ e.coefficient = omega (arith, ten) in
             decimal_is d e (next_scale.1 ∙ digits_is) (next_scale.2 ∙ sym is)
         at_steps (suc (suc k)) is same =
-            absurd (let big = wider k e.digits (10 ^ (n - 1)) (10 ^ suc (suc k)) digits.least (ten_suc (suc k) ∙ ap (λ v. 10 * v) (ten_suc k)) in let high = next_scale.0 in omega (arith, ten, ten_some (n - 1)))
+            absurd (let big = wider k e.coefficient (10 ^ (n - 1)) (10 ^ suc (suc k)) digits.least (ten_suc (suc k) ∙ ap (λ v. 10 * v) (ten_suc k)) in let high = next_scale.0 in omega (arith, ten, ten_some (n - 1)))
 
 -- of two equally near decimals the one of an even number of steps is taken
-preferred : (n m : ℕ) (s : ℤ) (d e : Decimal) → 0 < n → IsCarried n m s d → HasDigits n e.digits → e.scale ≡ s +ℤ pos 0 → m % 2 ≡ 0 → e.digits % 2 ≡ 1 → IsPreferred d e
+preferred : (n m : ℕ) (s : ℤ) (d e : Decimal) → 0 < n → IsCarried n m s d → HasDigits n e.coefficient → e.scale ≡ s +ℤ pos 0 → m % 2 ≡ 0 → e.coefficient % 2 ≡ 1 → IsPreferred d e
 preferred n m s d e some own digits is even odd = by_case own.is
   where
-    by_case : ((m < 10 ^ n) × (d.digits ≡ m) × (d.scale ≡ s)) ⊎ ((m ≡ 10 ^ n) × (d.digits ≡ 10 ^ (n - 1)) × (d.scale ≡ s +ℤ pos 1)) → IsPreferred d e
+    by_case : ((m < 10 ^ n) × (d.coefficient ≡ m) × (d.scale ≡ s)) ⊎ ((m ≡ 10 ^ n) × (d.coefficient ≡ 10 ^ (n - 1)) × (d.scale ≡ s +ℤ pos 1)) → IsPreferred d e
     by_case (inl own_scale) = inl (ap (λ v. v % 2) own_scale.1 ∙ even, odd)
     by_case (inr next_scale) = at_count (n - 1) refl
       where
@@ -168,10 +168,10 @@ preferred n m s d e some own digits is even odd = by_case own.is
         one_above : (x y z : ℤ) → x ≡ y +ℤ pos 1 → z ≡ y +ℤ pos 0 → x ≡ z +ℤ pos 1
         one_above x y z e f = omega (arith, ints)
 
-        less : d.digits ≡ 1 → n - 1 ≡ 0 → IsLess e d
+        less : d.coefficient ≡ 1 → n - 1 ≡ 0 → IsLess e d
         less one none =
-            let below_ten : e.digits < 10 = let ten = ten_before n some in let power : 10 ^ (n - 1) ≡ 1 = ap (λ v. 10 ^ v) none in omega (arith, digits.below) in
-            products d.digits e.digits (up d.scale) (down d.scale) (up e.scale) (down e.scale) one below_ten (shifted e.scale d.scale 1 (one_above d.scale s e.scale next_scale.2 is)) (mul-pos (up_some e.scale) (down_some d.scale))
+            let below_ten : e.coefficient < 10 = let ten = ten_before n some in let power : 10 ^ (n - 1) ≡ 1 = ap (λ v. 10 ^ v) none in omega (arith, digits.below) in
+            products d.coefficient e.coefficient (up d.scale) (down d.scale) (up e.scale) (down e.scale) one below_ten (shifted e.scale d.scale 1 (one_above d.scale s e.scale next_scale.2 is)) (mul-pos (up_some e.scale) (down_some d.scale))
           where
             products : (x y ux dx uy dy : ℕ) → x ≡ 1 → y < 10 → ux * dy ≡ 10 ^ 1 * (uy * dx) → 0 < uy * dx → y * uy * dx < x * ux * dy
             products x y ux dx uy dy one low step some =
@@ -181,8 +181,8 @@ preferred n m s d e some own digits is even odd = by_case own.is
                 omega arith
 
         at_count : (j : ℕ) → n - 1 ≡ j → IsPreferred d e
-        at_count zero none = let one : d.digits ≡ 1 = next_scale.1 ∙ ap (λ v. 10 ^ v) none in inr (ap (λ v. v % 2) one, odd, less one none)
-        at_count (suc j) more = inl (even_power j d.digits (next_scale.1 ∙ ap (λ v. 10 ^ v) more), odd)
+        at_count zero none = let one : d.coefficient ≡ 1 = next_scale.1 ∙ ap (λ v. 10 ^ v) none in inr (ap (λ v. v % 2) one, odd, less one none)
+        at_count (suc j) more = inl (even_power j d.coefficient (next_scale.1 ∙ ap (λ v. 10 ^ v) more), odd)
 
 -- the decimal at a scale with n digits before the point is nearest
 at_scale : NearestWholeLaw → (n a b : ℕ) (s : ℤ) (m : ℕ) (d : Decimal) → 0 < n → 0 < b → IsScaled n a b s → IsNearestWhole (a * down s) (b * up s) m → IsCarried n m s d → IsNearest n a b d
@@ -193,13 +193,13 @@ at_scale law n a b s m d some some_b at near own = record {
 }
   where
     -- on a finer grid each decimal with n digits is farther
-    finer : (e : Decimal) (k : ℕ) → HasDigits n e.digits → s ≡ e.scale +ℤ pos (suc k)
-        → abs_diff (a * down e.scale) (m * 10 ^ suc k * (b * up e.scale)) < abs_diff (a * down e.scale) (e.digits * (b * up e.scale))
+    finer : (e : Decimal) (k : ℕ) → HasDigits n e.coefficient → s ≡ e.scale +ℤ pos (suc k)
+        → abs_diff (a * down e.scale) (m * 10 ^ suc k * (b * up e.scale)) < abs_diff (a * down e.scale) (e.coefficient * (b * up e.scale))
     finer e k digits is =
-        products (10 ^ (n - 1)) (10 ^ suc k) e.digits a b (up s) (down s) (up e.scale) (down e.scale)
+        products (10 ^ (n - 1)) (10 ^ suc k) e.coefficient a b (up s) (down s) (up e.scale) (down e.scale)
         (near.near (10 ^ (n - 1))) (shifted e.scale s (suc k) is) at.low (fewer k digits.below) (down_some s) (mul-pos some_b (up_some e.scale))
       where
-        fewer : (k : ℕ) → e.digits < 10 ^ n → e.digits < 10 ^ (n - 1) * 10 ^ suc k
+        fewer : (k : ℕ) → e.coefficient < 10 ^ n → e.coefficient < 10 ^ (n - 1) * 10 ^ suc k
         fewer k h = let more : n ≤ n - 1 + suc k = omega arith in let wide : 10 ^ n ≤ 10 ^ (n - 1) * 10 ^ suc k = subst (λ v. 10 ^ n ≤ v) (pow-add 10 (n - 1) (suc k)) (ten_up n (n - 1 + suc k) more) in omega arith
 
         farther : (u v w x : ℕ) → abs_diff u v ≤ abs_diff u w → w ≤ u → x < w → abs_diff u v < abs_diff u x
@@ -234,26 +234,26 @@ at_scale law n a b s m d some some_b at near own = record {
             let fifth : x * (b * ut) ≤ l * p * (b * ut) = mul-le x (b * ut) (l * p) (b * ut) (omega arith) (omega arith) in
             farther (a * dt) (m * p * (b * ut)) (l * p * (b * ut)) (x * (b * ut)) (cancelled_le _ _ ds some_s second) (cancelled_le _ _ ds some_s fourth) (scaled_lt x (l * p) (b * ut) few some_t)
 
-    nearest : (e : Decimal) → HasDigits n e.digits → ((k : ℕ) × (e.scale ≡ s +ℤ pos k)) ⊎ ((k : ℕ) × (s ≡ e.scale +ℤ pos (suc k))) → NoFarther a b d e
+    nearest : (e : Decimal) → HasDigits n e.coefficient → ((k : ℕ) × (e.scale ≡ s +ℤ pos k)) ⊎ ((k : ℕ) × (s ≡ e.scale +ℤ pos (suc k))) → NoFarther a b d e
     nearest e digits (inl above) = no_farther_on a b d e s m _ own.on (on_grid_below e s above.0 above.1) (near.near _)
     nearest e digits (inr below) =
         let less = finer e below.0 digits below.1 in
-        no_farther_on a b d e e.scale (m * 10 ^ suc below.0) e.digits (on_finer_grid d s e.scale m (suc below.0) below.1 own.on) (on_own_grid e) (omega arith)
+        no_farther_on a b d e e.scale (m * 10 ^ suc below.0) e.coefficient (on_finer_grid d s e.scale m (suc below.0) below.1 own.on) (on_own_grid e) (omega arith)
 
-    tie : (e : Decimal) → HasDigits n e.digits → NoFarther a b e d → ((k : ℕ) × (e.scale ≡ s +ℤ pos k)) ⊎ ((k : ℕ) × (s ≡ e.scale +ℤ pos (suc k))) → (d ≡ e) ⊎ IsPreferred d e
+    tie : (e : Decimal) → HasDigits n e.coefficient → NoFarther a b e d → ((k : ℕ) × (e.scale ≡ s +ℤ pos k)) ⊎ ((k : ℕ) × (s ≡ e.scale +ℤ pos (suc k))) → (d ≡ e) ⊎ IsPreferred d e
     tie e digits h (inl above) =
-        by_steps above.0 above.1 (other_odd law (a * down s) (b * up s) m (e.digits * 10 ^ above.0) (mul-pos some_b (up_some s)) near (steps_closer a b e d s _ m (on_grid_below e s above.0 above.1) own.on h))
+        by_steps above.0 above.1 (other_odd law (a * down s) (b * up s) m (e.coefficient * 10 ^ above.0) (mul-pos some_b (up_some s)) near (steps_closer a b e d s _ m (on_grid_below e s above.0 above.1) own.on h))
       where
         even : (x p q : ℕ) → p ≡ 10 * q → (x * p) % 2 ≡ 1 → ⊥
         even x p q e odd = let twice : x * p ≡ 2 * (x * (5 * q)) = ap (λ v. x * v) e ∙ omega arith in omega arith
 
-        by_steps : (k : ℕ) → e.scale ≡ s +ℤ pos k → (e.digits * 10 ^ k ≡ m) ⊎ ((m % 2 ≡ 0) × ((e.digits * 10 ^ k) % 2 ≡ 1)) → (d ≡ e) ⊎ IsPreferred d e
+        by_steps : (k : ℕ) → e.scale ≡ s +ℤ pos k → (e.coefficient * 10 ^ k ≡ m) ⊎ ((m % 2 ≡ 0) × ((e.coefficient * 10 ^ k) % 2 ≡ 1)) → (d ≡ e) ⊎ IsPreferred d e
         by_steps k is (inl same) = inl (same_decimal n m s d e k some own digits is same)
-        by_steps zero is (inr odd) = inr (preferred n m s d e some own digits is odd.0 (rw (mul-one e.digits) at odd.1))
-        by_steps (suc k) is (inr odd) = absurd (even e.digits (10 ^ suc k) (10 ^ k) (ten_suc k) odd.1)
+        by_steps zero is (inr odd) = inr (preferred n m s d e some own digits is odd.0 (rw (mul-one e.coefficient) at odd.1))
+        by_steps (suc k) is (inr odd) = absurd (even e.coefficient (10 ^ suc k) (10 ^ k) (ten_suc k) odd.1)
     tie e digits h (inr below) =
         let less = finer e below.0 digits below.1 in
-        let more = steps_closer a b e d e.scale e.digits (m * 10 ^ suc below.0) (on_own_grid e) (on_finer_grid d s e.scale m (suc below.0) below.1 own.on) h in
+        let more = steps_closer a b e d e.scale e.coefficient (m * 10 ^ suc below.0) (on_own_grid e) (on_finer_grid d s e.scale m (suc below.0) below.1 own.on) h in
         absurd (omega arith)
 
 -- two nearest decimals are one

@@ -1,4 +1,4 @@
--- Numbers in decimal digits, read back by the numerals.
+-- Whole numbers in decimal digits, read by the numerals of the product.
 use Rattle.std.specs.Prelude.{◌≡◌, ◌≤◌, ℕ, List, pos, Ok}
 use Rattle.std.specs.Fmt.{decimal}
 use Rattle.frac128.specs.Decimals.{Decimal, read, value_of}
@@ -10,5 +10,6 @@ pub record IsReadAs (bytes : List ℕ) (n : ℕ) : Type 0 where
   pub read_is : read bytes ≡ Ok numeral
   pub value_is : value_of numeral ≡ Ok (whole (pos n))
 
+-- law: the digits of each whole number that fits are read as that number
 abbrev pub BackLaw : Type 0
 BackLaw = (n : ℕ) → n ≤ most → IsReadAs (decimal n) n

@@ -1,13 +1,26 @@
 -- The text of a fraction with so many significant digits.
-use Rattle.std.specs.Prelude.{◌==◌, ◌++◌, ℕ, List, pos, unsigned_abs, int_lt, if◌then◌else◌, codes}
+use Rattle.std.specs.Prelude.{◌≡◌, ◌++◌, ◌⊎◌, ℕ, List, pos, unsigned_abs, if◌then◌else◌, codes}
+use Rattle.frac128.specs.Decimals.{Decimal}
 use Rattle.frac128.specs.Fraction.{Fraction}
+use Rattle.frac128.specs.Sign.{is_negative, is_zero}
 use Rattle.digits_print.specs.Exact.{sign_text}
 use Rattle.digits_print.specs.Layout.{decimal_text}
+use Rattle.digits_print.specs.Nearest.{IsNearest}
 use Rattle.digits_print.specs.Rounding.{rounded}
 
--- `0`, or a minus where it is below 0 and the nearest decimal with n digits
+-- the text is a minus where x is below 0, and the decimal with n digits that is nearest to its magnitude
+pub record IsNearestText (x : Fraction) (n : ℕ) (text : List ℕ) : Type 0 where
+  pub decimal : Decimal
+  pub nearest : IsNearest n (unsigned_abs x.num) x.den decimal
+  pub text_is : text ≡ sign_text (is_negative x) ++ decimal_text n decimal
+
+-- the text of 0, or of the nearest decimal
+abbrev pub IsDigitsText : Fraction → ℕ → List ℕ → Type 0
+IsDigitsText x n text = ((x.num ≡ pos 0) × (text ≡ codes "0")) ⊎ IsNearestText x n text
+
+-- the same by rounding
 abbrev pub digits_text : Fraction → ℕ → List ℕ
 digits_text x n =
-    if unsigned_abs x.num == 0
+    if is_zero x
     then codes "0"
-    else sign_text (int_lt x.num (pos 0)) ++ decimal_text n (rounded n (unsigned_abs x.num) x.den)
+    else sign_text (is_negative x) ++ decimal_text n (rounded n (unsigned_abs x.num) x.den)

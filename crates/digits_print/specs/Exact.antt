@@ -5,6 +5,7 @@ use Rattle.std.specs.Str.Parse.{IsNumeral, digits_value}
 use Rattle.frac128.specs.Fraction.{Fraction, IsKept}
 use Rattle.frac128.specs.Sign.{signed}
 use Rattle.frac128.specs.Steps.{ratio}
+use Rattle.digits_print.specs.Back.{IsReadAs}
 
 -- a fraction as `n`, or as `n|d` where the denominator is above 1
 abbrev pub exact_text : Fraction → List ℕ
@@ -15,21 +16,24 @@ abbrev pub sign_text : Bool → List ℕ
 sign_text true = codes "-"
 sign_text false = []
 
--- the text is an optional minus and a decimal numeral, whose value is x
+-- the text is an optional minus and a decimal numeral, also of the product, whose value is x
 pub record ReadsAsWhole (text : List ℕ) (x : Fraction) : Type 0 where
   pub negative : Bool
   pub top : List ℕ
   pub top_digits : IsNumeral 10 top
+  pub top_read : IsReadAs top (digits_value 10 top)
   pub spelled : text ≡ sign_text negative ++ top
   pub value : ratio (signed negative (digits_value 10 top)) (pos 1) ≡ Ok x
 
--- the text is an optional minus and two decimal numerals with a bar between, whose quotient is x
+-- the text is an optional minus and two decimal numerals, also of the product, with a bar between, whose quotient is x
 pub record ReadsAsQuotient (text : List ℕ) (x : Fraction) : Type 0 where
   pub negative : Bool
   pub top : List ℕ
   pub bottom : List ℕ
   pub top_digits : IsNumeral 10 top
   pub bottom_digits : IsNumeral 10 bottom
+  pub top_read : IsReadAs top (digits_value 10 top)
+  pub bottom_read : IsReadAs bottom (digits_value 10 bottom)
   pub spelled : text ≡ sign_text negative ++ top ++ codes "|" ++ bottom
   pub value : ratio (signed negative (digits_value 10 top)) (pos (digits_value 10 bottom)) ≡ Ok x
 

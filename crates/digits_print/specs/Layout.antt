@@ -2,7 +2,7 @@
 use Rattle.std.specs.Prelude.{◌+◌, ◌-◌, ◌==◌, ◌++◌, ◌∷◌, [], ◌+ℤ◌, ℕ, ℤ, pos, negsuc, suc, List, take, drop, replicate, nat_lt, if◌then◌else◌, codes}
 use Rattle.std.specs.Fmt.{decimal}
 use Rattle.std.specs.List.{list_all}
-use Rattle.digits_print.specs.declared.decimal.Decimal.{Decimal}
+use Rattle.frac128.specs.Decimals.{Decimal}
 
 -- digits up to the last that is not `0`
 abbrev pub without_end_zeros : List ℕ → List ℕ
@@ -46,4 +46,4 @@ layout n ds (negsuc k) = if nat_lt k 4 then below_one ds k else scientific ds (n
 
 -- a decimal with n digits
 abbrev pub decimal_text : ℕ → Decimal → List ℕ
-decimal_text n d = layout n (decimal d.digits) (d.scale +ℤ pos (n - 1))
+decimal_text n d = layout n (decimal d.coefficient) (d.scale +ℤ pos (n - 1))

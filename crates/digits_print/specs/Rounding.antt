@@ -2,7 +2,7 @@
 use Rattle.std.specs.Prelude.{◌≡◌, ◌<◌, ◌-◌, ◌*◌, ◌/◌, ◌^◌, ◌==◌, ◌+ℤ◌, ◌-ℤ◌, ℕ, ℤ, pos, neg_ℤ, length, nat_le, if◌then◌else◌}
 use Rattle.std.specs.Int.Digits.{digits_of}
 use Rattle.frac128.specs.Nearest.{nearest_whole}
-use Rattle.digits_print.specs.declared.decimal.Decimal.{Decimal}
+use Rattle.frac128.specs.Decimals.{Decimal}
 use Rattle.digits_print.specs.Nearest.{IsNearest, down, up}
 
 -- how many decimal digits a whole number has, none for 0
@@ -17,8 +17,8 @@ first_power a b = if nat_le b a then pos (digit_count (a / b) - 1) else neg_ℤ 
 abbrev pub carried : ℕ → ℕ → ℤ → Decimal
 carried n m scale =
     if m == 10 ^ n
-    then record { digits = 10 ^ (n - 1); scale = scale +ℤ pos 1 }
-    else record { digits = m; scale = scale }
+    then record { coefficient = 10 ^ (n - 1); scale = scale +ℤ pos 1 }
+    else record { coefficient = m; scale = scale }
 
 -- a / b in steps of ten to the scale
 unfoldable pub rounded_at : ℕ → ℕ → ℕ → ℤ → Decimal

@@ -6,15 +6,26 @@ ghost use Rattle.digits_print.specs.Nearest.{HasDigits};
 ghost use Rattle.digits_print.specs.Rounding.{carried as carried_of};
 
 use std::cmp::Ordering;
+use std::marker::Model;
 
 // The most significant digits of a printed number.
 pub(crate) const MOST_DIGITS: u32 = 36;
 
-/// A whole number times ten to the scale.
+// A coefficient times ten to the scale.
 #[derive(Clone, Copy)]
-pub struct Decimal {
-    pub digits: u128,
-    pub scale: i32,
+pub(crate) struct Decimal {
+    pub(crate) coefficient: u128,
+    pub(crate) scale: i32,
+}
+
+impl Model for Decimal {
+    ghost use Rattle.frac128.specs.Decimals.{Decimal};
+
+    ghost Value = { Decimal };
+
+    ghost view = { λ x. record { coefficient = x.coefficient; scale = x.scale } };
+
+    ghost inverse = { λ x. record { coefficient = x.coefficient; scale = x.scale } };
 }
 
 impl Decimal {
@@ -26,7 +37,7 @@ impl Decimal {
         requires low { negsuc 99 <ℤ scale }
         requires high { scale <ℤ pos 100 }
         ensures value { result ≡ carried_of digits (by_half_of number cut) scale }
-        ensures fits { HasDigits digits result.digits }
+        ensures fits { HasDigits digits result.coefficient }
         ensures low { negsuc 99 <ℤ result.scale }
         ensures high { result.scale ≤ℤ pos 100 }
     {
@@ -34,12 +45,12 @@ impl Decimal {
         let nearest = by_half(number, cut);
         if nearest == limit {
             Decimal {
-                digits: power_of_ten(digits - 1),
+                coefficient: power_of_ten(digits - 1),
                 scale: scale + 1,
             }
         } else {
             Decimal {
-                digits: nearest,
+                coefficient: nearest,
                 scale,
             }
         }

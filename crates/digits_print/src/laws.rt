@@ -6,11 +6,13 @@ ghost use Rattle.digits_print.specs.Rounding.{NearestLaw};
 
 use frac128::{digits_law, nearest_whole_law, reduced_law};
 
-/// The exact text of a fraction reads as that fraction.
+/// The exact text of a fraction reads as that fraction, by the numerals of `read_numeral` and
+/// their values.
 pub fn exact_law()
     ensures { ExactLaw }
 {
     reduced_law();
+    back_law();
 }
 
 /// A rounded number is the nearest one with so many significant digits, and the only one.
@@ -20,7 +22,7 @@ pub fn nearest_law()
     nearest_whole_law();
 }
 
-/// Digits read back.
+/// The digits of a whole number are read as that number.
 pub fn back_law()
     ensures { BackLaw }
 {

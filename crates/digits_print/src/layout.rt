@@ -19,12 +19,12 @@ pub(crate) fn put_decimal(
 ) -> Result<(), AllocError>
     requires some { 0 < digits }
     requires most { digits ≤ MOST_DIGITS }
-    requires fits { HasDigits digits x.digits }
+    requires fits { HasDigits digits x.coefficient }
     requires low { negsuc 99 <ℤ x.scale }
     requires high { x.scale ≤ℤ pos 100 }
     ensures { OnOk result (text.new.items ≡ text.old.items ++ decimal_text digits x) }
 {
-    let numeral = x.digits.to_string(alloc)?;
+    let numeral = x.coefficient.to_string(alloc)?;
     let power = x.scale + (digits as i32 - 1);
     put_layout(alloc, text, numeral.as_bytes(), power, digits)
 }

@@ -8,8 +8,6 @@ mod laws;
 mod layout;
 mod rounding;
 mod tenfold;
-#[cfg(test)]
-mod tests;
 
 pub use digits::print_digits;
 pub use exact::print_exact;

@@ -17,7 +17,7 @@ pub(crate) fn rounded(top: u128, bottom: u128, digits: u32) -> Decimal
     requires bottom { 0 < bottom }
     requires fits { bottom ≤ 2 ^ 127 }
     ensures value { result ≡ rounded_of digits top bottom }
-    ensures fits { HasDigits digits result.digits }
+    ensures fits { HasDigits digits result.coefficient }
     ensures low { negsuc 99 <ℤ result.scale }
     ensures high { result.scale ≤ℤ pos 100 }
 {
@@ -37,7 +37,7 @@ fn lengthened(top: u128, bottom: u128, digits: u32) -> Decimal
     requires fits { bottom ≤ 2 ^ 127 }
     requires low { top / bottom < 10 ^ digits }
     ensures value { result ≡ rounded_of digits top bottom }
-    ensures fits { HasDigits digits result.digits }
+    ensures fits { HasDigits digits result.coefficient }
     ensures low { negsuc 99 <ℤ result.scale }
     ensures high { result.scale ≤ℤ pos 100 }
 {
@@ -61,7 +61,7 @@ fn shortened(top: u128, bottom: u128, digits: u32) -> Decimal
     requires bottom { 0 < bottom }
     requires high { 10 ^ digits ≤ top / bottom }
     ensures value { result ≡ rounded_of digits top bottom }
-    ensures fits { HasDigits digits result.digits }
+    ensures fits { HasDigits digits result.coefficient }
     ensures low { negsuc 99 <ℤ result.scale }
     ensures high { result.scale ≤ℤ pos 100 }
 {

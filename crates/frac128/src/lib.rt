@@ -15,8 +15,6 @@ mod root;
 mod sign;
 mod spelling;
 mod sum;
-#[cfg(test)]
-mod tests;
 
 pub use fault::FracFault;
 pub use fraction::Frac;

@@ -1,5 +1,5 @@
 -- What each call answers.
-use Rattle.std.specs.Prelude.{◌≡◌, ℕ, List, Result, Ok, Err, codes}
+use Rattle.std.specs.Prelude.{◌≡◌, ℕ, Bool, true, false, List, Result, Ok, Err, codes}
 use Rattle.std.specs.Fmt.{decimal}
 use Rattle.std.specs.Int.NonZero.{non_zero_u32_get}
 use Rattle.std.specs.declared.cmp.Ordering.{Ordering}
@@ -15,6 +15,7 @@ use Rattle.frac128.specs.Numerals.{numeral_len_of}
 use Rattle.frac128.specs.Order.{compared}
 use Rattle.frac128.specs.Powers.{power}
 use Rattle.frac128.specs.Roots.{IsRootAnswer}
+use Rattle.frac128.specs.Sign.{is_zero}
 use Rattle.frac128.specs.Steps.{over, ratio, times}
 use Rattle.frac128.specs.Sums.{minus, plus}
 use Rattle.digits_print.specs.Digits.{digits_text}
@@ -53,6 +54,11 @@ numeral_text (Ok numeral) = fraction_text (value_of numeral)
 numeral_text (Err NotNumeral) = codes "not a numeral"
 numeral_text (Err TooLong) = codes "too long"
 
+-- whether something is so
+abbrev pub truth_text : Bool → List ℕ
+truth_text true = codes "true"
+truth_text false = codes "false"
+
 -- how the first of two fractions stands to the second
 abbrev pub order_text : Ordering → List ℕ
 order_text Less = codes "less"
@@ -62,6 +68,7 @@ order_text Greater = codes "greater"
 -- the text that a call answers
 abbrev pub IsAnswer : Call → List ℕ → Type 0
 IsAnswer (call.Step step) text = (taken : Result Fraction FracFault) × IsTaken step taken × (text ≡ fraction_text taken)
+IsAnswer (call.Zero x) text = text ≡ truth_text (is_zero x)
 IsAnswer (call.Compare x y) text = text ≡ order_text (compared x y)
 IsAnswer (call.Exact x) text = text ≡ exact_text x
 IsAnswer (call.Digits count x) text = text ≡ digits_text x count.value

@@ -2,7 +2,7 @@
 
 ghost use Rattle.std.specs.Prelude.{◌≡◌, IfOk};
 ghost use Rattle.std.specs.Fmt.{decimal};
-ghost use Rattle.number_calls.specs.Answers.{fault_text as fault_text_of, order_text as order_text_of};
+ghost use Rattle.number_calls.specs.Answers.{fault_text as fault_text_of, order_text as order_text_of, truth_text as truth_text_of};
 ghost use Rattle.number_calls.specs.Answers.{IsAnswer, IsTaken, fraction_text, numeral_text};
 ghost use Rattle.frac128.specs.Decimals.{read};
 ghost use Rattle.frac128.specs.Numerals.{numeral_len_of};
@@ -29,6 +29,7 @@ fn answer_to(alloc: Global, call: &Call<'_>) -> Result<Text, AllocError>
 {
     match call {
         Call::Step(step) => fraction_answer(alloc, step.taken()),
+        Call::Zero(x) => Text::from_bytes(alloc, truth_text(x.is_zero())),
         Call::Compare(x, y) => Text::from_bytes(alloc, order_text(x.cmp(y))),
         Call::Exact(x) => print_exact(alloc, x),
         Call::Digits(count, x) => print_digits(alloc, x, count.value),
@@ -94,6 +95,13 @@ fn fault_text(fault: FracFault) -> &'static [u8]
         FracFault::DivisionByZero => b"division by zero",
         FracFault::NoExactRoot => b"no exact root",
     }
+}
+
+// Whether something is so.
+fn truth_text(is: bool) -> &'static [u8]
+    ensures { result.now ≡ truth_text_of is }
+{
+    if is { b"true" } else { b"false" }
 }
 
 // How the first of two fractions stands to the second.

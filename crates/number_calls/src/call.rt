@@ -31,6 +31,7 @@ pub(crate) struct DigitCount {
 #[derive(Clone, Copy)]
 pub(crate) enum Call<'a> {
     Step(Step),
+    Zero(Frac),
     Compare(Frac, Frac),
     Exact(Frac),
     Digits(DigitCount, Frac),

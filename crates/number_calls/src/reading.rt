@@ -27,6 +27,7 @@ fn read_number_call<'a>(word: &[u8], rest: &str) -> Option<Call<'a>> {
             let (x, y) = read_pair(rest)?;
             Some(Call::Compare(x, y))
         }
+        b"zero" => Some(Call::Zero(read_fraction(rest)?)),
         b"exact" => Some(Call::Exact(read_fraction(rest)?)),
         b"digits" => {
             let (count, x) = rest.split_once(' ')?;
