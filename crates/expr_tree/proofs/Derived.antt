@@ -14,6 +14,7 @@ use Rattle.expr_tree.specs.declared.operator.Sign.{Sign}
 use Rattle.expr_tree.specs.declared.operator.Sign.TheVariants as signs
 use Rattle.expr_tree.specs.Front.{stops, begins, after_sum, after_product, after_juxtaposition, after_power, after_atom}
 use Rattle.expr_tree.proofs.Fits.{closing, begins_wanted, ended_stops}
+use Rattle.expr_tree.specs.declared.operator.RootKind.{RootKind}
 
 -- A derivation stands at the front of the tokens.
 record At {X : Type 0} (spell : X → List Token → List Token) (follow : Token → Bool) (k : ℕ) (ts : List Token) : Type 0 where
@@ -116,7 +117,7 @@ inverse_from w k ts p = go (closing k p.rest p.stop p.fit)
         let e : length p.rest ≡ suc (length c.0) = ap length c.1 in
         record { made = InverseAtom w p.made; rest = c.0; is = ap (λ x. Tilde ∷ Head w ∷ x) (p.is ∙ ap (sum p.made) c.1); stop = ended_stops k c.0 c.2; fit = c.2; less = omega arith }
 
-root_from : (n k : ℕ) (ts : List Token) → Front sum after_sum (suc k) ts → Front atom after_atom k (Root n ∷ Open ∷ ts)
+root_from : (n : RootKind) (k : ℕ) (ts : List Token) → Front sum after_sum (suc k) ts → Front atom after_atom k (Root n ∷ Open ∷ ts)
 root_from n k ts p = go (closing k p.rest p.stop p.fit)
   where
     go : ((s : List Token) × (p.rest ≡ Close ∷ s) × (fits EndsOperand k s ≡ true)) → Front atom after_atom k (Root n ∷ Open ∷ ts)

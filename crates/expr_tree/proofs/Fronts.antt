@@ -11,6 +11,7 @@ use Rattle.expr_tree.specs.Syntax.{Syntax}
 use Rattle.expr_tree.specs.Syntax as tree
 use Rattle.expr_tree.specs.Tokens.{Token, Numeral, Word, WordWithPower, Head, Root, Plus, Minus, Star, Slash, Bar, Caret, Tilde, Open, Close}
 use Rattle.expr_tree.proofs.Fits.{ended_stops}
+use Rattle.expr_tree.specs.declared.operator.RootKind.{RootKind}
 
 -- tokens that fit, and what they are
 fit_as : (k : ℕ) (x y : List Token) → x ≡ y → fits WantsOperand k x ≡ true → fits WantsOperand k y ≡ true
@@ -52,7 +53,7 @@ pub inverse_front : (b : Option (List ℕ)) (k : ℕ) (w : List ℕ) (x y z : Li
 inverse_front b k w x y z a e is c says =
     record { made = InverseAtom w c.made; is = is ∙ ap (λ v. Tilde ∷ Head w ∷ v) c.is; says = says ∙ ap (tree.Inverse w) c.says; stop = ended_stops k z c.fit; fit = c.fit }
 
-pub root_front : (b : Option (List ℕ)) (k n : ℕ) (x y z : List Token) (a e : Syntax) → x ≡ Root n ∷ Open ∷ y → IsClosed b k y a z → e ≡ tree.Root n a → AtomAt b k x e z
+pub root_front : (b : Option (List ℕ)) (k : ℕ) (n : RootKind) (x y z : List Token) (a e : Syntax) → x ≡ Root n ∷ Open ∷ y → IsClosed b k y a z → e ≡ tree.Root n a → AtomAt b k x e z
 root_front b k n x y z a e is c says =
     record { made = RootAtom n c.made; is = is ∙ ap (λ v. Root n ∷ Open ∷ v) c.is; says = says ∙ ap (tree.Root n) c.says; stop = ended_stops k z c.fit; fit = c.fit }
 

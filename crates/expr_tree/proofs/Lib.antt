@@ -5,6 +5,7 @@ pub mod Faultless
 pub mod Fits
 pub mod Forming
 pub mod Found
+pub mod Free
 pub mod Fronts
 pub mod JuxtapositionSteps
 pub mod Lengths

@@ -6,10 +6,9 @@ use Rattle.expr_tree.specs.declared.operator.Sign.{Sign}
 use Rattle.expr_tree.specs.declared.tree.Tree.{Tree}
 use Rattle.expr_tree.specs.Trees.{factor, factors, members, syntax, term, terms}
 use Rattle.expr_tree.specs.Words.{words_in, words_in_factors, words_in_members, words_in_terms}
-use Rattle.expr_tree.proofs.Views.{of_number, of_bar, of_word, of_argument, of_call, of_inverse, of_root, of_group, of_negate, of_power, of_juxtaposed, of_product, of_sum}
+use Rattle.expr_tree.proofs.Views.{views}
 
-pub ruleset says =
-    (of_number, of_bar, of_word, of_argument, of_call, of_inverse, of_root, of_group, of_negate, of_power, of_juxtaposed, of_product, of_sum, append-nil, append_assoc)
+pub ruleset says = (views, append-nil, append_assoc)
 
 -- the words of the member at a place, and of the members behind it
 pub member_words_at : (ts : List Tree) (i : ℕ) (d : Tree) → i < length ts

@@ -1,6 +1,7 @@
 -- How large trees are: each is larger than its parts.
 use Rattle.std.proofs.Common.{◌≡◌, ◌+◌, ◌<◌, ℕ, zero, suc, List, [], ◌∷◌, Some, ap, ◌∙◌, arith, Box, Global}
 use Rattle.std.specs.Prelude.{slice_get}
+use Rattle.expr_tree.specs.declared.operator.RootKind.{RootKind}
 use Rattle.expr_tree.specs.declared.operator.Scale.{Scale}
 use Rattle.expr_tree.specs.declared.operator.Sign.{Sign}
 use Rattle.expr_tree.specs.declared.tree.Factors.{Factors as FactorList}
@@ -17,7 +18,7 @@ abbrev mutual
   pub size : Syntax → ℕ
   size (tree.Call w e) = suc (size e)
   size (tree.Inverse w e) = suc (size e)
-  size (tree.Root degree e) = suc (size e)
+  size (tree.Root kind e) = suc (size e)
   size (tree.Group e) = suc (size e)
   size (tree.Negate e) = suc (size e)
   size (tree.Power e f) = suc (size e + size f)
@@ -44,7 +45,7 @@ of_call_size t w e is = ap (λ (x : Tree). size (syntax x)) is ∙ ap size (of_c
 pub of_inverse_size : (t : Tree) (w : List ℕ) (e : Box Tree Global) → t ≡ made.Inverse w e → size (syntax t) ≡ suc (size (syntax e.value))
 of_inverse_size t w e is = ap (λ (x : Tree). size (syntax x)) is ∙ ap size (of_inverse w e)
 
-pub of_root_size : (t : Tree) (n : ℕ) (e : Box Tree Global) → t ≡ made.Root n e → size (syntax t) ≡ suc (size (syntax e.value))
+pub of_root_size : (t : Tree) (n : RootKind) (e : Box Tree Global) → t ≡ made.Root n e → size (syntax t) ≡ suc (size (syntax e.value))
 of_root_size t n e is = ap (λ (x : Tree). size (syntax x)) is ∙ ap size (of_root n e)
 
 pub of_group_size : (t : Tree) (e : Box Tree Global) → t ≡ made.Group e → size (syntax t) ≡ suc (size (syntax e.value))

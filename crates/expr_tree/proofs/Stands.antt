@@ -2,6 +2,7 @@
 use Rattle.std.proofs.Common.{◌≡◌, ℕ, suc, ◌+◌, ◌<◌, ◌≤◌, Bool, true, false, List, [], ◌∷◌, length, map, get_or, Some, refl, sym, ◌∙◌, ap, subst, arith, ltb-true, ltb-false, nat_lt}
 use Rattle.std.proofs.Math.ListN.{drop_of_length-le}
 use Rattle.std.proofs.lemmas.List.{drop_more}
+use Rattle.expr_tree.specs.declared.operator.RootKind.{RootKind}
 use Rattle.expr_tree.specs.declared.operator.Scale.{Scale}
 use Rattle.expr_tree.specs.declared.operator.Scale.TheVariants.{Multiply, Divide}
 use Rattle.expr_tree.specs.declared.operator.Sign.{Sign}
@@ -145,12 +146,12 @@ denominator_stands ts at n h = first (ahead ts at)
     first (something l t e) = second (e ∙ ap (λ (x : Token). x ∷ tokens_from ts (at + 1)) (bar t _ (sym (ap first_denominator e) ∙ h))) (ahead ts (at + 1))
 
 -- a root and its `(`
-pub record Rooted (ts : List Made) (at k n : ℕ) : Type 0 where
+pub record Rooted (ts : List Made) (at k : ℕ) (n : RootKind) : Type 0 where
   pub within : at + 2 ≤ length ts
   pub is : tokens_from ts at ≡ Root n ∷ Open ∷ tokens_from ts (at + 2)
   pub fit : fits WantsOperand (k + 1) (tokens_from ts (at + 2)) ≡ true
 
-pub rooted : (ts : List Made) (at k n : ℕ) (d : Made) → at < length ts → get_or ts at d ≡ made.Root n → fits WantsOperand k (tokens_from ts at) ≡ true → Rooted ts at k n
+pub rooted : (ts : List Made) (at k : ℕ) (n : RootKind) (d : Made) → at < length ts → get_or ts at d ≡ made.Root n → fits WantsOperand k (tokens_from ts at) ≡ true → Rooted ts at k n
 rooted ts at k n d l is h = go (open_stands ts (at + 1) k (subst (λ y. fits WantsOperand k y ≡ true) root h))
   where
     root : tokens_from ts at ≡ Root n ∷ tokens_from ts (at + 1)

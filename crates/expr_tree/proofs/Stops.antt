@@ -77,36 +77,3 @@ power_begins (Raised a e) r = atom_begins a (Caret ∷ exponent e r)
 pub juxtaposition_rest_stops : (ps : JuxtapositionRest) (r : List Token) → stops after_juxtaposition r ≡ true → stops after_power (juxtaposition_rest ps r) ≡ true
 juxtaposition_rest_stops NoPower r h = juxtaposition_power r h
 juxtaposition_rest_stops (NextPower p ps) r h = begins_power (power p (juxtaposition_rest ps r)) (power_begins p (juxtaposition_rest ps r))
-
-pub sign_same : (s t : Sign) → sign s ≡ sign t → s ≡ t
-sign_same signs.Plus signs.Plus e = refl
-sign_same signs.Plus signs.Minus e = cc
-sign_same signs.Minus signs.Plus e = cc
-sign_same signs.Minus signs.Minus e = refl
-
-pub scale_same : (s t : Scale) → scale s ≡ scale t → s ≡ t
-scale_same Multiply Multiply e = refl
-scale_same Multiply Divide e = cc
-scale_same Divide Multiply e = cc
-scale_same Divide Divide e = refl
-
-pub no_term : (s : Sign) (r x : List Token) → stops after_sum r ≡ true → r ≡ sign s ∷ x → ⊥
-no_term signs.Plus r x h e = let f : true ≡ stops after_sum (Plus ∷ x) = sym h ∙ ap (stops after_sum) e in cc
-no_term signs.Minus r x h e = let f : true ≡ stops after_sum (Minus ∷ x) = sym h ∙ ap (stops after_sum) e in cc
-
-pub no_factor : (s : Scale) (r x : List Token) → stops after_product r ≡ true → r ≡ scale s ∷ x → ⊥
-no_factor Multiply r x h e = let f : true ≡ stops after_product (Star ∷ x) = sym h ∙ ap (stops after_product) e in cc
-no_factor Divide r x h e = let f : true ≡ stops after_product (Slash ∷ x) = sym h ∙ ap (stops after_product) e in cc
-
-pub no_power : (p : Power) (r x : List Token) → stops after_juxtaposition r ≡ true → r ≡ power p x → ⊥
-no_power p r x h e = begins_juxtaposition r (ap begins e ∙ power_begins p x) h
-
-pub no_sign : (s : Sign) (x y : List Token) → begins y ≡ true → sign s ∷ x ≡ y → ⊥
-no_sign signs.Plus x y h e = let f : begins (Plus ∷ x) ≡ true = ap begins e ∙ h in cc
-no_sign signs.Minus x y h e = let f : begins (Minus ∷ x) ≡ true = ap begins e ∙ h in cc
-
-pub no_caret : (r x : List Token) → stops after_power r ≡ true → r ≡ Caret ∷ x → ⊥
-no_caret r x h e = let f : true ≡ stops after_power (Caret ∷ x) = sym h ∙ ap (stops after_power) e in cc
-
-pub no_bar : (r x : List Token) → stops after_atom r ≡ true → r ≡ Bar ∷ x → ⊥
-no_bar r x h e = let f : true ≡ stops after_atom (Bar ∷ x) = sym h ∙ ap (stops after_atom) e in cc

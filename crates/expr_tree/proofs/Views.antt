@@ -1,6 +1,7 @@
 -- What each kind of tree says.
 use Rattle.std.proofs.Common.{◌≡◌, ℕ, List, sym, ap, ◌∙◌, Global, Box}
 use Rattle.frac128.specs.Decimals.{Decimal}
+use Rattle.expr_tree.specs.declared.operator.RootKind.{RootKind}
 use Rattle.expr_tree.specs.declared.tree.Tree.{Tree}
 use Rattle.expr_tree.specs.declared.tree.Tree.TheVariants as made
 use Rattle.expr_tree.specs.declared.tree.Tree.TheOpen as one
@@ -10,6 +11,7 @@ use Rattle.expr_tree.specs.declared.tree.Factors.{Factors as FactorList}
 use Rattle.expr_tree.specs.declared.tree.Terms.{Terms as TermList}
 use Rattle.expr_tree.specs.Syntax.{Syntax, Members, Factors, Terms}
 use Rattle.expr_tree.specs.Syntax as tree
+use Rattle.expr_tree.specs.Views.{ViewLaw}
 use Rattle.expr_tree.specs.Trees.{syntax, level, members, factors, terms, trees_of, factors_of, terms_of}
 
 pub of_number : (n : Decimal) → syntax (made.Number n) ≡ tree.Number n
@@ -30,7 +32,7 @@ of_call w e = ap syntax (sym (made.rolls-Call w e)) ∙ fold-roll-Tree Syntax Fa
 pub of_inverse : (w : List ℕ) (e : Box Tree Global) → syntax (made.Inverse w e) ≡ tree.Inverse w (syntax e.value)
 of_inverse w e = ap syntax (sym (made.rolls-Inverse w e)) ∙ fold-roll-Tree Syntax Factors Terms Members level (λ fs. factors fs.items.items) (λ ts. terms ts.items.items) (λ es. members es.items.items) (one.Inverse w e)
 
-pub of_root : (n : ℕ) (e : Box Tree Global) → syntax (made.Root n e) ≡ tree.Root n (syntax e.value)
+pub of_root : (n : RootKind) (e : Box Tree Global) → syntax (made.Root n e) ≡ tree.Root n (syntax e.value)
 of_root n e = ap syntax (sym (made.rolls-Root n e)) ∙ fold-roll-Tree Syntax Factors Terms Members level (λ fs. factors fs.items.items) (λ ts. terms ts.items.items) (λ es. members es.items.items) (one.Root n e)
 
 pub of_group : (e : Box Tree Global) → syntax (made.Group e) ≡ tree.Group (syntax e.value)
@@ -50,3 +52,23 @@ of_product fs = ap syntax (sym (made.rolls-Product fs)) ∙ (fold-roll-Tree Synt
 
 pub of_sum : (ts : TermList) → syntax (made.Sum ts) ≡ tree.Sum (terms (terms_of ts))
 of_sum ts = ap syntax (sym (made.rolls-Sum ts)) ∙ (fold-roll-Tree Syntax Factors Terms Members level (λ fs. factors fs.items.items) (λ ts. terms ts.items.items) (λ es. members es.items.items) (one.Sum ts) ∙ ap tree.Sum (fold_out-Terms Syntax Factors Terms Members level (λ fs. factors fs.items.items) (λ ts. terms ts.items.items) (λ es. members es.items.items) ts))
+
+pub view_law : ViewLaw
+view_law = record {
+  number = of_number;
+  bar = of_bar;
+  word = of_word;
+  argument = of_argument;
+  call = of_call;
+  inverse = of_inverse;
+  root = of_root;
+  group = of_group;
+  negate = of_negate;
+  power = of_power;
+  juxtaposed = of_juxtaposed;
+  product = of_product;
+  sum = of_sum;
+}
+
+-- the equations of all kinds, for walks over trees
+pub ruleset views = (of_number, of_bar, of_word, of_argument, of_call, of_inverse, of_root, of_group, of_negate, of_power, of_juxtaposed, of_product, of_sum)

@@ -1,6 +1,7 @@
 -- Trees of a few token lists, found by hand.
 use Rattle.std.specs.Prelude.{◌≡◌, ℕ, pos, List, [], ◌∷◌, Some, None}
 use Rattle.frac128.specs.Decimals.{Decimal}
+use Rattle.expr_tree.specs.declared.operator.RootKind.TheVariants.{Square}
 use Rattle.expr_tree.specs.declared.operator.Scale.TheVariants.{Multiply, Divide}
 use Rattle.expr_tree.specs.declared.operator.Sign.TheVariants as signs
 use Rattle.expr_tree.specs.Reading.{tree_of}
@@ -50,7 +51,7 @@ ExamplesLaw =
     ≡ Some (Power (Power (tree.Word m) (number 2)) (number 3)))
     × (tree_of None (numeral 1 ∷ Bar ∷ numeral 2 ∷ Word m ∷ [])
     ≡ Some (both (tree.Bar (decimal 1) (decimal 2)) (tree.Word m)))
-    × (tree_of None (Root 2 ∷ Open ∷ Word m ∷ Close ∷ []) ≡ Some (tree.Root 2 (tree.Word m)))
+    × (tree_of None (Root Square ∷ Open ∷ Word m ∷ Close ∷ []) ≡ Some (tree.Root Square (tree.Word m)))
     × (tree_of (Some x) (WordWithPower x (decimal 2) ∷ []) ≡ Some (Power Argument (number 2)))
     × (tree_of (Some x) (Head x ∷ Word m ∷ Close ∷ []) ≡ Some (Group (both Argument (tree.Word m))))
     × (tree_of (Some x) (Tilde ∷ Head x ∷ Word m ∷ Close ∷ []) ≡ Some (Inverse x (tree.Word m)))

@@ -1,17 +1,12 @@
 -- Trees that are well formed.
-use Rattle.std.specs.Prelude.{◌≡◌, ℕ, Bool, true, false, ◌&&◌, ◌||◌, ◌==◌, IsTrue, List, Option, Ok}
+use Rattle.std.specs.Prelude.{◌≡◌, ℕ, Bool, true, false, ◌&&◌, IsTrue, List, Option, Ok}
 use Rattle.expr_tree.specs.declared.operator.Scale.TheVariants.{Multiply}
 use Rattle.expr_tree.specs.declared.operator.Sign.TheVariants.{Plus}
 use Rattle.expr_tree.specs.Parsed.{parsed}
 use Rattle.expr_tree.specs.Syntax.{Syntax, Number, Bar, Word, Argument, Call, Inverse, Root, Group, Negate, Power, Juxtaposed, Product, Sum}
 use Rattle.expr_tree.specs.Syntax.{Members, NoMember, Member, Factors, NoFactor, Factor, Terms, NoTerm, Term}
 
--- a square root or a cube root
-abbrev pub is_degree : ℕ → Bool
-is_degree n = n == 2 || n == 3
-
--- each list has a first member, that of a product multiplies and that of a sum has a plus, and each
--- root is a square root or a cube root
+-- each list has a first member, that of a product multiplies and that of a sum has a plus
 abbrev mutual
   pub is_formed : Syntax → Bool
   is_formed (Number x) = true
@@ -20,7 +15,7 @@ abbrev mutual
   is_formed Argument = true
   is_formed (Call w e) = is_formed e
   is_formed (Inverse w e) = is_formed e
-  is_formed (Root degree e) = is_degree degree && is_formed e
+  is_formed (Root kind e) = is_formed e
   is_formed (Group e) = is_formed e
   is_formed (Negate e) = is_formed e
   is_formed (Power e f) = is_formed e && is_formed f

@@ -3,6 +3,7 @@ use Rattle.std.specs.Prelude.{◌≡◌, ℕ, Bool, false, if◌then◌else◌}
 use Rattle.std.specs.Prelude.{List, [], ◌∷◌, Option, Some, None}
 use Rattle.std.specs.Str.{bytes_eq}
 use Rattle.frac128.specs.Decimals.{Decimal}
+use Rattle.expr_tree.specs.declared.operator.RootKind.{RootKind}
 use Rattle.expr_tree.specs.declared.operator.Scale.{Scale}
 use Rattle.expr_tree.specs.declared.operator.Scale.TheVariants.{Multiply, Divide}
 use Rattle.expr_tree.specs.declared.operator.Sign.{Sign}
@@ -62,7 +63,7 @@ mutual
     -- "~" head sum ")"
     InverseAtom : List ℕ → Sum → Atom
     -- ("sqrt" | "cuberoot") "(" sum ")"
-    RootAtom : ℕ → Sum → Atom
+    RootAtom : RootKind → Sum → Atom
     -- "(" sum ")"
     GroupAtom : Sum → Atom
 
@@ -113,7 +114,7 @@ abbrev mutual
   atom (PowerAtom w n) others = WordWithPower w n ∷ others
   atom (CallAtom w d) others = Head w ∷ sum d (Close ∷ others)
   atom (InverseAtom w d) others = Tilde ∷ Head w ∷ sum d (Close ∷ others)
-  atom (RootAtom degree d) others = Root degree ∷ Open ∷ sum d (Close ∷ others)
+  atom (RootAtom kind d) others = Root kind ∷ Open ∷ sum d (Close ∷ others)
   atom (GroupAtom d) others = Open ∷ sum d (Close ∷ others)
 
 -- the word is the binder
@@ -190,7 +191,7 @@ abbrev mutual
   atom_tree binder (PowerAtom w n) = tree.Power (word binder w) (tree.Number n)
   atom_tree binder (CallAtom w d) = call binder w (sum_tree binder d)
   atom_tree binder (InverseAtom w d) = tree.Inverse w (sum_tree binder d)
-  atom_tree binder (RootAtom degree d) = tree.Root degree (sum_tree binder d)
+  atom_tree binder (RootAtom kind d) = tree.Root kind (sum_tree binder d)
   atom_tree binder (GroupAtom d) = tree.Group (sum_tree binder d)
 
 -- the tokens give the tree

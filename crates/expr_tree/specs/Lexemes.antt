@@ -8,6 +8,7 @@ use Rattle.frac128.specs.Numerals.{is_digit, numeral_len_of}
 use Rattle.frac128.specs.declared.numeral.NumeralFault.{NumeralFault}
 use Rattle.frac128.specs.declared.numeral.NumeralFault.TheVariants as fault
 use Rattle.units_io.specs.Blanks.{is_blank}
+use Rattle.expr_tree.specs.declared.operator.RootKind.TheVariants.{Square, Cube}
 use Rattle.expr_tree.specs.Names.{base, has_power, is_name, is_refused, is_word_byte, last_byte, word_of}
 use Rattle.expr_tree.specs.Tokens.{Token, Numeral, Word, WordWithPower, Head, Root}
 use Rattle.expr_tree.specs.Tokens.{Plus, Minus, Star, Slash, Bar, Caret, Tilde, Open, Close}
@@ -58,8 +59,8 @@ word_with_power word = if has_power word then Whole (WordWithPower (base word) (
 abbrev pub other_word : List ℕ → Lexeme
 other_word word =
     if bytes_eq word (codes "per") then Whole Slash
-    else (if bytes_eq word (codes "sqrt") then Whole (Root 2)
-    else (if bytes_eq word (codes "cuberoot") then Whole (Root 3)
+    else (if bytes_eq word (codes "sqrt") then Whole (Root Square)
+    else (if bytes_eq word (codes "cuberoot") then Whole (Root Cube)
     else word_with_power word))
 
 -- what a word is, where a `(` follows or not

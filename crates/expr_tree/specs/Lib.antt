@@ -1,3 +1,4 @@
+pub mod Arguments
 pub mod Examples
 pub mod Faults
 pub mod Formed
@@ -14,4 +15,5 @@ pub mod Syntax
 pub mod TextExamples
 pub mod Tokens
 pub mod Trees
+pub mod Views
 pub mod Words

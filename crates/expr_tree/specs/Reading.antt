@@ -116,7 +116,7 @@ abbrev mutual
   read_atom (suc n) (WordWithPower w x ∷ ts) = Some (PowerAtom w x, ts)
   read_atom (suc n) (Head w ∷ ts) = read_sum n ts >>= closed_by (CallAtom w)
   read_atom (suc n) (Tilde ∷ Head w ∷ ts) = read_sum n ts >>= closed_by (InverseAtom w)
-  read_atom (suc n) (Root degree ∷ Open ∷ ts) = read_sum n ts >>= closed_by (RootAtom degree)
+  read_atom (suc n) (Root kind ∷ Open ∷ ts) = read_sum n ts >>= closed_by (RootAtom kind)
   read_atom (suc n) (Open ∷ ts) = read_sum n ts >>= closed_by GroupAtom
   read_atom (suc n) ts = None
 

@@ -1,8 +1,15 @@
 -- What an expression says: a tree, whatever place it has in memory.
 use Rattle.std.specs.Prelude.{ℕ, List}
 use Rattle.frac128.specs.Decimals.{Decimal}
+use Rattle.expr_tree.specs.declared.operator.RootKind.{RootKind}
+use Rattle.expr_tree.specs.declared.operator.RootKind.TheVariants.{Square, Cube}
 use Rattle.expr_tree.specs.declared.operator.Scale.{Scale}
 use Rattle.expr_tree.specs.declared.operator.Sign.{Sign}
+
+-- the degree of a root
+abbrev pub degree : RootKind → ℕ
+degree Square = 2
+degree Cube = 3
 
 mutual
   pub data Syntax : Type 0 where
@@ -12,7 +19,7 @@ mutual
     Argument : Syntax
     Call : List ℕ → Syntax → Syntax
     Inverse : List ℕ → Syntax → Syntax
-    Root : ℕ → Syntax → Syntax
+    Root : RootKind → Syntax → Syntax
     Group : Syntax → Syntax
     Negate : Syntax → Syntax
     Power : Syntax → Syntax → Syntax

@@ -1,15 +1,16 @@
 -- The tokens of an expression.
 use Rattle.std.specs.Prelude.{ℕ, List}
 use Rattle.frac128.specs.Decimals.{Decimal}
+use Rattle.expr_tree.specs.declared.operator.RootKind.{RootKind}
 
--- a word with power has its digit as a numeral; a head has its `(` in it; `sqrt` is the root of
--- degree 2 and `cuberoot` that of degree 3; `per` is a slash and `**` a caret
+-- a word with power has its digit as a numeral; a head has its `(` in it; `sqrt` is the square root
+-- and `cuberoot` the cube root; `per` is a slash and `**` a caret
 pub data Token : Type 0 where
   Numeral : Decimal → Token
   Word : List ℕ → Token
   WordWithPower : List ℕ → Decimal → Token
   Head : List ℕ → Token
-  Root : ℕ → Token
+  Root : RootKind → Token
   Plus : Token
   Minus : Token
   Star : Token

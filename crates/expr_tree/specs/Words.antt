@@ -13,7 +13,7 @@ abbrev mutual
   words_in Argument = []
   words_in (Call w e) = record { text = w; kind = kind.Call } ∷ words_in e
   words_in (Inverse w e) = record { text = w; kind = kind.Inverse } ∷ words_in e
-  words_in (Root degree e) = words_in e
+  words_in (Root kind e) = words_in e
   words_in (Group e) = words_in e
   words_in (Negate e) = words_in e
   words_in (Power e f) = words_in e ++ words_in f

@@ -26,7 +26,7 @@ impl Tree {
                 let word = word.copy()?;
                 Ok(Tree::Inverse(word, operand.boxed(alloc)?))
             }
-            Tree::Root(degree, operand) => Ok(Tree::Root(*degree, operand.boxed(alloc)?)),
+            Tree::Root(kind, operand) => Ok(Tree::Root(*kind, operand.boxed(alloc)?)),
             Tree::Group(operand) => Ok(Tree::Group(operand.boxed(alloc)?)),
             Tree::Negate(operand) => Ok(Tree::Negate(operand.boxed(alloc)?)),
             Tree::Power(base, exponent) => {

@@ -202,9 +202,9 @@ fn atom_at(
             Ok((call_tree(alloc, word, operand, binder)?, next))
         }
         Token::Tilde => inverse_at(alloc, tokens, at + 1, opened, binder),
-        Token::Root(degree) => {
+        Token::Root(kind) => {
             let (radicand, next) = closed_sum_at(alloc, tokens, at + 2, opened, binder)?;
-            Ok((Tree::Root(degree, Box::new(alloc, radicand)?), next))
+            Ok((Tree::Root(kind, Box::new(alloc, radicand)?), next))
         }
         Token::Open => {
             let (sum, next) = closed_sum_at(alloc, tokens, at + 1, opened, binder)?;

@@ -1,5 +1,6 @@
 //! Laws of the grammar and of the plain rules.
 
+ghost use Rattle.expr_tree.specs.Arguments.{FreeLaw};
 ghost use Rattle.expr_tree.specs.Examples.{ExamplesLaw};
 ghost use Rattle.expr_tree.specs.Formed.{FormedLaw};
 ghost use Rattle.expr_tree.specs.Grammar.{OneTreeLaw};
@@ -7,6 +8,7 @@ ghost use Rattle.expr_tree.specs.Laws.{CompleteLaw, ToldLaw};
 ghost use Rattle.expr_tree.specs.Parsed.{ParsedLaw};
 ghost use Rattle.expr_tree.specs.Reading.{TreeOfLaw};
 ghost use Rattle.expr_tree.specs.TextExamples.{TextExamplesLaw};
+ghost use Rattle.expr_tree.specs.Views.{ViewLaw};
 
 /// Tokens give one tree at most, with each binder and without one.
 pub fn one_tree_law()
@@ -35,9 +37,19 @@ pub fn examples_law()
 {}
 
 /// A text is parsed to a tree that is well formed: each list in it has a first member, that of a
-/// product multiplies and that of a sum has a plus, and each root is a square root or a cube root.
+/// product multiplies and that of a sum has a plus.
 pub fn formed_law()
     ensures { FormedLaw }
+{}
+
+/// A text that is parsed without a binder holds no argument.
+pub fn free_law()
+    ensures { FreeLaw }
+{}
+
+/// What a tree of each kind says, by what its parts say.
+pub fn view_law()
+    ensures { ViewLaw }
 {}
 
 /// A few texts have the tokens and the first faults that were found by hand.

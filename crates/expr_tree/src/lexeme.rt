@@ -8,6 +8,7 @@ ghost use Rattle.expr_tree.specs.Names.{is_word_byte as is_of_words};
 ghost use Rattle.expr_tree.specs.Seen.{seen_lexeme, seen_piece};
 
 use crate::name::{has_power, is_name, is_refused, is_word_byte, word_len};
+use crate::operator::RootKind;
 use crate::power_digit::PowerDigit;
 use crate::token::Token;
 use frac128::{NumeralFault, numeral_len, read_numeral};
@@ -157,10 +158,10 @@ fn other_word(word: &[u8]) -> Lexeme<'_>
         return Lexeme::Whole(Token::Slash);
     }
     if word == b"sqrt".as_slice() {
-        return Lexeme::Whole(Token::Root(2));
+        return Lexeme::Whole(Token::Root(RootKind::Square));
     }
     if word == b"cuberoot".as_slice() {
-        return Lexeme::Whole(Token::Root(3));
+        return Lexeme::Whole(Token::Root(RootKind::Cube));
     }
     word_with_power(word)
 }

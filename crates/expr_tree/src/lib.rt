@@ -23,11 +23,11 @@ mod word_list;
 pub use collecting::words;
 pub use fault::ParseFault;
 pub use laws::{
-    complete_law, examples_law, formed_law, one_tree_law, parsed_law, reading_law,
-    text_examples_law, told_law,
+    complete_law, examples_law, formed_law, free_law, one_tree_law, parsed_law, reading_law,
+    text_examples_law, told_law, view_law,
 };
 pub use name::{is_name, is_refused};
-pub use operator::{Scale, Sign};
+pub use operator::{RootKind, Scale, Sign};
 pub use parse::parse_expr;
 pub use tree::{Factors, Terms, Tree, Trees};
 pub use word_list::{WordKind, WordUse, Words};

@@ -1,4 +1,7 @@
-//! The operators that stand before the members of a sum or a product.
+//! The operators that stand before the members of a sum or a product, and the roots.
+
+ghost use Rattle.std.specs.Prelude.{◌≡◌};
+ghost use Rattle.expr_tree.specs.Syntax.{degree};
 
 /// The sign before a member of a sum.
 #[derive(Clone, Copy, Debug, PartialEq, Eq, Drop)]
@@ -12,4 +15,23 @@ pub enum Sign {
 pub enum Scale {
     Multiply,
     Divide,
+}
+
+/// Which root is taken.
+#[derive(Clone, Copy, Drop)]
+pub enum RootKind {
+    Square,
+    Cube,
+}
+
+impl RootKind {
+    /// The degree of the root: 2 or 3.
+    pub fn degree(self) -> u32
+        ensures { result ≡ degree self }
+    {
+        match self {
+            RootKind::Square => 2,
+            RootKind::Cube => 3,
+        }
+    }
 }

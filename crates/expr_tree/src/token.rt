@@ -4,6 +4,7 @@ ghost use Rattle.std.specs.Prelude.{◌≡◌};
 ghost use Rattle.expr_tree.specs.Lexemes.{is_numeral_token};
 ghost use Rattle.expr_tree.specs.Seen.{seen};
 
+use crate::operator::RootKind;
 use crate::power_digit::PowerDigit;
 use frac128::Numeral;
 
@@ -14,7 +15,7 @@ pub(crate) enum Token<'a> {
     Word(&'a [u8]),
     WordWithPower(&'a [u8], PowerDigit),
     Head(&'a [u8]),
-    Root(u32),
+    Root(RootKind),
     Plus,
     Minus,
     Star,

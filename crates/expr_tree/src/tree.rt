@@ -4,7 +4,7 @@ ghost use Rattle.std.specs.Prelude.{◌≡◌, ◌++◌, ◌∷◌, [], length, 
 ghost use Rattle.std.specs.Option.{option_copied};
 ghost use Rattle.expr_tree.specs.Trees.{factor, factors_of, syntax, term, terms_of, trees_of};
 
-use crate::operator::{Scale, Sign};
+use crate::operator::{RootKind, Scale, Sign};
 use frac128::Numeral;
 use std::alloc::{AllocError, Global};
 use units_io::Text;
@@ -25,8 +25,8 @@ pub enum Tree {
     Call(Text, Box<Tree>),
     /// The inverse of a function, and the operand in parentheses.
     Inverse(Text, Box<Tree>),
-    /// A root of this degree.
-    Root(u32, Box<Tree>),
+    /// A root of what stands in parentheses.
+    Root(RootKind, Box<Tree>),
     /// What stands in parentheses.
     Group(Box<Tree>),
     /// What stands after a minus that is a sign.
@@ -88,6 +88,13 @@ impl Trees {
         self.items.len()
     }
 
+    /// The trees.
+    pub fn as_slice(&self) -> &[Tree]
+        ensures { map syntax result.now ≡ trees_of self.now }
+    {
+        self.items.as_slice()
+    }
+
     /// The tree at place `i`, from 0, or `None` from the length on.
     pub fn get(&self, i: usize) -> Option<&Tree>
         ensures { option_map syntax (option_copied result) ≡ slice_get (trees_of self.now) i }
@@ -122,6 +129,13 @@ impl Factors {
         self.items.len()
     }
 
+    /// The members.
+    pub fn as_slice(&self) -> &[(Scale, Tree)]
+        ensures { map factor result.now ≡ factors_of self.now }
+    {
+        self.items.as_slice()
+    }
+
     /// The member at place `i`, from 0, or `None` from the length on.
     pub fn get(&self, i: usize) -> Option<&(Scale, Tree)>
         ensures { option_map factor (option_copied result) ≡ slice_get (factors_of self.now) i }
@@ -154,6 +168,13 @@ impl Terms {
         ensures { result ≡ length (terms_of self.now) }
     {
         self.items.len()
+    }
+
+    /// The members.
+    pub fn as_slice(&self) -> &[(Sign, Tree)]
+        ensures { map term result.now ≡ terms_of self.now }
+    {
+        self.items.as_slice()
     }
 
     /// The member at place `i`, from 0, or `None` from the length on.

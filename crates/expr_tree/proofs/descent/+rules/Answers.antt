@@ -35,7 +35,7 @@ not_none (Some x) h e = cc
 
 pub atom_at-closed_sum_at-requires-in-Root : goal.atom_at-closed_sum_at-requires-in-Root
 atom_at-closed_sum_at-requires-in-Root t c =
-    let r = rooted c.args.tokens.now c.args.at c.args.opened c.in-Root.degree _ (begun c.args.tokens.now c.args.at c.requires.begun) c.in-Root.is c.requires.fit in
+    let r = rooted c.args.tokens.now c.args.at c.args.opened c.in-Root.kind _ (begun c.args.tokens.now c.args.at c.requires.begun) c.in-Root.is c.requires.fit in
     (omega (arith, r.within), (omega (arith, c.requires.deep), r.fit))
 
 pub atom_at-returns-in-Some : goal.atom_at-returns-in-Some
@@ -73,8 +73,8 @@ atom_at-returns-in_ok-call_tree-in-Head t c = (
 
 pub atom_at-returns-in_ok-new-in-Root : goal.atom_at-returns-in_ok-new-in-Root
 atom_at-returns-in_ok-new-in-Root t c =
-    let r = rooted c.args.tokens.now c.args.at c.args.opened c.in-Root.degree _ (begun c.args.tokens.now c.args.at c.requires.begun) c.in-Root.is c.requires.fit in (
-      root_front (option_copied c.args.binder) c.args.opened c.in-Root.degree _ _ _ _ _ r.is c.in_ok-radicand-in-Root.ensures.0 (of_root c.in-Root.degree c.in_ok-new-in-Root.field-0 ∙ ap (λ x. tree.Root c.in-Root.degree (syntax x)) c.in_ok-new-in-Root.ensures.ok),
+    let r = rooted c.args.tokens.now c.args.at c.args.opened c.in-Root.kind _ (begun c.args.tokens.now c.args.at c.requires.begun) c.in-Root.is c.requires.fit in (
+      root_front (option_copied c.args.binder) c.args.opened c.in-Root.kind _ _ _ _ _ r.is c.in_ok-radicand-in-Root.ensures.0 (of_root c.in-Root.kind c.in_ok-new-in-Root.field-0 ∙ ap (λ x. tree.Root c.in-Root.kind (syntax x)) c.in_ok-new-in-Root.ensures.ok),
       omega (arith, c.in_ok-radicand-in-Root.ensures.1),
       c.in_ok-radicand-in-Root.ensures.2,
     )

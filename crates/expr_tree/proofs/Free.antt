@@ -1,0 +1,66 @@
+-- Without a binder no argument stands in a tree.
+use Rattle.std.proofs.Common.{◌≡◌, ◌∙◌, refl, sym, ap, Bool, false, ◌||◌, None, List, ℕ}
+use Rattle.expr_tree.specs.declared.operator.Sign.{Sign}
+use Rattle.expr_tree.specs.declared.operator.Sign.TheVariants as signs
+use Rattle.expr_tree.specs.Grammar.{Sum, SumOf, SumRest, NoTerm, NextTerm, Product, ProductOf, ProductRest, NoFactor, NextFactor}
+use Rattle.expr_tree.specs.Grammar.{Juxtaposition, Signed, JuxtapositionOf, JuxtapositionRest, NoPower, NextPower, Power, Bare, Raised, Exponent, SignedExponent, ExponentOf}
+use Rattle.expr_tree.specs.Grammar.{Atom, NumeralAtom, BarAtom, WordAtom, PowerAtom, CallAtom, InverseAtom, RootAtom, GroupAtom}
+use Rattle.expr_tree.specs.Grammar.{sum_tree, terms, product_tree, factors, juxtaposition_tree, members, power_tree, exponent_tree, atom_tree, signed, Gives}
+use Rattle.expr_tree.specs.Syntax.{Syntax}
+use Rattle.expr_tree.specs.Tokens.{Token}
+use Rattle.expr_tree.specs.Arguments.{holds_argument, members_hold, factors_hold, terms_hold}
+
+neither : (a b : Bool) → a ≡ false → b ≡ false → a || b ≡ false
+neither a b h k = ap (λ x. x || b) h ∙ k
+
+free-signed : (s : Sign) (e : Syntax) → holds_argument e ≡ false → holds_argument (signed s e) ≡ false
+free-signed signs.Plus e h = h
+free-signed signs.Minus e h = h
+
+mutual
+  free-sum : (d : Sum) → holds_argument (sum_tree None d) ≡ false
+  free-sum (SumOf p NoTerm) = free-product p
+  free-sum (SumOf p (NextTerm s q qs)) = neither _ _ (free-product p) (neither _ _ (free-product q) (free-terms qs))
+
+  free-terms : (ps : SumRest) → terms_hold (terms None ps) ≡ false
+  free-terms NoTerm = refl
+  free-terms (NextTerm s p ps) = neither _ _ (free-product p) (free-terms ps)
+
+  free-product : (p : Product) → holds_argument (product_tree None p) ≡ false
+  free-product (ProductOf j NoFactor) = free-juxtaposition j
+  free-product (ProductOf j (NextFactor s k ks)) = neither _ _ (free-juxtaposition j) (neither _ _ (free-juxtaposition k) (free-factors ks))
+
+  free-factors : (js : ProductRest) → factors_hold (factors None js) ≡ false
+  free-factors NoFactor = refl
+  free-factors (NextFactor s j js) = neither _ _ (free-juxtaposition j) (free-factors js)
+
+  free-juxtaposition : (j : Juxtaposition) → holds_argument (juxtaposition_tree None j) ≡ false
+  free-juxtaposition (Signed s j) = free-signed s _ (free-juxtaposition j)
+  free-juxtaposition (JuxtapositionOf p NoPower) = free-power p
+  free-juxtaposition (JuxtapositionOf p (NextPower q qs)) = neither _ _ (free-power p) (neither _ _ (free-power q) (free-members qs))
+
+  free-members : (ps : JuxtapositionRest) → members_hold (members None ps) ≡ false
+  free-members NoPower = refl
+  free-members (NextPower p ps) = neither _ _ (free-power p) (free-members ps)
+
+  free-power : (p : Power) → holds_argument (power_tree None p) ≡ false
+  free-power (Bare a) = free-atom a
+  free-power (Raised a e) = neither _ _ (free-atom a) (free-exponent e)
+
+  free-exponent : (e : Exponent) → holds_argument (exponent_tree None e) ≡ false
+  free-exponent (SignedExponent s e) = free-signed s _ (free-exponent e)
+  free-exponent (ExponentOf p) = free-power p
+
+  free-atom : (a : Atom) → holds_argument (atom_tree None a) ≡ false
+  free-atom (NumeralAtom n) = refl
+  free-atom (BarAtom n d) = refl
+  free-atom (WordAtom w) = refl
+  free-atom (PowerAtom w n) = refl
+  free-atom (CallAtom w d) = free-sum d
+  free-atom (InverseAtom w d) = free-sum d
+  free-atom (RootAtom kind d) = free-sum d
+  free-atom (GroupAtom d) = free-sum d
+
+-- the tree that tokens give
+pub free : (ts : List Token) (e : Syntax) → Gives None ts e → holds_argument e ≡ false
+free ts e g = ap holds_argument g.2 ∙ free-sum g.0

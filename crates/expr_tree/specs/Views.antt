@@ -1,0 +1,28 @@
+-- What each kind of tree says, and what lists of trees say.
+use Rattle.std.specs.Prelude.{◌≡◌, ℕ, List}
+use Rattle.std.specs.Global.{Box}
+use Rattle.frac128.specs.Decimals.{Decimal}
+use Rattle.expr_tree.specs.declared.operator.RootKind.{RootKind}
+use Rattle.expr_tree.specs.declared.tree.Factors.{Factors}
+use Rattle.expr_tree.specs.declared.tree.Terms.{Terms}
+use Rattle.expr_tree.specs.declared.tree.Tree.{Tree}
+use Rattle.expr_tree.specs.declared.tree.Tree.TheVariants.{Number, Bar, Word, Argument, Call, Inverse, Root, Group, Negate, Power, Juxtaposed, Product, Sum}
+use Rattle.expr_tree.specs.declared.tree.Trees.{Trees}
+use Rattle.expr_tree.specs.Syntax as tree
+use Rattle.expr_tree.specs.Trees.{syntax, members, factors, terms, trees_of, factors_of, terms_of}
+
+-- law: what a tree of each kind says, by what its parts say
+pub record ViewLaw : Type 0 where
+  pub number : (x : Decimal) → syntax (Number x) ≡ tree.Number x
+  pub bar : (x y : Decimal) → syntax (Bar x y) ≡ tree.Bar x y
+  pub word : (w : List ℕ) → syntax (Word w) ≡ tree.Word w
+  pub argument : syntax Argument ≡ tree.Argument
+  pub call : (w : List ℕ) (e : Box Tree) → syntax (Call w e) ≡ tree.Call w (syntax e.value)
+  pub inverse : (w : List ℕ) (e : Box Tree) → syntax (Inverse w e) ≡ tree.Inverse w (syntax e.value)
+  pub root : (kind : RootKind) (e : Box Tree) → syntax (Root kind e) ≡ tree.Root kind (syntax e.value)
+  pub group : (e : Box Tree) → syntax (Group e) ≡ tree.Group (syntax e.value)
+  pub negate : (e : Box Tree) → syntax (Negate e) ≡ tree.Negate (syntax e.value)
+  pub power : (e f : Box Tree) → syntax (Power e f) ≡ tree.Power (syntax e.value) (syntax f.value)
+  pub juxtaposed : (es : Trees) → syntax (Juxtaposed es) ≡ tree.Juxtaposed (members (trees_of es))
+  pub product : (fs : Factors) → syntax (Product fs) ≡ tree.Product (factors (factors_of fs))
+  pub sum : (ts : Terms) → syntax (Sum ts) ≡ tree.Sum (terms (terms_of ts))
