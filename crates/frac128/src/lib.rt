@@ -23,5 +23,5 @@ pub use laws::{
     reduced_law, root_law, root_of_law,
 };
 pub use numeral::{Numeral, NumeralFault};
-pub use reading::read_numeral;
+pub use reading::{read_longest, read_numeral};
 pub use spelling::numeral_len;

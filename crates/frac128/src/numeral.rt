@@ -49,6 +49,20 @@ impl Numeral {
         Numeral { coefficient, scale }
     }
 
+    /// The number that is multiplied.
+    pub fn coefficient(&self) -> u128
+        ensures { result ≡ self.now.coefficient }
+    {
+        self.coefficient
+    }
+
+    /// The exponent of the power of ten that it is multiplied by.
+    pub fn scale(&self) -> i128
+        ensures { result ≡ self.now.scale }
+    {
+        self.scale
+    }
+
     /// The value. `Overflow` where it does not fit.
     pub fn value(&self) -> Result<Frac, FracFault>
         ensures { result ≡ value_of self.now }

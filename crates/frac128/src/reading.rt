@@ -1,11 +1,11 @@
 //! Reading numerals.
 
-ghost use Rattle.std.specs.Prelude.{◌≡◌, ◌<◌, ◌≤◌, ◌+◌, ◌*◌, ◌^◌, length, SomeIff};
+ghost use Rattle.std.specs.Prelude.{◌≡◌, ◌<◌, ◌≤◌, ◌+◌, ◌*◌, ◌^◌, true, length, take, SomeIff};
 ghost use Rattle.std.specs.List.{list_any};
 ghost use Rattle.frac128.specs.Decimals.{exponent_of, exponent_size as exponent_size_of, most_exponent};
 ghost use Rattle.frac128.specs.Decimals.{places as places_of, read, short_coefficient};
 ghost use Rattle.frac128.specs.Fraction.{most};
-ghost use Rattle.frac128.specs.Numerals.{before, is_mark_byte, is_minus_byte, is_numeral as is_numeral_of};
+ghost use Rattle.frac128.specs.Numerals.{before, is_mark_byte, is_minus_byte, is_numeral as is_numeral_of, numeral_len_of};
 
 use crate::fraction::MOST;
 use crate::numeral::{Numeral, NumeralFault};
@@ -23,6 +23,28 @@ pub fn read_numeral(bytes: &[u8]) -> Result<Numeral, NumeralFault>
     if !is_numeral(bytes) {
         return Err(NumeralFault::NotNumeral);
     }
+    read_spelled(bytes)
+}
+
+/// The longest numeral that is a prefix of the bytes: how many bytes it has, and what it says.
+/// Where none is, 0 and `NotNumeral`.
+pub fn read_longest(bytes: &[u8]) -> (usize, Result<Numeral, NumeralFault>)
+    ensures len { result.0 ≡ numeral_len_of bytes.now }
+    ensures within { result.0 ≤ length bytes.now }
+    ensures numeral { result.1 ≡ read (take (numeral_len_of bytes.now) bytes.now) }
+{
+    let len = numeral_len(bytes);
+    if len == 0 {
+        return (0, Err(NumeralFault::NotNumeral));
+    }
+    (len, read_spelled(&bytes[..len]))
+}
+
+// What a numeral says.
+fn read_spelled(bytes: &[u8]) -> Result<Numeral, NumeralFault>
+    requires { is_numeral_of bytes.now ≡ true }
+    ensures { result ≡ read bytes.now }
+{
     let (mantissa, text) = bytes.split_at(mark_place(bytes));
     let Some((coefficient, zeros)) = significant(mantissa) else {
         return Err(NumeralFault::TooLong);

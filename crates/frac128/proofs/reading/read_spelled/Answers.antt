@@ -1,26 +1,26 @@
-use Rattle.std.proofs.Common.{ℕ, ℤ, Bool, true, false, ◌<◌, ◌^◌, to_z, of_z, arith, ◌≡◌, ◌≤◌, ◌+ℤ◌, ◌-ℤ◌, Ok, pos, rules, sym, ap, ◌∙◌}
+use Rattle.std.proofs.Common.{ℕ, ℤ, Bool, true, false, ◌<◌, ◌^◌, to_z, of_z, arith, ◌≡◌, ◌≤◌, ◌+ℤ◌, ◌-ℤ◌, Ok, pos, rules, ap, ◌∙◌}
 use mir.Syntax.{w128}
 use Rattle.std.proofs.lemmas.Int.{ints}
 use Rattle.frac128.specs.Sign.{signed}
 use Rattle.frac128.proofs.Readings.{before-le, read_long, read_some, read_wide, read_zero, split_by}
-use Rattle.frac128.proofs.reading.read_numeral.Goals as goal
+use Rattle.frac128.proofs.reading.read_spelled.Goals as goal
 
 pub split_at-requires : goal.split_at-requires
 split_at-requires c = rw c.mark_place.ensures (before-le _ _)
 
 pub returns-in_default : goal.returns-in_default
 returns-in_default c =
-    let split = split_by _ _ _ _ c.mark_place.ensures c.split_at.ensures.front c.split_at.ensures.back (sym c.is_numeral.ensures ∙ c.if-not-is_numeral.false) in
+    let split = split_by _ _ _ _ c.mark_place.ensures c.split_at.ensures.front c.split_at.ensures.back c.requires in
     read_wide _ _ _ split c.in_default.ensures
 
 pub returns-in_default-exponent : goal.returns-in_default-exponent
 returns-in_default-exponent c =
-    let split = split_by _ _ _ _ c.mark_place.ensures c.split_at.ensures.front c.split_at.ensures.back (sym c.is_numeral.ensures ∙ c.if-not-is_numeral.false) in
+    let split = split_by _ _ _ _ c.mark_place.ensures c.split_at.ensures.front c.split_at.ensures.back c.requires in
     read_long _ _ _ _ _ split c.in-Some.ensures c.in_default-exponent.ensures
 
 pub returns-then-coefficient-eq0 : goal.returns-then-coefficient-eq0
 returns-then-coefficient-eq0 c =
-    let split = split_by _ _ _ _ c.mark_place.ensures c.split_at.ensures.front c.split_at.ensures.back (sym c.is_numeral.ensures ∙ c.if-not-is_numeral.false) in
+    let split = split_by _ _ _ _ c.mark_place.ensures c.split_at.ensures.front c.split_at.ensures.back c.requires in
     ap Ok c.new.ensures ∙ read_zero _ _ _ _ _ split c.in-Some.ensures c.in-Some-exponent.ensures.0 c.if-coefficient-eq0.true
 
 -- the power less the places and with the zeros at the end, in 128 bits
@@ -31,7 +31,7 @@ scale_is p size k z true e low k_fits z_fits = rw e (omega (arith, ints))
 
 pub returns : goal.returns
 returns c =
-    let split = split_by _ _ _ _ c.mark_place.ensures c.split_at.ensures.front c.split_at.ensures.back (sym c.is_numeral.ensures ∙ c.if-not-is_numeral.false) in
+    let split = split_by _ _ _ _ c.mark_place.ensures c.split_at.ensures.front c.split_at.ensures.back c.requires in
     let power = c.in-Some-exponent.ensures in
     let scale = scale_is c.in-Some-exponent.power _ c.places.result c.in-Some.zeros _ power.1 power.0 (search rules) (search rules) in
     ap Ok (c.new-2.ensures ∙ ap (λ s. record { coefficient = c.in-Some.coefficient; scale = s }) scale)

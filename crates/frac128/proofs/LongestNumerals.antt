@@ -1,0 +1,26 @@
+-- The longest numeral that is a prefix of some bytes.
+use Rattle.std.proofs.Common.{◌≡◌, ◌<◌, ◌≤◌, ℕ, zero, suc, Bool, true, false, if◌then◌else◌, List, length, take, refl, arith}
+use Rattle.frac128.specs.Numerals.{greatest, is_numeral, numeral_len_of}
+
+greatest-le : (test : ℕ → Bool) (n : ℕ) → greatest test n ≤ n
+unfolding greatest
+greatest-le test zero = omega arith
+greatest-le test (suc n) = elim (test (suc n)) as (λ b. (if b then suc n else greatest test n) ≤ suc n) [
+  | true ↦ omega arith
+  | false ↦ omega (arith, greatest-le test n)
+]
+
+greatest-passes : (test : ℕ → Bool) (n : ℕ) → 0 < greatest test n → test (greatest test n) ≡ true
+unfolding greatest
+greatest-passes test zero h = absurd (omega arith)
+greatest-passes test (suc n) h = go (greatest-passes test n) (test (suc n)) refl h
+  where
+    go : (0 < greatest test n → test (greatest test n) ≡ true) → (b : Bool) → test (suc n) ≡ b → 0 < (if b then suc n else greatest test n) → test (if b then suc n else greatest test n) ≡ true
+    go below true e some = e
+    go below false e some = below some
+
+pub longest-within : (bytes : List ℕ) → numeral_len_of bytes ≤ length bytes
+longest-within bytes = greatest-le (λ n. is_numeral (take n bytes)) (length bytes)
+
+pub longest-numeral : (bytes : List ℕ) → 0 < numeral_len_of bytes → is_numeral (take (numeral_len_of bytes) bytes) ≡ true
+longest-numeral bytes some = greatest-passes (λ n. is_numeral (take n bytes)) (length bytes) some
