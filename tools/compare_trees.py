@@ -16,6 +16,7 @@ import random
 import subprocess
 import sys
 from collections import Counter, namedtuple
+from decimal import Decimal
 from pathlib import Path
 
 PROGRAM = Path(__file__).resolve().parent.parent / "crates/text_calls/out/text_calls"
@@ -37,6 +38,9 @@ ALPHABET = [
 OTHERS = [
     Token("numeral", "70"),
     Token("numeral", "5e3"),
+    Token("numeral", ".5"),
+    Token("numeral", "1e39"),
+    Token("numeral", "1e40"),
     Token("word", "x"),
     Token("word", "sin"),
     Token("power", "x2"),
@@ -171,6 +175,12 @@ def power_tree(tokens, binder):
     return f"(power {atom_tree(base, binder)} {power_tree(exponent, binder)})"
 
 
+def numeral_text(text):
+    """The digits without zeros at their end, and the power of ten behind them."""
+    _, digits, power = Decimal(text).normalize().as_tuple()
+    return "".join(map(str, digits)) + (f"e{power}" if power else "")
+
+
 def word_tree(word, binder):
     return "[]" if word == binder else f"[{word}]"
 
@@ -178,7 +188,8 @@ def word_tree(word, binder):
 def atom_tree(tokens, binder):
     first = tokens[0]
     if first.kind == "numeral":
-        return "|".join(str(int(float(token.text))) for token in tokens if token.kind == "numeral")
+        numerals = [numeral_text(token.text) for token in tokens if token.kind == "numeral"]
+        return f"(bar {' '.join(numerals)})" if len(numerals) > 1 else numerals[0]
     if first.kind == "word":
         return word_tree(first.text, binder)
     if first.kind == "power":
@@ -310,17 +321,14 @@ def random_lists(count, seed):
     for _ in range(count):
         tokens = deep(r) if r.randrange(20) == 0 else changed(r, derived(r, r.randrange(8)))
         binder = r.choice([None, "x", "m", "f"])
-        text, places = spelled(tokens, blank)
-        if binder is not None:  # the text begins behind the binder, so with a blank
-            text, places = " " + text, [place + 1 for place in places]
-        yield tokens, text, places, binder
+        yield tokens, *spelled(tokens, blank), binder
 
 
 # Runs
 
 
 def line_of(text, binder):
-    return f"plain {text}" if binder is None else f"with {binder}{text}"
+    return f"plain {text}" if binder is None else f"with {binder} {text}"
 
 
 def compared(name, lists):

@@ -15,7 +15,6 @@ pub mod Places
 pub mod PowerWords
 pub mod ProductSteps
 pub mod Says
-pub mod Sizes
 pub mod Spelled
 pub mod Stands
 pub mod Stops

@@ -52,7 +52,7 @@ fn put_words(alloc: Global, words: &mut Words, tree: &Tree) -> Result<(), AllocE
 fn put_word(alloc: Global, words: &mut Words, word: &Text, kind: WordKind) -> Result<(), AllocError>
     ensures { IfOk result (λ _. words.new ≡ words.old ++ record { text = word.now; kind = kind } ∷ []) }
 {
-    let text = word.copy()?;
+    let text = word.copy(alloc)?;
     words.push(alloc, WordUse { text, kind })
 }
 

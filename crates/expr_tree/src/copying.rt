@@ -16,14 +16,14 @@ impl Tree {
         match self {
             Tree::Number(x) => Ok(Tree::Number(*x)),
             Tree::Bar(x, y) => Ok(Tree::Bar(*x, *y)),
-            Tree::Word(word) => Ok(Tree::Word(word.copy()?)),
+            Tree::Word(word) => Ok(Tree::Word(word.copy(alloc)?)),
             Tree::Argument => Ok(Tree::Argument),
             Tree::Call(word, operand) => {
-                let word = word.copy()?;
+                let word = word.copy(alloc)?;
                 Ok(Tree::Call(word, operand.boxed(alloc)?))
             }
             Tree::Inverse(word, operand) => {
-                let word = word.copy()?;
+                let word = word.copy(alloc)?;
                 Ok(Tree::Inverse(word, operand.boxed(alloc)?))
             }
             Tree::Root(kind, operand) => Ok(Tree::Root(*kind, operand.boxed(alloc)?)),

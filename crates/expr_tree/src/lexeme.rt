@@ -11,7 +11,7 @@ use crate::name::{has_power, is_name, is_refused, is_word_byte, word_len};
 use crate::operator::RootKind;
 use crate::power_digit::PowerDigit;
 use crate::token::Token;
-use frac128::{NumeralFault, numeral_len, read_numeral};
+use frac128::{NumeralFault, read_longest};
 use units_io::is_blank;
 
 // A part of a text.
@@ -80,21 +80,20 @@ impl Lexeme<'_> {
 }
 
 // The numeral at the front.
-#[tactic(auto, using(crate::proofs::Lengths::lengths))]
 fn numeral_piece(text: &[u8]) -> Piece<'_>
     requires { 0 < length text.now }
     ensures is { seen_piece result ≡ numeral_piece_of text.now }
     ensures some { 0 < result.len }
     ensures within { result.len ≤ length text.now }
 {
-    let len = numeral_len(text);
+    let (len, numeral) = read_longest(text);
     if len == 0 {
         return Piece {
             lexeme: Lexeme::Malformed,
             len: 1,
         };
     }
-    let lexeme = match read_numeral(&text[..len]) {
+    let lexeme = match numeral {
         Ok(numeral) => Lexeme::Whole(Token::Numeral(numeral)),
         Err(NumeralFault::TooLong) => Lexeme::TooLong,
         Err(NumeralFault::NotNumeral) => Lexeme::Malformed,

@@ -31,6 +31,3 @@ pub use operator::{RootKind, Scale, Sign};
 pub use parse::parse_expr;
 pub use tree::{Factors, Terms, Tree, Trees};
 pub use word_list::{WordKind, WordUse, Words};
-
-#[cfg(test)]
-mod tests;

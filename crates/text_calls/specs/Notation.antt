@@ -1,26 +1,29 @@
 -- Trees in writing.
-use Rattle.std.specs.Prelude.{ℕ, List, [], ◌++◌, Result, Ok, Err, codes}
-use Rattle.std.specs.Fmt.{decimal}
-use Rattle.digits_print.specs.Exact.{exact_text}
-use Rattle.frac128.specs.Decimals.{Decimal, value_of}
-use Rattle.frac128.specs.Fraction.{Fraction}
-use Rattle.frac128.specs.declared.fault.FracFault.{FracFault}
+use Rattle.std.specs.Prelude.{ℕ, ℤ, pos, zero, List, [], ◌∷◌, ◌++◌, Result, Ok, Err, codes, if◌then◌else◌}
+use Rattle.std.specs.Fmt.{decimal, signed_decimal}
+use Rattle.frac128.specs.Decimals.{Decimal}
 use Rattle.expr_tree.specs.declared.fault.ParseFault.{ParseFault}
 use Rattle.expr_tree.specs.declared.fault.ParseFault.TheVariants as fault
 use Rattle.expr_tree.specs.declared.operator.Scale.{Scale}
 use Rattle.expr_tree.specs.declared.operator.Scale.TheVariants.{Multiply, Divide}
 use Rattle.expr_tree.specs.declared.operator.Sign.{Sign}
 use Rattle.expr_tree.specs.declared.operator.Sign.TheVariants.{Plus, Minus}
-use Rattle.expr_tree.specs.Syntax.{Syntax, Members, NoMember, Member, Factors, NoFactor, Factor, Terms, NoTerm, Term}
+use Rattle.expr_tree.specs.declared.word_list.WordKind.{WordKind}
+use Rattle.expr_tree.specs.declared.word_list.WordKind.TheVariants as kind
+use Rattle.expr_tree.specs.declared.word_list.WordUse.{WordUse}
+use Rattle.expr_tree.specs.Names.{is_name, is_refused}
+use Rattle.expr_tree.specs.Syntax.{Syntax, degree, Members, NoMember, Member, Factors, NoFactor, Factor, Terms, NoTerm, Term}
 use Rattle.expr_tree.specs.Syntax as tree
+use Rattle.expr_tree.specs.Words.{words_in}
 
--- the value of a numeral
-abbrev pub fraction_text : Result Fraction FracFault → List ℕ
-fraction_text (Ok x) = exact_text x
-fraction_text (Err x) = codes "overflow"
+-- a power of ten, which is not written where it is 1
+abbrev pub power_text : ℤ → List ℕ
+power_text (pos zero) = []
+power_text power = codes "e" ++ signed_decimal power
 
+-- a numeral, whether its value fits or not: its digits, and the power of ten behind them
 abbrev pub numeral_text : Decimal → List ℕ
-numeral_text x = fraction_text (value_of x)
+numeral_text x = decimal x.coefficient ++ power_text x.scale
 
 abbrev pub word_text : List ℕ → List ℕ
 word_text w = codes "[" ++ w ++ codes "]"
@@ -33,16 +36,17 @@ abbrev pub sign_text : Sign → List ℕ
 sign_text Plus = codes " + "
 sign_text Minus = codes " - "
 
--- each tree has its kind before its parts, in parentheses
+-- each tree has its kind before its parts, in parentheses: as no word has a blank, a parenthesis or a
+-- bracket in it, no two trees of expressions are written alike
 abbrev mutual
   pub tree_text : Syntax → List ℕ
   tree_text (tree.Number x) = numeral_text x
-  tree_text (tree.Bar x y) = numeral_text x ++ codes "|" ++ numeral_text y
+  tree_text (tree.Bar x y) = codes "(bar " ++ numeral_text x ++ codes " " ++ numeral_text y ++ codes ")"
   tree_text (tree.Word w) = word_text w
   tree_text tree.Argument = codes "[]"
   tree_text (tree.Call w e) = codes "(call " ++ word_text w ++ codes " " ++ tree_text e ++ codes ")"
   tree_text (tree.Inverse w e) = codes "(inverse " ++ word_text w ++ codes " " ++ tree_text e ++ codes ")"
-  tree_text (tree.Root degree e) = codes "(root " ++ decimal degree ++ codes " " ++ tree_text e ++ codes ")"
+  tree_text (tree.Root kind e) = codes "(root " ++ decimal (degree kind) ++ codes " " ++ tree_text e ++ codes ")"
   tree_text (tree.Group e) = codes "(group " ++ tree_text e ++ codes ")"
   tree_text (tree.Negate e) = codes "(negate " ++ tree_text e ++ codes ")"
   tree_text (tree.Power e f) = codes "(power " ++ tree_text e ++ codes " " ++ tree_text f ++ codes ")"
@@ -81,3 +85,23 @@ parsed_text (Err x) = fault_text x
 abbrev pub verdict_text : Result Syntax ParseFault → List ℕ
 verdict_text (Ok e) = codes "tree"
 verdict_text (Err x) = fault_text x
+
+-- how a word stands
+abbrev pub kind_text : WordKind → List ℕ
+kind_text kind.Plain = codes " "
+kind_text kind.Call = codes " call "
+kind_text kind.Inverse = codes " inverse "
+
+abbrev pub uses_text : List WordUse → List ℕ
+uses_text [] = []
+uses_text (word ∷ words) = kind_text word.kind ++ word_text word.text ++ uses_text words
+
+-- the words of a tree, each with how it stands, or its fault
+abbrev pub words_text : Result Syntax ParseFault → List ℕ
+words_text (Ok e) = codes "words" ++ uses_text (words_in e)
+words_text (Err x) = fault_text x
+
+-- whether some bytes are a name, or a refused one
+abbrev pub name_text : List ℕ → List ℕ
+name_text bytes =
+    if is_name bytes then codes "name" else (if is_refused bytes then codes "refused name" else codes "no name")

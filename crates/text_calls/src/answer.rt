@@ -3,30 +3,39 @@
 ghost use Rattle.std.specs.Prelude.{◌≡◌, ◌++◌, IfOk, None};
 ghost use Rattle.std.specs.Option.{option_copied};
 ghost use Rattle.expr_tree.specs.Parsed.{parsed};
-ghost use Rattle.text_calls.specs.Notation.{fault_text, parsed_text, place_text, verdict_text};
+ghost use Rattle.text_calls.specs.Notation.{fault_text, name_text, parsed_text, place_text, uses_text, verdict_text, words_text};
+ghost use Rattle.text_calls.specs.Notation.{kind_text as kind_text_of};
 
-use crate::notation::put_tree;
-use expr_tree::{ParseFault, parse_expr};
+use crate::notation::{put_tree, put_word};
+use expr_tree::{ParseFault, WordKind, Words, is_name, is_refused, parse_expr, words};
 use std::alloc::{AllocError, Global};
 
-// The tree of a line's expression, or its fault. In a line `plain TEXT` there is no binder; a line
-// `with NAME TEXT` has the binder `NAME`. In a line `parse TEXT` the tree is not written.
+// What a call and the text behind it answer: `plain` the tree of the text without a binder, `with`
+// the tree with the binder that stands before the text, `copy` the tree of a copy, `parse` that
+// there is a tree, `words` its words, and each of these a fault where there is one; `name`
+// whether the text is a name.
 pub(crate) fn line_answer(alloc: Global, line: &[u8]) -> Result<Vec<u8>, AllocError> {
-    if let Some(text) = line.strip_prefix(b"plain ".as_slice()) {
-        return answer_to(alloc, text, None);
+    let (call, text) = split_at_blank(line);
+    match call {
+        b"plain" => answer_to(alloc, text, None),
+        b"with" => {
+            let (binder, text) = split_at_blank(text);
+            answer_to(alloc, text, Some(binder))
+        }
+        b"copy" => copy_of(alloc, text),
+        b"parse" => verdict_on(alloc, text),
+        b"words" => words_of(alloc, text),
+        b"name" => Vec::from_slice(alloc, naming(text)),
+        _ => Vec::from_slice(alloc, b"bad call"),
     }
-    if let Some(text) = line.strip_prefix(b"parse ".as_slice()) {
-        return verdict_on(alloc, text);
+}
+
+// What stands before the first blank, and what stands behind it.
+fn split_at_blank(line: &[u8]) -> (&[u8], &[u8]) {
+    match line.iter().position(|byte| *byte == b' ') {
+        Some(end) => (&line[..end], &line[end + 1..]),
+        None => (line, b""),
     }
-    let Some(rest) = line.strip_prefix(b"with ".as_slice()) else {
-        return Vec::from_slice(alloc, b"bad call");
-    };
-    let name = match rest.iter().position(|byte| *byte == b' ') {
-        Some(end) => end,
-        None => rest.len(),
-    };
-    let (binder, text) = rest.split_at(name);
-    answer_to(alloc, text, Some(binder))
 }
 
 // The tree of a text, or its fault.
@@ -36,6 +45,23 @@ fn answer_to(alloc: Global, text: &[u8], binder: Option<&[u8]>) -> Result<Vec<u8
     let mut out = Vec::new(alloc);
     match parse_expr(alloc, text, binder) {
         Ok(tree) => put_tree(alloc, &mut out, &tree)?,
+        Err(ParseFault::OutOfMemory) => return Err(AllocError),
+        Err(fault) => put_fault(alloc, &mut out, fault)?,
+    }
+    Ok(out)
+}
+
+// The tree of a copy of the tree of a text, or its fault.
+fn copy_of(alloc: Global, text: &[u8]) -> Result<Vec<u8>, AllocError>
+    ensures { IfOk result (λ out. out.items ≡ parsed_text (parsed None text.now)) }
+{
+    let mut out = Vec::new(alloc);
+    match parse_expr(alloc, text, None) {
+        Ok(tree) => {
+            let copy = tree.copy(alloc)?;
+            drop(tree);
+            put_tree(alloc, &mut out, &copy)?;
+        }
         Err(ParseFault::OutOfMemory) => return Err(AllocError),
         Err(fault) => put_fault(alloc, &mut out, fault)?,
     }
@@ -53,6 +79,58 @@ fn verdict_on(alloc: Global, text: &[u8]) -> Result<Vec<u8>, AllocError>
         Err(fault) => put_fault(alloc, &mut out, fault)?,
     }
     Ok(out)
+}
+
+// The words of a text, or its fault.
+fn words_of(alloc: Global, text: &[u8]) -> Result<Vec<u8>, AllocError>
+    ensures { IfOk result (λ out. out.items ≡ words_text (parsed None text.now)) }
+{
+    let mut out = Vec::new(alloc);
+    match parse_expr(alloc, text, None) {
+        Ok(tree) => {
+            out.extend_from_slice(b"words")?;
+            put_uses(&mut out, &words(alloc, &tree)?)?;
+        }
+        Err(ParseFault::OutOfMemory) => return Err(AllocError),
+        Err(fault) => put_fault(alloc, &mut out, fault)?,
+    }
+    Ok(out)
+}
+
+// Puts words at the end, each with how it stands.
+#[tactic(auto, using(crate::proofs::Written::words_written))]
+fn put_uses(out: &mut Vec<u8>, uses: &Words) -> Result<(), AllocError>
+    ensures { IfOk result (λ _. out.new.items ≡ out.old.items ++ uses_text uses.now) }
+{
+    for word in uses.as_slice() {
+        out.extend_from_slice(kind_text(word.kind))?;
+        put_word(out, word.text.as_bytes())?;
+    }
+    Ok(())
+}
+
+// How a word stands.
+fn kind_text(kind: WordKind) -> &'static [u8]
+    ensures { result.now ≡ kind_text_of kind }
+{
+    match kind {
+        WordKind::Plain => b" ",
+        WordKind::Call => b" call ",
+        WordKind::Inverse => b" inverse ",
+    }
+}
+
+// Whether some bytes are a name, or a refused one.
+fn naming(bytes: &[u8]) -> &'static [u8]
+    ensures { result.now ≡ name_text bytes.now }
+{
+    if is_name(bytes) {
+        b"name"
+    } else if is_refused(bytes) {
+        b"refused name"
+    } else {
+        b"no name"
+    }
 }
 
 // Puts a fault at the end.

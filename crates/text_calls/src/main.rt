@@ -4,8 +4,6 @@
 
 mod answer;
 mod notation;
-#[cfg(test)]
-mod tests;
 
 use std::io;
 use std::io::{BufRead, BufReader, BufWriter, Write};

@@ -2,26 +2,27 @@
 
 ghost use Rattle.std.specs.Prelude.{◌≡◌, ◌++◌, IfOk, codes};
 ghost use Rattle.expr_tree.specs.Trees.{factors, factors_of, members as members_in, syntax, terms, terms_of, trees_of};
-ghost use Rattle.text_calls.specs.Notation.{factors_text, members_text, numeral_text, tree_text, terms_text, word_text};
+ghost use Rattle.text_calls.specs.Notation.{factors_text, members_text, numeral_text, power_text, tree_text, terms_text, word_text};
 ghost use Rattle.text_calls.specs.Notation.{scale_text as scale_text_of, sign_text as sign_text_of};
 
-use digits_print::print_exact;
 use expr_tree::{Factors, Scale, Sign, Terms, Tree, Trees};
 use frac128::Numeral;
 use std::alloc::{AllocError, Global};
 
 // Puts a tree at the end.
 #[cycle(put)]
-#[tactic(auto, using(expr_tree::proofs::Sizes::sizes, crate::proofs::Written::written))]
+#[tactic(auto, using(crate::proofs::Sizes::sizes, crate::proofs::Written::written))]
 pub(crate) fn put_tree(alloc: Global, out: &mut Vec<u8>, tree: &Tree) -> Result<(), AllocError>
     ensures { IfOk result (λ _. out.new.items ≡ out.old.items ++ tree_text (syntax tree.now)) }
 {
     match tree {
         Tree::Number(x) => put_numeral(alloc, out, x),
         Tree::Bar(x, y) => {
+            out.extend_from_slice(b"(bar ")?;
             put_numeral(alloc, out, x)?;
-            out.extend_from_slice(b"|")?;
-            put_numeral(alloc, out, y)
+            out.extend_from_slice(b" ")?;
+            put_numeral(alloc, out, y)?;
+            out.extend_from_slice(b")")
         }
         Tree::Word(word) => put_word(out, word.as_bytes()),
         Tree::Argument => out.extend_from_slice(b"[]"),
@@ -35,9 +36,9 @@ pub(crate) fn put_tree(alloc: Global, out: &mut Vec<u8>, tree: &Tree) -> Result<
             put_word(out, word.as_bytes())?;
             put_last(alloc, out, operand)
         }
-        Tree::Root(degree, operand) => {
+        Tree::Root(kind, operand) => {
             out.extend_from_slice(b"(root ")?;
-            out.extend_from_slice(degree.to_string(alloc)?.as_bytes())?;
+            out.extend_from_slice(kind.degree().to_string(alloc)?.as_bytes())?;
             put_last(alloc, out, operand)
         }
         Tree::Group(operand) => {
@@ -61,7 +62,7 @@ pub(crate) fn put_tree(alloc: Global, out: &mut Vec<u8>, tree: &Tree) -> Result<
 
 // Puts the last part of a tree at the end.
 #[cycle(put)]
-#[tactic(auto, using(expr_tree::proofs::Sizes::sizes, crate::proofs::Written::written))]
+#[tactic(auto, using(crate::proofs::Sizes::sizes, crate::proofs::Written::written))]
 fn put_last(alloc: Global, out: &mut Vec<u8>, tree: &Tree) -> Result<(), AllocError>
     ensures { IfOk result (λ _. out.new.items ≡ out.old.items ++ codes " " ++ tree_text (syntax tree.now) ++ codes ")") }
 {
@@ -72,48 +73,42 @@ fn put_last(alloc: Global, out: &mut Vec<u8>, tree: &Tree) -> Result<(), AllocEr
 
 // Puts operands side by side at the end.
 #[cycle(put)]
-#[tactic(auto, using(expr_tree::proofs::Sizes::sizes, crate::proofs::Written::members_written))]
+#[tactic(auto, using(crate::proofs::Sizes::sizes, crate::proofs::Written::members_written))]
 fn put_members(alloc: Global, out: &mut Vec<u8>, members: &Trees) -> Result<(), AllocError>
     ensures { IfOk result (λ _. out.new.items ≡ out.old.items ++ codes "(side" ++ members_text (members_in (trees_of members.now)) ++ codes ")") }
 {
     out.extend_from_slice(b"(side")?;
-    for i in 0..members.len() {
-        if let Some(member) = members.get(i) {
-            out.extend_from_slice(b" ")?;
-            put_tree(alloc, out, member)?;
-        }
+    for member in members.as_slice() {
+        out.extend_from_slice(b" ")?;
+        put_tree(alloc, out, member)?;
     }
     out.extend_from_slice(b")")
 }
 
 // Puts a product at the end.
 #[cycle(put)]
-#[tactic(auto, using(expr_tree::proofs::Sizes::sizes, crate::proofs::Written::factors_written))]
+#[tactic(auto, using(crate::proofs::Sizes::sizes, crate::proofs::Written::factors_written))]
 fn put_factors(alloc: Global, out: &mut Vec<u8>, members: &Factors) -> Result<(), AllocError>
     ensures { IfOk result (λ _. out.new.items ≡ out.old.items ++ codes "(product" ++ factors_text (factors (factors_of members.now)) ++ codes ")") }
 {
     out.extend_from_slice(b"(product")?;
-    for i in 0..members.len() {
-        if let Some(member) = members.get(i) {
-            out.extend_from_slice(scale_text(member.0))?;
-            put_tree(alloc, out, &member.1)?;
-        }
+    for member in members.as_slice() {
+        out.extend_from_slice(scale_text(member.0))?;
+        put_tree(alloc, out, &member.1)?;
     }
     out.extend_from_slice(b")")
 }
 
 // Puts a sum at the end.
 #[cycle(put)]
-#[tactic(auto, using(expr_tree::proofs::Sizes::sizes, crate::proofs::Written::terms_written))]
+#[tactic(auto, using(crate::proofs::Sizes::sizes, crate::proofs::Written::terms_written))]
 fn put_terms(alloc: Global, out: &mut Vec<u8>, members: &Terms) -> Result<(), AllocError>
     ensures { IfOk result (λ _. out.new.items ≡ out.old.items ++ codes "(sum" ++ terms_text (terms (terms_of members.now)) ++ codes ")") }
 {
     out.extend_from_slice(b"(sum")?;
-    for i in 0..members.len() {
-        if let Some(member) = members.get(i) {
-            out.extend_from_slice(sign_text(member.0))?;
-            put_tree(alloc, out, &member.1)?;
-        }
+    for member in members.as_slice() {
+        out.extend_from_slice(sign_text(member.0))?;
+        put_tree(alloc, out, &member.1)?;
     }
     out.extend_from_slice(b")")
 }
@@ -138,19 +133,31 @@ fn sign_text(sign: Sign) -> &'static [u8]
     }
 }
 
-// Puts the value of a numeral at the end.
+// Puts a numeral at the end.
+#[tactic(auto, using(crate::proofs::Written::appends))]
 fn put_numeral(alloc: Global, out: &mut Vec<u8>, x: &Numeral) -> Result<(), AllocError>
     ensures { IfOk result (λ _. out.new.items ≡ out.old.items ++ numeral_text x.now) }
 {
-    match x.value() {
-        Ok(value) => out.extend_from_slice(print_exact(alloc, &value)?.as_bytes()),
-        Err(_) => out.extend_from_slice(b"overflow"),
+    out.extend_from_slice(x.coefficient().to_string(alloc)?.as_bytes())?;
+    put_power(alloc, out, x.scale())
+}
+
+// Puts a power of ten at the end.
+#[tactic(auto, using(crate::proofs::Written::appends))]
+fn put_power(alloc: Global, out: &mut Vec<u8>, power: i128) -> Result<(), AllocError>
+    ensures { IfOk result (λ _. out.new.items ≡ out.old.items ++ power_text power) }
+{
+    if power == 0 {
+        return Ok(());
     }
+    out.extend_from_slice(b"e")?;
+    out.extend_from_slice(power.to_string(alloc)?.as_bytes())?;
+    Ok(())
 }
 
 // Puts a word at the end.
 #[tactic(auto, using(crate::proofs::Written::appends))]
-fn put_word(out: &mut Vec<u8>, word: &[u8]) -> Result<(), AllocError>
+pub(crate) fn put_word(out: &mut Vec<u8>, word: &[u8]) -> Result<(), AllocError>
     ensures { IfOk result (λ _. out.new.items ≡ out.old.items ++ word_text word.now) }
 {
     out.extend_from_slice(b"[")?;

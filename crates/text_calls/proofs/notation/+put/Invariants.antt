@@ -1,7 +1,7 @@
-use Rattle.std.proofs.Common.{◌≡◌, ◌+◌, ◌*◌, ◌++◌, drop}
-use Rattle.expr_tree.specs.Trees.{factors, factors_of, members, syntax, terms, terms_of, trees_of}
+use Rattle.std.proofs.Common.{◌≡◌, ◌+◌, ◌*◌, ◌++◌, drop, map}
+use Rattle.expr_tree.specs.Trees.{factor, factors, factors_of, members, syntax, term, terms, terms_of, trees_of}
 use Rattle.text_calls.specs.Notation.{factors_text, members_text, terms_text}
-use Rattle.expr_tree.proofs.Sizes.{factors_size, members_size, size, terms_size}
+use Rattle.text_calls.proofs.Sizes.{factors_size, members_size, size, terms_size}
 use Rattle.text_calls.proofs.notation.+put.Given as goal
 
 abbrev pub decreases-put_tree : goal.decreases-put_tree
@@ -21,11 +21,14 @@ decreases-put_terms l = 2 * terms_size (terms (terms_of l.members.now)) + 1
 
 -- what is written and what is still to be written
 
-abbrev pub invariant-put_members-loop-i : goal.invariant-put_members-loop-i
-invariant-put_members-loop-i l = l.out.items ++ members_text (members (drop l.i (trees_of l.members))) ≡ l.initial.out.items ++ members_text (members (trees_of l.members))
+abbrev pub invariant-put_members-loop-member : goal.invariant-put_members-loop-member
+invariant-put_members-loop-member l =
+    l.out.items ++ members_text (members (map syntax (drop l.member-index l.member-items))) ≡ l.initial.out.items ++ members_text (members (trees_of l.members))
 
-abbrev pub invariant-put_factors-loop-i : goal.invariant-put_factors-loop-i
-invariant-put_factors-loop-i l = l.out.items ++ factors_text (factors (drop l.i (factors_of l.members))) ≡ l.initial.out.items ++ factors_text (factors (factors_of l.members))
+abbrev pub invariant-put_factors-loop-member : goal.invariant-put_factors-loop-member
+invariant-put_factors-loop-member l =
+    l.out.items ++ factors_text (factors (map factor (drop l.member-index l.member-items))) ≡ l.initial.out.items ++ factors_text (factors (factors_of l.members))
 
-abbrev pub invariant-put_terms-loop-i : goal.invariant-put_terms-loop-i
-invariant-put_terms-loop-i l = l.out.items ++ terms_text (terms (drop l.i (terms_of l.members))) ≡ l.initial.out.items ++ terms_text (terms (terms_of l.members))
+abbrev pub invariant-put_terms-loop-member : goal.invariant-put_terms-loop-member
+invariant-put_terms-loop-member l =
+    l.out.items ++ terms_text (terms (map term (drop l.member-index l.member-items))) ≡ l.initial.out.items ++ terms_text (terms (terms_of l.members))

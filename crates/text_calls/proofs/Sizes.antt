@@ -1,6 +1,5 @@
 -- How large trees are: each is larger than its parts.
-use Rattle.std.proofs.Common.{◌≡◌, ◌+◌, ◌<◌, ℕ, zero, suc, List, [], ◌∷◌, Some, ap, ◌∙◌, arith, Box, Global}
-use Rattle.std.specs.Prelude.{slice_get}
+use Rattle.std.proofs.Common.{◌≡◌, ◌+◌, ◌<◌, ℕ, zero, suc, List, [], ◌∷◌, length, map, get_or, ap, ◌∙◌, arith, Box, Global}
 use Rattle.expr_tree.specs.declared.operator.RootKind.{RootKind}
 use Rattle.expr_tree.specs.declared.operator.Scale.{Scale}
 use Rattle.expr_tree.specs.declared.operator.Sign.{Sign}
@@ -11,7 +10,7 @@ use Rattle.expr_tree.specs.declared.tree.Tree.TheVariants as made
 use Rattle.expr_tree.specs.declared.tree.Trees.{Trees}
 use Rattle.expr_tree.specs.Syntax.{Syntax, Members, NoMember, Member, Factors, NoFactor, Factor, Terms, NoTerm, Term}
 use Rattle.expr_tree.specs.Syntax as tree
-use Rattle.expr_tree.specs.Trees.{factors, factors_of, members, syntax, terms, terms_of, trees_of}
+use Rattle.expr_tree.specs.Trees.{factor, factors, factors_of, members, syntax, term, terms, terms_of, trees_of}
 use Rattle.expr_tree.proofs.Views.{of_call, of_inverse, of_root, of_group, of_negate, of_power, of_juxtaposed, of_product, of_sum}
 
 abbrev mutual
@@ -66,20 +65,20 @@ of_product_size t fs is = ap (λ (x : Tree). size (syntax x)) is ∙ ap size (of
 pub of_sum_size : (t : Tree) (ts : TermList) → t ≡ made.Sum ts → size (syntax t) ≡ suc (terms_size (terms (terms_of ts)))
 of_sum_size t ts is = ap (λ (x : Tree). size (syntax x)) is ∙ ap size (of_sum ts)
 
-pub member_smaller : (es : List Syntax) (i : ℕ) (e : Syntax) → Some e ≡ slice_get es i → size e < members_size (members es)
-member_smaller [] i e h = cc
-member_smaller (f ∷ es) zero e h = let same : e ≡ f = cc in omega (arith, ap size same)
-member_smaller (f ∷ es) (suc i) e h = omega (arith, member_smaller es i e h)
+pub member_smaller : (ts : List Tree) (i : ℕ) (d : Tree) → i < length ts → size (syntax (get_or ts i d)) < members_size (members (map syntax ts))
+member_smaller [] i d h = absurd (omega arith)
+member_smaller (t ∷ ts) zero d h = omega arith
+member_smaller (t ∷ ts) (suc i) d h = omega (arith, member_smaller ts i d (omega arith))
 
-pub factor_smaller : (fs : List (Scale × Syntax)) (i : ℕ) (e : Scale × Syntax) → Some e ≡ slice_get fs i → size e.1 < factors_size (factors fs)
-factor_smaller [] i e h = cc
-factor_smaller (f ∷ fs) zero e h = let same : e ≡ f = cc in omega (arith, ap (λ (x : Scale × Syntax). size x.1) same)
-factor_smaller (f ∷ fs) (suc i) e h = omega (arith, factor_smaller fs i e h)
+pub factor_smaller : (fs : List (Scale × Tree)) (i : ℕ) (d : Scale × Tree) → i < length fs → size (syntax (get_or fs i d).1) < factors_size (factors (map factor fs))
+factor_smaller [] i d h = absurd (omega arith)
+factor_smaller (f ∷ fs) zero d h = omega arith
+factor_smaller (f ∷ fs) (suc i) d h = omega (arith, factor_smaller fs i d (omega arith))
 
-pub term_smaller : (ts : List (Sign × Syntax)) (i : ℕ) (e : Sign × Syntax) → Some e ≡ slice_get ts i → size e.1 < terms_size (terms ts)
-term_smaller [] i e h = cc
-term_smaller (t ∷ ts) zero e h = let same : e ≡ t = cc in omega (arith, ap (λ (x : Sign × Syntax). size x.1) same)
-term_smaller (t ∷ ts) (suc i) e h = omega (arith, term_smaller ts i e h)
+pub term_smaller : (ts : List (Sign × Tree)) (i : ℕ) (d : Sign × Tree) → i < length ts → size (syntax (get_or ts i d).1) < terms_size (terms (map term ts))
+term_smaller [] i d h = absurd (omega arith)
+term_smaller (t ∷ ts) zero d h = omega arith
+term_smaller (t ∷ ts) (suc i) d h = omega (arith, term_smaller ts i d (omega arith))
 
 pub ruleset sizes =
-    (of_call_size, of_inverse_size, of_root_size, of_group_size, of_negate_size, of_power_size, of_juxtaposed_size, of_product_size, of_sum_size)
+    (member_smaller, factor_smaller, term_smaller, of_call_size, of_inverse_size, of_root_size, of_group_size, of_negate_size, of_power_size, of_juxtaposed_size, of_product_size, of_sum_size)
