@@ -1,5 +1,5 @@
 -- Without a binder no argument stands in a tree.
-use Rattle.std.proofs.Common.{◌≡◌, ◌∙◌, refl, sym, ap, Bool, false, ◌||◌, None, List, ℕ}
+use Rattle.std.proofs.Common.{◌≡◌, ◌∙◌, refl, ap, Bool, false, ◌||◌, None, List}
 use Rattle.expr_tree.specs.declared.operator.Sign.{Sign}
 use Rattle.expr_tree.specs.declared.operator.Sign.TheVariants as signs
 use Rattle.expr_tree.specs.Grammar.{Sum, SumOf, SumRest, NoTerm, NextTerm, Product, ProductOf, ProductRest, NoFactor, NextFactor}

@@ -1,13 +1,11 @@
 -- What the first token after a derivation may be.
-use Rattle.std.proofs.Common.{◌≡◌, true, List, [], ◌∷◌, refl, sym, ◌∙◌, ap}
+use Rattle.std.proofs.Common.{◌≡◌, true, List, [], ◌∷◌, refl}
 use Rattle.expr_tree.specs.Grammar.{SumRest, NoTerm, NextTerm, ProductRest, NoFactor, NextFactor, JuxtapositionRest, NoPower, NextPower}
 use Rattle.expr_tree.specs.Grammar.{Power, Bare, Raised, Atom, NumeralAtom, BarAtom, WordAtom, PowerAtom, CallAtom, InverseAtom, RootAtom, GroupAtom}
-use Rattle.expr_tree.specs.Grammar.{sign, scale, sum_rest, product_rest, juxtaposition_rest, power, exponent, atom}
+use Rattle.expr_tree.specs.Grammar.{sum_rest, product_rest, juxtaposition_rest, power, exponent, atom}
 use Rattle.expr_tree.specs.Front.{stops, begins, after_sum, after_product, after_juxtaposition, after_power, after_atom}
-use Rattle.expr_tree.specs.Tokens.{Token, Numeral, Word, WordWithPower, Head, Root, Plus, Minus, Star, Slash, Bar, Caret, Tilde, Open, Close}
-use Rattle.expr_tree.specs.declared.operator.Scale.{Scale}
+use Rattle.expr_tree.specs.Tokens.{Token, Numeral, Word, WordWithPower, Head, Root, Plus, Minus, Bar, Caret, Tilde, Open, Close}
 use Rattle.expr_tree.specs.declared.operator.Scale.TheVariants.{Multiply, Divide}
-use Rattle.expr_tree.specs.declared.operator.Sign.{Sign}
 use Rattle.expr_tree.specs.declared.operator.Sign.TheVariants as signs
 
 pub sum_product : (r : List Token) → stops after_sum r ≡ true → stops after_product r ≡ true

@@ -1,18 +1,19 @@
 //! Lexemes, and the one at the front of a text.
 
 ghost use Rattle.std.specs.Prelude.{◌≡◌, ◌<◌, ◌≤◌, ◌+◌, ◌^◌, if◌then◌else◌, IsTrue, length, slice_index};
+ghost use Rattle.std.specs.List.{prefix_len as prefix_len_of};
 ghost use Rattle.expr_tree.specs.Lexemes.{front, mark as mark_of, mark_piece as mark_piece_of, numeral_piece as numeral_piece_of};
 ghost use Rattle.expr_tree.specs.Lexemes.{is_numeral as is_numeral_lexeme, is_opened as is_opened_of, other_word as other_word_of, word_front};
 ghost use Rattle.expr_tree.specs.Lexemes.{word_piece as word_piece_of, word_with_power as word_with_power_of};
 ghost use Rattle.expr_tree.specs.Names.{is_word_byte as is_of_words};
 ghost use Rattle.expr_tree.specs.Seen.{seen_lexeme, seen_piece};
 
-use crate::name::{has_power, is_name, is_refused, is_word_byte, word_len};
+use crate::name::{has_power, is_name, is_refused, is_word_byte};
 use crate::operator::RootKind;
 use crate::power_digit::PowerDigit;
 use crate::token::Token;
 use frac128::{NumeralFault, read_longest};
-use units_io::is_blank;
+use units_io::{is_blank, prefix_len};
 
 // A part of a text.
 #[derive(Clone, Copy)]
@@ -113,6 +114,13 @@ fn word_at_front(text: &[u8]) -> Piece<'_>
     let (word, rest) = text.split_at(word_len(text));
     let opened = is_opened(rest);
     word_piece(word, opened)
+}
+
+// How many bytes the word has that the bytes begin with.
+fn word_len(bytes: &[u8]) -> usize
+    ensures { result ≡ prefix_len_of is_of_words bytes.now }
+{
+    prefix_len(bytes, is_word_byte)
 }
 
 // Whether the byte `(` stands at the front.

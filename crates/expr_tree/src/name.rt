@@ -1,7 +1,7 @@
 //! Names, and the words of expressions.
 
 ghost use Rattle.std.specs.Prelude.{◌≡◌};
-ghost use Rattle.std.specs.List.{list_all, prefix_len};
+ghost use Rattle.std.specs.List.{list_all};
 ghost use Rattle.expr_tree.specs.Names.{ends_in_count as ends_in_count_of, has_index as has_index_in, has_power as has_power_of, is_among};
 ghost use Rattle.expr_tree.specs.Names.{is_count as is_count_byte, is_index_byte as is_index};
 ghost use Rattle.expr_tree.specs.Names.{is_name as is_name_of, is_refused as is_refused_name, is_spelled as is_spelled_name};
@@ -113,18 +113,6 @@ pub(crate) fn is_word_byte(byte: u8) -> bool
             | b'['
             | b']'
     )
-}
-
-// How many bytes the word has that the bytes begin with.
-pub(crate) fn word_len(bytes: &[u8]) -> usize
-    ensures { result ≡ prefix_len is_of_words bytes.now }
-{
-    for (i, &byte) in bytes.iter().enumerate() {
-        if !is_word_byte(byte) {
-            return i;
-        }
-    }
-    bytes.len()
 }
 
 // Whether a name may begin with the byte.

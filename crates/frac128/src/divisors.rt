@@ -12,7 +12,11 @@ pub(crate) fn gcd(a: u128, b: u128) -> u128
     ensures is { result ≡ gcd_of a b }
     ensures some { 0 < b → 0 < result }
 {
-    if a < b { ordered_gcd(b, a) } else { ordered_gcd(a, b) }
+    if a < b {
+        ordered_gcd(b, a)
+    } else {
+        ordered_gcd(a, b)
+    }
 }
 
 // The same, where the second number is often the less.

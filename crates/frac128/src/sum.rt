@@ -37,12 +37,7 @@ impl Frac {
 
     // The sum of two numerators over a denominator. What the sum shares with the denominator, it
     // shares with the number `shared`, which is less.
-    fn sum_over(
-        multiple: i128,
-        left: i128,
-        right: i128,
-        shared: u128,
-    ) -> Result<Frac, FracFault>
+    fn sum_over(multiple: i128, left: i128, right: i128, shared: u128) -> Result<Frac, FracFault>
         requires some { pos 0 <ℤ multiple }
         requires multiple { unsigned_abs multiple ≤ most }
         requires left { unsigned_abs left ≤ most }

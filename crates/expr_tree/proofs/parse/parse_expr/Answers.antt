@@ -1,10 +1,9 @@
-use Rattle.std.proofs.Common.{◌≡◌, ◌⊎◌, inl, inr, MatchResult, IsErrAnd, Result, Ok, Err, Option, Some, None, List, ℕ, ap, sym, ◌∙◌, map}
+use Rattle.std.proofs.Common.{◌≡◌, ◌⊎◌, inl, inr, MatchResult, IsErrAnd, Result, Ok, Err, Option, Some, List, ℕ, ap, sym, ◌∙◌, map}
 use Rattle.std.specs.Option.{option_copied}
 use Rattle.expr_tree.specs.declared.fault.ParseFault.{ParseFault}
 use Rattle.expr_tree.specs.declared.fault.ParseFault.TheVariants.{OutOfMemory}
 use Rattle.expr_tree.specs.declared.tree.Tree.{Tree}
 use Rattle.expr_tree.specs.Faults.{first_fault}
-use Rattle.expr_tree.specs.Grammar.{Gives}
 use Rattle.expr_tree.specs.Lexemes.{tokens}
 use Rattle.expr_tree.specs.Parsed.{parsed}
 use Rattle.expr_tree.specs.Reading.{tree_of}
