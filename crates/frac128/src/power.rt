@@ -11,7 +11,8 @@ use crate::fraction::Frac;
 
 impl Frac {
     /// The power, which is 1 where k is 0. `DivisionByZero` where the fraction is 0 and k is
-    /// below 0, and else `Overflow` where the power does not fit.
+    /// below 0, and else `Overflow` where the power does not fit. It multiplies one by one, and
+    /// stops at the first product of more than 128 bits: at most 128 times, whatever k is.
     pub fn pow(&self, k: i32) -> Result<Frac, FracFault>
         ensures { result ≡ power self.now k }
     {
@@ -26,8 +27,7 @@ impl Frac {
         }
     }
 
-    // A fraction in lowest terms to a power. The steps end with the first product of more than
-    // 128 bits.
+    // A fraction in lowest terms to a power.
     fn raised(negative: bool, top: u128, bottom: u128, times: u32) -> Result<Frac, FracFault>
         requires some { 0 < bottom }
         requires lowest { IsGcd top bottom 1 }
