@@ -1,0 +1,44 @@
+# shellcheck shell=bash
+# shellcheck disable=SC2154 # root
+# The sources of a program: for scripts that source this file and have the top of the repository in `root`.
+
+# lines_of NAME: the lines of crates.txt of the crate and of those below it, the lowest first.
+lines_of() {
+    awk -F: -v name="$1" '
+        function tell(crate, words, count, i) {
+            if (!(crate in line) || crate in seen) return
+            seen[crate]
+            count = split(uses[crate], words, " ")
+            for (i = 1; i <= count; i++) tell(words[i])
+            print line[crate]
+        }
+        /^[^#]/ { split($1, head, " "); line[head[1]] = $0; uses[head[1]] = $2 }
+        END { tell(name) }
+    ' "$root/crates.txt"
+}
+
+# folders_of NAME: the folders with their sources, from the top of the repository.
+folders_of() {
+    local crate part
+    while IFS=': ' read -r crate _; do
+        for part in src specs proofs; do
+            if [ -d "$root/crates/$crate/$part" ]; then echo "crates/$crate/$part"; fi
+        done
+    done < <(lines_of "$1")
+}
+
+# sum_of_sources NAME: one checksum over those lines and over the names and bytes of all files in those folders.
+sum_of_sources() (
+    mapfile -t folders < <(folders_of "$1")
+    cd "$root" && {
+        lines_of "$1"
+        find "${folders[@]}" -type f -print0 | LC_ALL=C sort -z | xargs -0 sha256sum
+    } | sha256sum | cut -d ' ' -f 1
+)
+
+# is_outdated FILE NAME: whether a source is newer than the file, by its times.
+is_outdated() {
+    local folders
+    mapfile -t folders < <(folders_of "$2")
+    [ -n "$(cd "$root" && find "${folders[@]}" -newer "$1" -print -quit)" ]
+}
