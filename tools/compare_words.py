@@ -1,0 +1,177 @@
+#!/usr/bin/env python3
+"""Compares what the program takes as a command line with what the real clap takes.
+
+    tools/compare_words.py [LISTS] [SEED]
+
+makes LISTS random lists of words (20000 where none is given) from the SEED (1 where none is given),
+has the real clap read them, by tools/words_by_clap.rs, which it builds against Debian's package
+librust-clap-dev, and runs the built program on each. The status and both streams have to be those
+that follow from clap's fields. It prints how many runs had each ending and the first differences,
+and ends with status 1 where there is a difference.
+"""
+
+import os
+import random
+import subprocess
+import sys
+import tempfile
+from collections import Counter
+from concurrent.futures import ThreadPoolExecutor
+from fractions import Fraction
+from pathlib import Path
+
+from compare_numbers import digits_answer, exact
+
+TOOLS = Path(__file__).resolve().parent
+REGISTRY = Path("/usr/share/cargo/registry")
+SHOWN = 5  # how many differences are printed
+USAGE = (2, b"", b"units: usage: units [options] [FROM [TO]]\n")
+UNSUPPORTED = (8, b"", b"units: unsupported\n")
+VALUES = {"m": Fraction(1), "in": Fraction(254, 10000), "ft": Fraction(3048, 10000), "yd": Fraction(9144, 10000)}
+OTHER_OPTIONS = {"one-line", "compact", "terse", "quiet", "strict", "round", "verbose", "check", "locale", "trial"}
+REFUSED = {"per", "sqrt", "cuberoot", "sin", "ln"}
+
+MANIFEST = """[package]
+name = "words_by_clap"
+version = "0.1.0"
+edition = "2021"
+[[bin]]
+name = "words_by_clap"
+path = "words_by_clap.rs"
+[dependencies]
+clap = "4"
+"""
+
+# Words
+FLAGS = ["--exact", "--one-line", "-1", "--compact", "--terse", "-t", "--quiet", "-q", "--strict", "-s"]
+FLAGS += ["--round", "-r", "--verbose", "-v", "--check", "-c"]
+NUMBERS = ["1", "3", "8", "36", "37", "0", "-1", "+5", "007", "256", "20000", "20001", "65536", "", "x", "3.0", " 3"]
+TEXTS = ["first.units", "gone.units", "", "m", "-", "--", "-q", "--file", "=first.units", "en_GB"]
+NAMES = ["m", "in", "ft", "yd", "kg", "per", "sin", "m2", "", "-", "help", "a b"]
+OTHERS = ["--", "-x", "--help", "-h", "--version", "-V", "--exac", "--exact=true", "-qs", "-qd3", "-d3", "-d=3"]
+OTHERS += ["-1t", "-tf", "-qffirst.units", "--digits", "-f", "--no-exact", "-", "--=", "-\u00e9", "\u00e9"]
+
+
+def conversion(r):
+    """Words that mostly are a conversion."""
+    words = [["-f", "first.units"], ["--file=first.units"], ["-ffirst.units"], ["--file", "first.units"]]
+    parts = [r.choice(words), [r.choice(["m", "in", "ft", "yd"])], [r.choice(["m", "in", "ft", "yd", "kg"])]]
+    if r.randrange(2):
+        parts.append(r.choice([["--exact"], ["-d", r.choice(NUMBERS)], [f"--digits={r.randrange(1, 38)}"]]))
+    r.shuffle(parts)
+    return [word for part in parts for word in part]
+
+
+def any_word(r):
+    kind = r.randrange(10)
+    if kind < 3:
+        return [r.choice(FLAGS)]
+    if kind < 5:
+        name = r.choice(["-d", "--digits", "--trial"])
+        value = r.choice(NUMBERS)
+        return r.choice([[name, value], [f"{name}={value}"], [f"{name}{value}"]])
+    if kind < 7:
+        name, value = r.choice(["-f", "--file", "-l", "--locale"]), r.choice(TEXTS)
+        return r.choice([[name, value], [f"{name}={value}"], [f"{name}{value}"]])
+    return [r.choice(NAMES if kind < 9 else OTHERS)]
+
+
+def word_list(r):
+    words = conversion(r) if r.randrange(2) else []
+    for _ in range(r.choice([0, 0, 1, 1, 2, 3, 5] if words else [0, 1, 2, 3, 4, 6])):
+        at = r.randrange(len(words) + 1)
+        words[at:at] = any_word(r)
+    made = [word.encode() for word in words]
+    if made and r.randrange(40) == 0:
+        made[r.randrange(len(made))] += bytes([r.choice([0x80, 0xC3, 0xFF])])
+    return made
+
+
+# Endings
+
+
+def number_text(x, fields):
+    return exact(x) if "exact" in fields else digits_answer(x, int(fields.get("digits", 8)))
+
+
+def text_in(fields, name):
+    return bytes.fromhex(fields[name][1:]) if name in fields else None
+
+
+def is_name(text):
+    return text is not None and text.isalpha() and text.isascii() and text.decode() not in REFUSED
+
+
+def ending(line):
+    """The status and the bytes on both streams that follow from what clap finds."""
+    if line == "refused":
+        return USAGE
+    fields = {name: value for name, _, value in (word.partition("=") for word in line.split())}
+    if sum(name in fields for name in ["from", "check", "trial"]) > 1:
+        return USAGE
+    file, source, target = (text_in(fields, name) for name in ["file", "from", "to"])
+    if OTHER_OPTIONS & set(fields) or file is None or not is_name(source) or not is_name(target):
+        return UNSUPPORTED
+    if file == b"":
+        return None  # the name of no file: what the system says to it is not clap's
+    if file != b"first.units":
+        return 3, b"", b"units: no file: " + file + b"\n"
+    for name in [source, target]:
+        if name.decode() not in VALUES:
+            return 1, b"unknown unit: " + name + b"\n", b""
+    x, y = VALUES[source.decode()], VALUES[target.decode()]
+    return 0, f"\t* {number_text(x / y, fields)}\n\t/ {number_text(y / x, fields)}\n".encode(), b""
+
+
+# Runs
+
+
+def build(folder):
+    """The program that reads by clap."""
+    if not any(REGISTRY.glob("clap-4*")):
+        sys.exit(f"there is no clap in {REGISTRY}; on Debian: apt-get install librust-clap-dev")
+    (folder / "Cargo.toml").write_text(MANIFEST)
+    (folder / "words_by_clap.rs").write_text((TOOLS / "words_by_clap.rs").read_text())
+    (folder / ".cargo").mkdir()
+    replaced = f'[source.crates-io]\nreplace-with = "debian"\n[source.debian]\ndirectory = "{REGISTRY}"\n'
+    (folder / ".cargo/config.toml").write_text(replaced)
+    subprocess.run(["cargo", "build", "--quiet", "--release", "--offline"], cwd=folder, check=True)
+    return folder / "target/release/words_by_clap"
+
+
+def by_clap(reader, lists):
+    lines = "".join(" ".join("x" + word.hex() for word in words) + "\n" for words in lists)
+    run = subprocess.run([reader], input=lines.encode(), stdout=subprocess.PIPE, check=True)
+    return run.stdout.decode().split("\n")[:-1]
+
+
+def by_program(program, folder, words):
+    given = [os.fsencode(program), *words]
+    run = subprocess.run(given, cwd=folder, stdin=subprocess.DEVNULL, capture_output=True, check=False)
+    return run.returncode, run.stdout, run.stderr
+
+
+def main():
+    count = int(sys.argv[1]) if len(sys.argv) > 1 else 20_000
+    r = random.Random(sys.argv[2] if len(sys.argv) > 2 else "1")
+    built = subprocess.run([TOOLS / "built.sh", "units"], stdout=subprocess.PIPE, check=True)
+    program = built.stdout.decode().strip()
+    lists = [word_list(r) for _ in range(count)]
+    with tempfile.TemporaryDirectory() as room:
+        folder = Path(room)
+        (folder / "first.units").write_bytes((TOOLS.parent / "examples/first.units").read_bytes())
+        wanted = [ending(line) for line in by_clap(build(folder), lists)]
+        with ThreadPoolExecutor(os.cpu_count()) as pool:
+            got = list(pool.map(lambda words: by_program(program, folder, words), lists))
+    rows = [row for row in zip(lists, wanted, got) if row[1] is not None]
+    different = [row for row in rows if row[1] != row[2]]
+    endings = Counter(want[0] for _, want, _ in rows)
+    tally = ", ".join(f"{endings[status]} with status {status}" for status in sorted(endings))
+    print(f"{len(rows)} lists, {len(different)} differences: {tally}")
+    for words, want, came in different[:SHOWN]:
+        print(f"    {words}: {came}, not {want}")
+    sys.exit(1 if different else 0)
+
+
+if __name__ == "__main__":
+    main()
