@@ -1,23 +1,45 @@
 #!/usr/bin/env bash
-# Times 100 runs of the built program over the example, beside /bin/true and, where it is installed, GNU units.
-# Prints the milliseconds of one run, the lowest of five rounds.
+# Times the start of the program over the example: the program itself, bin/units, and the program among 30,000 variables of
+# the environment; beside /bin/true and, where it is installed, GNU units. Prints the milliseconds of a run, those of the
+# processor and those that passed, each the lowest of five rounds of 100 runs, or of 3 among the variables.
 set -u
 root=$(cd "$(dirname "${BASH_SOURCE[0]}")/.." && pwd)
 program=$("$root/tools/built.sh" units) || exit
-runs=100
+exec python3 - "$root" "$program" <<'PYTHON'
+import os
+import resource
+import shutil
+import subprocess
+import sys
+import time
 
-# per_run COMMAND WORD..: the milliseconds of one of so many runs, the lowest of five rounds.
-per_run() {
-    local best=999999999 from to round i
-    for round in 1 2 3 4 5; do
-        from=$(date +%s%N)
-        for ((i = 0; i < runs; i++)); do "$@" > /dev/null 2>&1 < /dev/null; done
-        to=$(date +%s%N)
-        [ $((to - from)) -lt $best ] && best=$((to - from))
-    done
-    awk -v total="$best" -v runs="$runs" 'BEGIN { printf "%.2f ms\n", total / runs / 1e6 }'
-}
+root, program = sys.argv[1:]
+yard = ["--exact", "-f", f"{root}/examples/first.units", "yd", "m"]
 
-echo "units      $(per_run "$program" --exact -f "$root/examples/first.units" yd m)"
-echo "/bin/true  $(per_run /bin/true)"
-if gnu=$(command -v units); then echo "GNU units  $(per_run "$gnu" yd m)"; fi
+
+def busy():
+    usage = resource.getrusage(resource.RUSAGE_CHILDREN)
+    return usage.ru_utime + usage.ru_stime
+
+
+def timed(name, *command, variables=None):
+    rounds, runs = [], 3 if variables else 100
+    quiet = {"stdin": subprocess.DEVNULL, "stdout": subprocess.DEVNULL, "stderr": subprocess.DEVNULL}
+    for _ in range(5):
+        start, before = time.perf_counter(), busy()
+        for _ in range(runs):
+            subprocess.run(command, env=variables, check=False, **quiet)
+        rounds.append((busy() - before, time.perf_counter() - start))
+    of_processor, passed = (min(row) / runs * 1e3 for row in zip(*rounds))
+    print(f"{name:30} {of_processor:6.2f} ms of the processor  {passed:6.2f} ms passed")
+
+
+timed("/bin/true", "/bin/true")
+timed("the program", program, *yard)
+timed("bin/units", f"{root}/bin/units", *yard)
+many = {f"VARIABLE_{i}": str(i) for i in range(30_000)}
+timed("/bin/true, 30,000 variables", "/bin/true", variables=many)
+timed("the program, 30,000 variables", program, *yard, variables=many)
+if gnu := shutil.which("units"):
+    timed("GNU units", gnu, "yd", "m")
+PYTHON
