@@ -1,4 +1,4 @@
-Conversions between two names of a first file.
+Conversions between two names of a first file. first_files.t has which files are such.
 
   $ cat > first.units <<END
   > m !
@@ -60,16 +60,8 @@ The largest number, and twice that.
   overflow
   [1]
 
-Files that are no first files, and files that are not there.
+A file that is not there.
 
-  $ echo 'x 3|1 y' > undefined.units
-  $ units --exact -f undefined.units x x
-  units: unsupported
-  [8]
-  $ : > empty.units
-  $ units --exact -f empty.units m m
-  units: unsupported
-  [8]
   $ units --exact -f gone.units yd m
   units: no file: gone.units
   [3]
@@ -109,17 +101,6 @@ Words that are not taken.
   $ units $(printf '\377')
   units: usage: units [options] [FROM [TO]]
   [2]
-
-A file of one byte more than the most.
-
-  $ head -c 16777216 /dev/zero | tr '\0' ' ' > blank.units
-  $ units --exact -f blank.units m m
-  units: unsupported
-  [8]
-  $ echo >> blank.units
-  $ units --exact -f blank.units m m
-  units: file too long: blank.units
-  [3]
 
 A file of 100,000 lines, of which each but the first names the line before it, and one of a line more.
 
