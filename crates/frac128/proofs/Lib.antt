@@ -4,6 +4,7 @@ pub mod ComputedRoots
 pub mod Coprime
 pub mod DigitRuns
 pub mod Euclid
+pub mod ExactSteps
 pub mod LongestNumerals
 pub mod Lowest
 pub mod Multiples

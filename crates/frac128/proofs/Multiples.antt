@@ -20,7 +20,7 @@ lcm-right a b =
     ap (λ n. a / g * n) (sym b_is) ∙ sym (mul_assoc (a / g) g (b / g)) ∙ ap (λ n. n * (b / g)) (mul_comm (a / g) g ∙ a_is)
 
 -- the multiple times the divisor is the product
-lcm-times : (a b : ℕ) → lcm a b * gcd a b ≡ a * b
+pub lcm-times : (a b : ℕ) → lcm a b * gcd a b ≡ a * b
 lcm-times a b =
     let g = gcd a b in
     let b_is : g * (b / g) ≡ b = mul-div_cancel' g (gcd_is a b).1 in

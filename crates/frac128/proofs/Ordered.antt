@@ -1,13 +1,16 @@
 -- The laws of the order.
-use Rattle.std.proofs.Common.{◌≡◌, ◌*◌, ◌<◌, ◌*ℤ◌, ◌<ℤ◌, ◌≤ℤ◌, ℕ, ℤ, pos, negsuc, suc, false, unsigned_abs, int_lt, arith, refl, sym, ap, ◌∙◌}
-use Rattle.std.specs.declared.cmp.Ordering.TheVariants.{Less, Equal}
+use Rattle.std.proofs.Common.{◌≡◌, ◌*◌, ◌<◌, ◌*ℤ◌, ◌<ℤ◌, ◌≤ℤ◌, ℕ, ℤ, pos, negsuc, suc, false, true, unsigned_abs, int_lt, arith, refl, sym, ap, ◌∙◌}
+use Rattle.std.specs.declared.cmp.Ordering.{Ordering}
+use Rattle.std.specs.declared.cmp.Ordering.TheVariants.{Less, Equal, Greater}
+use Rattle.std.specs.Ordering.{int_cmp, is_le}
+use Rattle.std.proofs.lemmas.Bool.{false≢true}
 use Rattle.std.specs.Cmp.{int_cmp_is}
 use Rattle.std.proofs.lemmas.Cmp.{int_cmp_total, int_ranked}
 use Rattle.std.proofs.lemmas.Int.{by_lt_z, ints}
 use Rattle.std.proofs.Math.IntN.{negsuc-*ℤ-pos}
 use Rattle.std.proofs.Math.Nat.{mul-pos}
 use Rattle.frac128.specs.Fraction.{Fraction, IsReduced}
-use Rattle.frac128.specs.Order.{OrderLaw, compared}
+use Rattle.frac128.specs.Order.{ComparedLaw, OrderLaw, compared}
 use Rattle.frac128.specs.Sign.{differ, signed}
 use Rattle.frac128.proofs.Reduced.{reduced_only}
 use Rattle.frac128.proofs.Signs.{mul-signed, signed_is}
@@ -79,3 +82,28 @@ order_law = (
   less_trans,
   equal_same,
 )
+
+-- less, and at most, by the answer
+pub compared_law : ComparedLaw
+compared_law x y =
+    let a = x.num *ℤ pos y.den in
+    let b = y.num *ℤ pos x.den in (
+      (λ h. int_ranked a b Less (sym h), λ h. sym (int_cmp_is a b Less h)),
+      (at_most a b (compared x y) refl, is_at_most a b (compared x y) refl),
+    )
+  where
+    weaker : (a b : ℤ) → a <ℤ b → a ≤ℤ b
+    weaker a b h = omega (arith, ints)
+
+    clash : (a b : ℤ) → b <ℤ a → a ≤ℤ b → ⊥
+    clash a b h k = omega (arith, ints)
+
+    at_most : (a b : ℤ) (o : Ordering) → o ≡ int_cmp a b → is_le o ≡ true → a ≤ℤ b
+    at_most a b Less e h = weaker a b (int_ranked a b Less e)
+    at_most a b Equal e h = let same : a ≡ b = int_ranked a b Equal e in rw same (≤ℤ_refl b)
+    at_most a b Greater e h = absurd (false≢true h)
+
+    is_at_most : (a b : ℤ) (o : Ordering) → o ≡ int_cmp a b → a ≤ℤ b → is_le o ≡ true
+    is_at_most a b Less e h = refl
+    is_at_most a b Equal e h = refl
+    is_at_most a b Greater e h = absurd (clash a b (int_ranked a b Greater e) h)

@@ -24,7 +24,7 @@ reduced_reduced n d some =
     })
 
 -- it has the value of the quotient
-reduced-value : (n : ℤ) (d : ℕ) → SameValue (reduced n d) (record { num = n; den = d })
+pub reduced-value : (n : ℤ) (d : ℕ) → SameValue (reduced n d) (record { num = n; den = d })
 reduced-value n d =
     let s = int_lt n (pos 0) in
     let a = unsigned_abs n in

@@ -14,11 +14,11 @@ use Rattle.frac128.proofs.Euclid.{gcd_is}
 use Rattle.frac128.proofs.Multiples.{lcm-left, lcm-right}
 use Rattle.frac128.proofs.Reduced.{reduced_is}
 use Rattle.frac128.proofs.SumDivisors.{sum_shares}
-use Rattle.frac128.proofs.Signs.{abs-neg, abs-signed, differ-false, mul-signed, neg-signed, signed_is}
+use Rattle.frac128.proofs.Signs.{abs-neg, abs-signed, differ-false, mul-signed, neg-times, signed_is}
 use Rattle.frac128.proofs.Comparisons.{le-true}
 
 -- the multiple over one denominator is what is left of the other
-lcm-div : (b d : ℕ) → 0 < b → 0 < d → (lcm b d / b ≡ d / gcd b d) × (lcm b d / d ≡ b / gcd b d)
+pub lcm-div : (b d : ℕ) → 0 < b → 0 < d → (lcm b d / b ≡ d / gcd b d) × (lcm b d / d ≡ b / gcd b d)
 lcm-div b d some_b some_d = (
   ap (λ n. n / b) (lcm-right b d) ∙ mul-div_cancel_left (d / gcd b d) some_b,
   ap (λ n. n / d) (lcm-left b d ∙ mul_comm (b / gcd b d) d) ∙ mul-div_cancel_left (b / gcd b d) some_d,
@@ -158,12 +158,3 @@ minus-negated x y =
   where
     turned : (m : ℕ) (l r : ℤ) → joined ◌-ℤ◌ m l r ≡ joined ◌+ℤ◌ m l (neg_ℤ r)
     turned m l r = rw (abs-neg r) refl
-
-    by_sign : (s : Bool) (a k : ℕ) → neg_ℤ (signed s a *ℤ pos k) ≡ neg_ℤ (signed s a) *ℤ pos k
-    by_sign false a k = sym (mul-signed true false a k)
-    by_sign true a k = ap neg_ℤ (mul-signed true false a k) ∙ neg-signed true (a * k) ∙ sym (ap (λ n. n *ℤ pos k) (neg-signed true a))
-
-    neg-times : (z : ℤ) (k : ℕ) → neg_ℤ (z *ℤ pos k) ≡ neg_ℤ z *ℤ pos k
-    neg-times z k =
-        ap (λ n. neg_ℤ (n *ℤ pos k)) (signed_is z) ∙ by_sign (int_lt z (pos 0)) (unsigned_abs z) k
-        ∙ sym (ap (λ n. neg_ℤ n *ℤ pos k) (signed_is z))

@@ -1,6 +1,8 @@
 -- Sums and products of fractions of any size, not reduced.
-use Rattle.std.specs.Prelude.{◌*◌, ◌*ℤ◌, ◌+ℤ◌, ◌-ℤ◌, pos}
-use Rattle.frac128.specs.Fraction.{Fraction}
+use Rattle.std.specs.Prelude.{◌≡◌, ◌<◌, ◌*◌, ◌*ℤ◌, ◌+ℤ◌, ◌-ℤ◌, pos, Ok}
+use Rattle.frac128.specs.Fraction.{Fraction, SameValue}
+use Rattle.frac128.specs.Steps.{over, times}
+use Rattle.frac128.specs.Sums.{minus, plus}
 
 -- the sum
 abbrev pub sum : Fraction → Fraction → Fraction
@@ -13,3 +15,12 @@ difference x y = record { num = (x.num *ℤ pos y.den) -ℤ (y.num *ℤ pos x.de
 -- the product
 abbrev pub product : Fraction → Fraction → Fraction
 product x y = record { num = x.num *ℤ y.num; den = x.den * y.den }
+
+-- law: where a step on fractions that fit has an answer, it has the value of the exact one; the product of a
+-- quotient and its divisor has that of what was divided
+abbrev pub StepsLaw : Type 0
+StepsLaw = (x y z : Fraction) → 0 < x.den → 0 < y.den
+    → (plus x y ≡ Ok z → SameValue z (sum x y))
+    × (minus x y ≡ Ok z → SameValue z (difference x y))
+    × (times x y ≡ Ok z → SameValue z (product x y))
+    × (over x y ≡ Ok z → SameValue (product z y) x)

@@ -1,8 +1,8 @@
 -- The order of fractions.
-use Rattle.std.specs.Prelude.{◌≡◌, ◌<◌, ◌*ℤ◌, ◌<ℤ◌, ◌≤ℤ◌, pos}
+use Rattle.std.specs.Prelude.{◌≡◌, ◌<◌, ◌*ℤ◌, ◌<ℤ◌, ◌≤ℤ◌, ◌↔◌, pos, IsTrue}
 use Rattle.std.specs.declared.cmp.Ordering.{Ordering}
 use Rattle.std.specs.declared.cmp.Ordering.TheVariants.{Less, Equal}
-use Rattle.std.specs.Ordering.{int_cmp, ordering_reverse}
+use Rattle.std.specs.Ordering.{int_cmp, is_le, ordering_reverse}
 use Rattle.frac128.specs.Fraction.{Fraction, IsReduced}
 
 -- how the value of x stands to that of y: by the cross products
@@ -16,6 +16,10 @@ IsLess x y = (x.num *ℤ pos y.den) <ℤ (y.num *ℤ pos x.den)
 -- x is at most y
 abbrev pub IsAtMost : Fraction → Fraction → Type 0
 IsAtMost x y = (x.num *ℤ pos y.den) ≤ℤ (y.num *ℤ pos x.den)
+
+-- law: by how they are compared the one is less than the other, or at most the other
+abbrev pub ComparedLaw : Type 0
+ComparedLaw = (x y : Fraction) → ((compared x y ≡ Less) ↔ IsLess x y) × (IsTrue (is_le (compared x y)) ↔ IsAtMost x y)
 
 -- law: an exchange of two fractions turns the answer round, less is transitive, and reduced
 -- fractions that stand equal are equal

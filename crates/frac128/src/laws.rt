@@ -2,9 +2,10 @@
 
 ghost use Rattle.frac128.specs.Decimals.{DigitsLaw, NumeralLaw};
 ghost use Rattle.frac128.specs.Divisors.{GcdLaw, LcmLaw};
+ghost use Rattle.frac128.specs.Exact.{StepsLaw};
 ghost use Rattle.frac128.specs.Floor.{FloorLaw};
 ghost use Rattle.frac128.specs.Nearest.{NearestWholeLaw};
-ghost use Rattle.frac128.specs.Order.{OrderLaw};
+ghost use Rattle.frac128.specs.Order.{ComparedLaw, OrderLaw};
 ghost use Rattle.frac128.specs.Roots.{RootLaw, RootOfLaw};
 ghost use Rattle.frac128.specs.Steps.{ReducedLaw};
 
@@ -23,6 +24,16 @@ pub fn lcm_law()
 /// A quotient in lowest terms is reduced, and is the only reduced fraction of its value.
 pub fn reduced_law()
     ensures { ReducedLaw }
+{}
+
+/// Sums, differences, products and quotients have the values of the exact ones.
+pub fn steps_law()
+    ensures { StepsLaw }
+{}
+
+/// Fractions are compared by their values.
+pub fn compared_law()
+    ensures { ComparedLaw }
 {}
 
 /// The order is total, and reduced fractions that stand equal are equal.

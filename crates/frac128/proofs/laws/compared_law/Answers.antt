@@ -1,0 +1,5 @@
+use Rattle.frac128.proofs.Ordered as ordered
+use Rattle.frac128.proofs.laws.compared_law.Goals as goal
+
+pub returns : goal.returns
+returns c = ordered.compared_law
