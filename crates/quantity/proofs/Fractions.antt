@@ -7,7 +7,8 @@ use Rattle.std.proofs.Math.Nat.{dvd_antisymm, dvd_refl, dvd-zero, one-dvd}
 use lib.IntN.{one, *ℤ-one, zero-*ℤ, +ℤ_idl, +ℤ_idr}
 use Rattle.frac128.specs.Fraction.{Fraction, IsReduced, SameValue, negated, whole}
 use Rattle.frac128.specs.Steps.{ReducedLaw, reduced}
-use Rattle.quantity.specs.Exponents.{exponent_product, exponent_sum, is_zero}
+use Rattle.frac128.specs.Sign.{is_zero}
+use Rattle.quantity.specs.Exponents.{exponent_product, exponent_sum}
 
 abbrev pub nothing : Fraction
 nothing = whole (pos 0)

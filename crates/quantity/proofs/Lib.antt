@@ -6,6 +6,7 @@ pub mod Merged
 pub mod MergeSteps
 pub mod Names
 pub mod Scaled
+pub mod ScaleSteps
 pub mod Single
 pub mod Slashes
 pub mod Steps

@@ -8,7 +8,8 @@ use Rattle.std.specs.FinMap.Entries.{find, is_sorted}
 use Rattle.std.specs.List.{AllByRecursion as Each, list_all, list_any}
 use Rattle.std.proofs.lemmas.Bool.Decides.{nat_tests}
 use Rattle.frac128.specs.Fraction.{Fraction, IsReduced}
-use Rattle.quantity.specs.Exponents.{IsExponent, IsPower, exponent_of, exponents_by, is_exponent, is_zero}
+use Rattle.frac128.specs.Sign.{is_zero}
+use Rattle.quantity.specs.Exponents.{IsExponent, IsPower, exponent_of, exponents_by, is_exponent}
 use Rattle.quantity.specs.Merges.{Powers, are_exponents, exponents_in}
 use Rattle.quantity.proofs.Fractions.{kept, nothing, some_kept, unwrap_kept, zero_is}
 use Rattle.quantity.proofs.Names.{Name, by_bytes, find_below, first, is_itself, is_name, one_or_two, same_name, second}

@@ -10,7 +10,7 @@ use Rattle.std.specs.Ordering.{int_eq}
 use Rattle.std.proofs.lemmas.Bool.Decides.{Decides-int_eq, nat_tests}
 use Rattle.std.proofs.lemmas.List.Elements.{recursion_from_All}
 use Rattle.frac128.specs.Fraction.{Fraction, negated}
-use Rattle.quantity.specs.Amount.{matches, same}
+use Rattle.quantity.specs.Amount.{ConformLaw, conform, matches, same}
 use Rattle.quantity.specs.Exponents.{AreKept, Exponents, IsPower, SameExponentsLaw, exponent_of}
 use Rattle.quantity.specs.Merges.{Powers, taken}
 use Rattle.quantity.proofs.Fractions.{kept, negated_zero, nothing, some_kept}
@@ -123,3 +123,13 @@ reciprocal_is p o all all_o =
       λ h q. exponent_at p q ∙ both.0 h q ∙ ap negated (sym (exponent_at o q)),
       λ h. both.1 (λ q. sym (exponent_at p q) ∙ h q ∙ ap negated (exponent_at o q)),
     )
+
+-- maps conform where each name has one exponent in both
+pub conform_names : (p o : Exponents) → AreKept p → AreKept o → (conform p o ≡ true) ↔ ((q : Name) → exponent_of p q ≡ exponent_of o q)
+conform_names p o all all_o = (
+  λ h q. ap (λ m. exponent_of m q) ((conform_is p o).0 h),
+  λ h. (conform_is p o).1 (same_exponents_law p o all all_o h),
+)
+
+pub conform_law : ConformLaw
+conform_law p o all all_o = record { conforming = conform_names p o all all_o; reciprocal = reciprocal_is p o all all_o }

@@ -9,10 +9,11 @@ use Rattle.std.proofs.lemmas.List.{append-nil}
 use Rattle.std.proofs.lemmas.List.Elements.{All-head, All-tail}
 use Rattle.frac128.specs.Fraction.{Fraction, IsReduced}
 use Rattle.frac128.specs.Steps.{ReducedLaw}
-use Rattle.quantity.specs.Exponents.{IsExponent, IsPower, exponent_sum, is_exponent, is_zero}
+use Rattle.frac128.specs.Sign.{is_zero}
+use Rattle.quantity.specs.Exponents.{IsExponent, IsPower, exponent_sum, is_exponent}
 use Rattle.quantity.specs.Merges.{IsListed, IsPut, Powers, are_exponents, first_of, merged, put_some, taken}
-use Rattle.quantity.specs.declared.fault.QuantityFault.{QuantityFault}
-use Rattle.quantity.specs.declared.fault.QuantityFault.TheVariants.{Number, NotConformable, ExponentNotNumber, ExponentRange, OutOfMemory}
+use Rattle.quantity.specs.declared.fault.ExponentFault.{ExponentFault}
+use Rattle.quantity.specs.declared.fault.ExponentFault.TheVariants.{Range, OutOfMemory}
 use Rattle.quantity.specs.declared.merging.First.TheVariants.{Neither, Left, Right, Both}
 use Rattle.quantity.proofs.Fractions.{sum_reduced, zero_is}
 use Rattle.quantity.proofs.Merged.{IsStep}
@@ -190,10 +191,7 @@ merging_fault law step ps os out left right left_rest right_rest p o e known is 
 
 -- ---- a refusal that is handed on
 
-pub handed_on : (out new expected : Powers) (power : Name × Fraction) (fault : QuantityFault) → IsPut (Err fault) out new power
+pub handed_on : (out new expected : Powers) (power : Name × Fraction) (fault : ExponentFault) → IsPut (Err fault) out new power
     → (IsFalse (is_exponent power.1) → IsFalse (are_exponents expected)) → IsListed (Err fault) expected
-handed_on out new expected power (Number f) h show = absurd h
-handed_on out new expected power (NotConformable a b) h show = absurd h
-handed_on out new expected power ExponentNotNumber h show = absurd h
-handed_on out new expected power ExponentRange h show = show h
+handed_on out new expected power Range h show = show h
 handed_on out new expected power OutOfMemory h show = tt

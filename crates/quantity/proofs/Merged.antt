@@ -7,7 +7,8 @@ use Rattle.std.specs.Ordering.{match_ordering, is_lt}
 use Rattle.std.specs.declared.cmp.Ordering.TheVariants.{Less, Equal, Greater}
 use Rattle.frac128.specs.Fraction.{Fraction, IsReduced}
 use Rattle.frac128.specs.Steps.{ReducedLaw}
-use Rattle.quantity.specs.Exponents.{IsPower, exponent_sum, is_exponent, is_zero}
+use Rattle.frac128.specs.Sign.{is_zero}
+use Rattle.quantity.specs.Exponents.{IsPower, exponent_sum, is_exponent}
 use Rattle.quantity.specs.Merges.{Powers, merged, merged_into, put_some, taken}
 use Rattle.quantity.proofs.Fractions.{kept, nothing, nothing_reduced, some_kept, sum_left, sum_right}
 use Rattle.quantity.proofs.Listed.{at, here, past}

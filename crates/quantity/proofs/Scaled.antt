@@ -3,7 +3,8 @@ use Rattle.std.proofs.Common.{◌≡◌, refl, sym, ap, subst, ◌∙◌, Bool, 
 use Rattle.std.specs.FinMap.Entries.{below_all, find, is_sorted}
 use Rattle.frac128.specs.Fraction.{Fraction}
 use Rattle.frac128.specs.Steps.{ReducedLaw}
-use Rattle.quantity.specs.Exponents.{exponent_product, is_zero}
+use Rattle.frac128.specs.Sign.{is_zero}
+use Rattle.quantity.specs.Exponents.{exponent_product}
 use Rattle.quantity.specs.Merges.{Powers, scaled}
 use Rattle.quantity.proofs.Fractions.{kept, product_zero, some_kept}
 use Rattle.quantity.proofs.Listed.{at, past}

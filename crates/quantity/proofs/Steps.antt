@@ -6,7 +6,7 @@ use Rattle.std.specs.List.{list_all, list_any}
 use Rattle.std.proofs.lemmas.List.Elements.{All-from_recursion, recursion_from_All}
 use Rattle.frac128.specs.Fraction.{Fraction, IsReduced, negated}
 use Rattle.frac128.specs.Steps.{ReducedLaw}
-use Rattle.quantity.specs.Answers.{IsAnswer, ranged}
+use Rattle.quantity.specs.Answers.{AreThose, ranged}
 use Rattle.quantity.specs.Exponents.{AreKept, Exponents, IsPower, exponent_of, exponent_product, exponent_sum, exponents_by, is_exponent, names_of}
 use Rattle.quantity.specs.Factors.{exponent_in, exponents_with}
 use Rattle.quantity.specs.Merges.{AreInOrder, IsListed, Powers, are_exponents, exponents_in, merged, scaled}
@@ -14,8 +14,8 @@ use Rattle.quantity.specs.Powers.{power_exponents}
 use Rattle.quantity.specs.Products.{ProductLaw, product_exponents, quotient_exponents}
 use Rattle.quantity.specs.declared.factor.Factor.{Factor}
 use Rattle.quantity.specs.declared.factor.Factor.TheVariants.{Plain, Inverse}
-use Rattle.quantity.specs.declared.fault.QuantityFault.{QuantityFault}
-use Rattle.quantity.specs.declared.fault.QuantityFault.TheVariants.{Number, NotConformable, ExponentNotNumber, ExponentRange, OutOfMemory}
+use Rattle.quantity.specs.declared.fault.ExponentFault.{ExponentFault}
+use Rattle.quantity.specs.declared.fault.ExponentFault.TheVariants.{Range, OutOfMemory}
 use Rattle.quantity.proofs.Fractions.{abs-neg, kept, negated_reduced, negated_zero, nothing, product_reduced, product_zero, sum_left, sum_reduced, nothing_reduced}
 use Rattle.quantity.proofs.Listed.{GivesNames, Lists, all_kept, exponent_of-exponents_by, listed_map, listed_range}
 use Rattle.quantity.proofs.Matched.{exponent_at}
@@ -26,19 +26,19 @@ use Rattle.quantity.proofs.Scaled.{find-scaled, sorted-scaled}
 
 -- ---- what `ranged` answers
 
-ranged_ok : (f : Name → Fraction) (names : List Name) → list_all (λ q. is_exponent (f q)) names ≡ true → ranged f names ≡ Ok (exponents_by f names)
+ranged_ok : (f : Name → Fraction) (names : List Name) → list_all (λ q. is_exponent (f q)) names ≡ true → ranged f names ≡ Some (exponents_by f names)
 unfolding ranged
-ranged_ok f names h = ap (λ b. cond b (Ok (exponents_by f names)) (Err ExponentRange)) h
+ranged_ok f names h = ap (λ b. cond b (Some (exponents_by f names)) None) h
 
-ranged_err : (f : Name → Fraction) (names : List Name) → list_all (λ q. is_exponent (f q)) names ≡ false → ranged f names ≡ Err ExponentRange
+ranged_none : (f : Name → Fraction) (names : List Name) → list_all (λ q. is_exponent (f q)) names ≡ false → ranged f names ≡ None
 unfolding ranged
-ranged_err f names h = ap (λ b. cond b (Ok (exponents_by f names)) (Err ExponentRange)) h
+ranged_none f names h = ap (λ b. cond b (Some (exponents_by f names)) None) h
 
-ok_is : (f : Name → Fraction) (names : List Name) (r : Exponents) → ranged f names ≡ Ok r → exponents_by f names ≡ r
+some_is : (f : Name → Fraction) (names : List Name) (r : Exponents) → ranged f names ≡ Some r → exponents_by f names ≡ r
 unfolding ranged
-ok_is f names r h = go (list_all (λ q. is_exponent (f q)) names) h
+some_is f names r h = go (list_all (λ q. is_exponent (f q)) names) h
   where
-    go : (b : Bool) → cond b (Ok (exponents_by f names)) (Err ExponentRange) ≡ Ok r → exponents_by f names ≡ r
+    go : (b : Bool) → cond b (Some (exponents_by f names)) None ≡ Some r → exponents_by f names ≡ r
     go true h = cc
     go false h = absurd (cc)
 
@@ -50,18 +50,15 @@ pub record IsRanged (f : Name → Fraction) (names : List Name) (es : Powers) : 
 pub listed_order : (f : Name → Fraction) (names : List Name) (es : Powers) → IsRanged f names es → IsTrue (are_exponents es) → AreInOrder es
 listed_order f names es is all = record { sorted = is.lists.sorted; kept = All-from_recursion IsPower es (all_kept f names es is.gives is.lists all) }
 
-pub listed_ok : (f : Name → Fraction) (names : List Name) (es : Powers) → IsRanged f names es → IsTrue (are_exponents es) → Ok (exponents_in es) ≡ ranged f names
+pub listed_ok : (f : Name → Fraction) (names : List Name) (es : Powers) → IsRanged f names es → IsTrue (are_exponents es) → Some (exponents_in es) ≡ ranged f names
 listed_ok f names es is all =
-    ap Ok (listed_map f names es is.gives is.lists) ∙ sym (ranged_ok f names (sym (listed_range f names es is.gives is.lists) ∙ all))
+    ap Some (listed_map f names es is.gives is.lists) ∙ sym (ranged_ok f names (sym (listed_range f names es is.gives is.lists) ∙ all))
 
-pub listed_err : (f : Name → Fraction) (names : List Name) (es : Powers) → IsRanged f names es → IsFalse (are_exponents es) → Err ExponentRange ≡ ranged f names
-listed_err f names es is some = sym (ranged_err f names (sym (listed_range f names es is.gives is.lists) ∙ some))
+pub listed_none : (f : Name → Fraction) (names : List Name) (es : Powers) → IsRanged f names es → IsFalse (are_exponents es) → None ≡ ranged f names
+listed_none f names es is some = sym (ranged_none f names (sym (listed_range f names es is.gives is.lists) ∙ some))
 
-pub listed_fault : (f : Name → Fraction) (names : List Name) (es : Powers) (fault : QuantityFault) → IsRanged f names es → IsListed (Err fault) es → IsAnswer {T = Exponents} (Err fault) (ranged f names)
-listed_fault f names es (Number n) is listed = absurd listed
-listed_fault f names es (NotConformable x y) is listed = absurd listed
-listed_fault f names es ExponentNotNumber is listed = absurd listed
-listed_fault f names es ExponentRange is listed = listed_err f names es is listed
+pub listed_fault : (f : Name → Fraction) (names : List Name) (es : Powers) (fault : ExponentFault) → IsRanged f names es → IsListed (Err fault) es → AreThose (Err fault) (ranged f names)
+listed_fault f names es Range is listed = listed_none f names es is listed
 listed_fault f names es OutOfMemory is listed = tt
 
 -- ---- the names of maps
@@ -148,20 +145,20 @@ product_order law factor p o ps os es left right listed =
     subst AreInOrder (sym listed.0) (listed_order _ _ _ (factor_ranged law factor p o ps os left right) listed.1)
 
 pub product_ok : ReducedLaw → (factor : Factor) (p o : Exponents) (ps os es : Powers) → IsListOf p ps → IsListOf o os
-    → IsListed (Ok (record { items = es; capacity = 0 })) (merged (exponent_in factor) ps os) → Ok (exponents_in es) ≡ exponents_with factor p o
+    → IsListed (Ok (record { items = es; capacity = 0 })) (merged (exponent_in factor) ps os) → Some (exponents_in es) ≡ exponents_with factor p o
 product_ok law factor p o ps os es left right listed =
-    ap (λ ds. Ok (exponents_in ds)) listed.0 ∙ listed_ok _ _ _ (factor_ranged law factor p o ps os left right) listed.1 ∙ with_is factor p o
+    ap (λ ds. Some (exponents_in ds)) listed.0 ∙ listed_ok _ _ _ (factor_ranged law factor p o ps os left right) listed.1 ∙ with_is factor p o
 
-pub product_fault : ReducedLaw → (factor : Factor) (p o : Exponents) (ps os : Powers) (fault : QuantityFault) → IsListOf p ps → IsListOf o os
-    → IsListed (Err fault) (merged (exponent_in factor) ps os) → IsAnswer {T = Exponents} (Err fault) (exponents_with factor p o)
+pub product_fault : ReducedLaw → (factor : Factor) (p o : Exponents) (ps os : Powers) (fault : ExponentFault) → IsListOf p ps → IsListOf o os
+    → IsListed (Err fault) (merged (exponent_in factor) ps os) → AreThose (Err fault) (exponents_with factor p o)
 product_fault law factor p o ps os fault left right listed =
-    subst (IsAnswer {T = Exponents} (Err fault)) (with_is factor p o) (listed_fault _ _ _ fault (factor_ranged law factor p o ps os left right) listed)
+    subst (AreThose (Err fault)) (with_is factor p o) (listed_fault _ _ _ fault (factor_ranged law factor p o ps os left right) listed)
 
 pub product_law : ReducedLaw → ProductLaw
 unfolding product_exponents quotient_exponents
 product_law law p o r all all_o = (
-  λ h q. ap (λ m. exponent_of m q) (sym (ok_is _ _ r h)) ∙ exponent_of-exponents_by _ _ q (total_gives law (λ e. e) p o plain_step all all_o),
-  λ h q. ap (λ m. exponent_of m q) (sym (ok_is _ _ r h)) ∙ exponent_of-exponents_by _ _ q (total_gives law negated p o inverse_step all all_o),
+  λ h q. ap (λ m. exponent_of m q) (sym (some_is _ _ r h)) ∙ exponent_of-exponents_by _ _ q (total_gives law (λ e. e) p o plain_step all all_o),
+  λ h q. ap (λ m. exponent_of m q) (sym (some_is _ _ r h)) ∙ exponent_of-exponents_by _ _ q (total_gives law negated p o inverse_step all all_o),
 )
 
 -- ---- powers
@@ -189,11 +186,11 @@ pub power_order : ReducedLaw → (p : Exponents) (by : Fraction) (ps es : Powers
 power_order law p by ps es some list listed = subst AreInOrder (sym listed.0) (listed_order _ _ _ (power_ranged law p by ps some list) listed.1)
 
 pub power_ok : ReducedLaw → (p : Exponents) (by : Fraction) (ps es : Powers) → 0 < by.den → IsListOf p ps
-    → IsListed (Ok (record { items = es; capacity = 0 })) (scaled by ps) → Ok (exponents_in es) ≡ power_exponents p by
+    → IsListed (Ok (record { items = es; capacity = 0 })) (scaled by ps) → Some (exponents_in es) ≡ power_exponents p by
 unfolding power_exponents
-power_ok law p by ps es some list listed = ap (λ ds. Ok (exponents_in ds)) listed.0 ∙ listed_ok _ _ _ (power_ranged law p by ps some list) listed.1
+power_ok law p by ps es some list listed = ap (λ ds. Some (exponents_in ds)) listed.0 ∙ listed_ok _ _ _ (power_ranged law p by ps some list) listed.1
 
-pub power_fault : ReducedLaw → (p : Exponents) (by : Fraction) (ps : Powers) (fault : QuantityFault) → 0 < by.den → IsListOf p ps
-    → IsListed (Err fault) (scaled by ps) → IsAnswer {T = Exponents} (Err fault) (power_exponents p by)
+pub power_fault : ReducedLaw → (p : Exponents) (by : Fraction) (ps : Powers) (fault : ExponentFault) → 0 < by.den → IsListOf p ps
+    → IsListed (Err fault) (scaled by ps) → AreThose (Err fault) (power_exponents p by)
 unfolding power_exponents
 power_fault law p by ps fault some list listed = listed_fault _ _ _ fault (power_ranged law p by ps some list) listed

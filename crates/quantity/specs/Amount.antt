@@ -1,11 +1,11 @@
 -- A quantity: a number, and the exponents of the names that it is measured in.
-use Rattle.std.specs.Prelude.{◌==◌, ◌&&◌, ℕ, List, Bool, refl, nat_eq}
+use Rattle.std.specs.Prelude.{◌≡◌, ◌==◌, ◌&&◌, ◌↔◌, ℕ, List, Bool, IsTrue, refl, nat_eq}
 use Rattle.std.specs.Cmp.Lexicographic.{pointwise}
 use Rattle.std.specs.Coded.{Coded, code_by, coded×, coded_list, coded_ℕ, coded_ℤ}
 use Rattle.std.specs.FinMap as map_of
 use Rattle.std.specs.Ordering.{int_eq}
 use Rattle.frac128.specs.Fraction.{Fraction, negated}
-use Rattle.quantity.specs.Exponents.{Exponents}
+use Rattle.quantity.specs.Exponents.{AreKept, Exponents, exponent_of}
 
 -- a number with exponents
 pub record Amount : Type 0 where
@@ -43,3 +43,12 @@ conform p o = matches (λ e. e) (map_of.entries p) (map_of.entries o)
 -- each exponent of one map is the negative of the other's
 abbrev pub are_reciprocal : Exponents → Exponents → Bool
 are_reciprocal p o = matches negated (map_of.entries p) (map_of.entries o)
+
+-- law: two maps of the program conform exactly where each name has the same exponent in both, and
+-- are reciprocal exactly where each name has in one the exponent of the other with the other sign
+pub record AreCompared (p o : Exponents) : Type 0 where
+  pub conforming : IsTrue (conform p o) ↔ ((name : List ℕ) → exponent_of p name ≡ exponent_of o name)
+  pub reciprocal : IsTrue (are_reciprocal p o) ↔ ((name : List ℕ) → exponent_of p name ≡ negated (exponent_of o name))
+
+abbrev pub ConformLaw : Type 0
+ConformLaw = (p o : Exponents) → AreKept p → AreKept o → AreCompared p o

@@ -1,28 +1,41 @@
 -- What the steps answer.
-use Rattle.std.specs.Prelude.{◌≡◌, ℕ, List, Result, Ok, Err, ⊤, if◌then◌else◌}
+use Rattle.std.specs.Prelude.{◌≡◌, ℕ, List, Option, Some, None, Result, Ok, Err, ⊤, if◌then◌else◌}
 use Rattle.std.specs.List.{list_all}
+use Rattle.units_io.specs.Outcomes.{Gives}
 use Rattle.frac128.specs.Fraction.{Fraction}
 use Rattle.frac128.specs.declared.fault.FracFault.{FracFault}
 use Rattle.quantity.specs.Amount.{Amount}
 use Rattle.quantity.specs.Exponents.{Exponents, exponents_by, is_exponent}
+use Rattle.quantity.specs.declared.fault.ExponentFault.{ExponentFault}
+use Rattle.quantity.specs.declared.fault.ExponentFault.TheVariants as exponent
 use Rattle.quantity.specs.declared.fault.QuantityFault.{QuantityFault}
 use Rattle.quantity.specs.declared.fault.QuantityFault.TheVariants.{Number, ExponentRange, OutOfMemory}
 
 -- the answer is the expected one, or want of memory
-abbrev pub IsAnswer : {T : Type 0} → Result T QuantityFault → Result T QuantityFault → Type 0
-IsAnswer (Err OutOfMemory) expected = ⊤
-IsAnswer (Err fault) expected = Err fault ≡ expected
-IsAnswer (Ok answer) expected = Ok answer ≡ expected
+abbrev pub IsAnswer : Result Amount QuantityFault → Result Amount QuantityFault → Type 0
+IsAnswer answer expected = Gives OutOfMemory (λ x. x) answer expected
 
--- the exponents that f gives these names, or the fault that one of them is out of range
-unfoldable pub ranged : (List ℕ → Fraction) → List (List ℕ) → Result Exponents QuantityFault
+-- the exponents are the expected ones, or out of range where none are expected, or there is want of
+-- memory
+abbrev pub AreThose : Result Exponents ExponentFault → Option Exponents → Type 0
+AreThose (Ok exponents) expected = Some exponents ≡ expected
+AreThose (Err exponent.Range) expected = None ≡ expected
+AreThose (Err exponent.OutOfMemory) expected = ⊤
+
+-- the fault of a step on exponents as one of a step on quantities
+abbrev pub fault_of : ExponentFault → QuantityFault
+fault_of exponent.Range = ExponentRange
+fault_of exponent.OutOfMemory = OutOfMemory
+
+-- the exponents that f gives these names, or none where one of them is out of range
+unfoldable pub ranged : (List ℕ → Fraction) → List (List ℕ) → Option Exponents
 ranged f names =
     if list_all (λ name. is_exponent (f name)) names
-    then Ok (exponents_by f names)
-    else Err ExponentRange
+    then Some (exponents_by f names)
+    else None
 
--- a number and exponents together: the number's fault comes first
-abbrev pub joined : Result Fraction FracFault → Result Exponents QuantityFault → Result Amount QuantityFault
+-- a number and exponents together: the number's fault comes before exponents out of range
+abbrev pub joined : Result Fraction FracFault → Option Exponents → Result Amount QuantityFault
 joined (Err fault) exponents = Err (Number fault)
-joined (Ok value) (Err fault) = Err fault
-joined (Ok value) (Ok exponents) = Ok (record { value = value; exponents = exponents })
+joined (Ok value) None = Err ExponentRange
+joined (Ok value) (Some exponents) = Ok (record { value = value; exponents = exponents })

@@ -1,10 +1,12 @@
 -- Exponents of names: a finite map from the bytes of a name to a reduced fraction other than 0.
-use Rattle.std.specs.Prelude.{◌≡◌, ◌≤◌, ◌==◌, ◌&&◌, ◌++◌, ◌+ℤ◌, ◌*ℤ◌, ◌*◌, ℕ, List, Bool, IsFalse, All, map, not, pos, unsigned_abs, nat_le, unwrap_or}
+use Rattle.std.specs.Prelude.{◌≡◌, ◌≤◌, ◌&&◌, ◌++◌, ℕ, List, Bool, IsFalse, All, map, not, pos, unsigned_abs, nat_le, unwrap_or}
 use Rattle.std.specs.Cmp.Lexicographic.{slice_cmp}
 use Rattle.std.specs.FinMap as map_of
 use Rattle.std.specs.List.{filter}
 use Rattle.std.specs.Ordering.{nat_cmp}
+use Rattle.frac128.specs.Exact.{product, sum}
 use Rattle.frac128.specs.Fraction.{Fraction, IsReduced, negated, whole}
+use Rattle.frac128.specs.Sign.{is_zero}
 use Rattle.frac128.specs.Steps.{reduced}
 
 -- a reduced fraction, its numerator in -32,767..32,767 and its denominator at most 60
@@ -16,10 +18,6 @@ pub record IsExponent (e : Fraction) : Type 0 where
 -- a reduced fraction is an exponent
 abbrev pub is_exponent : Fraction → Bool
 is_exponent e = nat_le (unsigned_abs e.num) 32767 && nat_le e.den 60
-
--- a fraction is 0
-abbrev pub is_zero : Fraction → Bool
-is_zero e = unsigned_abs e.num == 0
 
 -- the exponents of names, in the byte order of the names
 abbrev pub Exponents : Type 0
@@ -46,9 +44,13 @@ names_of p o = map_of.keys p ++ map_of.keys o
 unfoldable pub exponents_by : (List ℕ → Fraction) → List (List ℕ) → Exponents
 exponents_by f names = map_of.from_entries (filter (λ power. not (is_zero power.1)) (map (λ name. (name, f name)) names))
 
+-- a fraction in lowest terms
+abbrev pub lowest : Fraction → Fraction
+lowest x = reduced x.num x.den
+
 -- the sum of two exponents in lowest terms
 abbrev pub exponent_sum : Fraction → Fraction → Fraction
-exponent_sum a b = reduced ((a.num *ℤ pos b.den) +ℤ (b.num *ℤ pos a.den)) (a.den * b.den)
+exponent_sum a b = lowest (sum a b)
 
 -- the difference of two exponents in lowest terms
 abbrev pub exponent_difference : Fraction → Fraction → Fraction
@@ -56,7 +58,7 @@ exponent_difference a b = exponent_sum a (negated b)
 
 -- an exponent times a fraction, in lowest terms
 abbrev pub exponent_product : Fraction → Fraction → Fraction
-exponent_product e by = reduced (e.num *ℤ by.num) (e.den * by.den)
+exponent_product e by = lowest (product e by)
 
 -- law: maps of the program that give each name one exponent are equal
 abbrev pub SameExponentsLaw : Type 0

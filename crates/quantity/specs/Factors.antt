@@ -1,11 +1,10 @@
 -- How the second of two factors is taken.
-use Rattle.std.specs.Prelude.{Result}
+use Rattle.std.specs.Prelude.{Option}
 use Rattle.frac128.specs.Fraction.{Fraction, negated}
 use Rattle.quantity.specs.Exponents.{Exponents}
 use Rattle.quantity.specs.Products.{product_exponents, quotient_exponents}
 use Rattle.quantity.specs.declared.factor.Factor.{Factor}
 use Rattle.quantity.specs.declared.factor.Factor.TheVariants.{Plain, Inverse}
-use Rattle.quantity.specs.declared.fault.QuantityFault.{QuantityFault}
 
 -- an exponent of the factor, or of its inverse
 abbrev pub exponent_in : Factor → Fraction → Fraction
@@ -13,6 +12,6 @@ exponent_in Plain e = e
 exponent_in Inverse e = negated e
 
 -- the exponents of the product with the factor, or with its inverse
-abbrev pub exponents_with : Factor → Exponents → Exponents → Result Exponents QuantityFault
+abbrev pub exponents_with : Factor → Exponents → Exponents → Option Exponents
 exponents_with Plain p o = product_exponents p o
 exponents_with Inverse p o = quotient_exponents p o

@@ -8,3 +8,4 @@ pub mod Powers
 pub mod Products
 pub mod Sums
 pub mod Text
+pub mod Told

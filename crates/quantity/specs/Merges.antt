@@ -6,9 +6,10 @@ use Rattle.std.specs.List.{list_all}
 use Rattle.std.specs.Ordering.{match_ordering, nat_cmp}
 use Rattle.smallvec.specs.SmallVec.{SmallVec}
 use Rattle.frac128.specs.Fraction.{Fraction}
-use Rattle.quantity.specs.Exponents.{Exponents, IsPower, exponent_product, exponent_sum, is_exponent, is_zero}
-use Rattle.quantity.specs.declared.fault.QuantityFault.{QuantityFault}
-use Rattle.quantity.specs.declared.fault.QuantityFault.TheVariants.{ExponentRange, OutOfMemory}
+use Rattle.frac128.specs.Sign.{is_zero}
+use Rattle.quantity.specs.Exponents.{Exponents, IsPower, exponent_product, exponent_sum, is_exponent}
+use Rattle.quantity.specs.declared.fault.ExponentFault.{ExponentFault}
+use Rattle.quantity.specs.declared.fault.ExponentFault.TheVariants.{Range, OutOfMemory}
 use Rattle.quantity.specs.declared.merging.First.{First}
 use Rattle.quantity.specs.declared.merging.First.TheVariants.{Neither, Left, Right, Both}
 
@@ -68,15 +69,13 @@ abbrev pub are_exponents : Powers → Bool
 are_exponents = list_all (λ power. is_exponent power.1)
 
 -- the list, or the fault that one of its powers has no exponent, or want of memory
-abbrev pub IsListed : Result (SmallVec (List ℕ × Fraction)) QuantityFault → Powers → Type 0
+abbrev pub IsListed : Result (SmallVec (List ℕ × Fraction)) ExponentFault → Powers → Type 0
 IsListed (Ok powers) expected = (powers.items ≡ expected) × IsTrue (are_exponents expected)
 IsListed (Err OutOfMemory) expected = ⊤
-IsListed (Err ExponentRange) expected = IsFalse (are_exponents expected)
-IsListed (Err _) expected = ⊥
+IsListed (Err Range) expected = IsFalse (are_exponents expected)
 
 -- the power at the end where it is not 0, or the fault that it has no exponent, or want of memory
-abbrev pub IsPut : Result (Unit {0}) QuantityFault → Powers → Powers → List ℕ × Fraction → Type 0
+abbrev pub IsPut : Result (Unit {0}) ExponentFault → Powers → Powers → List ℕ × Fraction → Type 0
 IsPut (Ok _) old new power = (new ≡ old ++ put_some power []) × IsTrue (is_exponent power.1)
 IsPut (Err OutOfMemory) old new power = ⊤
-IsPut (Err ExponentRange) old new power = IsFalse (is_exponent power.1)
-IsPut (Err _) old new power = ⊥
+IsPut (Err Range) old new power = IsFalse (is_exponent power.1)

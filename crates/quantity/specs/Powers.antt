@@ -1,5 +1,5 @@
 -- Powers of quantities.
-use Rattle.std.specs.Prelude.{ℤ, not, Result, Ok, Err, if◌then◌else◌}
+use Rattle.std.specs.Prelude.{ℤ, not, Option, Result, Ok, Err, if◌then◌else◌}
 use Rattle.std.specs.FinMap as map_of
 use Rattle.frac128.specs.Fraction.{Fraction}
 use Rattle.frac128.specs.Powers.{power}
@@ -22,7 +22,7 @@ abbrev pub powered : Fraction → Fraction → Result Fraction FracFault
 powered x by = power_of_root (root_of x by.den) by.num
 
 -- the product of each exponent and a fraction
-unfoldable pub power_exponents : Exponents → Fraction → Result Exponents QuantityFault
+unfoldable pub power_exponents : Exponents → Fraction → Option Exponents
 power_exponents p by = ranged (λ name. exponent_product (exponent_of p name) by) (map_of.keys p)
 
 abbrev pub power_of : Amount → Amount → Result Amount QuantityFault

@@ -1,5 +1,5 @@
 -- Products and quotients of quantities.
-use Rattle.std.specs.Prelude.{◌≡◌, ℕ, List, Result, Ok}
+use Rattle.std.specs.Prelude.{◌≡◌, ℕ, List, Option, Some, Result}
 use Rattle.frac128.specs.Steps.{over, times}
 use Rattle.quantity.specs.Amount.{Amount}
 use Rattle.quantity.specs.Answers.{joined, ranged}
@@ -7,11 +7,11 @@ use Rattle.quantity.specs.Exponents.{AreKept, Exponents, exponent_difference, ex
 use Rattle.quantity.specs.declared.fault.QuantityFault.{QuantityFault}
 
 -- the sum of the two exponents of each name
-unfoldable pub product_exponents : Exponents → Exponents → Result Exponents QuantityFault
+unfoldable pub product_exponents : Exponents → Exponents → Option Exponents
 product_exponents p o = ranged (λ name. exponent_sum (exponent_of p name) (exponent_of o name)) (names_of p o)
 
 -- the difference of the two exponents of each name
-unfoldable pub quotient_exponents : Exponents → Exponents → Result Exponents QuantityFault
+unfoldable pub quotient_exponents : Exponents → Exponents → Option Exponents
 quotient_exponents p o = ranged (λ name. exponent_difference (exponent_of p name) (exponent_of o name)) (names_of p o)
 
 abbrev pub product_of : Amount → Amount → Result Amount QuantityFault
@@ -24,5 +24,5 @@ quotient_of x y = joined (over x.value y.value) (quotient_exponents x.exponents 
 -- where it is 0
 abbrev pub ProductLaw : Type 0
 ProductLaw = (p o r : Exponents) → AreKept p → AreKept o
-    → (product_exponents p o ≡ Ok r → (name : List ℕ) → exponent_of r name ≡ exponent_sum (exponent_of p name) (exponent_of o name))
-    × (quotient_exponents p o ≡ Ok r → (name : List ℕ) → exponent_of r name ≡ exponent_difference (exponent_of p name) (exponent_of o name))
+    → (product_exponents p o ≡ Some r → (name : List ℕ) → exponent_of r name ≡ exponent_sum (exponent_of p name) (exponent_of o name))
+    × (quotient_exponents p o ≡ Some r → (name : List ℕ) → exponent_of r name ≡ exponent_difference (exponent_of p name) (exponent_of o name))

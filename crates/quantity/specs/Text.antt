@@ -1,9 +1,10 @@
 -- The reduced text of a quantity.
-use Rattle.std.specs.Prelude.{◌==◌, ◌++◌, ◌≤◌, ℕ, List, [], ◌∷◌, Bool, ⊤, pos, unsigned_abs, int_lt, if◌then◌else◌, codes}
+use Rattle.std.specs.Prelude.{◌==◌, ◌++◌, ◌≤◌, ℕ, List, [], ◌∷◌, Bool, ⊤, unsigned_abs, if◌then◌else◌, codes}
 use Rattle.std.specs.FinMap as map_of
 use Rattle.std.specs.Fmt.{decimal}
 use Rattle.std.specs.List.{filter, flat_map}
 use Rattle.frac128.specs.Fraction.{Fraction}
+use Rattle.frac128.specs.Sign as sign
 use Rattle.digits_print.specs.Digits.{digits_text}
 use Rattle.digits_print.specs.Exact.{exact_text}
 use Rattle.quantity.specs.Amount.{Amount}
@@ -34,11 +35,13 @@ exponent_text n d =
 abbrev pub power_text : List ℕ × Fraction → List ℕ
 power_text e = codes " " ++ e.0 ++ exponent_text (unsigned_abs e.1.num) e.1.den
 
+-- the power stands above the slash
 abbrev pub is_positive : List ℕ × Fraction → Bool
-is_positive e = int_lt (pos 0) e.1.num
+is_positive e = sign.is_positive e.1
 
+-- the power stands below it
 abbrev pub is_negative : List ℕ × Fraction → Bool
-is_negative e = int_lt e.1.num (pos 0)
+is_negative e = sign.is_negative e.1
 
 -- the powers on one side of the slash
 abbrev pub sided : Side → List ℕ × Fraction → Bool

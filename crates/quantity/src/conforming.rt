@@ -8,10 +8,12 @@ ghost use Rattle.quantity.specs.Exponents.{exponent_of};
 use crate::quantity::Quantity;
 
 impl Quantity {
-    /// Whether the exponents are equal.
+    /// Whether the exponents are equal: each name has the same exponent in both.
     pub fn conforms(&self, other: &Quantity) -> bool
         ensures value { result ≡ conform self.now.exponents other.now.exponents }
         ensures equal { IsTrue result ↔ (self.now.exponents ≡ other.now.exponents) }
+        ensures same { IsTrue result ↔ ((name : List ℕ)
+            → exponent_of self.now.exponents name ≡ exponent_of other.now.exponents name) }
     {
         self.powers.conform(&other.powers)
     }

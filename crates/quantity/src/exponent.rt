@@ -3,7 +3,8 @@
 ghost use Rattle.std.specs.Prelude.{◌≡◌, ◌<◌, ◌≤◌, ◌*◌, ◌*ℤ◌, pos, unsigned_abs};
 ghost use Rattle.frac128.specs.Fraction.{negated, whole as whole_of};
 ghost use Rattle.frac128.specs.Steps.{reduced};
-ghost use Rattle.quantity.specs.Exponents.{IsExponent, exponent_product, exponent_sum, is_zero as is_zero_of};
+ghost use Rattle.frac128.specs.Sign.{is_zero as is_zero_of};
+ghost use Rattle.quantity.specs.Exponents.{IsExponent, exponent_product, exponent_sum};
 ghost use Rattle.quantity.specs.Merges.{as_exponent};
 
 use crate::degree::Degree;

@@ -30,6 +30,20 @@ impl From<FracFault> for QuantityFault {
     }
 }
 
+impl From<ExponentFault> for QuantityFault {
+    ghost use Rattle.std.specs.Prelude.{◌≡◌};
+    ghost use Rattle.quantity.specs.Answers.{fault_of};
+
+    ghost from_gives = { λ exponent fault. fault ≡ fault_of exponent };
+
+    fn from(fault: ExponentFault) -> QuantityFault {
+        match fault {
+            ExponentFault::Range => QuantityFault::ExponentRange,
+            ExponentFault::OutOfMemory => QuantityFault::OutOfMemory,
+        }
+    }
+}
+
 impl From<AllocError> for QuantityFault {
     ghost use Rattle.std.specs.Prelude.{◌≡◌};
     ghost use Rattle.quantity.specs.declared.fault.QuantityFault.TheVariants.{OutOfMemory};
@@ -41,13 +55,31 @@ impl From<AllocError> for QuantityFault {
     }
 }
 
-impl<T: Drop> From<AllocFailed<T>> for QuantityFault {
+/// Why a step on exponents has no answer. It is small, where the public fault has two quantities.
+#[derive(Clone, Copy)]
+pub(crate) enum ExponentFault {
+    Range,
+    OutOfMemory,
+}
+
+impl From<AllocError> for ExponentFault {
     ghost use Rattle.std.specs.Prelude.{◌≡◌};
-    ghost use Rattle.quantity.specs.declared.fault.QuantityFault.TheVariants.{OutOfMemory};
+    ghost use Rattle.quantity.specs.declared.fault.ExponentFault.TheVariants.{OutOfMemory};
 
     ghost from_gives = { λ _ fault. fault ≡ OutOfMemory };
 
-    fn from(_failed: AllocFailed<T>) -> QuantityFault {
-        QuantityFault::OutOfMemory
+    fn from(_error: AllocError) -> ExponentFault {
+        ExponentFault::OutOfMemory
+    }
+}
+
+impl<T: Drop> From<AllocFailed<T>> for ExponentFault {
+    ghost use Rattle.std.specs.Prelude.{◌≡◌};
+    ghost use Rattle.quantity.specs.declared.fault.ExponentFault.TheVariants.{OutOfMemory};
+
+    ghost from_gives = { λ _ fault. fault ≡ OutOfMemory };
+
+    fn from(_failed: AllocFailed<T>) -> ExponentFault {
+        ExponentFault::OutOfMemory
     }
 }

@@ -17,12 +17,10 @@ mod raising;
 mod scaling;
 mod show;
 mod sum;
-#[cfg(test)]
-mod tests;
 mod text;
 
 pub use exponent::Exponent;
 pub use fault::QuantityFault;
-pub use laws::{product_law, same_exponents_law};
+pub use laws::{conform_law, product_law, same_exponents_law, told_law};
 pub use quantity::Quantity;
 pub use show::Style;

@@ -7,10 +7,10 @@ ghost use Rattle.quantity.specs.Exponents.{IsPower, exponent_sum};
 
 use crate::exponent::Exponent;
 use crate::factor::Factor;
-use crate::fault::QuantityFault;
+use crate::fault::ExponentFault;
 use crate::power::Power;
 use frac128::reduced_law;
-use smallvec::SmallVec;
+use smallvec::{IntoIter, SmallVec};
 use std::alloc::Global;
 use std::cmp::Ordering;
 
@@ -24,42 +24,45 @@ enum First {
 }
 
 // The powers of two lists in order as one list in order, where the exponents of a name that both
-// have are added, and those that cancel are left out.
+// have are added, and those that cancel are left out. The powers of the first list are moved.
 pub(crate) fn merge(
     alloc: Global,
-    left: &[Power],
+    left: SmallVec<Power, 2>,
     right: &[Power],
     factor: Factor,
-) -> Result<SmallVec<Power, 4>, QuantityFault>
-    requires left { All IsPower left.now }
+) -> Result<SmallVec<Power, 2>, ExponentFault>
+    requires left { All IsPower left.items }
     requires right { All IsPower right.now }
-    ensures { IsListed result (merged (exponent_in factor) left.now right.now) }
+    ensures { IsListed result (merged (exponent_in factor) left.items right.now) }
 {
     reduced_law();
     let mut powers = SmallVec::new(alloc);
-    let (mut left, mut right) = (left, right);
+    let (mut left, mut right) = (left.into_iter(), right);
     loop {
-        match first_of(left, right) {
+        match first_of(left.as_slice(), right) {
             First::Neither => return Ok(powers),
-            First::Left => {
-                let (power, rest) = parted(left);
-                powers.push(power.with(power.exponent())?)?;
-                left = rest;
-            }
+            First::Left => powers.push(next_of(&mut left))?,
             First::Right => {
                 let (power, rest) = parted(right);
-                powers.push(power.with(factor.exponent(power.exponent()))?)?;
+                powers.push(power.with(alloc, factor.exponent(power.exponent()))?)?;
                 right = rest;
             }
             First::Both => {
-                let (power, left_rest) = parted(left);
-                let (other, right_rest) = parted(right);
+                let power = next_of(&mut left);
+                let (other, rest) = parted(right);
                 put_sum(&mut powers, power, factor.exponent(other.exponent()))?;
-                left = left_rest;
-                right = right_rest;
+                right = rest;
             }
         }
     }
+}
+
+// The next of the powers that are left, of which there are some.
+fn next_of(left: &mut IntoIter<Power, 2>) -> Power
+    requires { 0 < length left.old }
+    ensures { left.old ≡ result ∷ left.new }
+{
+    left.next().unwrap()
 }
 
 // The first power of a list, and the others.
@@ -88,18 +91,18 @@ fn first_of(left: &[Power], right: &[Power]) -> First
 
 // Puts a power with a second exponent added at the end, where that is not 0.
 fn put_sum(
-    powers: &mut SmallVec<Power, 4>,
-    power: &Power,
+    powers: &mut SmallVec<Power, 2>,
+    power: Power,
     exponent: Exponent,
-) -> Result<(), QuantityFault>
-    ensures { IsPut result powers.old.items powers.new.items (power.now.0, exponent_sum power.now.1 exponent) }
+) -> Result<(), ExponentFault>
+    ensures { IsPut result powers.old.items powers.new.items (power.0, exponent_sum power.1 exponent) }
 {
     let sum = match power.exponent().add(&exponent) {
         Some(sum) => sum,
-        None => return Err(QuantityFault::ExponentRange),
+        None => return Err(ExponentFault::Range),
     };
     if !sum.is_zero() {
-        powers.push(power.with(sum)?)?;
+        powers.push(power.changed(sum))?;
     }
     Ok(())
 }

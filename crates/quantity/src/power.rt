@@ -10,7 +10,7 @@ use std::marker::Model;
 use units_io::Text;
 
 /// A name with its exponent, which contracts see as a pair.
-#[derive(Clone, Drop)]
+#[derive(Drop)]
 pub(crate) struct Power {
     name: Text,
     exponent: Exponent,
@@ -51,12 +51,22 @@ impl Power {
         self.exponent
     }
 
+    // The name with this exponent.
+    pub(crate) fn changed(self, exponent: Exponent) -> Power
+        ensures { result ≡ (self.0, exponent) }
+    {
+        Power {
+            name: self.name,
+            exponent,
+        }
+    }
+
     // A copy of the name with this exponent.
-    pub(crate) fn with(&self, exponent: Exponent) -> Result<Power, AllocError>
+    pub(crate) fn with(&self, alloc: Global, exponent: Exponent) -> Result<Power, AllocError>
         ensures { IfOk result (λ power. power ≡ (self.now.0, exponent)) }
     {
         Ok(Power {
-            name: self.name.copy()?,
+            name: self.name.copy(alloc)?,
             exponent,
         })
     }

@@ -4,7 +4,7 @@ ghost use Rattle.std.specs.Prelude.{◌≡◌, ◌==◌, ◌++◌, ◌↔◌, �
 ghost use Rattle.std.specs.FinMap as map;
 ghost use Rattle.frac128.specs.Fraction.{negated, whole};
 ghost use Rattle.quantity.specs.Amount.{are_reciprocal, conform};
-ghost use Rattle.quantity.specs.Answers.{IsAnswer};
+ghost use Rattle.quantity.specs.Answers.{AreThose};
 ghost use Rattle.quantity.specs.Exponents.{AreKept, exponent_of};
 ghost use Rattle.quantity.specs.Factors.{exponents_with};
 ghost use Rattle.quantity.specs.Powers.{power_exponents};
@@ -13,7 +13,7 @@ ghost use Rattle.quantity.specs.Text.{powers_text};
 use crate::degree::Degree;
 use crate::exponent::Exponent;
 use crate::factor::Factor;
-use crate::fault::QuantityFault;
+use crate::fault::ExponentFault;
 use crate::matching::{exponent_in, same_powers};
 use crate::merging::merge;
 use crate::power::Power;
@@ -24,10 +24,10 @@ use smallvec::SmallVec;
 use std::alloc::{AllocError, Global};
 use std::marker::Model;
 
-/// Names with exponents other than 0, the first four of them in the value itself.
+/// Names with exponents other than 0, the first two of them in the value itself.
 #[derive(Drop)]
 pub(crate) struct Powers {
-    items: SmallVec<Power, 4>,
+    items: SmallVec<Power, 2>,
 }
 
 impl Model for Powers {
@@ -63,12 +63,14 @@ impl Powers {
     }
 
     // An equal map.
-    pub(crate) fn copy(&self) -> Result<Powers, AllocError>
+    pub(crate) fn copy(&self, alloc: Global) -> Result<Powers, AllocError>
         ensures { IfOk result (λ powers. powers ≡ self.now) }
     {
-        Ok(Powers {
-            items: self.items.clone()?,
-        })
+        let mut items = SmallVec::with_capacity(alloc, self.items.len())?;
+        for power in self.items.as_slice() {
+            items.push(power.with(alloc, power.exponent())?)?;
+        }
+        Ok(Powers { items })
     }
 
     pub(crate) fn is_empty(&self) -> bool
@@ -79,16 +81,24 @@ impl Powers {
 
     // The exponent of a name, 0 where it is absent.
     pub(crate) fn exponent(&self, name: &[u8]) -> Exponent
-        ensures value { result ≡ exponent_of self.now name.now }
-        ensures kept { AreKept self.now }
+        ensures { result ≡ exponent_of self.now name.now }
     {
         exponent_in(self.items.as_slice(), name)
+    }
+
+    // No exponent is 0, and each is in range.
+    pub(crate) fn facts(&self)
+        ensures { AreKept self.now }
+    {
+        self.items.as_slice();
     }
 
     // Whether two maps are equal.
     pub(crate) fn conform(&self, other: &Powers) -> bool
         ensures value { result ≡ conform self.now other.now }
         ensures equal { IsTrue result ↔ (self.now ≡ other.now) }
+        ensures same { IsTrue result ↔ ((name : List ℕ)
+            → exponent_of self.now name ≡ exponent_of other.now name) }
     {
         same_powers(self.items.as_slice(), other.items.as_slice(), Factor::Plain)
     }
@@ -107,27 +117,27 @@ impl Powers {
     }
 
     // The exponents of the product with a factor.
-    pub(crate) fn product(
-        &self,
+    pub(crate) fn times(
+        self,
         alloc: Global,
         other: &Powers,
         factor: Factor,
-    ) -> Result<Powers, QuantityFault>
-        ensures { IsAnswer result (exponents_with factor self.now other.now) }
+    ) -> Result<Powers, ExponentFault>
+        ensures { AreThose result (exponents_with factor self other.now) }
     {
         reduced_law();
-        let items = merge(alloc, self.items.as_slice(), other.items.as_slice(), factor)?;
+        let items = merge(alloc, self.items, other.items.as_slice(), factor)?;
         Ok(Powers { items })
     }
 
     // The exponents of a power.
-    pub(crate) fn raised(&self, alloc: Global, degree: &Degree) -> Result<Powers, QuantityFault>
-        ensures { IsAnswer result (power_exponents self.now degree.now) }
+    pub(crate) fn raised(self, alloc: Global, degree: &Degree) -> Result<Powers, ExponentFault>
+        ensures { AreThose result (power_exponents self degree.now) }
     {
         reduced_law();
         // Its denominator is above 0.
         degree.den();
-        let items = scale(alloc, self.items.as_slice(), degree)?;
+        let items = scale(alloc, self.items, degree)?;
         Ok(Powers { items })
     }
 

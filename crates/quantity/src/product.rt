@@ -14,9 +14,7 @@ impl Quantity {
     pub fn mul(&self, alloc: Global, other: &Quantity) -> Result<Quantity, QuantityFault>
         ensures { IsAnswer result (product_of self.now other.now) }
     {
-        let value = self.value.mul(&other.value)?;
-        let powers = self.powers.product(alloc, &other.powers, Factor::Plain)?;
-        Ok(Quantity { value, powers })
+        self.copy(alloc)?.times(alloc, other)
     }
 
     /// The quotient, whose exponents are the differences. `Number` where the other's number is 0
@@ -25,8 +23,24 @@ impl Quantity {
     pub fn div(&self, alloc: Global, other: &Quantity) -> Result<Quantity, QuantityFault>
         ensures { IsAnswer result (quotient_of self.now other.now) }
     {
+        self.copy(alloc)?.over(alloc, other)
+    }
+
+    /// `mul` that takes the quantity over, of which it copies nothing.
+    pub fn times(self, alloc: Global, other: &Quantity) -> Result<Quantity, QuantityFault>
+        ensures { IsAnswer result (product_of self other.now) }
+    {
+        let value = self.value.mul(&other.value)?;
+        let powers = self.powers.times(alloc, &other.powers, Factor::Plain)?;
+        Ok(Quantity { value, powers })
+    }
+
+    /// `div` that takes the quantity over, of which it copies nothing.
+    pub fn over(self, alloc: Global, other: &Quantity) -> Result<Quantity, QuantityFault>
+        ensures { IsAnswer result (quotient_of self other.now) }
+    {
         let value = self.value.div(&other.value)?;
-        let powers = self.powers.product(alloc, &other.powers, Factor::Inverse)?;
+        let powers = self.powers.times(alloc, &other.powers, Factor::Inverse)?;
         Ok(Quantity { value, powers })
     }
 }

@@ -1,8 +1,8 @@
 //! Numbers with the exponents of names.
 
-ghost use Rattle.std.specs.Prelude.{◌≡◌, ◌∷◌, [], pos, IfOk};
+ghost use Rattle.std.specs.Prelude.{◌≡◌, pos, IfOk};
 ghost use Rattle.std.specs.FinMap as map;
-ghost use Rattle.frac128.specs.Fraction.{negated, whole};
+ghost use Rattle.frac128.specs.Fraction.{IsKept, negated, whole};
 ghost use Rattle.quantity.specs.Amount.{is_number as is_number_of};
 ghost use Rattle.quantity.specs.Exponents.{AreKept, exponent_of};
 
@@ -41,8 +41,15 @@ impl Quantity {
         }
     }
 
+    /// The number 1.
+    pub fn one(alloc: Global) -> Quantity
+        ensures { result ≡ record { value = whole (pos 1); exponents = map.empty } }
+    {
+        Quantity::number(alloc, one())
+    }
+
     /// One of a primitive: 1 with the exponent 1 of its name. The only error is want of memory.
-    pub fn one(alloc: Global, name: &[u8]) -> Result<Quantity, AllocError>
+    pub fn primitive(alloc: Global, name: &[u8]) -> Result<Quantity, AllocError>
         ensures { IfOk result (λ q. q ≡ record {
           value = whole (pos 1);
           exponents = map.insert map.empty name.now (whole (pos 1));
@@ -58,14 +65,27 @@ impl Quantity {
     pub fn copy(&self, alloc: Global) -> Result<Quantity, AllocError>
         ensures { IfOk result (λ q. q ≡ self.now) }
     {
-        self.with_value(alloc, self.value)
+        Ok(Quantity {
+            value: self.value,
+            powers: self.powers.copy(alloc)?,
+        })
     }
 
     /// The quantity whose number has the other sign. The only error is want of memory.
     pub fn negate(&self, alloc: Global) -> Result<Quantity, AllocError>
         ensures { IfOk result (λ q. q ≡ record self.now { value = negated self.now.value }) }
     {
-        self.with_value(alloc, self.value.negate())
+        Ok(self.copy(alloc)?.negated())
+    }
+
+    /// `negate` that takes the quantity over, of which it copies nothing.
+    pub fn negated(self) -> Quantity
+        ensures { result ≡ record self { value = negated self.value } }
+    {
+        Quantity {
+            value: self.value.negate(),
+            powers: self.powers,
+        }
     }
 
     /// The number.
@@ -77,10 +97,20 @@ impl Quantity {
 
     /// The exponent of a name, 0/1 where the name is absent.
     pub fn exponent(&self, name: &[u8]) -> Exponent
-        ensures value { result ≡ exponent_of self.now.exponents name.now }
-        ensures kept { AreKept self.now.exponents }
+        ensures { result ≡ exponent_of self.now.exponents name.now }
     {
         self.powers.exponent(name)
+    }
+
+    /// Tells what is known of each quantity: the number is in lowest terms and fits, and no exponent
+    /// is 0, each in lowest terms, its numerator from -32,767 to 32,767 and its denominator at most
+    /// 60. The call does nothing.
+    pub fn facts(&self)
+        ensures number { IsKept self.now.value }
+        ensures exponents { AreKept self.now.exponents }
+    {
+        self.value.den();
+        self.powers.facts();
     }
 
     /// Whether no name has an exponent.
@@ -88,16 +118,6 @@ impl Quantity {
         ensures { result ≡ is_number_of self.now }
     {
         self.powers.is_empty()
-    }
-
-    // The quantity with another number.
-    pub(crate) fn with_value(&self, alloc: Global, value: Frac) -> Result<Quantity, AllocError>
-        ensures { IfOk result (λ q. q ≡ record self.now { value = value }) }
-    {
-        Ok(Quantity {
-            value,
-            powers: self.powers.copy()?,
-        })
     }
 }
 

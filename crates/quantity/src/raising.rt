@@ -21,19 +21,26 @@ impl Quantity {
     pub fn pow(&self, alloc: Global, by: &Quantity) -> Result<Quantity, QuantityFault>
         ensures { IsAnswer result (power_of self.now by.now) }
     {
+        self.copy(alloc)?.raised(alloc, by)
+    }
+
+    /// `pow` that takes the quantity over, of which it copies nothing.
+    pub fn raised(self, alloc: Global, by: &Quantity) -> Result<Quantity, QuantityFault>
+        ensures { IsAnswer result (power_of self by.now) }
+    {
         if !by.is_number() {
             return Err(QuantityFault::ExponentNotNumber);
         }
         match Degree::of(&by.value) {
-            Some(degree) => self.raised(alloc, &degree),
+            Some(degree) => self.raised_to(alloc, &degree),
             None => Err(QuantityFault::ExponentRange),
         }
     }
 
     // The power with this exponent.
-    fn raised(&self, alloc: Global, degree: &Degree) -> Result<Quantity, QuantityFault>
-        ensures { IsAnswer result (joined (powered_of self.now.value degree.now)
-            (power_exponents self.now.exponents degree.now)) }
+    fn raised_to(self, alloc: Global, degree: &Degree) -> Result<Quantity, QuantityFault>
+        ensures { IsAnswer result (joined (powered_of self.value degree.now)
+            (power_exponents self.exponents degree.now)) }
     {
         let value = powered(&self.value, degree)?;
         let powers = self.powers.raised(alloc, degree)?;

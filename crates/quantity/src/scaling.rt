@@ -5,20 +5,21 @@ ghost use Rattle.quantity.specs.Exponents.{IsPower, exponent_product};
 ghost use Rattle.quantity.specs.Merges.{IsListed, IsPut, scaled};
 
 use crate::degree::Degree;
-use crate::fault::QuantityFault;
+use crate::fault::ExponentFault;
 use crate::power::Power;
 use frac128::reduced_law;
 use smallvec::SmallVec;
 use std::alloc::Global;
 
-// The powers with each exponent multiplied by the exponent of a power, without those that are 0 then.
+// The powers with each exponent multiplied by the exponent of a power, without those that are 0
+// then.
 pub(crate) fn scale(
     alloc: Global,
-    items: &[Power],
+    items: SmallVec<Power, 2>,
     degree: &Degree,
-) -> Result<SmallVec<Power, 4>, QuantityFault>
-    requires { All IsPower items.now }
-    ensures { IsListed result (scaled degree.now items.now) }
+) -> Result<SmallVec<Power, 2>, ExponentFault>
+    requires { All IsPower items.items }
+    ensures { IsListed result (scaled degree.now items.items) }
 {
     reduced_law();
     // Its denominator is above 0.
@@ -32,19 +33,19 @@ pub(crate) fn scale(
 
 // Puts a power with its exponent multiplied at the end, where that is not 0.
 fn put_product(
-    powers: &mut SmallVec<Power, 4>,
-    power: &Power,
+    powers: &mut SmallVec<Power, 2>,
+    power: Power,
     degree: &Degree,
-) -> Result<(), QuantityFault>
+) -> Result<(), ExponentFault>
     ensures { IsPut result powers.old.items powers.new.items
-        (power.now.0, exponent_product power.now.1 degree.now) }
+        (power.0, exponent_product power.1 degree.now) }
 {
     let product = match power.exponent().times(degree) {
         Some(product) => product,
-        None => return Err(QuantityFault::ExponentRange),
+        None => return Err(ExponentFault::Range),
     };
     if !product.is_zero() {
-        powers.push(power.with(product)?)?;
+        powers.push(power.changed(product))?;
     }
     Ok(())
 }

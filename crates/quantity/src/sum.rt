@@ -1,12 +1,11 @@
 //! Sums and differences.
 
-ghost use Rattle.std.specs.Prelude.{◌≡◌, Ok, Err, if◌then◌else◌};
-ghost use Rattle.quantity.specs.Amount.{conform};
 ghost use Rattle.quantity.specs.Answers.{IsAnswer};
-ghost use Rattle.quantity.specs.Sums.{difference_of, sum_of};
+ghost use Rattle.quantity.specs.Sums.{difference_of, of_conforming, sum_of};
 
 use crate::fault::QuantityFault;
 use crate::quantity::Quantity;
+use frac128::{Frac, FracFault};
 use std::alloc::Global;
 
 impl Quantity {
@@ -15,9 +14,7 @@ impl Quantity {
     pub fn add(&self, alloc: Global, other: &Quantity) -> Result<Quantity, QuantityFault>
         ensures { IsAnswer result (sum_of self.now other.now) }
     {
-        self.conforming(alloc, other)?;
-        let value = self.value.add(&other.value)?;
-        Ok(self.with_value(alloc, value)?)
+        self.copy(alloc)?.plus(alloc, other)
     }
 
     /// The difference. `NotConformable` with both quantities where their exponents differ, and
@@ -25,23 +22,42 @@ impl Quantity {
     pub fn sub(&self, alloc: Global, other: &Quantity) -> Result<Quantity, QuantityFault>
         ensures { IsAnswer result (difference_of self.now other.now) }
     {
-        self.conforming(alloc, other)?;
-        let value = self.value.sub(&other.value)?;
-        Ok(self.with_value(alloc, value)?)
+        self.copy(alloc)?.minus(alloc, other)
     }
 
-    // Refuses two quantities that do not conform, with copies of both.
-    fn conforming(&self, alloc: Global, other: &Quantity) -> Result<(), QuantityFault>
-        ensures { IsAnswer result (if conform self.now.exponents other.now.exponents
-            then Ok tt
-            else Err (QuantityFault.NotConformable self.now other.now)) }
+    /// `add` that takes the quantity over, of which it copies nothing.
+    pub fn plus(self, alloc: Global, other: &Quantity) -> Result<Quantity, QuantityFault>
+        ensures { IsAnswer result (sum_of self other.now) }
     {
-        if self.conforms(other) {
-            Ok(())
-        } else {
-            let left = self.copy(alloc)?;
-            let right = other.copy(alloc)?;
-            Err(QuantityFault::NotConformable(left, right))
+        let sum = self.value.add(&other.value);
+        self.with_number(alloc, other, sum)
+    }
+
+    /// `sub` that takes the quantity over, of which it copies nothing.
+    pub fn minus(self, alloc: Global, other: &Quantity) -> Result<Quantity, QuantityFault>
+        ensures { IsAnswer result (difference_of self other.now) }
+    {
+        let difference = self.value.sub(&other.value);
+        self.with_number(alloc, other, difference)
+    }
+
+    // The quantity with the number that a step on both numbers gave, where the two conform.
+    fn with_number(
+        self,
+        alloc: Global,
+        other: &Quantity,
+        number: Result<Frac, FracFault>,
+    ) -> Result<Quantity, QuantityFault>
+        ensures { IsAnswer result (of_conforming number self other.now) }
+    {
+        if !self.conforms(other) {
+            let other = other.copy(alloc)?;
+            return Err(QuantityFault::NotConformable(self, other));
         }
+        let value = number?;
+        Ok(Quantity {
+            value,
+            powers: self.powers,
+        })
     }
 }

@@ -1,6 +1,6 @@
 use Rattle.std.proofs.Common.{◌≡◌, ◌∙◌, ap₂, sym}
 use Rattle.quantity.specs.Amount.{conform, matches}
-use Rattle.quantity.proofs.Matched.{conform_is}
+use Rattle.quantity.proofs.Matched.{conform_is, conform_names}
 use Rattle.quantity.proofs.Single.{list_of}
 use Rattle.quantity.proofs.powers.Powers.conform.Goals as goal
 
@@ -11,4 +11,10 @@ returns c =
     let left = list_of c.self.inside.items.items _ _ c.self.invariant c.self.view_is c.as_slice.ensures in
     let right = list_of c.other.inside.items.items _ _ c.other.invariant c.other.view_is c.as_slice-2.ensures in
     let value : c.same_powers.result ≡ conform p o = c.same_powers.ensures ∙ ap₂ (matches (λ e. e)) left.same right.same in
-    record { value = value; equal = (λ h. (conform_is p o).0 (sym value ∙ h), λ e. value ∙ (conform_is p o).1 e) }
+    let equal = conform_is p o in
+    let names = conform_names p o left.kept right.kept in
+    record {
+      value = value;
+      equal = (λ h. equal.0 (sym value ∙ h), λ e. value ∙ equal.1 e);
+      same = (λ h. names.0 (sym value ∙ h), λ h. value ∙ names.1 h);
+    }

@@ -5,4 +5,4 @@ use Rattle.quantity.proofs.powers.Powers.exponent.Goals as goal
 pub returns : goal.returns
 returns c =
     let list = list_of c.self.inside.items.items _ _ c.self.invariant c.self.view_is c.as_slice.ensures in
-    record { value = c.exponent_in.ensures ∙ exponent_in_list _ _ c.args.name.now list; kept = list.kept }
+    c.exponent_in.ensures ∙ exponent_in_list _ _ c.args.name.now list

@@ -1,0 +1,5 @@
+use Rattle.quantity.proofs.Matched as matched
+use Rattle.quantity.proofs.laws.conform_law.Goals as goal
+
+pub returns : goal.returns
+returns c = matched.conform_law
