@@ -88,10 +88,13 @@ impl Quantity {
         }
     }
 
-    /// The number.
+    /// The number, which is in lowest terms and fits.
     pub fn value(&self) -> Frac
-        ensures { result ≡ self.now.value }
+        ensures value { result ≡ self.now.value }
+        ensures kept { IsKept self.now.value }
     {
+        // It is kept.
+        self.value.den();
         self.value
     }
 
@@ -102,14 +105,11 @@ impl Quantity {
         self.powers.exponent(name)
     }
 
-    /// Tells what is known of each quantity: the number is in lowest terms and fits, and no exponent
-    /// is 0, each in lowest terms, its numerator from -32,767 to 32,767 and its denominator at most
-    /// 60. The call does nothing.
-    pub fn facts(&self)
-        ensures number { IsKept self.now.value }
-        ensures exponents { AreKept self.now.exponents }
+    /// Tells what is known of the exponents: none is 0, and each is in lowest terms, its numerator
+    /// from -32,767 to 32,767 and its denominator at most 60. The call does nothing.
+    pub fn exponent_facts(&self)
+        ensures { AreKept self.now.exponents }
     {
-        self.value.den();
         self.powers.facts();
     }
 

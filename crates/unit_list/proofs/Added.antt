@@ -3,15 +3,17 @@ use Rattle.std.proofs.Common.{◌≡◌, ◌<◌, ◌*◌, ◌*ℤ◌, ◌+ℤ�
 use Rattle.std.specs.Prelude.{Bool, true, false, List, [], ◌∷◌, length, map, All, int_lt}
 use Rattle.std.proofs.lemmas.Int.{ints}
 use Rattle.std.proofs.lemmas.List.{length-map}
-use Rattle.std.proofs.lemmas.List.Elements.{All-head, All-tail}
+use Rattle.std.proofs.lemmas.List.Elements.{All-head, All-map, All-tail, All-weaker}
+use Rattle.std.specs.Int.{IsGcd}
 use Rattle.std.proofs.Math.IntN.{neg_ℤ-+ℤ, neg_ℤ-neg_ℤ}
 use Rattle.std.proofs.Math.Nat.{zero-mul}
 use Rattle.frac128.specs.Divisors.{LcmLaw}
-use Rattle.frac128.specs.Fraction.{Fraction, SameValue, negated, whole}
+use Rattle.frac128.specs.Fraction.{Fraction, IsReduced, SameValue, negated, whole}
 use Rattle.frac128.specs.Steps.{ReducedLaw, over, reduced}
-use Rattle.unit_list.specs.Exact.{product, sum, total}
-use Rattle.unit_list.specs.Laws.{AreGreatest, IsSplitOf, IsUnit, SplitLaw, quotient_of, split_number}
-use Rattle.unit_list.specs.Splits.{counts_of, is_below_zero, last_of, magnitude, nearest_to, rounded_if, signed}
+use Rattle.frac128.specs.Exact.{product, sum}
+use Rattle.unit_list.specs.Counts.{AreGreatest, IsSplitOf, IsUnit, SplitLaw, quotient_of, split_number, total}
+use Rattle.frac128.specs.Sign.{is_negative, magnitude, negated_if}
+use Rattle.unit_list.specs.Splits.{counts_of, last_of, nearest_to, rounded_if}
 use Rattle.unit_list.proofs.Counted.{AreCounts, counts_are, goes, ok_same, unit_natural}
 use Rattle.unit_list.proofs.Values.{over_reduced, own_value, times_value}
 
@@ -22,13 +24,13 @@ neg-times (pos (suc n)) k = refl
 neg-times (negsuc n) k = neg_ℤ-neg_ℤ (pos (suc n * k))
 
 -- the magnitude of a number with the other sign
-abs-neg : (z : ℤ) → unsigned_abs (neg_ℤ z) ≡ unsigned_abs z
+pub abs-neg : (z : ℤ) → unsigned_abs (neg_ℤ z) ≡ unsigned_abs z
 abs-neg (pos zero) = refl
 abs-neg (pos (suc n)) = refl
 abs-neg (negsuc n) = refl
 
 -- the sum of negated counts
-total-negated : (counts units : List Fraction) → All IsUnit units → total (map negated counts) units ≡ negated (total counts units)
+pub total-negated : (counts units : List Fraction) → All IsUnit units → total (map negated counts) units ≡ negated (total counts units)
 total-negated [] units are = refl
 total-negated (count ∷ counts) [] are = refl
 total-negated (count ∷ counts) (unit ∷ units) are =
@@ -47,46 +49,73 @@ total-negated (count ∷ counts) (unit ∷ units) are =
         ∙ sym (neg_ℤ-+ℤ (z *ℤ pos n *ℤ pos d) (t *ℤ pos k))
 
 -- counts that keep their sign
-map-plain : (counts : List Fraction) → map (signed false) counts ≡ counts
+pub map-plain : (counts : List Fraction) → map (negated_if false) counts ≡ counts
 map-plain [] = refl
 map-plain (count ∷ counts) = ap (λ xs. count ∷ xs) (map-plain counts)
 
 -- the magnitudes of negated counts
-magnitudes-negated : (counts : List Fraction) → map magnitude (map (signed true) counts) ≡ map magnitude counts
+magnitudes-negated : (counts : List Fraction) → map magnitude (map (negated_if true) counts) ≡ map magnitude counts
 magnitudes-negated [] = refl
 magnitudes-negated (count ∷ counts) =
-    ap (λ n. record { num = pos n; den = count.den } ∷ map magnitude (map (signed true) counts)) (abs-neg count.num) ∙ ap (λ xs. magnitude count ∷ xs) (magnitudes-negated counts)
+    ap (λ n. record { num = pos n; den = count.den } ∷ map magnitude (map (negated_if true) counts)) (abs-neg count.num) ∙ ap (λ xs. magnitude count ∷ xs) (magnitudes-negated counts)
 
 -- a number is its magnitude with its sign
-sign_back : (x : Fraction) → signed (is_below_zero x) (magnitude x) ≡ x
+sign_back : (x : Fraction) → negated_if (is_negative x) (magnitude x) ≡ x
 sign_back x = by_num x.num x.den
   where
     plus : (n : ℕ) → int_lt (pos n) (pos 0) ≡ false
     plus n = grind (arith, ints)
 
-    by_num : (z : ℤ) (d : ℕ) → signed (int_lt z (pos 0)) (record { num = pos (unsigned_abs z); den = d }) ≡ record { num = z; den = d }
-    by_num (pos n) d = ap (λ s. signed s (record { num = pos n; den = d })) (plus n)
+    by_num : (z : ℤ) (d : ℕ) → negated_if (int_lt z (pos 0)) (record { num = pos (unsigned_abs z); den = d }) ≡ record { num = z; den = d }
+    by_num (pos n) d = ap (λ s. negated_if s (record { num = pos n; den = d })) (plus n)
     by_num (negsuc n) d = refl
+
+-- a fraction in lowest terms with the other sign
+negated_lowest : (x : Fraction) → IsReduced x → IsReduced (negated x)
+negated_lowest x is = record { positive = is.positive; lowest = subst (λ n. IsGcd n x.den 1) (sym (abs-neg x.num)) is.lowest }
+
+-- counts with a sign are those of a split of y
+record AreSigned (negative : Bool) (y : Fraction) (units counts : List Fraction) : Type 0 where
+  one_each : length counts ≡ length units
+  sum : SameValue (total counts units) y
+  greatest : AreGreatest (magnitude y) units (map magnitude counts)
+  signs : counts ≡ map (negated_if negative) (map magnitude counts)
+  lowest : All IsReduced counts
 
 -- the counts of a / b, with a sign, are those of a / b with the sign
 signed_split : (negative : Bool) (a b : ℕ) (units counts : List Fraction) → 0 < b → All IsUnit units → AreCounts a b units counts
-    → IsSplitOf (signed negative (record { num = pos a; den = b })) units (map (signed negative) counts)
+    → AreSigned negative (negated_if negative (record { num = pos a; den = b })) units (map (negated_if negative) counts)
 signed_split false a b units counts some units_are are =
-    subst (IsSplitOf (record { num = pos a; den = b }) units) (sym (map-plain counts)) (record {
+    subst (AreSigned false (record { num = pos a; den = b }) units) (sym (map-plain counts)) (record {
       one_each = are.one_each;
       sum = ap (λ z. z *ℤ pos b) are.sum.num_is ∙ ap pos are.sum.same;
       greatest = subst (AreGreatest (record { num = pos a; den = b }) units) (sym are.plain) (are.greatest (record { num = pos a; den = b }) (own_value (record { num = pos a; den = b }) a refl some));
+      signs = sym (map-plain (map magnitude counts) ∙ are.plain);
+      lowest = are.lowest;
     })
 signed_split true a b units counts some units_are are = record {
-  one_each = length-map counts (signed true) ∙ are.one_each;
+  one_each = length-map counts (negated_if true) ∙ are.one_each;
   sum = subst (λ t. SameValue t (negated (record { num = pos a; den = b }))) (sym (total-negated counts units units_are))
       (sym (neg-times (total counts units).num b) ∙ ap (λ z. neg_ℤ (z *ℤ pos b)) are.sum.num_is ∙ ap (λ n. neg_ℤ (pos n)) are.sum.same ∙ neg-times (pos a) (total counts units).den);
-  greatest = subst (λ n. AreGreatest (record { num = pos n; den = b }) units (map magnitude (map (signed true) counts))) (sym (abs-neg (pos a)))
+  greatest = subst (λ n. AreGreatest (record { num = pos n; den = b }) units (map magnitude (map (negated_if true) counts))) (sym (abs-neg (pos a)))
       (subst (AreGreatest (record { num = pos a; den = b }) units) (sym (magnitudes-negated counts ∙ are.plain)) (are.greatest (record { num = pos a; den = b }) (own_value (record { num = pos a; den = b }) a refl some)));
+  signs = ap (map (negated_if true)) (sym (magnitudes-negated counts ∙ are.plain));
+  lowest = All-map IsReduced (negated_if true) counts (All-weaker IsReduced (λ x. IsReduced (negated x)) negated_lowest counts are.lowest);
+}
+
+-- they are those of a split of x, where y is the number that is split
+split_of : (round : Bool) (x y : Fraction) (units counts : List Fraction) → y ≡ split_number round (last_of units) x → AreSigned (is_negative x) y units counts
+    → IsSplitOf round x units counts
+split_of round x y units counts same are = record {
+  one_each = are.one_each;
+  sum = subst (SameValue (total counts units)) same are.sum;
+  greatest = subst (λ y. AreGreatest (magnitude y) units (map magnitude counts)) same are.greatest;
+  signs = are.signs;
+  lowest = are.lowest;
 }
 
 -- the last unit is one
-last_unit : (units : List Fraction) → 0 < length units → All IsUnit units → IsUnit (last_of units)
+pub last_unit : (units : List Fraction) → 0 < length units → All IsUnit units → IsUnit (last_of units)
 unfolding last_of
 last_unit [] some are = absurd (omega arith)
 last_unit (unit ∷ []) some are = All-head IsUnit unit [] are
@@ -97,9 +126,8 @@ pub split_law : ReducedLaw → LcmLaw → SplitLaw
 split_law law multiples false x units counts some many units_are h =
     let inner = goes (counts_of (magnitude x) units) _ counts h in
     let are = counts_are law multiples units inner.value (magnitude x) (unsigned_abs x.num) x.den (own_value (magnitude x) (unsigned_abs x.num) refl some) some units_are many inner.first_is in
-    subst (IsSplitOf x units) (ok_same _ _ _ refl inner.step_is)
-    (subst (λ y. IsSplitOf y units (map (signed (is_below_zero x)) inner.value)) (sign_back x)
-    (signed_split (is_below_zero x) (unsigned_abs x.num) x.den units inner.value some units_are are))
+    subst (IsSplitOf false x units) (ok_same _ _ _ refl inner.step_is)
+    (split_of false x _ units _ (sign_back x) (signed_split (is_negative x) (unsigned_abs x.num) x.den units inner.value some units_are are))
 split_law law multiples true x units counts some many units_are h =
     let unit = last_of units in
     let unit_is = last_unit units many units_are in
@@ -117,9 +145,9 @@ split_law law multiples true x units counts some many units_are h =
     ap (λ z. record { num = pos n *ℤ z; den = unit.den }) (sym natural.num_is)
     ∙ ap (λ d. record { num = pos n *ℤ unit.num; den = d }) (once unit.den)
     ∙ ap (λ q. product (whole (pos (nearest_to q))) unit) quotient_is in
-    subst (IsSplitOf (split_number true unit x) units) (ok_same _ _ _ refl inner.step_is)
-    (subst (λ y. IsSplitOf (signed (is_below_zero x) y) units (map (signed (is_below_zero x)) inner.value)) number_is
-    (signed_split (is_below_zero x) (n * natural.num) unit.den units inner.value unit_is.denominator units_are are))
+    subst (IsSplitOf true x units) (ok_same _ _ _ refl inner.step_is)
+    (split_of true x _ units _ (ap (negated_if (is_negative x)) number_is)
+    (signed_split (is_negative x) (n * natural.num) unit.den units inner.value unit_is.denominator units_are are))
   where
     once : (d : ℕ) → d ≡ 1 * d
     once d = omega arith

@@ -2,19 +2,20 @@
 use Rattle.std.proofs.Common.{◌≡◌, ◌<◌, ◌≤◌, ◌+◌, ◌-◌, ◌*◌, ◌/◌, ◌%◌, ◌*ℤ◌, ◌+ℤ◌, ◌-ℤ◌, ◌<ℤ◌, ◌≤ℤ◌, ℕ, ℤ, pos, negsuc, suc, unsigned_abs, arith, refl, sym, ap, subst, ◌∙◌}
 use Rattle.std.specs.Prelude.{List, [], ◌∷◌, length, map, All, Result, Ok, Err}
 use Rattle.std.proofs.lemmas.Int.{ints}
-use Rattle.std.proofs.lemmas.List.Elements.{All-head, All-tail}
+use Rattle.std.proofs.lemmas.List.Elements.{All-cons, All-head, All-nil, All-tail}
 use Rattle.std.proofs.Math.Nat.{div-add-mod, le_of_mul-le-mul_right, lt_of_mul-lt-mul_right, mod-lt, mul-le-mul_right, mul-lt-mul_of_pos_right, mul-pos}
 use Rattle.frac128.specs.declared.fault.FracFault.{FracFault}
 use Rattle.frac128.specs.Divisors.{LcmLaw}
 use Rattle.frac128.specs.Floor.{floor_of}
-use Rattle.frac128.specs.Fraction.{Fraction, whole}
-use Rattle.frac128.specs.Steps.{ReducedLaw, over, times}
+use Rattle.frac128.specs.Fraction.{Fraction, IsReduced, whole}
+use Rattle.frac128.specs.Steps.{◌>>=◌, ReducedLaw, over, times}
 use Rattle.frac128.specs.Sums.{minus}
 use Rattle.unit_list.specs.declared.part.Part.{Part}
-use Rattle.unit_list.specs.Exact.{difference, product, sum, total}
-use Rattle.unit_list.specs.Laws.{AreGreatest, IsGreatest, IsUnit}
-use Rattle.unit_list.specs.Splits.{◌>>=◌, counts_of, magnitude, part_of}
-use Rattle.unit_list.proofs.Values.{HasValue, floor_value, minus_value, over_value, times_value}
+use Rattle.frac128.specs.Exact.{difference, product, sum}
+use Rattle.unit_list.specs.Counts.{AreGreatest, IsGreatest, IsUnit, total}
+use Rattle.frac128.specs.Sign.{magnitude}
+use Rattle.unit_list.specs.Splits.{counts_of, part_of}
+use Rattle.unit_list.proofs.Values.{HasValue, floor_value, minus_value, over_lowest, over_value, times_value, whole_lowest}
 
 -- what a step that has an answer goes on from
 pub record Goes {A B : Type 0} (first : Result A FracFault) (step : A → Result B FracFault) (answer : B) : Type 0 where
@@ -174,7 +175,7 @@ greatest_part y unit count a b c k is some_b c_is some_d count_is low high =
         turn_on e d = omega arith
 
 -- what the part leaves of each fraction of that value
-difference_value : (y unit count : Fraction) (a b c k left : ℕ) → HasValue y a b → unit.num ≡ pos c → 0 < unit.den → count ≡ whole (pos k)
+pub difference_value : (y unit count : Fraction) (a b c k left : ℕ) → HasValue y a b → unit.num ≡ pos c → 0 < unit.den → count ≡ whole (pos k)
     → left + k * c * b ≡ a * unit.den → 0 < b → HasValue (difference y (product count unit)) left (b * unit.den)
 difference_value y unit count a b c k left is c_is some_d count_is left_is some_b =
     let low : k * c * y.den ≤ is.num * (1 * unit.den) = at_most is.num y.den is.same in
@@ -241,6 +242,7 @@ pub record AreCounts (a b : ℕ) (units counts : List Fraction) : Type 0 where
   pub sum : HasValue (total counts units) a b
   pub greatest : (y : Fraction) → HasValue y a b → AreGreatest y units counts
   pub plain : map magnitude counts ≡ counts
+  pub lowest : All IsReduced counts
 
 pub counts_are : ReducedLaw → LcmLaw → (units counts : List Fraction) (x : Fraction) (a b : ℕ) → HasValue x a b → 0 < b → All IsUnit units → 0 < length units
     → counts_of x units ≡ Ok counts → AreCounts a b units counts
@@ -263,6 +265,7 @@ counts_are law multiples (unit ∷ []) counts x a b is some_b units_are some h =
       };
       greatest = λ y value. tt;
       plain = ap (λ z. z ∷ []) (natural_plain quotient.value q.num q.num_is);
+      lowest = All-cons IsReduced quotient.value [] (over_lowest law x unit quotient.value is.num natural.num is.num_is natural.num_is is.positive natural.some quotient.first_is) (All-nil IsReduced);
     })
   where
     spread : (n c e d : ℕ) → (n * c * 1 + 0 * (e * d)) * b ≡ n * (b * c)
@@ -294,6 +297,7 @@ counts_are law multiples (unit ∷ next ∷ units) counts x a b is some_b units_
             (difference_value y unit part.value.count a b natural.num taken.count taken.left value natural.num_is unit_is.denominator taken.count_is taken.left_is some_b),
       );
       plain = ap (λ z. z ∷ map magnitude others.value) (ap magnitude taken.count_is ∙ sym taken.count_is) ∙ ap (λ xs. part.value.count ∷ xs) rest.plain;
+      lowest = All-cons IsReduced part.value.count others.value (subst IsReduced (sym taken.count_is) (whole_lowest (pos taken.count))) rest.lowest;
     })
   where
     smaller : (l m n : ℕ) → l + m ≡ n → m ≤ n

@@ -1,23 +1,26 @@
 -- Counting unit by unit.
 use Rattle.std.proofs.Common.{◌≡◌, ◌<◌, ◌≤◌, ◌+◌, ◌-◌, ℕ, suc, zero, arith, refl, sym, ap, ◌∙◌}
-use Rattle.std.specs.Prelude.{Bool, List, [], ◌∷◌, ◌++◌, length, map, drop, IsErrAnd, Some, None, Result, Ok, Err}
-use Rattle.std.proofs.Common.{append_assoc, get_or}
+use Rattle.std.specs.Prelude.{◌⊎◌, Bool, not, cond, All, int_lt, nat_lt, true, false, List, [], ◌∷◌, ◌++◌, length, map, drop, position, IsErrAnd, Some, None, Option, Result, Ok, Err}
+use Rattle.std.specs.List.{AllByRecursion as Each}
+use Rattle.units_io.specs.Outcomes.{Gives}
+use Rattle.std.proofs.Common.{append_assoc, get_or, inl, inr, ◌<ℤ◌, ℤ, pos}
+use Rattle.std.specs.List.{position_or_len}
+use Rattle.std.proofs.lemmas.Bool.Decides.{nat_tests}
+use Rattle.std.proofs.lemmas.Int.{ints}
+use Rattle.std.proofs.lemmas.List.Elements.{All-from_recursion, All-map}
+use Rattle.unit_list.specs.Counts.{IsUnit}
 use Rattle.std.proofs.lemmas.List.{drop_more}
 use Rattle.std.proofs.Math.Seq.{drop-nil}
 use Rattle.frac128.specs.declared.fault.FracFault.{FracFault}
 use Rattle.frac128.specs.Fraction.{Fraction}
-use Rattle.frac128.specs.Steps.{over}
+use Rattle.frac128.specs.Steps.{◌>>=◌, over}
 use Rattle.quantity.specs.Amount.{Amount}
 use Rattle.unit_list.specs.declared.part.Part.{Part}
-use Rattle.unit_list.specs.declared.counts.Split.{Split}
 use Rattle.unit_list.specs.declared.fault.SplitFault.{SplitFault}
-use Rattle.unit_list.specs.declared.fault.SplitFault.TheVariants.{NotConformable, ListUnitNotPositive, Number, OutOfMemory}
-use Rattle.unit_list.specs.Amounts.{IsSplit, checked, counts_in, number_of, unit_fault}
-use Rattle.unit_list.specs.Splits.{◌>>=◌, counts_of, is_below_zero, last_of, magnitude, number_counts, part_of, rounded_if, signed}
-
--- counts with the sign of the number
-abbrev pub signed_counts : Bool → Result (List Fraction) FracFault → Result (List Fraction) FracFault
-signed_counts negative counts = counts >>= (λ cs. Ok (map (signed negative) cs))
+use Rattle.unit_list.specs.declared.fault.SplitFault.TheVariants.{Number, OutOfMemory}
+use Rattle.unit_list.specs.Amounts.{HasDenominator, checked, counts_in, is_not_positive, is_unlike, number_of, numbered, numbers_of, place_fault, unit_fault}
+use Rattle.frac128.specs.Sign.{is_negative, magnitude, negated_if}
+use Rattle.unit_list.specs.Splits.{counts_of, last_of, number_counts, part_of, rounded_if, signed_counts}
 
 -- counts behind those that are done
 abbrev pub behind : List Fraction → Result (List Fraction) FracFault → Result (List Fraction) FracFault
@@ -46,13 +49,13 @@ next_units units i d h = ap (map number_of) (drop_more units (i + 1) d h)
 
 -- a part that is done goes before the others
 put_before : (negative : Bool) (done : List Fraction) (count : Fraction) (others : Result (List Fraction) FracFault)
-    → behind done (signed_counts negative (others >>= (λ counts. Ok (count ∷ counts)))) ≡ behind (done ++ signed negative count ∷ []) (signed_counts negative others)
-put_before negative done count (Ok others) = ap Ok (sym (append_assoc done (signed negative count ∷ []) (map (signed negative) others)))
+    → behind done (signed_counts negative (others >>= (λ counts. Ok (count ∷ counts)))) ≡ behind (done ++ negated_if negative count ∷ []) (signed_counts negative others)
+put_before negative done count (Ok others) = ap Ok (sym (append_assoc done (negated_if negative count ∷ []) (map (negated_if negative) others)))
 put_before negative done count (Err fault) = refl
 
 pub counting_more : (negative : Bool) (units : List Amount) (all : Result (List Fraction) FracFault) (i : ℕ) (rest : Fraction) (done : List Fraction) (unit : Amount) (part : Part)
     → IsCounting negative units all i rest done → i + 1 < length units → unit ≡ get_or units i unit → part_of rest (number_of unit) ≡ Ok part
-    → IsCounting negative units all (i + 1) part.rest (done ++ signed negative part.count ∷ [])
+    → IsCounting negative units all (i + 1) part.rest (done ++ negated_if negative part.count ∷ [])
 unfolding counts_of
 counting_more negative units all i rest done unit part is within unit_is part_is =
     let step : counts_of rest (map number_of (drop i units)) ≡ counts_of part.rest (map number_of (drop (i + 1) units)) >>= (λ counts. Ok (part.count ∷ counts)) =
@@ -93,7 +96,7 @@ last_units units i unit last unit_is =
 -- its count ends them
 pub counting_end : (negative : Bool) (units : List Amount) (all : Result (List Fraction) FracFault) (i : ℕ) (rest : Fraction) (done : List Fraction) (unit : Amount) (count : Fraction)
     → IsCounting negative units all i rest done → i + 1 ≡ length units → unit ≡ get_or units (length units - 1) unit → over rest (number_of unit) ≡ Ok count
-    → all ≡ Ok (done ++ signed negative count ∷ [])
+    → all ≡ Ok (done ++ negated_if negative count ∷ [])
 unfolding counts_of
 counting_end negative units all i rest done unit count is last unit_is count_is =
     sym is.same
@@ -128,17 +131,17 @@ last_number units unit some unit_is = by_place units (length units - 1) (next (l
 -- a split has begun: its units have no fault, and its amount is that of the number
 pub record IsBegun (round : Bool) (q : Amount) (units : List Amount) (negative : Bool) (amount : Result Fraction FracFault) : Type 0 where
   pub fine : None ≡ unit_fault q units
-  pub negative_is : negative ≡ is_below_zero q.value
+  pub negative_is : negative ≡ is_negative q.value
   pub amount_is : amount ≡ rounded_if round (last_of (map number_of units)) (magnitude q.value)
 
 -- by the parts that the code makes
 pub begun_by : (round : Bool) (q : Amount) (units : List Amount) (number last size : Fraction) (negative : Bool) (unit : Amount) (amount : Result Fraction FracFault)
-    → None ≡ unit_fault q units → 0 < length units → number ≡ q.value → negative ≡ is_below_zero number
+    → None ≡ unit_fault q units → 0 < length units → number ≡ q.value → negative ≡ is_negative number
     → unit ≡ get_or units (length units - 1) unit → last ≡ number_of unit → size ≡ magnitude number → amount ≡ rounded_if round last size
     → IsBegun round q units negative amount
 begun_by round q units number last size negative unit amount fine some number_is negative_is unit_is last_is size_is amount_is = record {
   fine = fine;
-  negative_is = negative_is ∙ ap is_below_zero number_is;
+  negative_is = negative_is ∙ ap is_negative number_is;
   amount_is = amount_is ∙ ap (λ u. rounded_if round u size) (last_is ∙ sym (last_number units unit some unit_is))
       ∙ ap (rounded_if round (last_of (map number_of units))) (size_is ∙ ap magnitude number_is);
 }
@@ -149,32 +152,83 @@ pub begun_fault : (round : Bool) (q : Amount) (units : List Amount) (negative : 
 unfolding counts_in
 begun_fault round q units negative amount fault is amount_fault =
     ap (λ f. checked f (number_counts round q.value (map number_of units))) (sym is.fine)
-    ∙ ap (λ r. checked None (r >>= (λ amount. signed_counts (is_below_zero q.value) (counts_of amount (map number_of units))))) (sym is.amount_is ∙ amount_fault)
+    ∙ ap (λ r. numbered (r >>= (λ amount. signed_counts (is_negative q.value) (counts_of amount (map number_of units))))) (sym is.amount_is ∙ amount_fault)
 
--- and else it is what becomes of the amount
-pub begun_ends : (round : Bool) (q : Amount) (units : List Amount) (negative : Bool) (amount : Result Fraction FracFault) (x : Fraction) (ending : Result (List Fraction) FracFault)
-    → IsBegun round q units negative amount → amount ≡ Ok x → signed_counts negative (counts_of x (map number_of units)) ≡ ending → counts_in round q units ≡ checked None ending
+-- and else its counts are those of the amount
+pub begun_counts : (round : Bool) (q : Amount) (units : List Amount) (negative : Bool) (amount : Result Fraction FracFault) (x : Fraction)
+    → IsBegun round q units negative amount → amount ≡ Ok x → number_counts round q.value (numbers_of units) ≡ signed_counts negative (counts_of x (numbers_of units))
+begun_counts round q units negative amount x is amount_ok =
+    ap (λ r. r >>= (λ amount. signed_counts (is_negative q.value) (counts_of amount (numbers_of units)))) (sym is.amount_is ∙ amount_ok)
+    ∙ ap (λ b. signed_counts b (counts_of x (numbers_of units))) (sym is.negative_is)
+
+pub begun_ends : (round : Bool) (q : Amount) (units : List Amount) (negative : Bool) (amount : Result Fraction FracFault) (x : Fraction)
+    → IsBegun round q units negative amount → amount ≡ Ok x → counts_in round q units ≡ numbered (signed_counts negative (counts_of x (numbers_of units)))
 unfolding counts_in
-begun_ends round q units negative amount x ending is amount_ok ends =
-    ap (λ f. checked f (number_counts round q.value (map number_of units))) (sym is.fine)
-    ∙ ap (λ r. checked None (r >>= (λ amount. signed_counts (is_below_zero q.value) (counts_of amount (map number_of units))))) (sym is.amount_is ∙ amount_ok)
-    ∙ ap (λ b. checked None (signed_counts b (counts_of x (map number_of units)))) (sym is.negative_is)
-    ∙ ap (checked None) ends
+begun_ends round q units negative amount x is amount_ok =
+    ap (λ f. checked f (number_counts round q.value (numbers_of units))) (sym is.fine)
+    ∙ ap numbered (begun_counts round q units negative amount x is amount_ok)
 
--- the expected fault is an answer
-fault_split : (expected : Result (List Fraction) SplitFault) (fault : SplitFault) → expected ≡ Err fault → IsSplit expected (Err fault)
-fault_split expected (NotConformable place) h = h
-fault_split expected (ListUnitNotPositive place) h = h
-fault_split expected (Number fault) h = h
-fault_split expected OutOfMemory h = tt
+-- counts that are given
+pub numbered_ok : (counts : Result (List Fraction) FracFault) (given : List Fraction) → numbered counts ≡ Ok given → counts ≡ Ok given
+numbered_ok (Ok counts) given h = cc
+numbered_ok (Err fault) given h = absurd (cc)
+
+-- a fault that a `?` hands on is an answer where it is want of memory or the expected one
+pub handed_on : {A B : Type 0} (seen : A → B) (answer : Result A SplitFault) (expected : Result B SplitFault) (fault : SplitFault)
+    → IsErrAnd answer (λ given. given ≡ fault) → (fault ≡ OutOfMemory) ⊎ (expected ≡ Err fault) → Gives OutOfMemory seen answer expected
+handed_on seen (Ok x) expected fault given h = absurd given
+handed_on seen (Err other) expected fault given (inl none) = inl (given ∙ none)
+handed_on seen (Err other) expected fault given (inr h) = inr (h ∙ ap Err (sym given))
+
+-- the same, of what is expected in another form
+pub handed_same : {A B : Type 0} (seen : A → B) (answer : Result A SplitFault) (expected given : Result B SplitFault) (fault : SplitFault)
+    → IsErrAnd answer (λ given. given ≡ fault) → expected ≡ given → (fault ≡ OutOfMemory) ⊎ (given ≡ Err fault) → Gives OutOfMemory seen answer expected
+handed_same seen answer expected given fault is same (inl none) = handed_on seen answer expected fault is (inl none)
+handed_same seen answer expected given fault is same (inr h) = handed_on seen answer expected fault is (inr (same ∙ h))
 
 -- units that have a fault
-pub unit_fault_ends : (round : Bool) (q : Amount) (units : List Amount) (fault : SplitFault) → Some fault ≡ unit_fault q units → IsSplit (counts_in round q units) (Err fault)
+pub unit_fault_ends : (round : Bool) (q : Amount) (units : List Amount) (fault : SplitFault) → Some fault ≡ unit_fault q units → counts_in round q units ≡ Err fault
 unfolding counts_in
-unit_fault_ends round q units fault is = fault_split (counts_in round q units) fault (ap (λ f. checked f (number_counts round q.value (map number_of units))) (sym is))
+unit_fault_ends round q units fault is = ap (λ f. checked f (number_counts round q.value (map number_of units))) (sym is)
 
--- the fault of a step that a `?` hands on is an answer
-pub step_fault_ends : (expected : Result (List Fraction) SplitFault) (result : Result Split SplitFault) (fault : FracFault)
-    → IsErrAnd result (λ given. given ≡ Number fault) → expected ≡ Err (Number fault) → IsSplit expected result
-step_fault_ends expected (Ok split) fault given h = absurd given
-step_fault_ends expected (Err other) fault given h = fault_split expected other (h ∙ ap Err (sym given))
+-- ---- units without a fault
+
+-- no place is found
+none_low : (place n : ℕ) → cond (nat_lt place n) (Some place) None ≡ None → n ≤ place
+none_low place n h = grind (arith, nat_tests)
+
+none_high : (place n : ℕ) → n ≤ place → cond (nat_lt place n) (Some place) None ≡ None
+none_high place n h = grind (arith, nat_tests)
+
+-- a test that no member passes
+none_passes : (test : Amount → Bool) (xs : List Amount) → position test xs ≡ None → Each (λ x. test x ≡ false) xs
+none_passes test [] h = tt
+none_passes test (x ∷ xs) h = by_test (test x) refl (none_low (position_or_len test (x ∷ xs)) (length (x ∷ xs)) h) (λ rest. none_passes test xs rest)
+  where
+    by_test : (b : Bool) → test x ≡ b → length (x ∷ xs) ≤ position_or_len test (x ∷ xs) → (position test xs ≡ None → Each (λ x. test x ≡ false) xs) → Each (λ x. test x ≡ false) (x ∷ xs)
+    by_test true is low rest =
+        let first : position_or_len test (x ∷ xs) ≡ 0 = ap (λ b. cond (not b) (1 + position_or_len test xs) 0) is in
+        absurd (omega arith)
+    by_test false is low rest =
+        let later : position_or_len test (x ∷ xs) ≡ 1 + position_or_len test xs = ap (λ b. cond (not b) (1 + position_or_len test xs) 0) is in
+        (is, rest (none_high (position_or_len test xs) (length xs) (omega arith)))
+
+-- then each is positive
+fine_positive : (q : Amount) (units : List Amount) → None ≡ unit_fault q units → position is_not_positive units ≡ None
+fine_positive q units fine = go (position (is_unlike q) units) (position is_not_positive units) (sym fine)
+  where
+    go : (unlike place : Option ℕ) → place_fault unlike place ≡ None → place ≡ None
+    go (Some k) place h = absurd (cc)
+    go None (Some k) h = absurd (cc)
+    go None None h = refl
+
+positive_is : (z : ℤ) → not (int_lt (pos 0) z) ≡ false → pos 0 <ℤ z
+positive_is z h = grind (arith, ints)
+
+pub fine_units : (q : Amount) (units : List Amount) → None ≡ unit_fault q units → All HasDenominator units → All IsUnit (numbers_of units)
+fine_units q units fine denominators =
+    let positive = All-from_recursion (λ (unit : Amount). is_not_positive unit ≡ false) units (none_passes is_not_positive units (fine_positive q units fine)) in
+    All-map IsUnit number_of units (λ k d within. record {
+      denominator = denominators k d within;
+      positive = positive_is (get_or units k d).value.num (positive k d within);
+    })

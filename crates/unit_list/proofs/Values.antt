@@ -1,15 +1,15 @@
 -- The values of fractions that are not below 0, as ratios of two numbers.
-use Rattle.std.proofs.Common.{◌≡◌, ◌<◌, ◌≤◌, ◌+◌, ◌-◌, ◌*◌, ◌/◌, ◌*ℤ◌, ◌-ℤ◌, ℕ, ℤ, pos, suc, zero, arith, refl, sym, ap, subst, ◌∙◌}
+use Rattle.std.proofs.Common.{◌≡◌, ◌<◌, ◌≤◌, ◌+◌, ◌-◌, ◌*◌, ◌/◌, ◌*ℤ◌, ◌-ℤ◌, ℕ, ℤ, pos, suc, zero, unsigned_abs, arith, refl, sym, ap, subst, ◌∙◌}
 use Rattle.std.specs.Prelude.{◌&&◌, Bool, true, false, Ok, Err, if◌then◌else◌}
 use Rattle.std.proofs.lemmas.Int.{ints}
 use Rattle.std.proofs.lemmas.Nat.Gcd.{dvd_antisymm, dvd-zero}
-use Rattle.std.proofs.Math.Nat.{dvd-mul_left, dvd-mul_right, eq_of_mul-eq-mul_right, le_of_mul-le-mul_right, mul-div_cancel', mul-le-mul_right, mul-pos}
+use Rattle.std.proofs.Math.Nat.{dvd_refl, one-dvd, dvd-mul_left, dvd-mul_right, eq_of_mul-eq-mul_right, le_of_mul-le-mul_right, mul-div_cancel', mul-le-mul_right, mul-pos}
 use Prim.Native.Nat.{◌∣◌}
 use Rattle.frac128.specs.declared.fault.FracFault.TheVariants.{Overflow}
 use Rattle.std.specs.Int.{int_div_euclid}
 use Rattle.frac128.specs.Divisors.{LcmLaw, gcd, lcm}
 use Rattle.frac128.specs.Floor.{floor_of}
-use Rattle.frac128.specs.Fraction.{Fraction, fits, whole}
+use Rattle.frac128.specs.Fraction.{Fraction, IsReduced, fits, whole}
 use Rattle.frac128.specs.Steps.{ReducedLaw, over, ratio, reduced, times}
 use Rattle.frac128.specs.Sums.{in_range, joined, minus, numerator_over, sum_over}
 
@@ -41,7 +41,7 @@ joined_ok step m l r y h = by_tests (in_range (pos m)) (in_range l) (in_range r)
     by_tests false b c h = absurd (cc)
 
 -- equal numbers as whole numbers
-pos_same : (m n : ℕ) → pos m ≡ pos n → m ≡ n
+pub pos_same : (m n : ℕ) → pos m ≡ pos n → m ≡ n
 pos_same m n h = cc
 
 -- a quotient in lowest terms has its value
@@ -65,6 +65,15 @@ over_reduced x unit q n c n_is c_is some_x some_c h =
     let ratio_is : over x unit ≡ ratio (pos (n * unit.den)) (pos (x.den * c)) =
     ap (λ z. ratio (z *ℤ pos unit.den) (pos x.den *ℤ unit.num)) n_is ∙ ap (λ z. ratio (pos n *ℤ pos unit.den) (pos x.den *ℤ z)) c_is in
     ratio_ok (pos (n * unit.den)) (x.den * c) q (mul-pos some_x some_c) (sym ratio_is ∙ h)
+
+-- it is in lowest terms
+pub over_lowest : ReducedLaw → (x unit q : Fraction) (n c : ℕ) → x.num ≡ pos n → unit.num ≡ pos c → 0 < x.den → 0 < c → over x unit ≡ Ok q → IsReduced q
+over_lowest law x unit q n c n_is c_is some_x some_c h =
+    subst IsReduced (sym (over_reduced x unit q n c n_is c_is some_x some_c h)) (law (pos (n * unit.den)) (x.den * c) (mul-pos some_x some_c)).0
+
+-- so is a whole number
+pub whole_lowest : (n : ℤ) → IsReduced (whole n)
+whole_lowest n = record { positive = omega arith; lowest = (one-dvd (unsigned_abs n), dvd_refl 1, λ d p q. q) }
 
 -- the quotient of two values
 pub over_value : ReducedLaw → (x unit q : Fraction) (a b c : ℕ) → HasValue x a b → unit.num ≡ pos c → 0 < unit.den → 0 < c → 0 < b

@@ -1,7 +1,9 @@
 -- Splitting a quantity into counts of units.
-use Rattle.std.specs.Prelude.{◌≡◌, ℕ, pos, int_lt, not, Bool, List, map, position, Option, Some, None, Result, Ok, Err, ⊤}
+use Rattle.std.specs.Prelude.{◌<◌, ℕ, not, Bool, List, map, position, Option, Some, None, Result, Ok, Err}
+use Rattle.units_io.specs.Outcomes.{Gives}
 use Rattle.frac128.specs.declared.fault.FracFault.{FracFault}
 use Rattle.frac128.specs.Fraction.{Fraction}
+use Rattle.frac128.specs.Sign.{is_positive}
 use Rattle.quantity.specs.Amount.{Amount, conform}
 use Rattle.unit_list.specs.Splits.{number_counts}
 use Rattle.unit_list.specs.declared.fault.SplitFault.{SplitFault}
@@ -14,7 +16,7 @@ is_unlike q unit = not (conform q.exponents unit.exponents)
 
 -- the number of the unit is 0 or below
 abbrev pub is_not_positive : Amount → Bool
-is_not_positive unit = not (int_lt (pos 0) unit.value.num)
+is_not_positive unit = not (is_positive unit.value)
 
 -- the fault of the first unlike unit, and else of the first that is not positive
 abbrev pub place_fault : Option ℕ → Option ℕ → Option SplitFault
@@ -26,24 +28,37 @@ place_fault None None = None
 abbrev pub unit_fault : Amount → List Amount → Option SplitFault
 unit_fault q units = place_fault (position (is_unlike q) units) (position is_not_positive units)
 
+-- the counts, or the fault of a step
+abbrev pub numbered : Result (List Fraction) FracFault → Result (List Fraction) SplitFault
+numbered (Ok counts) = Ok counts
+numbered (Err fault) = Err (Number fault)
+
 -- the fault of the units, and else the counts or the fault of a step
 abbrev pub checked : Option SplitFault → Result (List Fraction) FracFault
     → Result (List Fraction) SplitFault
 checked (Some fault) counts = Err fault
-checked None (Err fault) = Err (Number fault)
-checked None (Ok counts) = Ok counts
+checked None counts = numbered counts
 
 -- the number of a unit
 abbrev pub number_of : Amount → Fraction
 number_of unit = unit.value
 
+-- the numbers of some units
+abbrev pub numbers_of : List Amount → List Fraction
+numbers_of units = map number_of units
+
 -- the counts of the units in a quantity, or the fault
 unfoldable pub counts_in : Bool → Amount → List Amount → Result (List Fraction) SplitFault
-counts_in round q units =
-    checked (unit_fault q units) (number_counts round q.value (map number_of units))
+counts_in round q units = checked (unit_fault q units) (number_counts round q.value (numbers_of units))
 
 -- the answer has the expected counts or fault, or is want of memory
-abbrev pub IsSplit : Result (List Fraction) SplitFault → Result Split SplitFault → Type 0
-IsSplit expected (Ok split) = expected ≡ Ok split.counts
-IsSplit expected (Err OutOfMemory) = ⊤
-IsSplit expected (Err fault) = expected ≡ Err fault
+abbrev pub IsSplit : Result Split SplitFault → Result (List Fraction) SplitFault → Type 0
+IsSplit answer expected = Gives OutOfMemory (λ split. split.counts) answer expected
+
+-- the counts are the expected ones, or the fault of the step, or there is want of memory
+abbrev pub AreGiven : Result (List Fraction) SplitFault → Result (List Fraction) FracFault → Type 0
+AreGiven answer expected = Gives OutOfMemory (λ counts. counts) answer (numbered expected)
+
+-- the denominator of the number of a unit is above 0
+abbrev pub HasDenominator : Amount → Type 0
+HasDenominator unit = 0 < unit.value.den

@@ -1,4 +1,3 @@
 pub mod Amounts
-pub mod Exact
-pub mod Laws
+pub mod Counts
 pub mod Splits

@@ -1,19 +1,13 @@
 -- Splitting a number into counts of units, by fraction steps.
-use Rattle.std.specs.Prelude.{ℕ, pos, unsigned_abs, int_lt, Bool, true, false, List, [], ◌∷◌, map, Result, Ok, Err, if◌then◌else◌}
+use Rattle.std.specs.Prelude.{ℕ, pos, unsigned_abs, Bool, true, false, List, [], ◌∷◌, map, Result, Ok}
 use Rattle.frac128.specs.declared.fault.FracFault.{FracFault}
 use Rattle.frac128.specs.Floor.{floor_of}
-use Rattle.frac128.specs.Fraction.{Fraction, negated, whole}
+use Rattle.frac128.specs.Fraction.{Fraction, whole}
 use Rattle.frac128.specs.Nearest.{nearest_whole}
-use Rattle.frac128.specs.Steps.{over, times}
+use Rattle.frac128.specs.Sign.{is_negative, magnitude, negated_if}
+use Rattle.frac128.specs.Steps.{◌>>=◌, over, times}
 use Rattle.frac128.specs.Sums.{minus}
 use Rattle.unit_list.specs.declared.part.Part.{Part}
-
--- a step, and then another on what it gives; a fault is the answer of both
-infixl 10 ◌>>=◌
-abbrev pub ◌>>=◌ : {A B : Type 0} → Result A FracFault → (A → Result B FracFault)
-    → Result B FracFault
-Ok x >>= step = step x
-Err fault >>= step = Err fault
 
 -- the greatest whole count of a unit in x, and what is left of x
 abbrev pub part_of : Fraction → Fraction → Result Part FracFault
@@ -56,22 +50,15 @@ abbrev pub rounded_if : Bool → Fraction → Fraction → Result Fraction FracF
 rounded_if false unit x = Ok x
 rounded_if true unit x = rounded_to unit x
 
--- the number without its sign
-abbrev pub magnitude : Fraction → Fraction
-magnitude x = record { num = pos (unsigned_abs x.num); den = x.den }
-
--- the number is below 0
-abbrev pub is_below_zero : Fraction → Bool
-is_below_zero x = int_lt x.num (pos 0)
-
--- x with the other sign, where it is to be below 0
-abbrev pub signed : Bool → Fraction → Fraction
-signed negative x = if negative then negated x else x
+-- counts with the sign of the number
+abbrev pub signed_counts : Bool → Result (List Fraction) FracFault → Result (List Fraction) FracFault
+signed_counts negative counts = do
+  plain ← counts
+  Ok (map (negated_if negative) plain)
 
 -- the counts of the units in a number: those in its magnitude, which is rounded to the last unit where
 -- that is asked, with the number's sign
 abbrev pub number_counts : Bool → Fraction → List Fraction → Result (List Fraction) FracFault
 number_counts round x units = do
   amount ← rounded_if round (last_of units) (magnitude x)
-  counts ← counts_of amount units
-  Ok (map (signed (is_below_zero x)) counts)
+  signed_counts (is_negative x) (counts_of amount units)

@@ -1,6 +1,10 @@
 //! What a split gives.
 
-use crate::fracs::Fracs;
+use frac128::Frac;
+use units_io::List;
+
+/// A list of fractions, in order.
+pub type Fracs = List<Frac>;
 
 /// The counts of some units in a quantity.
 #[derive(Debug, Drop)]

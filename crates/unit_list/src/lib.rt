@@ -3,17 +3,14 @@
 
 mod counts;
 mod fault;
-mod fracs;
 mod laws;
 mod part;
 mod rounding;
 mod sign;
 mod splitting;
-#[cfg(test)]
-mod tests;
+mod units;
 
-pub use counts::Split;
+pub use counts::{Fracs, Split};
 pub use fault::SplitFault;
-pub use fracs::Fracs;
-pub use laws::split_law;
+pub use laws::{split_law, unique_law};
 pub use splitting::split;

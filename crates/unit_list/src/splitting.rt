@@ -1,14 +1,18 @@
 //! Splitting a quantity into counts of units.
 
-ghost use Rattle.std.specs.Prelude.{◌≡◌, ◌<◌, length, pos, int_lt, position};
-ghost use Rattle.unit_list.specs.Amounts.{IsSplit, counts_in, is_not_positive, is_unlike, unit_fault as unit_fault_of};
+ghost use Rattle.std.specs.Prelude.{◌≡◌, ◌<◌, length, All, IfOk, OnOk};
+ghost use Rattle.unit_list.specs.Amounts.{AreGiven, HasDenominator, IsSplit, counts_in, numbers_of};
+ghost use Rattle.unit_list.specs.Counts.{IsSplitOf};
+ghost use Rattle.unit_list.specs.Splits.{counts_of as counts_of_units, signed_counts};
 
-use crate::counts::Split;
+use crate::counts::{Fracs, Split};
 use crate::fault::SplitFault;
-use crate::fracs::Fracs;
+use crate::laws::split_law;
 use crate::part::part_of;
 use crate::rounding::rounded_if;
-use crate::sign::{is_below_zero, magnitude, signed};
+use crate::sign::{is_negative, magnitude, negated_if};
+use crate::units::unit_fault;
+use frac128::Frac;
 use quantity::Quantity;
 use std::alloc::Global;
 
@@ -26,55 +30,40 @@ pub fn split(
     round: bool,
 ) -> Result<Split, SplitFault>
     requires { 0 < length units.now }
-    ensures { IsSplit (counts_in round q.now units.now) result }
+    ensures computed { IsSplit result (counts_in round q.now units.now) }
+    ensures counted { IfOk result (λ split. IsSplitOf round q.now.value (numbers_of units.now) split.counts) }
 {
     if let Some(fault) = unit_fault(q, units) {
         return Err(fault);
     }
     let number = q.value();
-    let negative = is_below_zero(&number);
-    let last = units.len() - 1;
-    let last_unit = units[last].value();
-    let mut rest = rounded_if(round, &last_unit, &magnitude(&number))?;
-    let mut counts = Fracs::new(alloc);
-    for i in 0..last {
-        let part = part_of(&rest, &units[i].value())?;
-        counts.push(alloc, signed(negative, &part.count))?;
-        rest = part.rest;
-    }
-    let count = rest.div(&last_unit)?;
-    counts.push(alloc, signed(negative, &count))?;
+    let last = units[units.len() - 1].value();
+    let amount = rounded_if(round, &last, &magnitude(&number))?;
+    let counts = counts_of(alloc, is_negative(&number), &amount, units)?;
+    split_law();
     Ok(Split { counts })
 }
 
-// The fault of the first unit that does not conform, and else of the first whose number is not
-// above 0.
-fn unit_fault(q: &Quantity, units: &[Quantity]) -> Option<SplitFault>
-    ensures { result ≡ unit_fault_of q.now units.now }
+// The counts of the units in an amount that is not below 0, each negated where the number is below 0.
+fn counts_of(
+    alloc: Global,
+    negative: bool,
+    amount: &Frac,
+    units: &[Quantity],
+) -> Result<Fracs, SplitFault>
+    requires { 0 < length units.now }
+    ensures counts { AreGiven result (signed_counts negative (counts_of_units amount.now (numbers_of units.now))) }
+    ensures denominators { OnOk result (All HasDenominator units.now) }
 {
-    if let Some(place) = first_unlike(q, units) {
-        return Some(SplitFault::NotConformable(place));
+    let last = units.len() - 1;
+    let mut rest = *amount;
+    let mut counts = Fracs::new(alloc);
+    for i in 0..last {
+        let part = part_of(&rest, &units[i].value())?;
+        counts.push(alloc, negated_if(negative, &part.count))?;
+        rest = part.rest;
     }
-    first_not_positive(units).map(SplitFault::ListUnitNotPositive)
-}
-
-// The place of the first unit that does not conform.
-fn first_unlike(q: &Quantity, units: &[Quantity]) -> Option<usize>
-    ensures { result ≡ position (is_unlike q.now) units.now }
-{
-    units.iter().position(|unit| !q.conforms(unit))
-}
-
-// The place of the first unit whose number is not above 0.
-fn first_not_positive(units: &[Quantity]) -> Option<usize>
-    ensures { result ≡ position is_not_positive units.now }
-{
-    units.iter().position(|unit| !is_positive(unit))
-}
-
-// Whether the number is above 0.
-fn is_positive(unit: &Quantity) -> bool
-    ensures { result ≡ int_lt (pos 0) unit.now.value.num }
-{
-    unit.value().num() > 0
+    let count = rest.div(&units[last].value())?;
+    counts.push(alloc, negated_if(negative, &count))?;
+    Ok(counts)
 }

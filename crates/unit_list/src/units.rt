@@ -1,0 +1,40 @@
+//! Whether some units can split a quantity.
+
+ghost use Rattle.std.specs.Prelude.{◌≡◌, position};
+ghost use Rattle.frac128.specs.Sign.{is_positive as is_positive_of};
+ghost use Rattle.unit_list.specs.Amounts.{is_not_positive, is_unlike, unit_fault as unit_fault_of};
+
+use crate::fault::SplitFault;
+use quantity::Quantity;
+
+// The fault of the first unit that does not conform, and else of the first whose number is not
+// above 0.
+pub(crate) fn unit_fault(q: &Quantity, units: &[Quantity]) -> Option<SplitFault>
+    ensures { result ≡ unit_fault_of q.now units.now }
+{
+    if let Some(place) = first_unlike(q, units) {
+        return Some(SplitFault::NotConformable(place));
+    }
+    first_not_positive(units).map(SplitFault::ListUnitNotPositive)
+}
+
+// The place of the first unit that does not conform.
+fn first_unlike(q: &Quantity, units: &[Quantity]) -> Option<usize>
+    ensures { result ≡ position (is_unlike q.now) units.now }
+{
+    units.iter().position(|unit| !q.conforms(unit))
+}
+
+// The place of the first unit whose number is not above 0.
+fn first_not_positive(units: &[Quantity]) -> Option<usize>
+    ensures { result ≡ position is_not_positive units.now }
+{
+    units.iter().position(|unit| !is_positive(unit))
+}
+
+// Whether the number is above 0.
+fn is_positive(unit: &Quantity) -> bool
+    ensures { result ≡ is_positive_of unit.now.value }
+{
+    unit.value().num() > 0
+}
