@@ -1,11 +1,11 @@
 -- The first segment that holds a number.
-use Rattle.std.proofs.Common.{◌≡◌, ◌+◌, ◌-◌, ◌<◌, ◌≤◌, ℕ, suc, zero, List, [], ◌∷◌, length, get_or, drop, arith, refl, sym, ap, ◌∙◌}
+use Rattle.std.proofs.Common.{◌≡◌, ◌+◌, ◌-◌, ◌<◌, ◌≤◌, ℕ, suc, zero, List, [], ◌∷◌, length, get_or, drop, take, arith, refl, sym, ap, ◌∙◌}
 use Rattle.std.specs.Prelude.{◌&&◌, Bool, true, false, not, cond, max, IsTrue, Some, None, Err, find, All}
 use Rattle.std.specs.declared.cmp.Ordering.{Ordering}
 use Rattle.std.specs.declared.cmp.Ordering.TheVariants.{Less, Equal, Greater}
 use Rattle.std.specs.List.Sorted.{IsPartitionPoint, IsPartitionedBy}
 use Rattle.std.specs.Ordering.{is_le, is_lt, ordering_reverse}
-use Rattle.std.proofs.lemmas.List.Elements.{All-head, All-tail, All-get_or}
+use Rattle.std.proofs.lemmas.List.Elements.{All-get_or, All-head, All-more, All-nil, All-tail}
 use Rattle.frac128.specs.Fraction.{Fraction}
 use Rattle.frac128.specs.Order.{OrderLaw, compared}
 use Rattle.piecewise.specs.Lines.{Point}
@@ -69,6 +69,15 @@ le-less a b t h = ap is_le (compared-reverse a b) ∙ by_order (compared b a) t 
 -- the denominator of the x of a point is above 0
 abbrev pub IsKnown : Point → Type 0
 IsKnown p = 0 < p.0.den
+
+-- so it is of the points up to the right one of two neighbours, where it is of those before
+pub known_more : (points : List Point) (i : ℕ) (p q : Point) → AreNeighbours points i p q → (1 < i → All IsKnown (take i points))
+    → IsKnown (get_or points (i - 1) p) × IsKnown (get_or points i q) → All IsKnown (take (i + 1) points)
+known_more points zero p q are before known = let h = are.some in absurd (omega arith)
+known_more points (suc zero) p q are before known =
+    let h = are.within in
+    All-more IsKnown points 1 q h (All-more IsKnown points 0 p (omega arith) (All-nil IsKnown) known.0) known.1
+known_more points (suc (suc i)) p q are before known = All-more IsKnown points (suc (suc i)) q are.within (before (omega arith)) known.1
 
 -- the points rise, and their denominators are above 0
 pub record AreRising (points : List Point) : Type 0 where

@@ -1,20 +1,13 @@
 -- Straight lines through two points, computed by fraction steps.
-use Rattle.std.specs.Prelude.{Result, Ok, Err}
+use Rattle.std.specs.Prelude.{Result}
 use Rattle.frac128.specs.declared.fault.FracFault.{FracFault}
 use Rattle.frac128.specs.Fraction.{Fraction}
-use Rattle.frac128.specs.Steps.{over, times}
+use Rattle.frac128.specs.Steps.{◌>>=◌, over, times}
 use Rattle.frac128.specs.Sums.{minus, plus}
 
 -- a point, by its x and its y
 abbrev pub Point : Type 0
 Point = Fraction × Fraction
-
--- a step, and then another on what it gives; a fault is the answer of both
-infixl 10 ◌>>=◌
-abbrev pub ◌>>=◌ : Result Fraction FracFault → (Fraction → Result Fraction FracFault)
-    → Result Fraction FracFault
-Ok x >>= step = step x
-Err fault >>= step = Err fault
 
 -- the y at x on the line through p and q: p.1 + (q.1 - p.1) * (x - p.0) / (q.0 - p.0)
 unfoldable pub on_line : Point → Point → Fraction → Result Fraction FracFault

@@ -4,7 +4,7 @@ use frac128::FracFault;
 use std::alloc::AllocError;
 
 /// Why points are no table.
-#[derive(Clone, Copy, Debug, PartialEq, Eq)]
+#[derive(Clone, Copy)]
 pub enum PointsFault {
     /// There are fewer than 2 points or more than 1,000, or their x do not rise strictly.
     BadPoints,
@@ -24,7 +24,7 @@ impl From<AllocError> for PointsFault {
 }
 
 /// Why a table has no number.
-#[derive(Clone, Copy, Debug, PartialEq, Eq)]
+#[derive(Clone, Copy)]
 pub enum TableFault {
     /// No segment holds the number.
     OutsideTable,

@@ -5,8 +5,6 @@ mod examples;
 mod fault;
 mod line;
 mod points;
-#[cfg(test)]
-mod tests;
 
 pub use examples::table_examples;
 pub use fault::{PointsFault, TableFault};

@@ -102,11 +102,10 @@ impl Points {
 
 // Whether each x is less than the next one. The denominators are those of fractions.
 fn rises(points: &[Point]) -> bool
-    requires { 0 < length points.now }
+    requires { 1 < length points.now }
     ensures value { result ≡ rises_of points.now }
     ensures denominators { OnTrue result (All (λ p. 0 < p.0.den) points.now) }
 {
-    prove!(points[0].0.den() > 0);
     for i in 1..points.len() {
         if !is_less(&points[i - 1].0, &points[i].0) {
             return false;

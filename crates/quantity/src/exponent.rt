@@ -19,7 +19,7 @@ const MOST_DEN: u128 = 60;
 
 /// The exponent of a name: a fraction in lowest terms, its numerator from -32,767 to 32,767 and
 /// its denominator from 1 to 60.
-#[derive(Clone, Copy, Debug, PartialEq, Eq)]
+#[derive(Clone, Copy, PartialEq, Eq)]
 pub struct Exponent {
     /// The numerator, which has the exponent's sign.
     pub num: i32,

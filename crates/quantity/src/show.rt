@@ -13,7 +13,7 @@ use std::alloc::{AllocError, Global};
 use units_io::Text;
 
 /// How a number is written.
-#[derive(Clone, Copy, Debug, PartialEq, Eq)]
+#[derive(Clone, Copy)]
 pub enum Style {
     /// With so many significant digits.
     Digits(u8),

@@ -7,7 +7,7 @@ use units_io::List;
 pub type Fracs = List<Frac>;
 
 /// The counts of some units in a quantity.
-#[derive(Debug, Drop)]
+#[derive(Drop)]
 pub struct Split {
     /// One count for each unit, in order.
     pub counts: Fracs,

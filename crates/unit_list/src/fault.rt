@@ -4,7 +4,7 @@ use frac128::FracFault;
 use std::alloc::AllocError;
 
 /// Why a quantity is not split. Places count from 0.
-#[derive(Clone, Copy, Debug, PartialEq, Eq)]
+#[derive(Clone, Copy)]
 pub enum SplitFault {
     /// The unit at this place has other exponents, and none before it has.
     NotConformable(usize),

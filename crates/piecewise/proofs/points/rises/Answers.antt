@@ -1,7 +1,7 @@
 use Rattle.std.proofs.Common.{◌-◌, arith, sym, ◌∙◌}
 use Rattle.std.proofs.lemmas.List.{take_all}
-use Rattle.std.proofs.lemmas.List.Elements.{All-more, All-same}
-use Rattle.piecewise.proofs.FirstSegments.{IsKnown}
+use Rattle.std.proofs.lemmas.List.Elements.{All-same}
+use Rattle.piecewise.proofs.FirstSegments.{IsKnown, known_more}
 use Rattle.piecewise.proofs.Neighbours.{AreNeighbours, rises-last, rises-on, rises-stop}
 use Rattle.piecewise.proofs.points.rises.Goals as goal
 
@@ -25,11 +25,11 @@ loop-i-preserved c =
     } in
     record {
       rest = rises-on _ _ _ _ c.is_less.result are c.is_less.ensures.order c.if-not-is_less.false c.loop-i.invariant.rest;
-      denominators = All-more IsKnown c.args.points.now c.loop-i.i c.index-points-i-in-loop-i.result are.within c.loop-i.invariant.denominators c.is_less.ensures.denominators.1;
+      denominators = λ more. known_more _ _ _ _ are c.loop-i.invariant.denominators c.is_less.ensures.denominators;
     }
 
 pub returns-clause-value : goal.returns-clause-value
 returns-clause-value c = sym (rises-last c.args.points.now (c.loop-i.i - 1) (omega arith)) ∙ c.loop-i.invariant.rest
 
 pub returns-clause-denominators : goal.returns-clause-denominators
-returns-clause-denominators c = All-same IsKnown _ _ (sym (take_all c.loop-i.i c.args.points.now (omega arith))) c.loop-i.invariant.denominators
+returns-clause-denominators c = All-same IsKnown _ _ (sym (take_all c.loop-i.i c.args.points.now (omega arith))) (c.loop-i.invariant.denominators (omega arith))

@@ -1,4 +1,4 @@
-use Rattle.std.proofs.Common.{◌≡◌, ◌-◌, All, drop, take}
+use Rattle.std.proofs.Common.{◌≡◌, ◌-◌, ◌<◌, All, drop, take}
 use Rattle.piecewise.specs.Points.{rises}
 use Rattle.piecewise.proofs.FirstSegments.{IsKnown}
 use Rattle.piecewise.proofs.points.rises.Given as goal
@@ -6,5 +6,5 @@ use Rattle.piecewise.proofs.points.rises.Given as goal
 abbrev pub invariant-loop-i : goal.invariant-loop-i
 invariant-loop-i l = record {
   rest : rises (drop (l.i - 1) l.points) ≡ rises l.points;
-  denominators : All IsKnown (take l.i l.points);
+  denominators : 1 < l.i → All IsKnown (take l.i l.points);
 }
