@@ -23,7 +23,7 @@ const MOST: usize = 1_000;
 type Point = (Frac, Frac);
 
 /// From 2 to 1,000 points, each an x and its y, whose x rise strictly.
-#[derive(Debug, Drop)]
+#[derive(Drop)]
 pub struct Points {
     points: Vec<Point>,
 }
