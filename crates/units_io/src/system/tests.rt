@@ -47,34 +47,47 @@ impl Write for Hindered {
     }
 }
 
+// Errors of the second call, and whether it is made again.
+const HINDRANCES: &[(ErrorKind, bool)] = &[
+    (ErrorKind::Interrupted, true),
+    (ErrorKind::BrokenPipe, false),
+];
+
 #[test]
 fn only_an_interrupted_read_is_tried_again(rt: HostRuntime) {
-    for (error, want) in [
-        (ErrorKind::Interrupted, [Ok(1), Ok(1), Ok(1)]),
-        (ErrorKind::BrokenPipe, [Ok(1), Err(Failed), Ok(1)]),
-    ] {
-        let mut source = StdSource::new(Hindered::new(error));
-        let mut sink = StdSink::new(Hindered::new(error));
+    for (error, again) in HINDRANCES {
+        let mut source = StdSource::new(Hindered::new(*error));
+        let mut sink = StdSink::new(Hindered::new(*error));
         let mut buf = [0u8; 4];
-        for answer in want {
-            assert_eq!(rt; source.take(&mut buf), answer);
-            assert_eq!(rt; sink.put(b"ab"), answer);
+        for call in 1..4u8 {
+            let want = if call != 2 || *again {
+                Ok(1)
+            } else {
+                Err(Failed)
+            };
+            assert!(rt; source.take(&mut buf) == want);
+            assert!(rt; sink.put(b"ab") == want);
         }
     }
 }
+
+// How many bytes each call gives, and the first one in the buffer then.
+const GIVEN: &[(usize, u8)] = &[(4, b'a'), (1, b'e'), (0, b'e'), (0, b'e')];
+
+// What each call takes.
+const TAKEN: &[Result<usize, Failed>] = &[Ok(2), Ok(1), Err(Failed), Err(Failed)];
 
 #[test]
 fn no_byte_read_is_the_end_and_none_written_a_failure(rt: HostRuntime) {
     let mut source = StdSource::new(b"abcde".as_slice());
     let mut buf = [0u8; 4];
-    for (want, byte) in [(Ok(4), b'a'), (Ok(1), b'e'), (Ok(0), b'e'), (Ok(0), b'e')] {
-        assert_eq!(rt; source.take(&mut buf), want);
-        assert_eq!(rt; buf[0], byte);
+    for (len, byte) in GIVEN {
+        assert!(rt; source.take(&mut buf) == Ok(*len) && buf[0] == *byte);
     }
     let mut room = [0u8; 3];
     let mut sink = StdSink::new(room.as_mut_slice());
-    for want in [Ok(2), Ok(1), Err(Failed), Err(Failed)] {
-        assert_eq!(rt; sink.put(b"ab"), want);
+    for want in TAKEN {
+        assert!(rt; sink.put(b"ab") == *want);
     }
 }
 
@@ -84,22 +97,25 @@ fn empty_folder(rt: &HostRuntime, name: &str) -> io::Result<()> {
     fs::create_dir(rt, name)
 }
 
+// Names of files that are not there, and of what cannot be read.
+const UNREAD: &[(&[u8], FetchFault)] = &[
+    (b"", FetchFault::Absent),
+    (b"test-read/none", FetchFault::Absent),
+    (b"test-read/none/none", FetchFault::Absent),
+    (b"test-read/plain\xFF", FetchFault::Absent),
+    (b"test-read", FetchFault::Failed),
+    (b"test-read/plain\x00", FetchFault::Failed),
+    (b"test-read/plain/none", FetchFault::Failed),
+];
+
 #[test]
 fn files_that_cannot_be_read(rt: HostRuntime) -> Result<(), Fail> {
     let alloc = rt.alloc();
     empty_folder(&rt, "test-read")?;
     fs::write(&rt, "test-read/plain", b"m !")?;
     let mut files = DirFiles::new(&rt);
-    for (name, want) in [
-        (b"".as_slice(), FetchFault::Absent),
-        (b"test-read/none", FetchFault::Absent),
-        (b"test-read/none/none", FetchFault::Absent),
-        (b"test-read/plain\xFF", FetchFault::Absent),
-        (b"test-read", FetchFault::Failed),
-        (b"test-read/plain\x00", FetchFault::Failed),
-        (b"test-read/plain/none", FetchFault::Failed),
-    ] {
-        assert!(rt; files.fetch(alloc, name).err() == Some(want));
+    for (name, want) in UNREAD {
+        assert!(rt; files.fetch(alloc, *name).err() == Some(*want));
     }
     fs::remove_dir_all(&rt, "test-read")?;
     Ok(())
@@ -122,29 +138,44 @@ fn the_longest_file_is_read(rt: HostRuntime) -> Result<(), Fail> {
     Ok(())
 }
 
+// Files that are stored, one after another.
+const STORED: &[(&[u8], &[u8])] = &[
+    (b"test-saved-beside", b"no folder"),
+    (b"test-saved/new", b"m !"),
+    (b"test-saved/new", b"m !\ng 3 m\n"),
+    (b"./test-saved/new", b""),
+];
+
 #[test]
 fn a_stored_file_is_read_back(rt: HostRuntime) -> Result<(), Fail> {
     let alloc = rt.alloc();
     empty_folder(&rt, "test-saved")?;
     fs::write(&rt, "test-saved/.units-save-0", b"left by another run")?;
     let mut files = DirFiles::new(&rt);
-    for (name, bytes) in [
-        (b"test-saved-beside".as_slice(), b"no folder".as_slice()),
-        (b"test-saved/new", b"m !"),
-        (b"test-saved/new", b"m !\ng 3 m\n"),
-        (b"./test-saved/new", b""),
-    ] {
-        assert_eq!(rt; files.store(alloc, name, bytes), Ok(()));
-        assert_eq!(rt; files.fetch(alloc, name)?.as_bytes(), bytes);
+    for (name, bytes) in STORED {
+        assert!(rt; files.store(alloc, *name, *bytes).is_ok());
+        assert!(rt; files.fetch(alloc, *name)?.as_bytes() == *bytes);
     }
     let left = files.fetch(alloc, b"test-saved/.units-save-0")?;
-    assert_eq!(rt; left.as_bytes(), b"left by another run".as_slice());
-    assert_eq!(rt; fs::read_dir(&rt, "test-saved")?.count(), 2);
+    assert!(rt; left.as_bytes() == b"left by another run".as_slice());
+    assert!(rt; fs::read_dir(&rt, "test-saved")?.count() == 2);
     assert!(rt; files.fetch(alloc, b".units-save-0").err() == Some(FetchFault::Absent));
     fs::remove_file(&rt, "test-saved-beside")?;
     fs::remove_dir_all(&rt, "test-saved")?;
     Ok(())
 }
+
+// Names under which nothing can be stored.
+const UNSTORED: &[&[u8]] = &[
+    b"test-failed/inner",
+    b"test-failed/inner/",
+    b"test-failed/none/new",
+    b"test-failed/plain/new",
+    b"test-failed/new\xFF",
+    b"test-failed/new\x00",
+    b"test-failed/",
+    b"",
+];
 
 #[test]
 fn a_failed_store_leaves_nothing(rt: HostRuntime) -> Result<(), Fail> {
@@ -153,22 +184,13 @@ fn a_failed_store_leaves_nothing(rt: HostRuntime) -> Result<(), Fail> {
     fs::create_dir(&rt, "test-failed/inner")?;
     fs::write(&rt, "test-failed/plain", b"m !")?;
     let mut files = DirFiles::new(&rt);
-    for name in [
-        b"test-failed/inner".as_slice(),
-        b"test-failed/inner/",
-        b"test-failed/none/new",
-        b"test-failed/plain/new",
-        b"test-failed/new\xFF",
-        b"test-failed/new\x00",
-        b"test-failed/",
-        b"",
-    ] {
-        assert_eq!(rt; files.store(alloc, name, b"g 3 m"), Err(StoreFault::Failed));
+    for name in UNSTORED {
+        assert!(rt; files.store(alloc, *name, b"g 3 m") == Err(StoreFault::Failed));
     }
     let plain = files.fetch(alloc, b"test-failed/plain")?;
-    assert_eq!(rt; plain.as_bytes(), b"m !".as_slice());
-    assert_eq!(rt; fs::read_dir(&rt, "test-failed")?.count(), 2);
-    assert_eq!(rt; fs::read_dir(&rt, "test-failed/inner")?.count(), 0);
+    assert!(rt; plain.as_bytes() == b"m !".as_slice());
+    assert!(rt; fs::read_dir(&rt, "test-failed")?.count() == 2);
+    assert!(rt; fs::read_dir(&rt, "test-failed/inner")?.count() == 0);
     fs::remove_dir_all(&rt, "test-failed")?;
     Ok(())
 }
