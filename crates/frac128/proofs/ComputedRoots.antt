@@ -1,24 +1,21 @@
 -- Roots that are computed by a search among whole numbers.
-use Rattle.std.proofs.Common.{◌≡◌, refl, sym, ap, subst, ◌∙◌, arith, ◌<◌, ◌≤◌, ◌^◌, ◌%◌, Bool, true, false, cond, not, ◌&&◌, ◌==◌, ℕ, ℤ, pos, negsuc, suc, zero, unsigned_abs, int_lt, List, [], ◌∷◌, Option, None, Some, Result, Ok, Err, IsFalse}
-use Rattle.std.specs.Cmp.{first_so, second_so}
+use Rattle.std.proofs.Common.{inl, inr, ◌≡◌, ◌<◌, ◌≤◌, ◌^◌, ◌%◌, refl, sym, ap, subst, ◌∙◌, arith, Bool, true, false, cond, ℕ, ℤ, pos, negsuc, suc, zero, unsigned_abs, int_lt, List, [], ◌∷◌, Option, None, Some, Result, Ok, Err}
+use Rattle.std.specs.Prelude.{◌==◌, ◌&&◌, IsFalse, if◌then◌else◌}
 use Rattle.std.specs.Int.{int_pow}
 use Rattle.std.specs.List.{find}
-use Rattle.std.specs.Ordering.{int_eq}
-use Rattle.std.proofs.lemmas.Bool.{false≢true}
-use Rattle.std.proofs.lemmas.Bool.Decides.{Decides-int_eq, nat_tests}
-use Rattle.std.proofs.lemmas.Int.{ints}
+use Rattle.std.proofs.lemmas.Bool.{cases_eq, false≢true}
+use Rattle.std.proofs.lemmas.Bool.Decides.{nat_tests}
 use Rattle.frac128.specs.Fraction.{Fraction, IsReduced}
-use Rattle.frac128.specs.Roots.{IsRoot, IsRootAnswer, RootOfLaw, is_whole_root, root_of, root_over, up_to, whole_root}
+use Rattle.frac128.specs.Roots.{IsRoot, IsRootAnswer, RootOfLaw, down_from, root_of, root_over, whole_root}
+use Rattle.frac128.specs.Sign.{is_negative}
 use Rattle.frac128.specs.declared.fault.FracFault.{FracFault}
-use Rattle.frac128.proofs.Roots.{abs-pow, le-pow, root_law, root_lowest, root_some}
-
--- ---- the search
-
-differs : true ≡ false → ⊥
-differs e = false≢true (sym e)
+use Rattle.frac128.specs.declared.fault.FracFault.TheVariants.{NoExactRoot}
+use Rattle.frac128.proofs.Powers.{IsMade}
+use Rattle.frac128.proofs.Roots.{abs-pow, le-pow, root_by, root_law}
+use Rattle.frac128.proofs.Signs.{not_below}
 
 -- what is found passes the test
-found_passes : (test : ℤ → Bool) (xs : List ℤ) (x : ℤ) → find test xs ≡ Some x → test x ≡ true
+found_passes : (test : ℕ → Bool) (xs : List ℕ) (x : ℕ) → find test xs ≡ Some x → test x ≡ true
 found_passes test [] x is = absurd (cc)
 found_passes test (y ∷ ys) x is = go (test y) refl is (λ rest. found_passes test ys x rest)
   where
@@ -26,94 +23,71 @@ found_passes test (y ∷ ys) x is = go (test y) refl is (λ rest. found_passes t
     go true passes is rest = let same : y ≡ x = cc in ap test (sym same) ∙ passes
     go false fails is rest = rest is
 
-first_none : (b : Bool) (x : ℤ) (rest : Option ℤ) → cond b (Some x) rest ≡ None → (b ≡ false) × (rest ≡ None)
-first_none true x rest none = absurd (cc)
-first_none false x rest none = (refl, none)
+-- what is not found first fails, and so does the rest
+failed : (b : Bool) (x : ℕ) (rest : Option ℕ) → cond b (Some x) rest ≡ None → (b ≡ false) × (rest ≡ None)
+failed true x rest none = absurd (cc)
+failed false x rest none = (refl, none)
 
--- what passes is found
-passing_found : (test : ℤ → Bool) (n : ℕ) (z : ℤ) → unsigned_abs z ≤ n → test z ≡ true → find test (up_to n) ≡ None → ⊥
-passing_found test zero z le passes none = at_zero z le passes (first_none (test (pos 0)) (pos 0) None none).0
-  where
-    at_zero : (z : ℤ) → unsigned_abs z ≤ 0 → test z ≡ true → test (pos 0) ≡ false → ⊥
-    at_zero (pos zero) le passes fails = differs (sym passes ∙ fails)
-    at_zero (pos (suc m)) le passes fails = omega arith
-    at_zero (negsuc m) le passes fails = omega arith
-passing_found test (suc n) z le passes none =
-    let up = first_none (test (pos (suc n))) (pos (suc n)) (cond (test (negsuc n)) (Some (negsuc n)) (find test (up_to n))) none in
-    let down = first_none (test (negsuc n)) (negsuc n) (find test (up_to n)) up.1 in
-    by_size z le passes up.0 down.0 (λ below. passing_found test n z below passes down.1)
-  where
-    equal : (m : ℕ) → m ≤ suc n → (m ≤ n → ⊥) → m ≡ suc n
-    equal m le other = omega arith
-
-    by_size : (z : ℤ) → unsigned_abs z ≤ suc n → test z ≡ true → test (pos (suc n)) ≡ false → test (negsuc n) ≡ false → (unsigned_abs z ≤ n → ⊥) → ⊥
-    by_size (pos m) le passes up down below = differs (sym passes ∙ ap (λ k. test (pos k)) (equal m le below) ∙ up)
-    by_size (negsuc m) le passes up down below =
-        (let same : m ≡ n = omega (arith, equal (suc m) le below) in differs (sym passes ∙ ap (λ k. test (negsuc k)) same ∙ down))
+-- where none is found, no number up to n passes
+none_passes : (test : ℕ → Bool) (n m : ℕ) → m ≤ n → find test (down_from n) ≡ None → test m ≡ false
+none_passes test zero m low none = let same : m ≡ 0 = omega arith in ap test same ∙ (failed (test 0) 0 None none).0
+none_passes test (suc n) m low none = elim (cases_eq m (suc n)) [
+  | inl same ↦ ap test same ∙ (failed (test (suc n)) (suc n) (find test (down_from n)) none).0
+  | inr other ↦ none_passes test n m (omega (arith, other)) (failed (test (suc n)) (suc n) (find test (down_from n)) none).1
+]
 
 -- ---- the law
 
-plain_is : (q : ℕ) (r : ℤ) → not (q % 2 == 0 && int_lt r (pos 0)) ≡ true → q % 2 ≡ 0 → IsFalse (int_lt r (pos 0))
-plain_is q r h even = go (int_lt r (pos 0)) (sym (ap (λ m. not (m == 0 && int_lt r (pos 0))) even) ∙ h)
+-- the number that is found is the root
+found_root : (n q r : ℕ) → whole_root n q ≡ Some r → r ^ q ≡ n
+found_root n q r is = same (r ^ q) n (found_passes (λ r. r ^ q == n) (down_from n) r is)
   where
-    go : (b : Bool) → not b ≡ true → b ≡ false
-    go true h = sym h
-    go false h = refl
+    same : (a b : ℕ) → (a == b) ≡ true → a ≡ b
+    same a b h = grind (arith, nat_tests)
 
-is_plain : (q : ℕ) (r : ℤ) → (q % 2 ≡ 0 → IsFalse (int_lt r (pos 0))) → not (q % 2 == 0 && int_lt r (pos 0)) ≡ true
-is_plain q r plain = go (q % 2 == 0) (λ h. plain (num_is (q % 2) h))
+-- where none is found, there is none
+no_root : (n q m : ℕ) → 0 < q → whole_root n q ≡ None → m ^ q ≡ n → ⊥
+no_root n q m some none power =
+    clash (m ^ q) n power (none_passes (λ r. r ^ q == n) n m (subst (λ k. m ≤ k) power (le-pow m q some)) none)
   where
-    num_is : (m : ℕ) → (m == 0) ≡ true → m ≡ 0
-    num_is m h = grind (arith, nat_tests)
+    clash : (a b : ℕ) → a ≡ b → (a == b) ≡ false → ⊥
+    clash a b e h = grind (arith, nat_tests)
 
-    go : (b : Bool) → (b ≡ true → IsFalse (int_lt r (pos 0))) → not (b && int_lt r (pos 0)) ≡ true
-    go true plain = ap not (plain refl)
-    go false plain = refl
-
--- a whole root of n is found
-root_found : (n : ℤ) (q : ℕ) (r : ℤ) → 0 < q → int_pow r q ≡ n → (q % 2 ≡ 0 → IsFalse (int_lt r (pos 0))) → whole_root n q ≡ None → ⊥
-root_found n q r some power plain none =
-    let size : unsigned_abs r ^ q ≡ unsigned_abs n = sym (abs-pow r q) ∙ ap unsigned_abs power in
-    let passes : is_whole_root n q r ≡ true = ap (λ b. b && not (q % 2 == 0 && int_lt r (pos 0))) ((Decides-int_eq _ n).1 power) ∙ is_plain q r plain in
-    passing_found (is_whole_root n q) (unsigned_abs n) r (subst (λ k. unsigned_abs r ≤ k) size (le-pow _ q some)) passes none
-
-not_below : (d : ℕ) → IsFalse (int_lt (pos d) (pos 0))
-not_below d = grind (arith, ints)
-
--- what is found makes the root
-found_root : (x : Fraction) (q : ℕ) (a b : ℤ) → IsReduced x → 0 < q → whole_root x.num q ≡ Some a → whole_root (pos x.den) q ≡ Some b
-    → IsRoot x q (record { num = a; den = unsigned_abs b })
-found_root x q a b is some top bottom =
-    let above = found_passes (is_whole_root x.num q) _ a top in
-    let below = found_passes (is_whole_root (pos x.den) q) _ b bottom in
-    let num : int_pow a q ≡ x.num = (Decides-int_eq (int_pow a q) x.num).0 (first_so (int_eq (int_pow a q) x.num) (not (q % 2 == 0 && int_lt a (pos 0))) above) in
-    let bottom_is : int_pow b q ≡ pos x.den = (Decides-int_eq (int_pow b q) (pos x.den)).0 (first_so (int_eq (int_pow b q) (pos x.den)) (not (q % 2 == 0 && int_lt b (pos 0))) below) in
-    let den : unsigned_abs b ^ q ≡ x.den = sym (abs-pow b q) ∙ ap unsigned_abs bottom_is in
-    let size : unsigned_abs a ^ q ≡ unsigned_abs x.num = sym (abs-pow a q) ∙ ap unsigned_abs num in
-    record {
-      reduced = record {
-        positive = root_some (unsigned_abs b) q x.den some den is.positive;
-        lowest = root_lowest (unsigned_abs a) (unsigned_abs b) q (unsigned_abs x.num) x.den some size den is.lowest;
-      };
-      power = ap (λ n. record { num = n; den = unsigned_abs b ^ q }) num ∙ ap (λ d. record { num = x.num; den = d }) den;
-      plain = plain_is q a (second_so (int_eq (int_pow a q) x.num) (not (q % 2 == 0 && int_lt a (pos 0))) above);
-    }
+-- a fraction below 0 has no root of even degree
+no_even : (x r : Fraction) (q : ℕ) → is_negative x ≡ true → q % 2 ≡ 0 → IsRoot x q r → ⊥
+no_even x r q negative even root = by_num r.num (ap (λ f. f.num) root.power) (root.plain even)
+  where
+    by_num : (z : ℤ) → int_pow z q ≡ x.num → IsFalse (int_lt z (pos 0)) → ⊥
+    by_num (pos m) power plain = false≢true (sym (not_below (m ^ q)) ∙ ap (λ z. int_lt z (pos 0)) power ∙ negative)
+    by_num (negsuc m) power plain = false≢true (sym plain)
 
 -- the computed answer is the root, or says that there is none
 pub root_of_law : RootOfLaw
 unfolding root_of
-root_of_law x q is some = go (whole_root x.num q) (whole_root (pos x.den) q) refl refl
+root_of_law x q is some = by_sign (is_negative x) (q % 2 == 0) refl refl
   where
-    num_of : (r : Fraction) → IsRoot x q r → int_pow r.num q ≡ x.num
-    num_of r root = ap (λ f. f.num) root.power
+    even : (m : ℕ) → (m == 0) ≡ true → m ≡ 0
+    even m h = grind (arith, nat_tests)
 
-    den_of : (r : Fraction) → IsRoot x q r → int_pow (pos r.den) q ≡ pos x.den
-    den_of r root = ap (λ f. pos f.den) root.power
+    odd : (m : ℕ) → (m == 0) ≡ false → m ≡ 0 → ⊥
+    odd m h k = grind (arith, nat_tests)
 
-    go : (a b : Option ℤ) → whole_root x.num q ≡ a → whole_root (pos x.den) q ≡ b → IsRootAnswer x q (root_over a b)
-    go (Some a) (Some b) top bottom = found_root x q a b is some top bottom
-    go (Some a) None top bottom = (refl, λ r root. root_found (pos x.den) q (pos r.den) some (den_of r root) (λ _. not_below r.den) bottom)
-    go None b top bottom = (refl, λ r root. root_found x.num q r.num some (num_of r root) root.plain top)
+    made : (s : Bool) → is_negative x ≡ s → IsMade x s (unsigned_abs x.num) x.den
+    made s s_is = record { s_is = sym s_is; a_is = refl; b_is = refl; some = is.positive; lowest = is.lowest }
+
+    by_parts : (s : Bool) (top bottom : Option ℕ) → is_negative x ≡ s → (s ≡ true → q % 2 ≡ 0 → ⊥) → whole_root (unsigned_abs x.num) q ≡ top → whole_root x.den q ≡ bottom
+        → IsRootAnswer x q (root_over s top bottom)
+    by_parts s (Some a) (Some b) s_is other top bottom =
+        root_by x q s (unsigned_abs x.num) x.den a b (made s s_is) some (found_root (unsigned_abs x.num) q a top) (found_root x.den q b bottom) other
+    by_parts s (Some a) None s_is other top bottom = (refl, λ r root. no_root x.den q r.den some bottom (ap (λ f. f.den) root.power))
+    by_parts s None bottom s_is other top none =
+        (refl, λ r root. no_root (unsigned_abs x.num) q (unsigned_abs r.num) some top (sym (abs-pow r.num q) ∙ ap (λ f. unsigned_abs f.num) root.power))
+
+    by_sign : (s e : Bool) → is_negative x ≡ s → (q % 2 == 0) ≡ e
+        → IsRootAnswer x q (if s && e then Err NoExactRoot else root_over s (whole_root (unsigned_abs x.num) q) (whole_root x.den q))
+    by_sign true true s_is e_is = (refl, λ r root. no_even x r q s_is (even (q % 2) e_is) root)
+    by_sign true false s_is e_is = by_parts true _ _ s_is (λ _. odd (q % 2) e_is) refl refl
+    by_sign false e s_is e_is = by_parts false _ _ s_is (λ h _. false≢true h) refl refl
 
 -- an answer is the one that is computed
 pub root_is : (x : Fraction) (q : ℕ) (answer : Result Fraction FracFault) → IsReduced x → 0 < q → IsRootAnswer x q answer → answer ≡ root_of x q

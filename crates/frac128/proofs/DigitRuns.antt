@@ -5,7 +5,7 @@ use Rattle.std.specs.List.{list_all}
 use Rattle.std.proofs.lemmas.Bool.Decides.{nat_tests}
 use Rattle.std.proofs.lemmas.List.{at_drop_all, at_drop_more}
 use Rattle.std.proofs.Math.Nat.{le-mul_of_pos_right, zero-mul, mul-one, mul_assoc, pow-suc}
-use Rattle.frac128.specs.Decimals.{coefficient_of, digits_of, end_zeros, exponent_size, is_zero, most_exponent, number, short_coefficient, without_end_zeros}
+use Rattle.frac128.specs.Decimals.{coefficient_of, digits_of, end_zeros, exponent_size, is_zero_digit, most_exponent, number, short_coefficient, without_end_zeros}
 use Rattle.frac128.specs.Fraction.{most}
 use Rattle.frac128.specs.Numerals.{is_digit}
 use Rattle.frac128.proofs.Powers.{pow_some}
@@ -18,11 +18,11 @@ extend n d = n * 10 + d
 -- the number and the zeros at its end, after some digits more
 abbrev pub collect : ℕ → ℕ → List ℕ → ℕ × ℕ
 collect n z [] = (n, z)
-collect n z (d ∷ ds) = if is_zero d then collect n (z + 1) ds else collect (n * 10 ^ (z + 1) + d) 0 ds
+collect n z (d ∷ ds) = if is_zero_digit d then collect n (z + 1) ds else collect (n * 10 ^ (z + 1) + d) 0 ds
 
 -- zeros alone
 abbrev all_zero : List ℕ → Bool
-all_zero ds = list_all is_zero ds
+all_zero ds = list_all is_zero_digit ds
 
 -- nothing is left of zeros alone
 without-all_zero : (ds : List ℕ) → all_zero ds ≡ true → without_end_zeros ds ≡ []
@@ -146,7 +146,7 @@ digit_next n z b bs other h = rw h (by_digit (b - 48) some)
     some : 0 < b - 48
     some = let low : 48 ≤ b = grind (arith, nat_tests) in omega (arith, other)
 
-    by_digit : (d : ℕ) → 0 < d → (if is_zero d then collect n (z + 1) (digits_of bs) else collect (n * 10 ^ (z + 1) + d) 0 (digits_of bs)) ≡ collect (n * 10 ^ (z + 1) + d) 0 (digits_of bs)
+    by_digit : (d : ℕ) → 0 < d → (if is_zero_digit d then collect n (z + 1) (digits_of bs) else collect (n * 10 ^ (z + 1) + d) 0 (digits_of bs)) ≡ collect (n * 10 ^ (z + 1) + d) 0 (digits_of bs)
     by_digit zero h = absurd (omega arith)
     by_digit (suc d) h = refl
 

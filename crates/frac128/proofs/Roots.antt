@@ -56,22 +56,28 @@ plain_sign false top q odd even = grind (arith, ints)
 plain_sign true top q odd even = absurd (odd refl even)
 
 -- the root by the roots of numerator and denominator
-pub root_made : (x : Fraction) (q : ℕ) (s : Bool) (a b top bottom : ℕ) → IsMade x s a b → 0 < q → top ^ q ≡ a → bottom ^ q ≡ b → a ≤ most → b ≤ most
-    → (s ≡ true → q % 2 ≡ 0 → ⊥) → IsRootAnswer x q (fitting (record { num = signed s top; den = bottom }))
-root_made x q s a b top bottom is some first second a_fits b_fits odd =
-    let low : top ≤ most = subst (λ k. k ≤ most) refl (under top a (subst (λ k. top ≤ k) first (le-pow top q some)) a_fits) in
-    let high : bottom ≤ most = under bottom b (subst (λ k. bottom ≤ k) second (le-pow bottom q some)) b_fits in
+pub root_by : (x : Fraction) (q : ℕ) (s : Bool) (a b top bottom : ℕ) → IsMade x s a b → 0 < q → top ^ q ≡ a → bottom ^ q ≡ b
+    → (s ≡ true → q % 2 ≡ 0 → ⊥) → IsRoot x q (record { num = signed s top; den = bottom })
+root_by x q s a b top bottom is some first second odd =
     let num : int_pow (signed s top) q ≡ x.num =
-    pow-signed s top q ∙ ap (λ t. signed t (top ^ q)) (odd_sign s q odd) ∙ ap (signed s) (first ∙ is.a_is) ∙ ap (λ t. signed t (unsigned_abs x.num)) is.s_is ∙ sym (signed_is x.num) in
-    let root : IsRoot x q (record { num = signed s top; den = bottom }) = record {
+    pow-signed s top q ∙ ap (λ t. signed t (top ^ q)) (odd_sign s q odd) ∙ ap (signed s) (first ∙ is.a_is)
+    ∙ ap (λ t. signed t (unsigned_abs x.num)) is.s_is ∙ sym (signed_is x.num) in
+    record {
       reduced = record {
         positive = root_some bottom q b some second is.some;
         lowest = rw (abs-signed s top) (root_lowest top bottom q a b some first second (rw is.b_is is.lowest));
       };
       power = ap (λ n. record { num = n; den = bottom ^ q }) num ∙ ap (λ d. record { num = x.num; den = d }) (second ∙ is.b_is);
       plain = plain_sign s top q odd;
-    } in
-    subst (IsRootAnswer x q) (sym (fitting_ok s top bottom low high)) root
+    }
+
+-- it fits where they do
+pub root_made : (x : Fraction) (q : ℕ) (s : Bool) (a b top bottom : ℕ) → IsMade x s a b → 0 < q → top ^ q ≡ a → bottom ^ q ≡ b → a ≤ most → b ≤ most
+    → (s ≡ true → q % 2 ≡ 0 → ⊥) → IsRootAnswer x q (fitting (record { num = signed s top; den = bottom }))
+root_made x q s a b top bottom is some first second a_fits b_fits odd =
+    let low : top ≤ most = under top a (subst (λ k. top ≤ k) first (le-pow top q some)) a_fits in
+    let high : bottom ≤ most = under bottom b (subst (λ k. bottom ≤ k) second (le-pow bottom q some)) b_fits in
+    subst (IsRootAnswer x q) (sym (fitting_ok s top bottom low high)) (root_by x q s a b top bottom is some first second odd)
   where
     under : (m n : ℕ) → m ≤ n → n ≤ most → m ≤ most
     under m n h k = omega arith

@@ -30,14 +30,14 @@ abbrev pub number : List ℕ → ℕ
 number ds = fold (λ n d. n * 10 + d) 0 ds
 
 -- the digit is 0
-abbrev pub is_zero : ℕ → Bool
-is_zero zero = true
-is_zero (suc n) = false
+abbrev pub is_zero_digit : ℕ → Bool
+is_zero_digit zero = true
+is_zero_digit (suc n) = false
 
 -- the digits without the zeros at their end
 abbrev pub without_end_zeros : List ℕ → List ℕ
 without_end_zeros [] = []
-without_end_zeros (d ∷ ds) = if list_all is_zero (d ∷ ds) then [] else d ∷ without_end_zeros ds
+without_end_zeros (d ∷ ds) = if list_all is_zero_digit (d ∷ ds) then [] else d ∷ without_end_zeros ds
 
 -- what stands before the `e` or `E`
 abbrev pub mantissa : List ℕ → List ℕ
