@@ -1,5 +1,8 @@
 //! Why a step on fractions has no answer.
 
+ghost use Rattle.std.specs.Prelude.{◌≡◌};
+ghost use Rattle.frac128.specs.Faults.{fault_text};
+
 /// Why a step on fractions has no answer.
 #[derive(Clone, Copy, Debug, PartialEq, Eq)]
 pub enum FracFault {
@@ -9,4 +12,17 @@ pub enum FracFault {
     DivisionByZero,
     /// No fraction is the root.
     NoExactRoot,
+}
+
+impl FracFault {
+    /// What is said of the fault: `overflow`, `division by zero` or `no exact root`.
+    pub fn text(self) -> &'static [u8]
+        ensures { result.now ≡ fault_text self }
+    {
+        match self {
+            FracFault::Overflow => b"overflow",
+            FracFault::DivisionByZero => b"division by zero",
+            FracFault::NoExactRoot => b"no exact root",
+        }
+    }
 }

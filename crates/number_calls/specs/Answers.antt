@@ -5,10 +5,10 @@ use Rattle.std.specs.Int.NonZero.{non_zero_u32_get}
 use Rattle.std.specs.declared.cmp.Ordering.{Ordering}
 use Rattle.std.specs.declared.cmp.Ordering.TheVariants.{Less, Equal, Greater}
 use Rattle.frac128.specs.declared.fault.FracFault.{FracFault}
-use Rattle.frac128.specs.declared.fault.FracFault.TheVariants.{Overflow, DivisionByZero, NoExactRoot}
 use Rattle.frac128.specs.declared.numeral.NumeralFault.{NumeralFault}
 use Rattle.frac128.specs.declared.numeral.NumeralFault.TheVariants.{NotNumeral, TooLong}
 use Rattle.frac128.specs.Decimals.{Decimal, read, value_of}
+use Rattle.frac128.specs.Faults.{fault_text}
 use Rattle.frac128.specs.Floor.{floor_of}
 use Rattle.frac128.specs.Fraction.{Fraction, negated}
 use Rattle.frac128.specs.Numerals.{numeral_len_of}
@@ -36,12 +36,6 @@ IsTaken (Mul x y) taken = taken ≡ times x y
 IsTaken (Div x y) taken = taken ≡ over x y
 IsTaken (Pow x k) taken = taken ≡ power x k
 IsTaken (Root x degree) taken = IsRootAnswer x (non_zero_u32_get degree) taken
-
--- the text of a fault
-abbrev pub fault_text : FracFault → List ℕ
-fault_text Overflow = codes "overflow"
-fault_text DivisionByZero = codes "division by zero"
-fault_text NoExactRoot = codes "no exact root"
 
 -- a fraction exactly, or the text of the fault
 abbrev pub fraction_text : Result Fraction FracFault → List ℕ

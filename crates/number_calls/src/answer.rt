@@ -2,7 +2,7 @@
 
 ghost use Rattle.std.specs.Prelude.{◌≡◌, IfOk};
 ghost use Rattle.std.specs.Fmt.{decimal};
-ghost use Rattle.number_calls.specs.Answers.{fault_text as fault_text_of, order_text as order_text_of, truth_text as truth_text_of};
+ghost use Rattle.number_calls.specs.Answers.{order_text as order_text_of, truth_text as truth_text_of};
 ghost use Rattle.number_calls.specs.Answers.{IsAnswer, IsTaken, fraction_text, numeral_text};
 ghost use Rattle.frac128.specs.Decimals.{read};
 ghost use Rattle.frac128.specs.Numerals.{numeral_len_of};
@@ -63,7 +63,7 @@ fn fraction_answer(alloc: Global, taken: Result<Frac, FracFault>) -> Result<Text
 {
     match taken {
         Ok(x) => print_exact(alloc, &x),
-        Err(fault) => Text::from_bytes(alloc, fault_text(fault)),
+        Err(fault) => Text::from_bytes(alloc, fault.text()),
     }
 }
 
@@ -83,17 +83,6 @@ fn numeral_answer(alloc: Global, bytes: &[u8]) -> Result<Text, AllocError>
         Ok(numeral) => fraction_answer(alloc, numeral.value()),
         Err(NumeralFault::NotNumeral) => Text::from_bytes(alloc, b"not a numeral"),
         Err(NumeralFault::TooLong) => Text::from_bytes(alloc, b"too long"),
-    }
-}
-
-// The text of a fault.
-fn fault_text(fault: FracFault) -> &'static [u8]
-    ensures { result.now ≡ fault_text_of fault }
-{
-    match fault {
-        FracFault::Overflow => b"overflow",
-        FracFault::DivisionByZero => b"division by zero",
-        FracFault::NoExactRoot => b"no exact root",
     }
 }
 
