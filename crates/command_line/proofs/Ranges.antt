@@ -1,5 +1,6 @@
 -- Of a parse that succeeds, the numbers at `--digits` and `--trial`.
-use Rattle.std.proofs.Common.{◌≡◌, ◌∙◌, ◌⊎◌, inl, inr, refl, ap, ℕ, Bool, true, false, arith, [], Option, Some, None, IfSome, codes, rules}
+use Rattle.std.proofs.Common.{◌≡◌, ◌∙◌, ◌⊎◌, inl, inr, refl, ap, ℕ, Bool, true, false, arith, [], Option, Some, None, IfSome, codes}
+use Rattle.std.proofs.Common.{rules}
 use Rattle.std.specs.Prelude.{pos}
 use Rattle.std.specs.Str.Parse.{IsNumeral, starts_with_minus, without_leading_plus}
 use Rattle.std.proofs.lemmas.Int.{ints}

@@ -6,13 +6,15 @@ use Rattle.def_lines.specs.Blanks.{trimmed}
 use Rattle.def_lines.specs.Lines.{cleaned, continued, ends_with, front, joined, lines_from, physical_lines, trimmed_line}
 
 -- what is joined to a line that is joined
-pub joined-joined : (n m : ℕ) (front text : List ℕ) (lines : List Line) → joined n front (joined m text lines) ≡ joined n (front ++ text) lines
+pub joined-joined : (n m : ℕ) (front text : List ℕ) (lines : List Line)
+    → joined n front (joined m text lines) ≡ joined n (front ++ text) lines
 joined-joined n m front text [] = refl
 joined-joined n m front text (line ∷ lines) =
     ap (λ (t : List ℕ). record { number = n; text = t } ∷ lines) (sym (append_assoc front text line.text))
 
 -- two texts that are trimmed alike, whatever comes behind, make the same lines
-pub trimmed-joined : (n : ℕ) (a b : List ℕ) → ((behind : List ℕ) → trimmed (a ++ behind) ≡ trimmed (b ++ behind)) → (lines : List Line) → map trimmed_line (joined n a lines) ≡ map trimmed_line (joined n b lines)
+pub trimmed-joined : (n : ℕ) (a b : List ℕ) → ((behind : List ℕ) → trimmed (a ++ behind) ≡ trimmed (b ++ behind)) → (lines : List Line)
+    → map trimmed_line (joined n a lines) ≡ map trimmed_line (joined n b lines)
 trimmed-joined n a b same [] =
     ap (λ (t : List ℕ). record { number = n; text = t } ∷ []) (ap trimmed (sym (append-nil a)) ∙ same [] ∙ ap trimmed (append-nil b))
 trimmed-joined n a b same (line ∷ lines) =
@@ -28,7 +30,8 @@ line-ended number line old new bytes named text put more =
     (λ i. (record { number = named i; text = all i } ∷ map trimmed_line more))
 
 -- the logical lines from a physical line on that does not go on
-pub lines_from-ended : (number : ℕ) (bytes line behind left : List ℕ) → physical_lines bytes ≡ line ∷ physical_lines behind → left ≡ cleaned line
+pub lines_from-ended : (number : ℕ) (bytes line behind left : List ℕ) → physical_lines bytes ≡ line ∷ physical_lines behind
+    → left ≡ cleaned line
     → ends_with 92 left ≡ false
     → lines_from number (physical_lines bytes) ≡ record { number = number; text = left } ∷ lines_from (number + 1) (physical_lines behind)
 lines_from-ended number bytes line behind left first clean ends =

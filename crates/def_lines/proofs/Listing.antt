@@ -1,5 +1,6 @@
 -- The words of a text, taken one by one.
-use Rattle.std.proofs.Common.{◌≡◌, ◌<◌, ◌≤◌, ◌+◌, ◌∷◌, [], ◌||◌, ℕ, suc, List, Bool, true, false, cond, not, length, take, drop, refl, sym, ap, ◌∙◌, arith, one-add, ◌==◌, length-drop}
+use Rattle.std.proofs.Common.{◌≡◌, ◌<◌, ◌≤◌, ◌+◌, ◌∷◌, [], ◌||◌, ℕ, suc, List, Bool, true, false, cond, not, length, take, drop, refl}
+use Rattle.std.proofs.Common.{sym, ap, ◌∙◌, arith, one-add, ◌==◌, length-drop}
 use Rattle.std.specs.List.{list_any, position_or_len, slice_split, onto_first}
 use Rattle.units_io.specs.Blanks.{is_blank}
 use Rattle.std.specs.Str.{bytes_eq}
@@ -22,7 +23,8 @@ pub words_of-after_blanks : (text : List ℕ) → words_of (after_blanks text) �
 words_of-after_blanks [] = refl
 words_of-after_blanks (b ∷ text) = go (is_blank b) refl (words_of-after_blanks text)
   where
-    go : (t : Bool) → is_blank b ≡ t → words_of (after_blanks text) ≡ words_of text → words_of (after_blanks (b ∷ text)) ≡ words_of (b ∷ text)
+    go : (t : Bool) → is_blank b ≡ t → words_of (after_blanks text) ≡ words_of text
+        → words_of (after_blanks (b ∷ text)) ≡ words_of (b ∷ text)
     go true e rest = ap words_of (after_blanks-blank b text e) ∙ rest ∙ sym (words_of-blank b text e)
     go false e rest = ap words_of (after_blanks-word b text e)
 
@@ -83,12 +85,14 @@ length-first_word (b ∷ text) = go (is_blank b) refl (length-first_word text)
         ap (λ n. length (take n (b ∷ text))) at ∙ ap suc rest ∙ sym at
 
 -- the words of a text whose front is no blank: the first, and those behind it
-pub words_of-first : (b : ℕ) (text : List ℕ) → is_begun (b ∷ text) ≡ true → words_of (b ∷ text) ≡ first_word (b ∷ text) ∷ words_of (after_word (b ∷ text))
+pub words_of-first : (b : ℕ) (text : List ℕ) → is_begun (b ∷ text) ≡ true
+    → words_of (b ∷ text) ≡ first_word (b ∷ text) ∷ words_of (after_word (b ∷ text))
 unfolding words_of
 words_of-first b text begun =
     let part : Parted (b ∷ text) = parted (b ∷ text) in
     let front : take (word_end (b ∷ text)) (b ∷ text) ≡ b ∷ take (word_end text) text =
-    ap (λ t. take (cond (not t) (1 + word_end text) 0) (b ∷ text)) (front_word b text begun) ∙ ap (λ n. take n (b ∷ text)) (one-add (word_end text)) in
+    ap (λ t. take (cond (not t) (1 + word_end text) 0) (b ∷ text)) (front_word b text begun)
+    ∙ ap (λ n. take n (b ∷ text)) (one-add (word_end text)) in
     ap nonempty part.pieces
     ∙ ap (λ w. nonempty (w ∷ part.behind)) front
     ∙ (λ i. sym front i ∷ part.words i)

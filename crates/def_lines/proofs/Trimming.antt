@@ -1,5 +1,6 @@
 -- Blanks at the ends of texts that are put together.
-use Rattle.std.proofs.Common.{◌≡◌, ◌≤◌, ◌++◌, ◌∷◌, [], ℕ, List, Bool, true, false, cond, not, reverse, length, drop, ◌+◌, one-add, if◌then◌else◌, Result, Ok, Err, OnOk, is_ok, ◌==◌, refl, sym, ap, ◌∙◌, arith}
+use Rattle.std.proofs.Common.{◌≡◌, ◌≤◌, ◌++◌, ◌∷◌, [], ℕ, List, Bool, true, false, cond, not, reverse, length, drop, ◌+◌, one-add}
+use Rattle.std.proofs.Common.{if◌then◌else◌, Result, Ok, Err, OnOk, is_ok, ◌==◌, refl, sym, ap, ◌∙◌, arith}
 use Rattle.std.specs.List.{prefix_len}
 use Rattle.std.proofs.lemmas.List.{reverse-append}
 use Rattle.std.proofs.lemmas.Bool.Decides.{Decides-eqb}
@@ -23,7 +24,8 @@ passed_over (b ∷ bytes) = go (is_blank b) refl (passed_over bytes)
     go : (t : Bool) → is_blank b ≡ t → drop (prefix_len is_blank bytes) bytes ≡ after_blanks bytes
         → drop (prefix_len is_blank (b ∷ bytes)) (b ∷ bytes) ≡ after_blanks (b ∷ bytes)
     go true e rest =
-        ap (λ t. drop (cond t (1 + prefix_len is_blank bytes) 0) (b ∷ bytes)) e ∙ ap (λ n. drop n (b ∷ bytes)) (one-add (prefix_len is_blank bytes))
+        ap (λ t. drop (cond t (1 + prefix_len is_blank bytes) 0) (b ∷ bytes)) e
+        ∙ ap (λ n. drop n (b ∷ bytes)) (one-add (prefix_len is_blank bytes))
         ∙ rest ∙ sym (after_blanks-blank b bytes e)
     go false e rest =
         ap (λ t. drop (cond t (1 + prefix_len is_blank bytes) 0) (b ∷ bytes)) e ∙ sym (after_blanks-word b bytes e)
@@ -51,7 +53,8 @@ after_blanks-end_word : (b : ℕ) (bytes : List ℕ) → is_blank b ≡ false �
 after_blanks-end_word b [] word = after_blanks-word b [] word
 after_blanks-end_word b (c ∷ bytes) word = go (is_blank c) refl (after_blanks-end_word b bytes word)
   where
-    go : (t : Bool) → is_blank c ≡ t → after_blanks (bytes ++ b ∷ []) ≡ after_blanks bytes ++ b ∷ [] → after_blanks (c ∷ (bytes ++ b ∷ [])) ≡ after_blanks (c ∷ bytes) ++ b ∷ []
+    go : (t : Bool) → is_blank c ≡ t → after_blanks (bytes ++ b ∷ []) ≡ after_blanks bytes ++ b ∷ []
+        → after_blanks (c ∷ (bytes ++ b ∷ [])) ≡ after_blanks (c ∷ bytes) ++ b ∷ []
     go true e rest = after_blanks-blank c (bytes ++ b ∷ []) e ∙ rest ∙ ap (λ t. t ++ b ∷ []) (sym (after_blanks-blank c bytes e))
     go false e rest = after_blanks-word c (bytes ++ b ∷ []) e ∙ ap (λ t. t ++ b ∷ []) (sym (after_blanks-word c bytes e))
 
@@ -75,11 +78,14 @@ trimmed-begun (b ∷ bytes) begun = go (is_blank b) refl
         ∙ sym (before_blanks-word b bytes e)
 
 -- what is left before a blank at the end: nothing, or the same
-after_blanks-end_blank : (b : ℕ) (bytes : List ℕ) → is_blank b ≡ true → after_blanks (reverse (after_blanks (bytes ++ b ∷ []))) ≡ after_blanks (reverse (after_blanks bytes))
+after_blanks-end_blank : (b : ℕ) (bytes : List ℕ) → is_blank b ≡ true
+    → after_blanks (reverse (after_blanks (bytes ++ b ∷ []))) ≡ after_blanks (reverse (after_blanks bytes))
 after_blanks-end_blank b [] blank = ap (λ t. after_blanks (reverse t)) (after_blanks-blank b [] blank)
 after_blanks-end_blank b (c ∷ bytes) blank = go (is_blank c) refl (after_blanks-end_blank b bytes blank)
   where
-    go : (t : Bool) → is_blank c ≡ t → after_blanks (reverse (after_blanks (bytes ++ b ∷ []))) ≡ after_blanks (reverse (after_blanks bytes)) → after_blanks (reverse (after_blanks (c ∷ (bytes ++ b ∷ [])))) ≡ after_blanks (reverse (after_blanks (c ∷ bytes)))
+    go : (t : Bool) → is_blank c ≡ t
+        → after_blanks (reverse (after_blanks (bytes ++ b ∷ []))) ≡ after_blanks (reverse (after_blanks bytes))
+        → after_blanks (reverse (after_blanks (c ∷ (bytes ++ b ∷ [])))) ≡ after_blanks (reverse (after_blanks (c ∷ bytes)))
     go true e rest =
         ap (λ t. after_blanks (reverse t)) (after_blanks-blank c (bytes ++ b ∷ []) e)
         ∙ rest
@@ -100,7 +106,8 @@ pub trimmed-after_blanks : (bytes behind : List ℕ) → trimmed (after_blanks b
 trimmed-after_blanks [] behind = refl
 trimmed-after_blanks (b ∷ bytes) behind = go (is_blank b) refl (trimmed-after_blanks bytes behind)
   where
-    go : (t : Bool) → is_blank b ≡ t → trimmed (after_blanks bytes ++ behind) ≡ trimmed (bytes ++ behind) → trimmed (after_blanks (b ∷ bytes) ++ behind) ≡ trimmed (b ∷ (bytes ++ behind))
+    go : (t : Bool) → is_blank b ≡ t → trimmed (after_blanks bytes ++ behind) ≡ trimmed (bytes ++ behind)
+        → trimmed (after_blanks (b ∷ bytes) ++ behind) ≡ trimmed (b ∷ (bytes ++ behind))
     go true e rest = ap (λ t. trimmed (t ++ behind)) (after_blanks-blank b bytes e) ∙ rest ∙ sym (trimmed-blank b (bytes ++ behind) e)
     go false e rest = ap (λ t. trimmed (t ++ behind)) (after_blanks-word b bytes e)
 
@@ -110,7 +117,8 @@ empty-nil [] none = refl
 empty-nil (b ∷ text) none = let e : length (b ∷ text) ≡ 0 = (Decides-eqb (length (b ∷ text)) 0).0 none in absurd (omega arith)
 
 -- bytes are put behind a text that has none
-pub put-first : {E : Type 0} (r : Result (Unit {0}) E) (old new part bytes : List ℕ) → (length old == 0) ≡ true → part ≡ after_blanks bytes → new ≡ (if is_ok r then old ++ part else old)
+pub put-first : {E : Type 0} (r : Result (Unit {0}) E) (old new part bytes : List ℕ) → (length old == 0) ≡ true
+    → part ≡ after_blanks bytes → new ≡ (if is_ok r then old ++ part else old)
     → OnOk r ((behind : List ℕ) → trimmed (new ++ behind) ≡ trimmed (old ++ (bytes ++ behind)))
 put-first (Ok done) old new part bytes none from is = λ behind.
     ap (λ t. trimmed (t ++ behind)) (is ∙ ap (λ t. old ++ t) from ∙ ap (λ t. t ++ after_blanks bytes) (empty-nil old none))
@@ -119,13 +127,15 @@ put-first (Ok done) old new part bytes none from is = λ behind.
 put-first (Err fault) old new part bytes none from is = tt
 
 -- the text begins with no blank then
-pub is_begun-put-first : (t : Bool) (old new part bytes : List ℕ) → (length old == 0) ≡ true → part ≡ after_blanks bytes → new ≡ (if t then old ++ part else old) → is_begun new ≡ true
+pub is_begun-put-first : (t : Bool) (old new part bytes : List ℕ) → (length old == 0) ≡ true → part ≡ after_blanks bytes
+    → new ≡ (if t then old ++ part else old) → is_begun new ≡ true
 is_begun-put-first true old new part bytes none from is =
     ap is_begun (is ∙ ap (λ t. old ++ t) from ∙ ap (λ t. t ++ after_blanks bytes) (empty-nil old none)) ∙ is_begun-after_blanks bytes
 is_begun-put-first false old new part bytes none from is = ap is_begun (is ∙ empty-nil old none)
 
 -- nor does one that began with none
-pub is_begun-put : (t : Bool) (old new bytes : List ℕ) → (length old == 0) ≡ false → is_begun old ≡ true → new ≡ (if t then old ++ bytes else old) → is_begun new ≡ true
+pub is_begun-put : (t : Bool) (old new bytes : List ℕ) → (length old == 0) ≡ false → is_begun old ≡ true
+    → new ≡ (if t then old ++ bytes else old) → is_begun new ≡ true
 is_begun-put t [] new bytes some begun is = cc
 is_begun-put true (b ∷ old) new bytes some begun is = ap is_begun is ∙ begun
 is_begun-put false (b ∷ old) new bytes some begun is = ap is_begun is ∙ begun

@@ -6,11 +6,13 @@ use Rattle.std.specs.declared.option.Option.{Option}
 use Rattle.units_io.specs.Bytes.{grown}
 
 -- a front, and then a front of the rest, is a longer front
-pub grown-step : (held : Option (List ℕ)) (bytes : List ℕ) (m n : ℕ) → grown (grown held (take m bytes)) (take n (drop m bytes)) ≡ grown held (take (m + n) bytes)
+pub grown-step : (held : Option (List ℕ)) (bytes : List ℕ) (m n : ℕ)
+    → grown (grown held (take m bytes)) (take n (drop m bytes)) ≡ grown held (take (m + n) bytes)
 grown-step None bytes m n = refl
 grown-step (Some held) bytes m n = ap Some (append_assoc held _ _ ∙ ap (λ x. held ++ x) (sym (take-add m n bytes)))
 
 -- the next n bytes, copied to the front of a buffer, and what is then left
-pub drop-taken : (bytes lent copied rest : List ℕ) (at n m : ℕ) → m ≡ n → length copied ≡ n → lent ≡ bytes → copied ≡ take m (drop at lent) → drop at bytes ≡ take n (copied ++ rest) ++ drop (at + n) bytes
+pub drop-taken : (bytes lent copied rest : List ℕ) (at n m : ℕ) → m ≡ n → length copied ≡ n → lent ≡ bytes
+    → copied ≡ take m (drop at lent) → drop at bytes ≡ take n (copied ++ rest) ++ drop (at + n) bytes
 drop-taken bytes lent copied rest at n m same long whole is =
     rw (take_at copied rest n long, is, whole, same, ← drop-drop n at bytes) (sym (take-append-drop n (drop at bytes)))

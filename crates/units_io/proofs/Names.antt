@@ -1,5 +1,6 @@
 -- Pairs of a name and a value: what a look-up finds, and pairs with one more value.
-use Rattle.std.proofs.Common.{◌≡◌, ◌≢◌, ℕ, List, [], ◌∷◌, ◌++◌, Option, Some, None, refl, sym, ap, subst, ◌∙◌, Bool, true, false, cond, Vec, Bor}
+use Rattle.std.proofs.Common.{◌≡◌, ◌≢◌, ℕ, List, [], ◌∷◌, ◌++◌, Option, Some, None, refl, sym, ap, subst, ◌∙◌, Bool, true, false, cond}
+use Rattle.std.proofs.Common.{Vec, Bor}
 use Rattle.std.specs.Prelude.{IfNone}
 use Rattle.std.specs.Option.{option_copied}
 use Rattle.std.specs.Map.{lookup}
@@ -33,12 +34,14 @@ HasNoName-from_value_of (pair ∷ pairs) name none = by _ refl (HasNoName-from_v
     by false is later = (differ name pair.0 is, later (sym (ap (λ b. cond b (Some pair.1) (value_of pairs name)) is) ∙ none))
 
 -- a name that a look-up does not find is in no pair
-pub HasNoName-not_found : (pairs : Pairs) (name : List ℕ) (found : Option (Bor (List ℕ))) → option_copied found ≡ value_of pairs name → IfNone found (HasNoName pairs name)
+pub HasNoName-not_found : (pairs : Pairs) (name : List ℕ) (found : Option (Bor (List ℕ))) → option_copied found ≡ value_of pairs name
+    → IfNone found (HasNoName pairs name)
 HasNoName-not_found pairs name None is = HasNoName-from_value_of pairs name (sym is)
 HasNoName-not_found pairs name (Some value) is = tt
 
 -- a value for a name that no pair has is put at the end
-pub with_value-new : (pairs : Pairs) (name value : List ℕ) → HasNoName pairs name → with_value pairs name value ≡ pairs ++ (name, value) ∷ []
+pub with_value-new : (pairs : Pairs) (name value : List ℕ) → HasNoName pairs name
+    → with_value pairs name value ≡ pairs ++ (name, value) ∷ []
 with_value-new [] name value none = refl
 with_value-new (pair ∷ pairs) name value none =
     ap (λ b. cond b ((pair.0, value) ∷ pairs) (pair ∷ with_value pairs name value)) (apart name pair.0 none.0)
@@ -58,25 +61,30 @@ with_value-Sets (pair ∷ pairs) name value other = by _ _ refl refl (with_value
     by false false is found later = rw (is, found) later
 
 -- a pair of another name leaves a name absent
-HasNoName-with_value : (pairs : Pairs) (name value other : List ℕ) → HasNoName pairs other → name ≢ other → HasNoName (with_value pairs name value) other
+HasNoName-with_value : (pairs : Pairs) (name value other : List ℕ) → HasNoName pairs other → name ≢ other
+    → HasNoName (with_value pairs name value) other
 HasNoName-with_value [] name value other none differs = (differs, tt)
 HasNoName-with_value (pair ∷ pairs) name value other none differs = by _ refl (HasNoName-with_value pairs name value other none.1 differs)
   where
-    by : (b : Bool) → bytes_eq name pair.0 ≡ b → HasNoName (with_value pairs name value) other → HasNoName (with_value (pair ∷ pairs) name value) other
+    by : (b : Bool) → bytes_eq name pair.0 ≡ b → HasNoName (with_value pairs name value) other
+        → HasNoName (with_value (pair ∷ pairs) name value) other
     by true is later = rw is (none.0, none.1)
     by false is later = rw is (none.0, later)
 
 -- names stay distinct where a value is set
-pub HasDistinctNames-with_value : (pairs : Pairs) (name value : List ℕ) → HasDistinctNames pairs → HasDistinctNames (with_value pairs name value)
+pub HasDistinctNames-with_value : (pairs : Pairs) (name value : List ℕ) → HasDistinctNames pairs
+    → HasDistinctNames (with_value pairs name value)
 HasDistinctNames-with_value [] name value distinct = (tt, tt)
 HasDistinctNames-with_value (pair ∷ pairs) name value distinct = by _ refl (HasDistinctNames-with_value pairs name value distinct.1)
   where
-    by : (b : Bool) → bytes_eq name pair.0 ≡ b → HasDistinctNames (with_value pairs name value) → HasDistinctNames (with_value (pair ∷ pairs) name value)
+    by : (b : Bool) → bytes_eq name pair.0 ≡ b → HasDistinctNames (with_value pairs name value)
+        → HasDistinctNames (with_value (pair ∷ pairs) name value)
     by true is later = rw is (distinct.0, distinct.1)
     by false is later = rw is (HasNoName-with_value pairs name value pair.0 distinct.0 (λ e. differ name pair.0 is (sym e)), later)
 
 -- the name of a pair is not that of a pair before it
-pub HasNoName-before : (before : Pairs) (pair : List ℕ × List ℕ) (behind : Pairs) → HasDistinctNames (before ++ pair ∷ behind) → HasNoName before pair.0
+pub HasNoName-before : (before : Pairs) (pair : List ℕ × List ℕ) (behind : Pairs) → HasDistinctNames (before ++ pair ∷ behind)
+    → HasNoName before pair.0
 HasNoName-before [] pair behind distinct = tt
 HasNoName-before (p ∷ before) pair behind distinct = (first before distinct.0, HasNoName-before before pair behind distinct.1)
   where
@@ -86,7 +94,8 @@ HasNoName-before (p ∷ before) pair behind distinct = (first before distinct.0,
 
 module _ {Y : Type 0} where
   -- a look-up in an index map is one among its pairs
-  pub value_of-pairs_of : (entries : List (Vec ℕ Y × List ℕ)) (name : List ℕ) → lookup (λ key. bytes_eq name key.items) entries ≡ value_of (pairs_of entries) name
+  pub value_of-pairs_of : (entries : List (Vec ℕ Y × List ℕ)) (name : List ℕ)
+      → lookup (λ key. bytes_eq name key.items) entries ≡ value_of (pairs_of entries) name
   value_of-pairs_of [] name = refl
   value_of-pairs_of (entry ∷ entries) name = ap (λ o. cond (bytes_eq name entry.0.items) (Some entry.1) o) (value_of-pairs_of entries name)
 
@@ -103,7 +112,8 @@ module _ {Y : Type 0} where
       by false is later = rw is (ap (λ (ps : Pairs). (entry.0.items, entry.1) ∷ ps) later)
 
   -- the next name to copy is none of those that were copied
-  pub HasNoName-next : (pairs copied : Pairs) (rest behind : List (Vec ℕ Y × List ℕ)) (key : Vec ℕ Y) (value name : List ℕ) → HasDistinctNames pairs
+  pub HasNoName-next : (pairs copied : Pairs) (rest behind : List (Vec ℕ Y × List ℕ)) (key : Vec ℕ Y) (value name : List ℕ)
+      → HasDistinctNames pairs
       → copied ++ pairs_of rest ≡ pairs → rest ≡ (key, value) ∷ behind → name ≡ key.items → HasNoName copied name
   HasNoName-next pairs copied rest behind key value name distinct whole is named =
       let parts : pairs ≡ copied ++ (key.items, value) ∷ pairs_of behind = sym whole ∙ ap (λ (es : List (Vec ℕ Y × List ℕ)). copied ++ pairs_of es) is in

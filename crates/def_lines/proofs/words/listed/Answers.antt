@@ -14,8 +14,10 @@ loop-value-init c = record {
 
 pub returns-then-eq : goal.returns-then-eq
 returns-then-eq c =
-    ap (λ t. t || is_listed (after_word c.loop-value.rest.now) c.args.value.now) (sym c.if-eq.true ∙ c.eq.ensures ∙ ap (λ w. bytes_eq w c.args.value.now) c.cut_word.ensures.word)
-    ∙ sym (is_listed-first c.loop-value.rest.now c.args.value.now c.loop-value.invariant.begun (sym c.is_empty.ensures ∙ c.loop-value-test.true))
+    ap (λ t. t || is_listed (after_word c.loop-value.rest.now) c.args.value.now)
+    (sym c.if-eq.true ∙ c.eq.ensures ∙ ap (λ w. bytes_eq w c.args.value.now) c.cut_word.ensures.word)
+    ∙ sym (is_listed-first c.loop-value.rest.now c.args.value.now c.loop-value.invariant.begun
+    (sym c.is_empty.ensures ∙ c.loop-value-test.true))
     ∙ c.loop-value.invariant.same
 
 pub loop-value-smaller : goal.loop-value-smaller
@@ -28,10 +30,14 @@ loop-value-preserved c = record {
   begun = ap is_begun c.cut_word.ensures.behind ∙ is_begun-after_word c.loop-value.rest.now;
   same =
       ap (λ t. is_listed t c.args.value.now) c.cut_word.ensures.behind
-      ∙ ap (λ t. t || is_listed (after_word c.loop-value.rest.now) c.args.value.now) (sym c.if-eq.false ∙ c.eq.ensures ∙ ap (λ w. bytes_eq w c.args.value.now) c.cut_word.ensures.word)
-      ∙ sym (is_listed-first c.loop-value.rest.now c.args.value.now c.loop-value.invariant.begun (sym c.is_empty.ensures ∙ c.loop-value-test.true))
+      ∙ ap (λ t. t || is_listed (after_word c.loop-value.rest.now) c.args.value.now)
+      (sym c.if-eq.false ∙ c.eq.ensures ∙ ap (λ w. bytes_eq w c.args.value.now) c.cut_word.ensures.word)
+      ∙ sym (is_listed-first c.loop-value.rest.now c.args.value.now c.loop-value.invariant.begun
+      (sym c.is_empty.ensures ∙ c.loop-value-test.true))
       ∙ c.loop-value.invariant.same;
 }
 
 pub returns : goal.returns
-returns c = sym (sym c.loop-value.invariant.same ∙ is_listed-none c.loop-value.rest.now c.args.value.now (sym c.is_empty.ensures ∙ c.loop-value-test.false))
+returns c =
+    sym (sym c.loop-value.invariant.same
+    ∙ is_listed-none c.loop-value.rest.now c.args.value.now (sym c.is_empty.ensures ∙ c.loop-value-test.false))

@@ -4,9 +4,13 @@ use Rattle.def_lines.proofs.part.Part.put.Goals as goal
 
 pub invariant_of-self : goal.invariant_of-self
 invariant_of-self c = record {
-  begun = is_begun-put-first _ c.args.self.now.text.items _ _ c.args.bytes.now (ap (λ t. length t == 0) (sym c.as_slice.ensures.value) ∙ sym c.is_empty.ensures ∙ c.if-is_empty.true) c.trim_front.ensures c.extend_from_slice.ensures.items;
+  begun = is_begun-put-first _ c.args.self.now.text.items _ _ c.args.bytes.now
+      (ap (λ t. length t == 0) (sym c.as_slice.ensures.value) ∙ sym c.is_empty.ensures ∙ c.if-is_empty.true)
+      c.trim_front.ensures c.extend_from_slice.ensures.items;
 }
 
 pub returns-then-is_empty-clause-text : goal.returns-then-is_empty-clause-text
 returns-then-is_empty-clause-text c =
-    put-first _ c.args.self.now.text.items _ _ c.args.bytes.now (ap (λ t. length t == 0) (sym c.as_slice.ensures.value) ∙ sym c.is_empty.ensures ∙ c.if-is_empty.true) c.trim_front.ensures c.extend_from_slice.ensures.items
+    put-first _ c.args.self.now.text.items _ _ c.args.bytes.now
+    (ap (λ t. length t == 0) (sym c.as_slice.ensures.value) ∙ sym c.is_empty.ensures ∙ c.if-is_empty.true)
+    c.trim_front.ensures c.extend_from_slice.ensures.items
