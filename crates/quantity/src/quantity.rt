@@ -42,14 +42,14 @@ impl Quantity {
     }
 
     /// The number 1.
-    pub fn one(alloc: Global) -> Quantity
+    pub fn unity(alloc: Global) -> Quantity
         ensures { result ≡ record { value = whole (pos 1); exponents = map.empty } }
     {
         Quantity::number(alloc, one())
     }
 
     /// One of a primitive: 1 with the exponent 1 of its name. The only error is want of memory.
-    pub fn primitive(alloc: Global, name: &[u8]) -> Result<Quantity, AllocError>
+    pub fn one(alloc: Global, name: &[u8]) -> Result<Quantity, AllocError>
         ensures { IfOk result (λ q. q ≡ record {
           value = whole (pos 1);
           exponents = map.insert map.empty name.now (whole (pos 1));
