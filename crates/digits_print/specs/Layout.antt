@@ -1,5 +1,6 @@
 -- How digits are laid out, in plain or in scientific notation.
-use Rattle.std.specs.Prelude.{◌+◌, ◌-◌, ◌==◌, ◌++◌, ◌∷◌, [], ◌+ℤ◌, ℕ, ℤ, pos, negsuc, suc, List, take, drop, replicate, nat_lt, if◌then◌else◌, codes}
+use Rattle.std.specs.Prelude.{◌+◌, ◌-◌, ◌==◌, ◌+ℤ◌, ℕ, ℤ, pos, negsuc, suc, nat_lt, if◌then◌else◌}
+use Rattle.std.specs.Prelude.{List, [], ◌∷◌, ◌++◌, take, drop, replicate, codes}
 use Rattle.std.specs.Fmt.{decimal}
 use Rattle.std.specs.List.{list_all}
 use Rattle.frac128.specs.Decimals.{Decimal}

@@ -9,7 +9,8 @@ use Rattle.digits_print.specs.Nearest.{IsNearest, down, up}
 unfoldable pub digit_count : ℕ → ℕ
 digit_count m = length (digits_of 10 m)
 
--- the power of ten of the first digit of a / b; below 1 it is minus the least k with b ≤ a * 10 ^ k, which is how many digits (b - 1) / a has
+-- the power of ten of the first digit of a / b; below 1 it is minus the least k with b ≤ a * 10 ^ k, which is how many
+-- digits (b - 1) / a has
 unfoldable pub first_power : ℕ → ℕ → ℤ
 first_power a b = if nat_le b a then pos (digit_count (a / b) - 1) else neg_ℤ (pos (digit_count ((b - 1) / a)))
 

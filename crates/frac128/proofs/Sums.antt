@@ -36,6 +36,21 @@ pub record IsParts (x y : Fraction) (b d g p q top other : ℕ) : Type 0 where
   pub top_is : top ≡ unsigned_abs x.num
   pub other_is : other ≡ unsigned_abs y.num
 
+-- the parts, by what each of them is
+pub are_parts : (x y : Fraction) {b d g p q top other : ℕ} → b ≡ x.den → d ≡ y.den → g ≡ gcd b d → p ≡ b / g → q ≡ d / g
+    → 0 < b → 0 < d → top ≡ unsigned_abs x.num → other ≡ unsigned_abs y.num → IsParts x y b d g p q top other
+are_parts x y b_is d_is g_is p_is q_is some_b some_d top_is other_is = record {
+  b_is = b_is;
+  d_is = d_is;
+  g_is = g_is;
+  p_is = p_is;
+  q_is = q_is;
+  some_b = some_b;
+  some_d = some_d;
+  top_is = top_is;
+  other_is = other_is;
+}
+
 -- a numerator times a factor, by sign and magnitude
 numerator-signed : (n : ℤ) (s : Bool) (a k : ℕ) → s ≡ int_lt n (pos 0) → a ≡ unsigned_abs n → n *ℤ pos k ≡ signed s (a * k)
 numerator-signed n s a k p q = ap (λ z. z *ℤ pos k) (signed_is n) ∙ rw (← p, ← q) (mul-signed s false a k ∙ ap (λ t. signed t (a * k)) (differ-false s))

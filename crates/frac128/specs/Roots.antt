@@ -1,5 +1,6 @@
 -- Exact roots.
-use Rattle.std.specs.Prelude.{◌≡◌, ◌==◌, ◌&&◌, ◌%◌, ◌^◌, ◌<◌, ℕ, List, [], ◌∷◌, Bool, suc, zero, pos, unsigned_abs, int_lt, if◌then◌else◌, IsFalse, Option, Some, Result, Ok, Err}
+use Rattle.std.specs.Prelude.{◌≡◌, ◌==◌, ◌&&◌, ◌%◌, ◌^◌, ◌<◌, ℕ, suc, zero, pos, unsigned_abs, int_lt, Bool, IsFalse}
+use Rattle.std.specs.Prelude.{List, [], ◌∷◌, Option, Some, Result, Ok, Err, if◌then◌else◌}
 use Rattle.std.specs.List.{find}
 use Rattle.frac128.specs.declared.fault.FracFault.{FracFault}
 use Rattle.frac128.specs.declared.fault.FracFault.TheVariants.{NoExactRoot}

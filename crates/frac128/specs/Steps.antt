@@ -1,5 +1,6 @@
 -- Steps on fractions that fit.
-use Rattle.std.specs.Prelude.{◌≡◌, ◌<◌, ◌*◌, ◌/◌, ◌*ℤ◌, ℕ, ℤ, pos, negsuc, neg_ℤ, unsigned_abs, suc, zero, if◌then◌else◌, Result, Ok, Err, int_div}
+use Rattle.std.specs.Prelude.{◌≡◌, ◌<◌, ◌*◌, ◌/◌, ◌*ℤ◌, ℕ, ℤ, pos, negsuc, neg_ℤ, int_div, unsigned_abs, suc, zero}
+use Rattle.std.specs.Prelude.{if◌then◌else◌, Result, Ok, Err}
 use Rattle.frac128.specs.declared.fault.FracFault.{FracFault}
 use Rattle.frac128.specs.declared.fault.FracFault.TheVariants.{Overflow, DivisionByZero}
 use Rattle.frac128.specs.Divisors.{gcd}
