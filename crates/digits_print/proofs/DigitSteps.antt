@@ -1,5 +1,6 @@
 -- What the two loops of rounding keep, and that they end with the rounded number.
-use Rattle.std.proofs.Common.{◌≡◌, ◌<◌, ◌≤◌, ◌+◌, ◌-◌, ◌*◌, ◌/◌, ◌%◌, ◌^◌, ◌-ℤ◌, ℕ, ℤ, pos, neg_ℤ, suc, zero, arith, refl, sym, ap, subst, ◌∙◌, lit<, inl, inr}
+use Rattle.std.proofs.Common.{◌≡◌, ◌<◌, ◌≤◌, ◌+◌, ◌-◌, ◌*◌, ◌/◌, ◌%◌, ◌^◌, ◌-ℤ◌, ℕ, ℤ, pos, neg_ℤ, suc, zero, arith, refl, sym, ap, subst}
+use Rattle.std.proofs.Common.{◌∙◌, lit<, inl, inr}
 use Rattle.std.specs.Ordering.{nat_cmp}
 use Rattle.std.proofs.lemmas.Bool.{cases_lt}
 use Rattle.std.proofs.lemmas.Nat.{div-mul-add, le-div, mod_below, mod-mul-add, mul-le}
@@ -10,7 +11,8 @@ use Rattle.digits_print.specs.Rounding.{carried, first_power, rounded, rounded_a
 use Rattle.digits_print.proofs.Scales.{IsScaled, scale_unique, scaled, ten_before, ten_some, ten_suc, ten_up}
 
 -- at a scale where the ratio has n digits before the point, rounding is by the quotient and the remainder there
-rounded_by : (n a b q r : ℕ) (s : ℤ) → 0 < n → 0 < a → 0 < b → q * (b * up s) + r ≡ a * down s → r < b * up s → 10 ^ (n - 1) ≤ q → q < 10 ^ n
+rounded_by : (n a b q r : ℕ) (s : ℤ) → 0 < n → 0 < a → 0 < b → q * (b * up s) + r ≡ a * down s → r < b * up s → 10 ^ (n - 1) ≤ q
+    → q < 10 ^ n
     → carried n (by_half q (nat_cmp (2 * r) (b * up s))) s ≡ rounded n a b
 unfolding rounded rounded_at
 rounded_by n a b q r s some some_a some_b whole part low high =
@@ -47,7 +49,8 @@ lengthened_start n top bottom some low =
     start : (b q r t : ℕ) → b * q + r ≡ t → q * b + r ≡ t * 10 ^ 0
     start b q r t e = omega arith
 
-pub lengthened_more : (n top bottom number rest places digit next : ℕ) → 0 < n → IsLengthened n top bottom number rest places → number < 10 ^ (n - 1)
+pub lengthened_more : (n top bottom number rest places digit next : ℕ) → 0 < n → IsLengthened n top bottom number rest places
+    → number < 10 ^ (n - 1)
     → digit * bottom + next ≡ 10 * rest → next < bottom → digit < 10 → IsLengthened n top bottom (number * 10 + digit) next (places + 1)
 lengthened_more n top bottom number rest places digit next some is few e part small = record {
   value = value number bottom rest top digit next (10 ^ places) (10 ^ (places + 1)) is.value e (power places);
@@ -65,13 +68,15 @@ lengthened_more n top bottom number rest places digit next some is few e part sm
         turn t p = omega arith
 
 -- the number stays below its limit, so the places do
-pub lengthened_low : (n top bottom number rest places : ℕ) → IsLengthened n top bottom number rest places → top * 10 ^ places < 10 ^ n * bottom
+pub lengthened_low : (n top bottom number rest places : ℕ) → IsLengthened n top bottom number rest places
+    → top * 10 ^ places < 10 ^ n * bottom
 lengthened_low n top bottom number rest places is = low number bottom rest (top * 10 ^ places) (10 ^ n) is.value is.part is.below
   where
     low : (q b r t l : ℕ) → q * b + r ≡ t → r < b → q < l → t < l * b
     low q b r t l e k h = let times : (q + 1) * b ≤ l * b = mul-le (q + 1) b l b (omega arith) (omega arith) in let one : (q + 1) * b ≡ q * b + b = omega arith in omega arith
 
-pub few_places : (n top bottom number rest places : ℕ) → 0 < top → bottom ≤ 2 ^ 127 → n ≤ 36 → IsLengthened n top bottom number rest places → places < 75
+pub few_places : (n top bottom number rest places : ℕ) → 0 < top → bottom ≤ 2 ^ 127 → n ≤ 36
+    → IsLengthened n top bottom number rest places → places < 75
 few_places n top bottom number rest places some fits most is = elim (cases_lt places 75) [
   | inl h ↦ h
   | inr h ↦ absurd (many h)
@@ -103,7 +108,8 @@ lengthened_less n top bottom number rest places some is =
     turn t p = omega arith
 
 -- with n digits it is rounded by its rest
-pub lengthened_end : (n top bottom number rest places : ℕ) → 0 < n → 0 < top → IsLengthened n top bottom number rest places → 10 ^ (n - 1) ≤ number
+pub lengthened_end : (n top bottom number rest places : ℕ) → 0 < n → 0 < top → IsLengthened n top bottom number rest places
+    → 10 ^ (n - 1) ≤ number
     → carried n (by_half number (nat_cmp (rest * 2) bottom)) (neg_ℤ (pos places)) ≡ rounded n top bottom
 lengthened_end n top bottom number rest places some some_top is least =
     ap (λ v. carried n (by_half number (nat_cmp v bottom)) (neg_ℤ (pos places))) twice
@@ -162,7 +168,8 @@ shortened_room n whole unit places some is high =
     let times : 1 * (unit * 10) ≤ 10 ^ (n - 1) * (unit * 10) = mul-le 1 (unit * 10) (10 ^ (n - 1)) (unit * 10) (ten_some (n - 1)) (omega arith) in
     omega arith
 
-pub shortened_more : (n whole unit places : ℕ) → 0 < n → IsShortened n whole unit places → 10 ^ n ≤ whole / unit → IsShortened n whole (unit * 10) (places + 1)
+pub shortened_more : (n whole unit places : ℕ) → 0 < n → IsShortened n whole unit places → 10 ^ n ≤ whole / unit
+    → IsShortened n whole (unit * 10) (places + 1)
 shortened_more n whole unit places some is high =
     let some_unit = unit_some n whole unit places is in
     record {
@@ -195,7 +202,9 @@ pub unit_even : (n whole unit places : ℕ) → IsShortened n whole unit places 
 unit_even n whole unit places is = let ten = ten_before places is.some in let power = is.power in omega arith
 
 -- with n digits it is rounded by what is cut off
-pub shortened_end : (n top bottom unit places : ℕ) → 0 < n → 0 < bottom → IsShortened n (top / bottom) unit places → top / bottom / unit < 10 ^ n
+pub shortened_end : (n top bottom unit places : ℕ) → 0 < n → 0 < bottom → IsShortened n (top / bottom) unit places
+    → top / bottom / unit < 10 ^ n
+   
     → carried n (by_half (top / bottom / unit) (nat_cmp (2 * (top / bottom % unit * bottom + top % bottom)) (bottom * unit))) (pos places) ≡ rounded n top bottom
 shortened_end n top bottom unit places some some_bottom is below =
     let some_unit = unit_some n (top / bottom) unit places is in

@@ -1,5 +1,6 @@
 -- The exact text of a fraction reads as that fraction.
-use Rattle.std.proofs.Common.{◌≡◌, ◌<◌, ◌≤◌, ◌^◌, ◌++◌, ℕ, ℤ, pos, negsuc, suc, zero, List, Bool, true, false, unsigned_abs, arith, refl, sym, ap, subst, ◌∙◌, lit<, inl, inr}
+use Rattle.std.proofs.Common.{◌≡◌, ◌<◌, ◌≤◌, ◌^◌, ◌++◌, ℕ, ℤ, pos, negsuc, suc, zero, List, Bool, true, false, unsigned_abs, arith, refl}
+use Rattle.std.proofs.Common.{sym, ap, subst, ◌∙◌, lit<, inl, inr}
 use Rattle.std.specs.Prelude.{◌⊎◌, ◌==◌, ◌&&◌, Ok, nat_le, codes}
 use Rattle.std.specs.Fmt.{decimal, signed_decimal}
 use Rattle.std.specs.Str.Parse.{IsNumeral, digits_value}
@@ -50,7 +51,8 @@ spelled back (negsuc n) h =
     let is = decimal_is_IsNumeral_wide (suc n) (wide (suc n) h) in
     record { negative = true; digits = decimal (suc n); numeral = is.0; read = read_back back (suc n) h; text = refl; value = ap (signed true) is.1 }
 
-reads_as_whole : ReducedLaw → BackLaw → (n : ℤ) → IsKept (record { num = n; den = 1 }) → ReadsAsWhole (signed_decimal n) (record { num = n; den = 1 })
+reads_as_whole : ReducedLaw → BackLaw → (n : ℤ) → IsKept (record { num = n; den = 1 })
+    → ReadsAsWhole (signed_decimal n) (record { num = n; den = 1 })
 reads_as_whole law back n kept =
     let top = spelled back n kept.num_fits in
     record {
@@ -62,7 +64,8 @@ reads_as_whole law back n kept =
       value = ap (λ z. ratio z (pos 1)) top.value ∙ ratio_kept law n 1 kept;
     }
 
-reads_as_quotient : ReducedLaw → BackLaw → (n : ℤ) (d : ℕ) → IsKept (record { num = n; den = d }) → ReadsAsQuotient (signed_decimal n ++ codes "|" ++ decimal d) (record { num = n; den = d })
+reads_as_quotient : ReducedLaw → BackLaw → (n : ℤ) (d : ℕ) → IsKept (record { num = n; den = d })
+    → ReadsAsQuotient (signed_decimal n ++ codes "|" ++ decimal d) (record { num = n; den = d })
 reads_as_quotient law back n d kept =
     let top = spelled back n kept.num_fits in
     let bottom = decimal_is_IsNumeral_wide d (wide d kept.den_fits) in

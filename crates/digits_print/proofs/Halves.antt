@@ -34,7 +34,8 @@ pub by_parts : (w p b h u : ℕ) (order part : Ordering) → 2 * h ≡ u → p <
     → ordering_then order part ≡ nat_cmp (2 * (w * b + p)) (b * u)
 by_parts w p b h u order part e low order_is part_is = nat_cmp_is _ _ _ (by_order order (ranked w h order order_is))
   where
-    by_part : (part : Ordering) → MatchOrdering part (p < 0) (p ≡ 0) (0 < p) → w ≡ h → MatchOrdering part (2 * (w * b + p) < b * u) (2 * (w * b + p) ≡ b * u) (b * u < 2 * (w * b + p))
+    by_part : (part : Ordering) → MatchOrdering part (p < 0) (p ≡ 0) (0 < p) → w ≡ h
+        → MatchOrdering part (2 * (w * b + p) < b * u) (2 * (w * b + p) ≡ b * u) (b * u < 2 * (w * b + p))
     by_part Less none same = absurd (omega arith)
     by_part Equal none same = let at : w * b ≡ h * b = ap (λ v. v * b) same in omega (arith, twice w b p, halves b h u e)
     by_part Greater some same = let at : w * b ≡ h * b = ap (λ v. v * b) same in omega (arith, twice w b p, halves b h u e)

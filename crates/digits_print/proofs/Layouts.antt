@@ -1,5 +1,6 @@
 -- Which layout a decimal has, by the power of ten of its first digit.
-use Rattle.std.proofs.Common.{◌≡◌, ◌<◌, ◌≤◌, ◌+◌, ◌-◌, ◌^◌, ℕ, ℤ, pos, negsuc, List, true, false, length, unsigned_abs, nat_lt, arith, lit<, refl, sym, ap, subst, inl, inr}
+use Rattle.std.proofs.Common.{◌≡◌, ◌<◌, ◌≤◌, ◌+◌, ◌-◌, ◌^◌, ℕ, ℤ, pos, negsuc, List, true, false, length, unsigned_abs, nat_lt, arith}
+use Rattle.std.proofs.Common.{lit<, refl, sym, ap, subst, inl, inr}
 use Rattle.std.specs.Int.Signed.{lt_z}
 use Rattle.std.specs.Fmt.{decimal}
 use Rattle.std.proofs.lemmas.Bool.{cases_lt}
@@ -24,7 +25,8 @@ layout_tiny n ds (negsuc k) low = rw (at_least k 4 (high k low)) refl
     high : (k : ℕ) → lt_z (negsuc k) (negsuc 3) ≡ true → 4 ≤ k
     high k h = grind (arith, ints)
 
-pub layout_small : (n : ℕ) (ds : List ℕ) (power : ℤ) (size : ℕ) → size ≡ unsigned_abs power → lt_z power (negsuc 3) ≡ false → lt_z power (pos 0) ≡ true → layout n ds power ≡ below_one ds (size - 1)
+pub layout_small : (n : ℕ) (ds : List ℕ) (power : ℤ) (size : ℕ) → size ≡ unsigned_abs power → lt_z power (negsuc 3) ≡ false
+    → lt_z power (pos 0) ≡ true → layout n ds power ≡ below_one ds (size - 1)
 layout_small n ds (pos k) size is high low = absurd (no k low)
   where
     no : (k : ℕ) → lt_z (pos k) (pos 0) ≡ true → ⊥
@@ -34,11 +36,13 @@ layout_small n ds (negsuc k) size is high low = let zeros : k ≡ size - 1 = ome
     small : (k : ℕ) → lt_z (negsuc k) (negsuc 3) ≡ false → k < 4
     small k h = grind (arith, ints)
 
-pub layout_plain : (n : ℕ) (ds : List ℕ) (power : ℤ) (size : ℕ) → size ≡ unsigned_abs power → lt_z power (pos 0) ≡ false → size < n → layout n ds power ≡ plain ds (size + 1)
+pub layout_plain : (n : ℕ) (ds : List ℕ) (power : ℤ) (size : ℕ) → size ≡ unsigned_abs power → lt_z power (pos 0) ≡ false → size < n
+    → layout n ds power ≡ plain ds (size + 1)
 layout_plain n ds (pos k) size is low high = rw (less k n (omega arith)) (ap (λ v. plain ds (v + 1)) (sym is))
 layout_plain n ds (negsuc k) size is low high = absurd (cc)
 
-pub layout_large : (n : ℕ) (ds : List ℕ) (power : ℤ) (size : ℕ) → size ≡ unsigned_abs power → lt_z power (pos 0) ≡ false → n ≤ size → layout n ds power ≡ scientific ds power
+pub layout_large : (n : ℕ) (ds : List ℕ) (power : ℤ) (size : ℕ) → size ≡ unsigned_abs power → lt_z power (pos 0) ≡ false → n ≤ size
+    → layout n ds power ≡ scientific ds power
 layout_large n ds (pos k) size is low high = rw (at_least k n (omega arith)) refl
 layout_large n ds (negsuc k) size is low high = absurd (cc)
 

@@ -1,5 +1,6 @@
 -- Rounding to n digits gives the nearest decimal, and no other one is nearest.
-use Rattle.std.proofs.Common.{◌≡◌, ◌<◌, ◌≤◌, ◌+◌, ◌-◌, ◌*◌, ◌/◌, ◌%◌, ◌^◌, ◌+ℤ◌, ℕ, ℤ, pos, suc, zero, true, false, arith, refl, sym, ap, subst, ◌∙◌, inl, inr}
+use Rattle.std.proofs.Common.{◌≡◌, ◌<◌, ◌≤◌, ◌+◌, ◌-◌, ◌*◌, ◌/◌, ◌%◌, ◌^◌, ◌+ℤ◌, ℕ, ℤ, pos, suc, zero, true, false, arith, refl, sym, ap}
+use Rattle.std.proofs.Common.{subst, ◌∙◌, inl, inr}
 use Rattle.std.specs.Prelude.{◌⊎◌, ◌==◌}
 use Rattle.std.specs.Int.{abs_diff}
 use Rattle.std.specs.Ordering.{nat_cmp}
@@ -40,10 +41,12 @@ on_grid_below : (d : Decimal) (s : ℤ) (k : ℕ) → d.scale ≡ s +ℤ pos k �
 on_grid_below d s k e = on_finer_grid d d.scale s d.coefficient k e (on_own_grid d)
 
 -- a decimal's distance, by its steps
-gap_on : (a b : ℕ) (d : Decimal) (s : ℤ) (m : ℕ) → IsOnGrid d s m → gap a b d * down s ≡ abs_diff (a * down s) (m * (b * up s)) * down d.scale
+gap_on : (a b : ℕ) (d : Decimal) (s : ℤ) (m : ℕ) → IsOnGrid d s m
+    → gap a b d * down s ≡ abs_diff (a * down s) (m * (b * up s)) * down d.scale
 unfolding gap
 gap_on a b d s m on =
     abs_diff-mul (a * down d.scale) (d.coefficient * up d.scale * b) (down s)
+   
     ∙ sides (a * down d.scale * down s) (d.coefficient * up d.scale * b * down s) (a * down s * down d.scale) (m * (b * up s) * down d.scale)
     (omega arith) (turned (d.coefficient * up d.scale) b (down s) ∙ ap (λ n. n * b) on.steps ∙ gathered m (up s) (down d.scale) b)
     ∙ sym (abs_diff-mul (a * down s) (m * (b * up s)) (down d.scale))
@@ -121,7 +124,8 @@ decimal_is : (d e : Decimal) → d.coefficient ≡ e.coefficient → d.scale ≡
 decimal_is d e digits scale = ap (λ v. let x : Decimal = record { coefficient = v; scale = d.scale } in x) digits ∙ ap (λ v. let x : Decimal = record { coefficient = e.coefficient; scale = v } in x) scale
 
 -- a decimal of n digits and of as many steps is the same
-same_decimal : (n m : ℕ) (s : ℤ) (d e : Decimal) (k : ℕ) → 0 < n → IsCarried n m s d → HasDigits n e.coefficient → e.scale ≡ s +ℤ pos k → e.coefficient * 10 ^ k ≡ m → d ≡ e
+same_decimal : (n m : ℕ) (s : ℤ) (d e : Decimal) (k : ℕ) → 0 < n → IsCarried n m s d → HasDigits n e.coefficient → e.scale ≡ s +ℤ pos k
+    → e.coefficient * 10 ^ k ≡ m → d ≡ e
 same_decimal n m s d e k some own digits is same = by_case own.is
   where
     ten : 10 ^ n ≡ 10 * 10 ^ (n - 1)
@@ -136,7 +140,8 @@ same_decimal n m s d e k some own digits is same = by_case own.is
     wider : (k x l p : ℕ) → l ≤ x → p ≡ 10 * (10 * 10 ^ k) → 100 * l ≤ x * p
     wider k x l p h e = let more : l * (10 * (10 * 1)) ≤ x * (10 * (10 * 10 ^ k)) = mul-le l (10 * (10 * 1)) x (10 * (10 * 10 ^ k)) h (omega (arith, ten_some k)) in let is : x * p ≡ x * (10 * (10 * 10 ^ k)) = ap (λ v. x * v) e in omega arith
 
-    by_case : ((m < 10 ^ n) × (d.coefficient ≡ m) × (d.scale ≡ s)) ⊎ ((m ≡ 10 ^ n) × (d.coefficient ≡ 10 ^ (n - 1)) × (d.scale ≡ s +ℤ pos 1)) → d ≡ e
+    by_case : ((m < 10 ^ n) × (d.coefficient ≡ m) × (d.scale ≡ s)) ⊎ ((m ≡ 10 ^ n) × (d.coefficient ≡ 10 ^ (n - 1)) × (d.scale ≡ s +ℤ pos 1))
+        → d ≡ e
     by_case (inl own_scale) = at_steps k is same
       where
         at_steps : (k : ℕ) → e.scale ≡ s +ℤ pos k → e.coefficient * 10 ^ k ≡ m → d ≡ e
@@ -155,10 +160,12 @@ same_decimal n m s d e k some own digits is same = by_case own.is
             absurd (let big = wider k e.coefficient (10 ^ (n - 1)) (10 ^ suc (suc k)) digits.least (ten_suc (suc k) ∙ ap (λ v. 10 * v) (ten_suc k)) in let high = next_scale.0 in omega (arith, ten, ten_some (n - 1)))
 
 -- of two equally near decimals the one of an even number of steps is taken
-preferred : (n m : ℕ) (s : ℤ) (d e : Decimal) → 0 < n → IsCarried n m s d → HasDigits n e.coefficient → e.scale ≡ s +ℤ pos 0 → m % 2 ≡ 0 → e.coefficient % 2 ≡ 1 → IsPreferred d e
+preferred : (n m : ℕ) (s : ℤ) (d e : Decimal) → 0 < n → IsCarried n m s d → HasDigits n e.coefficient → e.scale ≡ s +ℤ pos 0 → m % 2 ≡ 0
+    → e.coefficient % 2 ≡ 1 → IsPreferred d e
 preferred n m s d e some own digits is even odd = by_case own.is
   where
-    by_case : ((m < 10 ^ n) × (d.coefficient ≡ m) × (d.scale ≡ s)) ⊎ ((m ≡ 10 ^ n) × (d.coefficient ≡ 10 ^ (n - 1)) × (d.scale ≡ s +ℤ pos 1)) → IsPreferred d e
+    by_case : ((m < 10 ^ n) × (d.coefficient ≡ m) × (d.scale ≡ s)) ⊎ ((m ≡ 10 ^ n) × (d.coefficient ≡ 10 ^ (n - 1)) × (d.scale ≡ s +ℤ pos 1))
+        → IsPreferred d e
     by_case (inl own_scale) = inl (ap (λ v. v % 2) own_scale.1 ∙ even, odd)
     by_case (inr next_scale) = at_count (n - 1) refl
       where
@@ -185,7 +192,8 @@ preferred n m s d e some own digits is even odd = by_case own.is
         at_count (suc j) more = inl (even_power j d.coefficient (next_scale.1 ∙ ap (λ v. 10 ^ v) more), odd)
 
 -- the decimal at a scale with n digits before the point is nearest
-at_scale : NearestWholeLaw → (n a b : ℕ) (s : ℤ) (m : ℕ) (d : Decimal) → 0 < n → 0 < b → IsScaled n a b s → IsNearestWhole (a * down s) (b * up s) m → IsCarried n m s d → IsNearest n a b d
+at_scale : NearestWholeLaw → (n a b : ℕ) (s : ℤ) (m : ℕ) (d : Decimal) → 0 < n → 0 < b → IsScaled n a b s
+    → IsNearestWhole (a * down s) (b * up s) m → IsCarried n m s d → IsNearest n a b d
 at_scale law n a b s m d some some_b at near own = record {
   digits = own.digits;
   nearest = λ e digits. nearest e digits (ordered s e.scale);
@@ -220,11 +228,13 @@ at_scale law n a b s m d some some_b at near own = record {
         sides : (x y u v : ℕ) → x ≡ u → y ≡ v → abs_diff x y ≡ abs_diff u v
         sides x y u v e f = cc
 
-        rescaled : (k p a b us ds ut dt : ℕ) → us * dt ≡ p * (ut * ds) → abs_diff (a * ds) (k * (b * us)) * dt ≡ abs_diff (a * dt) (k * p * (b * ut)) * ds
+        rescaled : (k p a b us ds ut dt : ℕ) → us * dt ≡ p * (ut * ds)
+            → abs_diff (a * ds) (k * (b * us)) * dt ≡ abs_diff (a * dt) (k * p * (b * ut)) * ds
         rescaled k p a b us ds ut dt step =
             abs_diff-mul (a * ds) (k * (b * us)) dt ∙ sides _ _ _ _ (turned a ds dt) (regrouped k p b us ds ut dt step) ∙ sym (abs_diff-mul (a * dt) (k * p * (b * ut)) ds)
 
-        products : (l p x a b us ds ut dt : ℕ) → abs_diff (a * ds) (m * (b * us)) ≤ abs_diff (a * ds) (l * (b * us)) → us * dt ≡ p * (ut * ds) → l * (b * us) ≤ a * ds → x < l * p → 0 < ds → 0 < b * ut
+        products : (l p x a b us ds ut dt : ℕ) → abs_diff (a * ds) (m * (b * us)) ≤ abs_diff (a * ds) (l * (b * us))
+            → us * dt ≡ p * (ut * ds) → l * (b * us) ≤ a * ds → x < l * p → 0 < ds → 0 < b * ut
             → abs_diff (a * dt) (m * p * (b * ut)) < abs_diff (a * dt) (x * (b * ut))
         products l p x a b us ds ut dt close step low few some_s some_t =
             let first : abs_diff (a * ds) (m * (b * us)) * dt ≤ abs_diff (a * ds) (l * (b * us)) * dt = mul-le _ dt _ dt close (omega arith) in
@@ -234,20 +244,23 @@ at_scale law n a b s m d some some_b at near own = record {
             let fifth : x * (b * ut) ≤ l * p * (b * ut) = mul-le x (b * ut) (l * p) (b * ut) (omega arith) (omega arith) in
             farther (a * dt) (m * p * (b * ut)) (l * p * (b * ut)) (x * (b * ut)) (cancelled_le _ _ ds some_s second) (cancelled_le _ _ ds some_s fourth) (scaled_lt x (l * p) (b * ut) few some_t)
 
-    nearest : (e : Decimal) → HasDigits n e.coefficient → ((k : ℕ) × (e.scale ≡ s +ℤ pos k)) ⊎ ((k : ℕ) × (s ≡ e.scale +ℤ pos (suc k))) → NoFarther a b d e
+    nearest : (e : Decimal) → HasDigits n e.coefficient → ((k : ℕ) × (e.scale ≡ s +ℤ pos k)) ⊎ ((k : ℕ) × (s ≡ e.scale +ℤ pos (suc k)))
+        → NoFarther a b d e
     nearest e digits (inl above) = no_farther_on a b d e s m _ own.on (on_grid_below e s above.0 above.1) (near.near _)
     nearest e digits (inr below) =
         let less = finer e below.0 digits below.1 in
         no_farther_on a b d e e.scale (m * 10 ^ suc below.0) e.coefficient (on_finer_grid d s e.scale m (suc below.0) below.1 own.on) (on_own_grid e) (omega arith)
 
-    tie : (e : Decimal) → HasDigits n e.coefficient → NoFarther a b e d → ((k : ℕ) × (e.scale ≡ s +ℤ pos k)) ⊎ ((k : ℕ) × (s ≡ e.scale +ℤ pos (suc k))) → (d ≡ e) ⊎ IsPreferred d e
+    tie : (e : Decimal) → HasDigits n e.coefficient → NoFarther a b e d
+        → ((k : ℕ) × (e.scale ≡ s +ℤ pos k)) ⊎ ((k : ℕ) × (s ≡ e.scale +ℤ pos (suc k))) → (d ≡ e) ⊎ IsPreferred d e
     tie e digits h (inl above) =
         by_steps above.0 above.1 (other_odd law (a * down s) (b * up s) m (e.coefficient * 10 ^ above.0) (mul-pos some_b (up_some s)) near (steps_closer a b e d s _ m (on_grid_below e s above.0 above.1) own.on h))
       where
         even : (x p q : ℕ) → p ≡ 10 * q → (x * p) % 2 ≡ 1 → ⊥
         even x p q e odd = let twice : x * p ≡ 2 * (x * (5 * q)) = ap (λ v. x * v) e ∙ omega arith in omega arith
 
-        by_steps : (k : ℕ) → e.scale ≡ s +ℤ pos k → (e.coefficient * 10 ^ k ≡ m) ⊎ ((m % 2 ≡ 0) × ((e.coefficient * 10 ^ k) % 2 ≡ 1)) → (d ≡ e) ⊎ IsPreferred d e
+        by_steps : (k : ℕ) → e.scale ≡ s +ℤ pos k → (e.coefficient * 10 ^ k ≡ m) ⊎ ((m % 2 ≡ 0) × ((e.coefficient * 10 ^ k) % 2 ≡ 1))
+            → (d ≡ e) ⊎ IsPreferred d e
         by_steps k is (inl same) = inl (same_decimal n m s d e k some own digits is same)
         by_steps zero is (inr odd) = inr (preferred n m s d e some own digits is odd.0 (rw (mul-one e.coefficient) at odd.1))
         by_steps (suc k) is (inr odd) = absurd (even e.coefficient (10 ^ suc k) (10 ^ k) (ten_suc k) odd.1)

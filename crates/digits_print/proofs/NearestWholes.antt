@@ -4,7 +4,8 @@ use Rattle.std.specs.Prelude.{◌⊎◌}
 use Rattle.frac128.specs.Nearest.{IsNearestWhole, NearestWholeLaw, distance}
 
 -- another one is odd, and the nearest one even
-pub other_odd : NearestWholeLaw → (a b m e : ℕ) → 0 < b → IsNearestWhole a b m → distance a b e ≤ distance a b m → (e ≡ m) ⊎ ((m % 2 ≡ 0) × (e % 2 ≡ 1))
+pub other_odd : NearestWholeLaw → (a b m e : ℕ) → 0 < b → IsNearestWhole a b m → distance a b e ≤ distance a b m
+    → (e ≡ m) ⊎ ((m % 2 ≡ 0) × (e % 2 ≡ 1))
 other_odd law a b m e some is h = elim (is.tie e same) [
   | inl one ↦ inl one
   | inr even ↦ by_last (e % 2) refl (omega arith) even

@@ -1,5 +1,6 @@
 -- Powers of ten, and the scale at which a ratio has so many digits before the point.
-use Rattle.std.proofs.Common.{◌≡◌, ◌<◌, ◌≤◌, ◌+◌, ◌-◌, ◌*◌, ◌/◌, ◌%◌, ◌^◌, ◌+ℤ◌, ◌-ℤ◌, ℕ, ℤ, pos, negsuc, neg_ℤ, suc, zero, true, false, length, arith, refl, sym, ap, subst, ◌∙◌, lit<, inl, inr}
+use Rattle.std.proofs.Common.{◌≡◌, ◌<◌, ◌≤◌, ◌+◌, ◌-◌, ◌*◌, ◌/◌, ◌%◌, ◌^◌, ◌+ℤ◌, ◌-ℤ◌, ℕ, ℤ, pos, negsuc, neg_ℤ, suc, zero, true, false}
+use Rattle.std.proofs.Common.{length, arith, refl, sym, ap, subst, ◌∙◌, lit<, inl, inr}
 use Rattle.std.specs.Prelude.{◌⊎◌, nat_le}
 use Rattle.std.specs.Int.Digits.{digits_of}
 use Rattle.std.proofs.lemmas.Bool.{cases_lt}
@@ -112,7 +113,8 @@ apart n a b s t k some e at_s at_t =
     turned' : (p b r u d : ℕ) → p * b * (r * (u * d)) ≡ p * r * (b * u * d)
     turned' p b r u d = omega arith
 
-    products : (p q r a b us ds ut dt : ℕ) → p * (b * ut) ≤ a * dt → a * ds < q * (b * us) → ut * ds ≡ r * (us * dt) → q ≤ p * r → 0 < dt → 0 < ds → ⊥
+    products : (p q r a b us ds ut dt : ℕ) → p * (b * ut) ≤ a * dt → a * ds < q * (b * us) → ut * ds ≡ r * (us * dt) → q ≤ p * r → 0 < dt
+        → 0 < ds → ⊥
     products p q r a b us ds ut dt low high step wide some_dt some_ds =
         let first : a * ds * dt < q * (b * us) * dt = scaled_lt (a * ds) (q * (b * us)) dt high some_dt in
         let second : p * (b * ut) * ds ≤ a * dt * ds = mul-le (p * (b * ut)) ds (a * dt) ds low (omega arith) in
@@ -227,7 +229,8 @@ lowered n a b x s some e first =
         let right : a * dx * ds ≡ a * ds * dx = omega arith in
         cancelled_le (p * (b * us)) (a * ds) dx some (omega arith)
 
-    high_of : (p q a b us ds ux dx : ℕ) → a * dx < 10 ^ 1 * (b * ux) → ux * ds ≡ p * (us * dx) → q ≡ 10 * p → 0 < dx → 0 < ds → a * ds < q * (b * us)
+    high_of : (p q a b us ds ux dx : ℕ) → a * dx < 10 ^ 1 * (b * ux) → ux * ds ≡ p * (us * dx) → q ≡ 10 * p → 0 < dx → 0 < ds
+        → a * ds < q * (b * us)
     high_of p q a b us ds ux dx h step e some some_ds =
         let times : a * dx * ds < 10 * (b * ux) * ds = scaled_lt (a * dx) (10 * (b * ux)) ds (omega arith) some_ds in
         let left : b * ux * ds ≡ p * (b * us) * dx = turned b ux ds ∙ ap (λ m. b * m) step ∙ omega arith in

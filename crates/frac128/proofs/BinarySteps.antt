@@ -1,5 +1,6 @@
 -- The greatest common divisor by differences and factors of two.
-use Rattle.std.proofs.Common.{inl, inr, ◌≡◌, ◌+◌, ◌-◌, ◌*◌, ◌/◌, ◌%◌, ◌^◌, ◌<◌, ◌≤◌, ℕ, suc, zero, min, mod-eq_of_lt, arith, sym, ap, ◌∙◌, lit<}
+use Rattle.std.proofs.Common.{inl, inr, ◌≡◌, ◌+◌, ◌-◌, ◌*◌, ◌/◌, ◌%◌, ◌^◌, ◌<◌, ◌≤◌, ℕ, suc, zero, min, mod-eq_of_lt, arith, sym, ap, ◌∙◌}
+use Rattle.std.proofs.Common.{lit<}
 use mir.Syntax.{Width}
 use mir.Val.{bits}
 use Rattle.std.specs.Int.{abs_diff, bit_at, trailing_zeros}
@@ -7,7 +8,8 @@ use Rattle.std.proofs.lemmas.Bool.{cases_lt}
 use Rattle.std.proofs.lemmas.Nat.{pow-add, shr-shr}
 use Rattle.std.proofs.lemmas.Nat.Bits.{bit_at-suc, bit_at-trailing_zeros, bit_at_lowest}
 use Rattle.std.proofs.lemmas.Nat.Gcd.{IsGcd-swap, dvd_refl, dvd_trans, le_of_dvd, same_from_IsGcd}
-use Rattle.std.proofs.Math.Nat.{div-one, dvd-mul_left, dvd-mul_right_of_dvd, dvd-sub, dvd-sub_iff_left, mul_assoc, mul_comm, one-dvd, one-mul, pow-suc, pow-zero}
+use Rattle.std.proofs.Math.Nat.{div-one, dvd-mul_left, dvd-mul_right_of_dvd, dvd-sub, dvd-sub_iff_left, mul_assoc, mul_comm, one-dvd}
+use Rattle.std.proofs.Math.Nat.{one-mul, pow-suc, pow-zero}
 use Rattle.frac128.specs.Divisors.{gcd, gcd_within}
 use Rattle.frac128.proofs.Coprime.{IsCoprime, euclid_lemma}
 use Rattle.frac128.proofs.Euclid.{gcd-mul, gcd_is, gcd_step, gcd_zero}
@@ -115,7 +117,8 @@ twos_shared i j x y odd low =
     ap (gcd (2 ^ i * x)) power ∙ gcd-mul (2 ^ i) x (2 ^ (j - i) * y) ∙ ap (λ k. 2 ^ i * k) (gcd-odd x (j - i) y odd) ∙ mul_comm (2 ^ i) (gcd x y)
 
 -- two numbers above 0 by their odd parts
-pub odd_parts : (w : Width) (a b k g : ℕ) → 0 < a → 0 < b → a < 2 ^ bits w → b < 2 ^ bits w → k ≡ min (trailing_zeros w a) (trailing_zeros w b)
+pub odd_parts : (w : Width) (a b k g : ℕ) → 0 < a → 0 < b → a < 2 ^ bits w → b < 2 ^ bits w
+    → k ≡ min (trailing_zeros w a) (trailing_zeros w b)
     → g ≡ gcd (a / 2 ^ trailing_zeros w a) (b / 2 ^ trailing_zeros w b) → g * 2 ^ k % 2 ^ bits w ≡ gcd a b
 odd_parts w a b k g some_a some_b a_fits b_fits k_is g_is =
     let i = trailing_zeros w a in

@@ -1,5 +1,6 @@
 -- Roots that are computed by a search among whole numbers.
-use Rattle.std.proofs.Common.{inl, inr, ◌≡◌, ◌<◌, ◌≤◌, ◌^◌, ◌%◌, refl, sym, ap, subst, ◌∙◌, arith, Bool, true, false, cond, ℕ, ℤ, pos, negsuc, suc, zero, unsigned_abs, int_lt, List, [], ◌∷◌, Option, None, Some, Result, Ok, Err}
+use Rattle.std.proofs.Common.{inl, inr, ◌≡◌, ◌<◌, ◌≤◌, ◌^◌, ◌%◌, refl, sym, ap, subst, ◌∙◌, arith, Bool, true, false, cond, ℕ, ℤ, pos}
+use Rattle.std.proofs.Common.{negsuc, suc, zero, unsigned_abs, int_lt, List, [], ◌∷◌, Option, None, Some, Result, Ok, Err}
 use Rattle.std.specs.Prelude.{◌==◌, ◌&&◌, IsFalse, if◌then◌else◌}
 use Rattle.std.specs.Int.{int_pow}
 use Rattle.std.specs.List.{find}
@@ -75,7 +76,8 @@ root_of_law x q is some = by_sign (is_negative x) (q % 2 == 0) refl refl
     made : (s : Bool) → is_negative x ≡ s → IsMade x s (unsigned_abs x.num) x.den
     made s s_is = record { s_is = sym s_is; a_is = refl; b_is = refl; some = is.positive; lowest = is.lowest }
 
-    by_parts : (s : Bool) (top bottom : Option ℕ) → is_negative x ≡ s → (s ≡ true → q % 2 ≡ 0 → ⊥) → whole_root (unsigned_abs x.num) q ≡ top → whole_root x.den q ≡ bottom
+    by_parts : (s : Bool) (top bottom : Option ℕ) → is_negative x ≡ s → (s ≡ true → q % 2 ≡ 0 → ⊥)
+        → whole_root (unsigned_abs x.num) q ≡ top → whole_root x.den q ≡ bottom
         → IsRootAnswer x q (root_over s top bottom)
     by_parts s (Some a) (Some b) s_is other top bottom =
         root_by x q s (unsigned_abs x.num) x.den a b (made s s_is) some (found_root (unsigned_abs x.num) q a top) (found_root x.den q b bottom) other
@@ -90,7 +92,8 @@ root_of_law x q is some = by_sign (is_negative x) (q % 2 == 0) refl refl
     by_sign false e s_is e_is = by_parts false _ _ s_is (λ h _. false≢true h) refl refl
 
 -- an answer is the one that is computed
-pub root_is : (x : Fraction) (q : ℕ) (answer : Result Fraction FracFault) → IsReduced x → 0 < q → IsRootAnswer x q answer → answer ≡ root_of x q
+pub root_is : (x : Fraction) (q : ℕ) (answer : Result Fraction FracFault) → IsReduced x → 0 < q → IsRootAnswer x q answer
+    → answer ≡ root_of x q
 root_is x q answer is some h = go answer (root_of x q) h (root_of_law x q is some)
   where
     go : (a b : Result Fraction FracFault) → IsRootAnswer x q a → IsRootAnswer x q b → a ≡ b

@@ -1,11 +1,13 @@
 -- Digits that are read one by one.
-use Rattle.std.proofs.Common.{add-one, zero-add, ◌≡◌, ◌+◌, ◌-◌, ◌*◌, ◌^◌, ◌<◌, ◌≤◌, ℕ, suc, zero, Bool, true, false, List, [], ◌∷◌, length, drop, get_or, Some, None, arith, refl, sym, ap, subst, ◌∙◌, lit<}
+use Rattle.std.proofs.Common.{add-one, zero-add, ◌≡◌, ◌+◌, ◌-◌, ◌*◌, ◌^◌, ◌<◌, ◌≤◌, ℕ, suc, zero, Bool, true, false, List, [], ◌∷◌}
+use Rattle.std.proofs.Common.{length, drop, get_or, Some, None, arith, refl, sym, ap, subst, ◌∙◌, lit<}
 use Rattle.std.specs.Prelude.{fold, if◌then◌else◌, nat_le}
 use Rattle.std.specs.List.{list_all}
 use Rattle.std.proofs.lemmas.Bool.Decides.{nat_tests}
 use Rattle.std.proofs.lemmas.List.{at_drop_all, at_drop_more}
 use Rattle.std.proofs.Math.Nat.{le-mul_of_pos_right, zero-mul, mul-one, mul_assoc, pow-suc}
-use Rattle.frac128.specs.Decimals.{coefficient_of, digits_of, end_zeros, exponent_size, is_zero_digit, most_exponent, number, short_coefficient, without_end_zeros}
+use Rattle.frac128.specs.Decimals.{coefficient_of, digits_of, end_zeros, exponent_size, is_zero_digit, most_exponent, number}
+use Rattle.frac128.specs.Decimals.{short_coefficient, without_end_zeros}
 use Rattle.frac128.specs.Fraction.{most}
 use Rattle.frac128.specs.Numerals.{is_digit}
 use Rattle.frac128.proofs.Powers.{pow_some}
@@ -60,7 +62,8 @@ one_less : (a : ℕ) → 0 + a ≡ suc a - 1
 one_less a = omega arith
 
 -- digits with one other than 0 among them
-collect-others : (n z : ℕ) (ds : List ℕ) → all_zero ds ≡ false → collect n z ds ≡ (fold extend (n * 10 ^ z) (without_end_zeros ds), length ds - length (without_end_zeros ds))
+collect-others : (n z : ℕ) (ds : List ℕ) → all_zero ds ≡ false
+    → collect n z ds ≡ (fold extend (n * 10 ^ z) (without_end_zeros ds), length ds - length (without_end_zeros ds))
 collect-others n z [] h = absurd (cc)
 collect-others n z (zero ∷ ds) h =
     collect-others n (z + 1) ds h
@@ -72,13 +75,16 @@ collect-others n z (suc d ∷ ds) h =
     ∙ ap (λ w. (fold extend (n * 10 ^ z) w, suc (length ds) - length w)) (sym (without-other (suc d) ds h))
   where
     by_test : (b : Bool) → all_zero ds ≡ b
+       
         → ((m k : ℕ) → all_zero ds ≡ false → collect m k ds ≡ (fold extend (m * 10 ^ k) (without_end_zeros ds), length ds - length (without_end_zeros ds)))
+       
         → collect (n * 10 ^ (z + 1) + suc d) 0 ds ≡ (fold extend (n * 10 ^ z * 10 + suc d) (without_end_zeros ds), suc (length ds) - suc (length (without_end_zeros ds)))
     by_test true e others =
         rw (without-all_zero ds e) (collect-zeros (n * 10 ^ (z + 1) + suc d) 0 ds e ∙ ap (λ m. (m + suc d, 0 + length ds)) (power_more n z)
         ∙ ap (λ k. (n * 10 ^ z * 10 + suc d, k)) (one_less (length ds)))
     by_test false e others =
         others (n * 10 ^ (z + 1) + suc d) 0 e
+       
         ∙ ap (λ m. (fold extend m (without_end_zeros ds), length ds - length (without_end_zeros ds))) (once (n * 10 ^ (z + 1) + suc d) ∙ ap (λ m. m + suc d) (power_more n z))
         ∙ ap (λ k. (fold extend (n * 10 ^ z * 10 + suc d) (without_end_zeros ds), k)) (taken (length ds) (length (without_end_zeros ds)))
 
@@ -103,14 +109,17 @@ fold-zeros n (zero ∷ ds) h = fold-zeros (n * 10 + 0) ds h ∙ moved n (length 
 fold-zeros n (suc d ∷ ds) h = absurd (cc)
 
 -- where one of the digits is not 0
-fold-without : (n : ℕ) (ds : List ℕ) → all_zero ds ≡ false → fold extend n ds ≡ fold extend n (without_end_zeros ds) * 10 ^ (length ds - length (without_end_zeros ds))
+fold-without : (n : ℕ) (ds : List ℕ) → all_zero ds ≡ false
+    → fold extend n ds ≡ fold extend n (without_end_zeros ds) * 10 ^ (length ds - length (without_end_zeros ds))
 fold-without n [] h = absurd (cc)
 fold-without n (d ∷ ds) h =
     by_test (all_zero ds) refl (λ m e. fold-without m ds e)
     ∙ ap (λ w. fold extend n w * 10 ^ (suc (length ds) - length w)) (sym (without-other d ds h))
   where
     by_test : (b : Bool) → all_zero ds ≡ b
+       
         → ((m : ℕ) → all_zero ds ≡ false → fold extend m ds ≡ fold extend m (without_end_zeros ds) * 10 ^ (length ds - length (without_end_zeros ds)))
+       
         → fold extend (n * 10 + d) ds ≡ fold extend (n * 10 + d) (without_end_zeros ds) * 10 ^ (suc (length ds) - suc (length (without_end_zeros ds)))
     by_test true e others =
         rw (without-all_zero ds e) (fold-zeros (n * 10 + d) ds e ∙ ap (λ k. (n * 10 + d) * 10 ^ k) (sym (zero-add (length ds)) ∙ one_less (length ds)))
@@ -140,18 +149,21 @@ pub record IsCollected (bytes : List ℕ) (i n z : ℕ) : Type 0 where
   pub rest : collect n z (digits_of (drop i bytes)) ≡ collect 0 0 (digits_of bytes)
 
 -- the next byte is a digit other than 0
-digit_next : (n z b : ℕ) (bs : List ℕ) → (b ≡ 48 → ⊥) → is_digit b ≡ true → collect n z (digits_of (b ∷ bs)) ≡ collect (n * 10 ^ (z + 1) + (b - 48)) 0 (digits_of bs)
+digit_next : (n z b : ℕ) (bs : List ℕ) → (b ≡ 48 → ⊥) → is_digit b ≡ true
+    → collect n z (digits_of (b ∷ bs)) ≡ collect (n * 10 ^ (z + 1) + (b - 48)) 0 (digits_of bs)
 digit_next n z b bs other h = rw h (by_digit (b - 48) some)
   where
     some : 0 < b - 48
     some = let low : 48 ≤ b = grind (arith, nat_tests) in omega (arith, other)
 
-    by_digit : (d : ℕ) → 0 < d → (if is_zero_digit d then collect n (z + 1) (digits_of bs) else collect (n * 10 ^ (z + 1) + d) 0 (digits_of bs)) ≡ collect (n * 10 ^ (z + 1) + d) 0 (digits_of bs)
+    by_digit : (d : ℕ) → 0 < d
+        → (if is_zero_digit d then collect n (z + 1) (digits_of bs) else collect (n * 10 ^ (z + 1) + d) 0 (digits_of bs)) ≡ collect (n * 10 ^ (z + 1) + d) 0 (digits_of bs)
     by_digit zero h = absurd (omega arith)
     by_digit (suc d) h = refl
 
 -- what the rest gives after such a digit
-digit_rest : (bytes : List ℕ) (i n z : ℕ) → IsCollected bytes i n z → i < length bytes → (get_or bytes i 0 ≡ 48 → ⊥) → is_digit (get_or bytes i 0) ≡ true
+digit_rest : (bytes : List ℕ) (i n z : ℕ) → IsCollected bytes i n z → i < length bytes → (get_or bytes i 0 ≡ 48 → ⊥)
+    → is_digit (get_or bytes i 0) ≡ true
     → collect (n * 10 ^ (z + 1) + (get_or bytes i 0 - 48)) 0 (digits_of (drop (i + 1) bytes)) ≡ collect 0 0 (digits_of bytes)
 digit_rest bytes i n z is h other b =
     sym (digit_next n z (get_or bytes i 0) (drop (i + 1) bytes) other b) ∙ sym (at_drop_more (λ xs. collect n z (digits_of xs)) bytes i 0 h) ∙ is.rest
@@ -165,7 +177,8 @@ pub kept : (c : ℕ) (p : ℕ × ℕ) → c ≤ most → (if nat_le c most then 
 kept c p h = rw (le-true c most h) refl
 
 -- the number with one digit more is too large
-pub collected_wide : (bytes : List ℕ) (i n z : ℕ) → IsCollected bytes i n z → i < length bytes → (get_or bytes i 0 ≡ 48 → ⊥) → is_digit (get_or bytes i 0) ≡ true
+pub collected_wide : (bytes : List ℕ) (i n z : ℕ) → IsCollected bytes i n z → i < length bytes → (get_or bytes i 0 ≡ 48 → ⊥)
+    → is_digit (get_or bytes i 0) ≡ true
     → (n * 10 ^ (z + 1) + (get_or bytes i 0 - 48) ≤ most → ⊥) → short_coefficient bytes ≡ None
 collected_wide bytes i n z is h other b wide =
     let m = n * 10 ^ (z + 1) + (get_or bytes i 0 - 48) in
@@ -197,7 +210,8 @@ counted_rest : (bytes : List ℕ) (i n : ℕ) → IsCounted bytes i n → i < le
     → fold extend (n * 10 + (get_or bytes i 0 - 48)) (digits_of (drop (i + 1) bytes)) ≡ exponent_size bytes
 counted_rest bytes i n is h b = step (get_or bytes i 0) b ∙ sym (at_drop_more (λ xs. fold extend n (digits_of xs)) bytes i 0 h) ∙ is.rest
   where
-    step : (b : ℕ) → is_digit b ≡ true → fold extend (n * 10 + (b - 48)) (digits_of (drop (i + 1) bytes)) ≡ fold extend n (digits_of (b ∷ drop (i + 1) bytes))
+    step : (b : ℕ) → is_digit b ≡ true
+        → fold extend (n * 10 + (b - 48)) (digits_of (drop (i + 1) bytes)) ≡ fold extend n (digits_of (b ∷ drop (i + 1) bytes))
     step b h = rw h refl
 
 -- the exponent is too large where its first digits are

@@ -1,5 +1,6 @@
 -- Steps on fractions have the values of the exact sums and products.
-use Rattle.std.proofs.Common.{◌≡◌, ◌*◌, ◌/◌, ◌<◌, ◌+ℤ◌, ◌-ℤ◌, ◌*ℤ◌, ℕ, ℤ, pos, negsuc, neg_ℤ, suc, zero, Bool, true, false, arith, refl, sym, ap, ◌∙◌}
+use Rattle.std.proofs.Common.{◌≡◌, ◌*◌, ◌/◌, ◌<◌, ◌+ℤ◌, ◌-ℤ◌, ◌*ℤ◌, ℕ, ℤ, pos, negsuc, neg_ℤ, suc, zero, Bool, true, false, arith, refl}
+use Rattle.std.proofs.Common.{sym, ap, ◌∙◌}
 use Rattle.std.specs.Prelude.{◌&&◌, int_lt, unsigned_abs, Ok, Err, if◌then◌else◌}
 use Rattle.std.specs.Int.{◌∣◌}
 use Rattle.std.proofs.lemmas.Int.{ints}
@@ -22,7 +23,8 @@ use Rattle.frac128.proofs.Sums.{lcm-div, minus-negated}
 joined_ok : (step : ℤ → ℤ → ℤ) (m : ℕ) (l r : ℤ) (y : Fraction) → joined step m l r ≡ Ok y → y ≡ reduced (step l r) m
 joined_ok step m l r y h = by_tests (in_range (pos m)) (in_range l) (in_range r) (in_range (step l r)) h
   where
-    by_tests : (a b c d : Bool) → (if a && b && c then (if d then Ok (reduced (step l r) m) else Err Overflow) else Err Overflow) ≡ Ok y → y ≡ reduced (step l r) m
+    by_tests : (a b c d : Bool) → (if a && b && c then (if d then Ok (reduced (step l r) m) else Err Overflow) else Err Overflow) ≡ Ok y
+        → y ≡ reduced (step l r) m
     by_tests true true true true e = cc
     by_tests true true true false e = absurd (cc)
     by_tests true true false d e = absurd (cc)
@@ -43,7 +45,8 @@ mul-twice z a b =
     let s = int_lt z (pos 0) in
     let n = unsigned_abs z in
     ap (λ k. k *ℤ pos a *ℤ pos b) (signed_is z) ∙ ap (λ k. k *ℤ pos b) (mul-signed s false n a) ∙ mul-signed (differ s false) false (n * a) b
-    ∙ plain s (n * a * b) ∙ ap (signed (differ s false)) (mul_assoc n a b) ∙ sym (ap (λ k. k *ℤ pos (a * b)) (signed_is z) ∙ mul-signed s false n (a * b))
+    ∙ plain s (n * a * b) ∙ ap (signed (differ s false)) (mul_assoc n a b)
+    ∙ sym (ap (λ k. k *ℤ pos (a * b)) (signed_is z) ∙ mul-signed s false n (a * b))
   where
     plain : (s : Bool) (k : ℕ) → signed (differ (differ s false) false) k ≡ signed (differ s false) k
     plain true k = refl
@@ -63,7 +66,8 @@ mul-sum y z (suc g) =
     exchanged a b y z = omega (arith, ints)
 
 -- a common factor of a numerator and a denominator
-scaled : (z : Fraction) (n : ℤ) (m g : ℕ) → SameValue z (record { num = n; den = m }) → SameValue z (record { num = n *ℤ pos g; den = m * g })
+scaled : (z : Fraction) (n : ℤ) (m g : ℕ) → SameValue z (record { num = n; den = m })
+    → SameValue z (record { num = n *ℤ pos g; den = m * g })
 scaled z n m g same =
     sym (mul-twice z.num m g) ∙ ap (λ k. k *ℤ pos g) same ∙ mul-twice n z.den g ∙ ap (λ k. n *ℤ pos k) (mul_comm z.den g) ∙ sym (mul-twice n g z.den)
 
@@ -89,6 +93,7 @@ plus_value x y z some_x some_y h =
 minus_value : (x y z : Fraction) → 0 < x.den → 0 < y.den → minus x y ≡ Ok z → SameValue z (difference x y)
 minus_value x y z some_x some_y h =
     plus_value x (negated y) z some_x some_y (sym (minus-negated x y) ∙ h)
+   
     ∙ ap (λ n. n *ℤ pos z.den) (ap (λ k. (x.num *ℤ pos y.den) +ℤ k) (sym (neg-times y.num x.den)) ∙ less (x.num *ℤ pos y.den) (y.num *ℤ pos x.den))
   where
     less : (a b : ℤ) → a +ℤ neg_ℤ b ≡ a -ℤ b
@@ -100,7 +105,8 @@ ratio_value n zero z some h = absurd (omega arith)
 ratio_value n (suc d) z some h = rw (fitting_ok (reduced n (suc d)) z h) (reduced-value n (suc d))
 
 -- the product of a quotient and its divisor
-over_value : (n m : ℤ) (b d : ℕ) (z : Fraction) → 0 < b → ratio (n *ℤ pos d) (pos b *ℤ m) ≡ Ok z → z.num *ℤ m *ℤ pos b ≡ n *ℤ pos (z.den * d)
+over_value : (n m : ℤ) (b d : ℕ) (z : Fraction) → 0 < b → ratio (n *ℤ pos d) (pos b *ℤ m) ≡ Ok z
+    → z.num *ℤ m *ℤ pos b ≡ n *ℤ pos (z.den * d)
 over_value n (pos zero) b d z some h = absurd (none (b * 0) (mul-zero b) h)
   where
     none : (k : ℕ) → k ≡ 0 → ratio (n *ℤ pos d) (pos k) ≡ Ok z → ⊥
@@ -111,8 +117,10 @@ over_value n (pos (suc k)) b d z some h =
     ∙ ratio_value (n *ℤ pos d) (b * suc k) z (mul-pos some (omega arith)) h ∙ mul-twice n d z.den ∙ ap (λ j. n *ℤ pos j) (mul_comm d z.den)
 over_value n (negsuc k) b d z some h =
     ap (λ j. j *ℤ pos b) (*ℤ-negsuc z.num k) ∙ sym (neg-times (z.num *ℤ pos (suc k)) b)
+   
     ∙ ap neg_ℤ (mul-twice z.num (suc k) b ∙ ap (λ j. z.num *ℤ pos j) (mul_comm (suc k) b) ∙ below (b * suc k) (mul-pos some (omega arith)) (ap (ratio (n *ℤ pos d)) (sym (pos-*ℤ-negsuc b k)) ∙ h))
-    ∙ ap neg_ℤ (sym (neg-times (n *ℤ pos d) z.den)) ∙ neg_ℤ-neg_ℤ (n *ℤ pos d *ℤ pos z.den) ∙ mul-twice n d z.den ∙ ap (λ j. n *ℤ pos j) (mul_comm d z.den)
+    ∙ ap neg_ℤ (sym (neg-times (n *ℤ pos d) z.den)) ∙ neg_ℤ-neg_ℤ (n *ℤ pos d *ℤ pos z.den) ∙ mul-twice n d z.den
+    ∙ ap (λ j. n *ℤ pos j) (mul_comm d z.den)
   where
     below : (j : ℕ) → 0 < j → ratio (n *ℤ pos d) (neg_ℤ (pos j)) ≡ Ok z → z.num *ℤ pos j ≡ neg_ℤ (n *ℤ pos d) *ℤ pos z.den
     below zero some h = absurd (omega arith)

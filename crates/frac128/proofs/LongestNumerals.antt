@@ -15,7 +15,8 @@ unfolding greatest
 greatest-passes test zero h = absurd (omega arith)
 greatest-passes test (suc n) h = go (greatest-passes test n) (test (suc n)) refl h
   where
-    go : (0 < greatest test n → test (greatest test n) ≡ true) → (b : Bool) → test (suc n) ≡ b → 0 < (if b then suc n else greatest test n) → test (if b then suc n else greatest test n) ≡ true
+    go : (0 < greatest test n → test (greatest test n) ≡ true) → (b : Bool) → test (suc n) ≡ b
+        → 0 < (if b then suc n else greatest test n) → test (if b then suc n else greatest test n) ≡ true
     go below true e some = e
     go below false e some = below some
 

@@ -83,7 +83,8 @@ nearest_is a b some =
     let whole : b * (a / b) + a % b ≡ a = div-add-mod a b in
     by_order (a / b) (a % b) whole (omega arith) (nat_cmp (2 * (a % b)) b) (ranked (2 * (a % b)) b _ refl)
   where
-    by_order : (q r : ℕ) → b * q + r ≡ a → r < b → (order : Ordering) → MatchOrdering order (2 * r < b) (2 * r ≡ b) (b < 2 * r) → IsNearestWhole a b (by_half q order)
+    by_order : (q r : ℕ) → b * q + r ≡ a → r < b → (order : Ordering) → MatchOrdering order (2 * r < b) (2 * r ≡ b) (b < 2 * r)
+        → IsNearestWhole a b (by_half q order)
     by_order q r whole part Less half =
         let own = away_whole b q r (distance a b q) (away a b q r q whole part) in
         record {

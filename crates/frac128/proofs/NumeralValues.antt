@@ -1,12 +1,14 @@
 -- The value of a numeral by all its digits.
-use Rattle.std.proofs.Common.{◌≡◌, ◌*◌, ◌+◌, ◌-◌, ◌^◌, ◌<◌, ◌+ℤ◌, ◌-ℤ◌, ◌/◌, ℕ, ℤ, pos, negsuc, suc, zero, List, false, arith, refl, sym, ap, ◌∙◌, lit<, inl, inr}
+use Rattle.std.proofs.Common.{◌≡◌, ◌*◌, ◌+◌, ◌-◌, ◌^◌, ◌<◌, ◌+ℤ◌, ◌-ℤ◌, ◌/◌, ℕ, ℤ, pos, negsuc, suc, zero, List, false, arith, refl, sym}
+use Rattle.std.proofs.Common.{ap, ◌∙◌, lit<, inl, inr}
 use Rattle.std.specs.Prelude.{◌==◌, if◌then◌else◌}
 use Rattle.std.proofs.lemmas.Bool.{cases_lt}
 use Rattle.std.proofs.lemmas.Bool.Decides.{nat_tests}
 use Rattle.std.proofs.lemmas.Int.{ints}
 use Rattle.std.proofs.lemmas.Nat.{pow-add}
 use Rattle.std.proofs.Math.Nat.{mul-pos, zero-mul}
-use Rattle.frac128.specs.Decimals.{NumeralLaw, coefficient_of, decimal, digits_of, end_zeros, exponent_of, exponent_text, mantissa, number, places, times_power, value_of}
+use Rattle.frac128.specs.Decimals.{NumeralLaw, coefficient_of, decimal, digits_of, end_zeros, exponent_of, exponent_text, mantissa}
+use Rattle.frac128.specs.Decimals.{number, places, times_power, value_of}
 use Rattle.frac128.specs.Divisors.{IsLowest, gcd}
 use Rattle.frac128.specs.Steps.{ratio}
 use Rattle.frac128.proofs.Coprime.{coprime_is}
@@ -53,6 +55,7 @@ zeros-out c z (negsuc k) = elim (cases_lt k z) [
     above j is =
         ap (times_power c) (up j is)
         ∙ sym (ratio-mul (c * 10 ^ j) 1 (10 ^ suc k) (lit< tt) (pow_some 10 (suc k) (lit< tt)))
+       
         ∙ ap (λ n. ratio (pos n) (pos (1 * 10 ^ suc k))) (sym (spread c (10 ^ j) (10 ^ suc k)) ∙ ap (λ p. c * p) (sym (pow-add 10 j (suc k)) ∙ ap (λ n. 10 ^ n) (sym is)))
         ∙ ap (λ n. ratio (pos (c * 10 ^ z)) (pos n)) (one (10 ^ suc k))
       where
@@ -75,10 +78,12 @@ zeros-out c z (negsuc k) = elim (cases_lt k z) [
         more j is = omega arith
 
 -- the value of a mantissa and a power
-decimal_value : (bytes : List ℕ) (power : ℤ) → value_of (decimal bytes power) ≡ times_power (number (digits_of bytes)) (power -ℤ pos (places bytes))
+decimal_value : (bytes : List ℕ) (power : ℤ)
+    → value_of (decimal bytes power) ≡ times_power (number (digits_of bytes)) (power -ℤ pos (places bytes))
 decimal_value bytes power = by_coefficient (coefficient_of bytes) (number-without (digits_of bytes))
   where
     by_coefficient : (c : ℕ) → number (digits_of bytes) ≡ c * 10 ^ end_zeros bytes
+       
         → value_of (if c == 0 then record { coefficient = 0; scale = pos 0 } else record { coefficient = c; scale = power -ℤ pos (places bytes) +ℤ pos (end_zeros bytes) })
         ≡ times_power (number (digits_of bytes)) (power -ℤ pos (places bytes))
     by_coefficient zero is = zero_power (pos 0) ∙ sym (ap (λ n. times_power n (power -ℤ pos (places bytes))) (is ∙ zero-mul (10 ^ end_zeros bytes)) ∙ zero_power (power -ℤ pos (places bytes)))

@@ -1,5 +1,6 @@
 -- Powers of numbers and fractions.
-use Rattle.std.proofs.Common.{neg_ℤ, cond, ◌≡◌, ◌^◌, ◌%◌, ◌<◌, ℕ, ℤ, pos, negsuc, suc, zero, Bool, true, false, unsigned_abs, arith, refl, sym, ap, ◌∙◌}
+use Rattle.std.proofs.Common.{neg_ℤ, cond, ◌≡◌, ◌^◌, ◌%◌, ◌<◌, ℕ, ℤ, pos, negsuc, suc, zero, Bool, true, false, unsigned_abs, arith, refl}
+use Rattle.std.proofs.Common.{sym, ap, ◌∙◌}
 use Rattle.std.specs.Prelude.{int_lt, ◌&&◌, ◌==◌}
 use Rattle.std.specs.Int.{IsGcd, int_pow}
 use Rattle.std.specs.Int.Signed.{le_z}
@@ -66,7 +67,8 @@ power_down x n some lowest =
     let low = lowest_self (x.den ^ m) (a ^ m) some_m (coprime-swap _ _ (coprime-pow a x.den m (coprime_is _ _ lowest))) in
     rw (is, pow-signed s x.den m) (ratio_over_signed (s && (m % 2 == 1)) (x.den ^ m) (a ^ m) some_m low)
   where
-    ratio_over_signed : (s : Bool) (top bottom : ℕ) → 0 < bottom → IsLowest top bottom top bottom → ratio (pos top) (signed s bottom) ≡ fitting (record { num = signed s top; den = bottom })
+    ratio_over_signed : (s : Bool) (top bottom : ℕ) → 0 < bottom → IsLowest top bottom top bottom
+        → ratio (pos top) (signed s bottom) ≡ fitting (record { num = signed s top; den = bottom })
     ratio_over_signed false top bottom some low = ratio-signed false top bottom top bottom some low
     ratio_over_signed true top zero some low = absurd (omega arith)
     ratio_over_signed true top (suc bottom) some low = ratio-signed true top (suc bottom) top (suc bottom) some low

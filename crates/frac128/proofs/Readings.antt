@@ -1,9 +1,11 @@
 -- What the parts of a numeral give.
-use Rattle.std.proofs.Common.{◌≡◌, ◌≤◌, ◌+ℤ◌, ◌-ℤ◌, ℕ, ℤ, suc, pos, Bool, true, false, List, [], ◌∷◌, length, take, drop, Some, None, arith, refl, sym, ap, ◌∙◌}
+use Rattle.std.proofs.Common.{◌≡◌, ◌≤◌, ◌+ℤ◌, ◌-ℤ◌, ℕ, ℤ, suc, pos, Bool, true, false, List, [], ◌∷◌, length, take, drop, Some, None}
+use Rattle.std.proofs.Common.{arith, refl, sym, ap, ◌∙◌}
 use Rattle.std.specs.Prelude.{if◌then◌else◌, ◌==◌, nat_le, Ok, Err}
 use Rattle.std.proofs.lemmas.Bool.Decides.{nat_tests}
 use Rattle.frac128.specs.declared.numeral.NumeralFault.TheVariants.{TooLong}
-use Rattle.frac128.specs.Decimals.{coefficient_of, end_zeros, exponent_of, exponent_size, exponent_text, mantissa, most_exponent, places, read, short_coefficient}
+use Rattle.frac128.specs.Decimals.{coefficient_of, end_zeros, exponent_of, exponent_size, exponent_text, mantissa, most_exponent, places}
+use Rattle.frac128.specs.Decimals.{read, short_coefficient}
 use Rattle.frac128.specs.Fraction.{most}
 use Rattle.frac128.specs.Numerals.{is_mark_byte, before, from, is_numeral}
 use Rattle.frac128.proofs.Comparisons.{le-false, le-true}
@@ -44,7 +46,8 @@ pub record IsSplit (bytes m t : List ℕ) : Type 0 where
   pub t_is : t ≡ exponent_text bytes
 
 -- the parts by the place of the mark
-pub split_by : (bytes m t : List ℕ) (n : ℕ) → n ≡ length (before is_mark_byte bytes) → m ≡ take n bytes → t ≡ drop n bytes → is_numeral bytes ≡ true → IsSplit bytes m t
+pub split_by : (bytes m t : List ℕ) (n : ℕ) → n ≡ length (before is_mark_byte bytes) → m ≡ take n bytes → t ≡ drop n bytes
+    → is_numeral bytes ≡ true → IsSplit bytes m t
 split_by bytes m t n n_is m_is t_is h = record {
   numeral = h;
   m_is = m_is ∙ ap (λ k. take k bytes) n_is ∙ take-before is_mark_byte bytes;
@@ -68,7 +71,8 @@ read_wide bytes m t is none =
     rw (is.numeral, wide) refl
 
 -- the exponent is too large
-pub read_long : (bytes m t : List ℕ) (c z : ℕ) → IsSplit bytes m t → Some (c, z) ≡ short_coefficient m → (exponent_size t ≤ most_exponent → ⊥) → Err TooLong ≡ read bytes
+pub read_long : (bytes m t : List ℕ) (c z : ℕ) → IsSplit bytes m t → Some (c, z) ≡ short_coefficient m
+    → (exponent_size t ≤ most_exponent → ⊥) → Err TooLong ≡ read bytes
 read_long bytes m t c z is some wide =
     let short = is_shortened (nat_le (coefficient_of m) most) (c, z) (coefficient_of m, end_zeros m) some in
     let fits : nat_le (coefficient_of (mantissa bytes)) most ≡ true = rw (← is.m_is) short.0 in
@@ -77,6 +81,7 @@ read_long bytes m t c z is some wide =
 
 -- the numeral by its parts
 pub read_short : (bytes m t : List ℕ) (c z : ℕ) → IsSplit bytes m t → Some (c, z) ≡ short_coefficient m → exponent_size t ≤ most_exponent
+   
     → read bytes ≡ Ok (if c == 0 then record { coefficient = 0; scale = pos 0 } else record { coefficient = c; scale = exponent_of t -ℤ pos (places m) +ℤ pos z })
 read_short bytes m t c z is some low =
     let short = is_shortened (nat_le (coefficient_of m) most) (c, z) (coefficient_of m, end_zeros m) some in
@@ -87,12 +92,14 @@ read_short bytes m t c z is some low =
     rw (is.numeral, fits, near, c_is, z_is, is.m_is, is.t_is) refl
 
 -- the coefficient is 0
-pub read_zero : (bytes m t : List ℕ) (c z : ℕ) → IsSplit bytes m t → Some (c, z) ≡ short_coefficient m → exponent_size t ≤ most_exponent → c ≡ 0
+pub read_zero : (bytes m t : List ℕ) (c z : ℕ) → IsSplit bytes m t → Some (c, z) ≡ short_coefficient m → exponent_size t ≤ most_exponent
+    → c ≡ 0
     → Ok (record { coefficient = 0; scale = pos 0 }) ≡ read bytes
 read_zero bytes m t c z is some low c_is = sym (read_short bytes m t c z is some low ∙ rw c_is refl)
 
 -- the coefficient is above 0
-pub read_some : (bytes m t : List ℕ) (c z k : ℕ) (power : ℤ) → IsSplit bytes m t → Some (c, z) ≡ short_coefficient m → exponent_size t ≤ most_exponent → (c ≡ 0 → ⊥)
+pub read_some : (bytes m t : List ℕ) (c z k : ℕ) (power : ℤ) → IsSplit bytes m t → Some (c, z) ≡ short_coefficient m
+    → exponent_size t ≤ most_exponent → (c ≡ 0 → ⊥)
     → power ≡ exponent_of t → k ≡ places m → Ok (record { coefficient = c; scale = power -ℤ pos k +ℤ pos z }) ≡ read bytes
 read_some bytes m t c z k power is some low other power_is k_is =
     let test : (c == 0) ≡ false = grind (arith, nat_tests) in

@@ -11,7 +11,8 @@ use Rattle.frac128.proofs.Lowest.{cross-lowest, lowest-cross, lowest_gcd, lowest
 use Rattle.frac128.proofs.Signs.{abs-signed, mul-signed, reduced-signed, sign_kept, signed_is}
 
 -- the sign and the magnitude of the numerator, and the denominator
-pub reduced_is : (n : ℤ) (d : ℕ) → reduced n d ≡ record { num = signed (int_lt n (pos 0)) (unsigned_abs n / gcd (unsigned_abs n) d); den = d / gcd (unsigned_abs n) d }
+pub reduced_is : (n : ℤ) (d : ℕ)
+    → reduced n d ≡ record { num = signed (int_lt n (pos 0)) (unsigned_abs n / gcd (unsigned_abs n) d); den = d / gcd (unsigned_abs n) d }
 reduced_is n d = ap (λ z. reduced z d) (signed_is n) ∙ reduced-signed _ _ d _ _ (record { top_is = refl; bottom_is = refl })
 
 -- it is reduced

@@ -41,7 +41,8 @@ root_small (suc zero) q some (inr h) = one-pow q
 root_small (suc (suc n)) q some (inr h) = absurd (omega arith)
 
 -- between 1 and a power of two
-pub search_start : (n q k : ℕ) → 0 < q → (q ≡ 1 → ⊥) → (n < 2 → ⊥) → n < 2 * 2 ^ k → k < 128 → IsBetween 1 (1 * 2 ^ (k / q + 1) % 2 ^ 128) q n
+pub search_start : (n q k : ℕ) → 0 < q → (q ≡ 1 → ⊥) → (n < 2 → ⊥) → n < 2 * 2 ^ k → k < 128
+    → IsBetween 1 (1 * 2 ^ (k / q + 1) % 2 ^ 128) q n
 search_start n q k some other big next bound =
     let two : 2 ≤ q = omega (arith, other) in
     let short : k / q + 1 < 128 = by_half (k / q) (quotient_low k q two bound) in

@@ -1,5 +1,6 @@
 -- Roots of fractions by the roots of their parts.
-use Rattle.std.proofs.Common.{inl, inr, ◌≡◌, ◌%◌, ◌^◌, ◌<◌, ◌≤◌, ℕ, ℤ, pos, negsuc, suc, zero, Bool, true, false, unsigned_abs, arith, refl, sym, ap, subst, ◌∙◌}
+use Rattle.std.proofs.Common.{inl, inr, ◌≡◌, ◌%◌, ◌^◌, ◌<◌, ◌≤◌, ℕ, ℤ, pos, negsuc, suc, zero, Bool, true, false, unsigned_abs, arith}
+use Rattle.std.proofs.Common.{refl, sym, ap, subst, ◌∙◌}
 use Rattle.std.specs.Prelude.{int_lt, IsFalse, Ok, ◌&&◌, ◌==◌}
 use Rattle.std.specs.Int.{◌∣◌, IsGcd, int_pow}
 use Rattle.std.proofs.lemmas.Bool.{cases_order}
@@ -37,7 +38,8 @@ root_lowest m n q a b some first second h =
     is_coprime m n (coprime-dvd a b m n (coprime_is a b h) (subst (λ k. m ∣ k) first (dvd-pow m q some)) (subst (λ k. n ∣ k) second (dvd-pow n q some)))
 
 -- what fits is no overflow
-fitting_ok : (s : Bool) (top bottom : ℕ) → top ≤ most → bottom ≤ most → fitting (record { num = signed s top; den = bottom }) ≡ Ok (record { num = signed s top; den = bottom })
+fitting_ok : (s : Bool) (top bottom : ℕ) → top ≤ most → bottom ≤ most
+    → fitting (record { num = signed s top; den = bottom }) ≡ Ok (record { num = signed s top; den = bottom })
 fitting_ok s top bottom low high = rw (abs-signed s top, le-true top most low, le-true bottom most high) refl
 
 -- a number below 0 has roots of odd degree alone
@@ -72,7 +74,8 @@ root_by x q s a b top bottom is some first second odd =
     }
 
 -- it fits where they do
-pub root_made : (x : Fraction) (q : ℕ) (s : Bool) (a b top bottom : ℕ) → IsMade x s a b → 0 < q → top ^ q ≡ a → bottom ^ q ≡ b → a ≤ most → b ≤ most
+pub root_made : (x : Fraction) (q : ℕ) (s : Bool) (a b top bottom : ℕ) → IsMade x s a b → 0 < q → top ^ q ≡ a → bottom ^ q ≡ b → a ≤ most
+    → b ≤ most
     → (s ≡ true → q % 2 ≡ 0 → ⊥) → IsRootAnswer x q (fitting (record { num = signed s top; den = bottom }))
 root_made x q s a b top bottom is some first second a_fits b_fits odd =
     let low : top ≤ most = under top a (subst (λ k. top ≤ k) first (le-pow top q some)) a_fits in
@@ -116,7 +119,8 @@ odd_pow z q some odd =
     one_is r e = rw e refl
 
 -- two roots have one numerator
-same_num : (m n : ℤ) (q : ℕ) → 0 < q → int_pow m q ≡ int_pow n q → (q % 2 ≡ 0 → IsFalse (int_lt m (pos 0))) → (q % 2 ≡ 0 → IsFalse (int_lt n (pos 0))) → m ≡ n
+same_num : (m n : ℤ) (q : ℕ) → 0 < q → int_pow m q ≡ int_pow n q → (q % 2 ≡ 0 → IsFalse (int_lt m (pos 0)))
+    → (q % 2 ≡ 0 → IsFalse (int_lt n (pos 0))) → m ≡ n
 same_num m n q some e plain_m plain_n =
     let size : unsigned_abs m ≡ unsigned_abs n = same_of_pow (unsigned_abs m) (unsigned_abs n) q some (sym (abs-pow m q) ∙ ap unsigned_abs e ∙ abs-pow n q) in
     by_size (unsigned_abs m) refl size

@@ -1,5 +1,6 @@
 -- Ratios of numbers that are given by sign and magnitude.
-use Rattle.std.proofs.Common.{◌≡◌, ◌*◌, ◌/◌, ◌<◌, ◌≤◌, ℕ, suc, zero, ℤ, pos, negsuc, neg_ℤ, ◌*ℤ◌, Bool, true, false, not, arith, refl, sym, ap, ◌∙◌, unsigned_abs}
+use Rattle.std.proofs.Common.{◌≡◌, ◌*◌, ◌/◌, ◌<◌, ◌≤◌, ℕ, suc, zero, ℤ, pos, negsuc, neg_ℤ, ◌*ℤ◌, Bool, true, false, not, arith, refl}
+use Rattle.std.proofs.Common.{sym, ap, ◌∙◌, unsigned_abs}
 use Rattle.std.specs.Prelude.{int_lt, int_div}
 use Rattle.std.proofs.lemmas.Int.{ints, unsigned_abs-mul}
 use Rattle.std.proofs.Math.IntN.{*ℤ_comm, neg_ℤ-neg_ℤ, pos-*ℤ-negsuc, negsuc-*ℤ-pos}
@@ -26,7 +27,8 @@ div-signed true zero g = ap pos (zero-div g) ∙ ap (λ n. neg_ℤ (pos n)) (sym
 div-signed true (suc a) g = refl
 
 -- a number with a sign over one above 0, in lowest terms
-pub reduced-signed : (s : Bool) (a b top bottom : ℕ) → IsLowest a b top bottom → reduced (signed s a) b ≡ record { num = signed s top; den = bottom }
+pub reduced-signed : (s : Bool) (a b top bottom : ℕ) → IsLowest a b top bottom
+    → reduced (signed s a) b ≡ record { num = signed s top; den = bottom }
 unfolding reduced
 reduced-signed s a b top bottom low =
     rw (abs-signed s a, div-signed s a (gcd a b), low.top_is, low.bottom_is) refl
@@ -69,7 +71,8 @@ neg-times (pos (suc n)) k = refl
 neg-times (negsuc n) k = neg_ℤ-neg_ℤ (pos (suc n * k))
 
 -- the ratio of a number with a sign and one above zero
-pub ratio-signed : (s : Bool) (a b top bottom : ℕ) → 0 < b → IsLowest a b top bottom → ratio (signed s a) (pos b) ≡ fitting (record { num = signed s top; den = bottom })
+pub ratio-signed : (s : Bool) (a b top bottom : ℕ) → 0 < b → IsLowest a b top bottom
+    → ratio (signed s a) (pos b) ≡ fitting (record { num = signed s top; den = bottom })
 ratio-signed s a zero top bottom some low = absurd (omega arith)
 ratio-signed s a (suc b) top bottom some low = ap fitting (reduced-signed s a (suc b) top bottom low)
 
@@ -92,10 +95,12 @@ ratio_is n (pos (suc d)) top bottom some low =
     ap (λ z. ratio z (pos (suc d))) (signed_is n) ∙ ratio-signed _ _ (suc d) top bottom some low ∙ ap (λ s. fitting (record { num = signed s top; den = bottom })) (sym (ap (differ _) plus ∙ differ-false _))
 ratio_is n (negsuc d) top bottom some low =
     ap (λ z. ratio z (negsuc d)) (signed_is n) ∙ ap (λ z. fitting (reduced z (suc d))) (neg-signed (int_lt n (pos 0)) (unsigned_abs n))
-    ∙ ap fitting (reduced-signed _ _ (suc d) top bottom low) ∙ ap (λ s. fitting (record { num = signed s top; den = bottom })) (sym (differ-true _))
+    ∙ ap fitting (reduced-signed _ _ (suc d) top bottom low)
+    ∙ ap (λ s. fitting (record { num = signed s top; den = bottom })) (sym (differ-true _))
 
 -- the product of two fractions
-pub times_is : (x y : Fraction) (top bottom : ℕ) → 0 < x.den → 0 < y.den → IsLowest (unsigned_abs x.num * unsigned_abs y.num) (x.den * y.den) top bottom
+pub times_is : (x y : Fraction) (top bottom : ℕ) → 0 < x.den → 0 < y.den
+    → IsLowest (unsigned_abs x.num * unsigned_abs y.num) (x.den * y.den) top bottom
     → times x y ≡ fitting (record { num = signed (signs_differ x.num y.num) top; den = bottom })
 times_is x y top bottom some_x some_y low =
     ap (λ z. ratio z (pos (x.den * y.den))) (product_is x.num y.num) ∙ ratio-signed _ _ (x.den * y.den) top bottom (mul-pos some_x some_y) low
@@ -104,12 +109,14 @@ times_is x y top bottom some_x some_y low =
     product_is m n = ap (λ z. z *ℤ n) (signed_is m) ∙ ap (λ z. signed _ (unsigned_abs m) *ℤ z) (signed_is n) ∙ mul-signed _ _ (unsigned_abs m) (unsigned_abs n)
 
 -- a fraction with a part of more than 128 bits does not fit
-pub wide_over : (s : Bool) (top bottom : ℕ) → (2 ^ 128 ≤ top) ⊎ (2 ^ 128 ≤ bottom) → fitting (record { num = signed s top; den = bottom }) ≡ Err Overflow
+pub wide_over : (s : Bool) (top bottom : ℕ) → (2 ^ 128 ≤ top) ⊎ (2 ^ 128 ≤ bottom)
+    → fitting (record { num = signed s top; den = bottom }) ≡ Err Overflow
 wide_over s top bottom (inl h) = rw (abs-signed s top, le-false top most (omega arith)) refl
 wide_over s top bottom (inr h) = rw (le-false bottom most (omega arith), and-false (nat_le (unsigned_abs (signed s top)) most)) refl
 
 -- a product that is too wide
-pub times_wide : (x y : Fraction) → 0 < x.den → 0 < y.den → IsWide (unsigned_abs x.num * unsigned_abs y.num) (x.den * y.den) → times x y ≡ Err Overflow
+pub times_wide : (x y : Fraction) → 0 < x.den → 0 < y.den → IsWide (unsigned_abs x.num * unsigned_abs y.num) (x.den * y.den)
+    → times x y ≡ Err Overflow
 times_wide x y some_x some_y wide = times_is x y _ _ some_x some_y (record { top_is = refl; bottom_is = refl }) ∙ wide_over _ _ _ wide
 
 -- a numerator that is too large
@@ -139,7 +146,8 @@ sign_kept_left : (z : ℤ) (d : ℕ) → 0 < d → int_lt (pos d *ℤ z) (pos 0)
 sign_kept_left z d some = ap (λ m. int_lt m (pos 0)) (*ℤ_comm (pos d) z) ∙ sign_kept z d some
 
 -- the quotient of two fractions
-pub over_is : (x y : Fraction) (top bottom : ℕ) → 0 < x.den → 0 < y.den → 0 < unsigned_abs y.num → IsLowest (unsigned_abs x.num * y.den) (x.den * unsigned_abs y.num) top bottom
+pub over_is : (x y : Fraction) (top bottom : ℕ) → 0 < x.den → 0 < y.den → 0 < unsigned_abs y.num
+    → IsLowest (unsigned_abs x.num * y.den) (x.den * unsigned_abs y.num) top bottom
     → over x y ≡ fitting (record { num = signed (signs_differ x.num y.num) top; den = bottom })
 over_is x y top bottom some_x some_y some low =
     ratio_is (x.num *ℤ pos y.den) (pos x.den *ℤ y.num) top bottom
@@ -149,7 +157,8 @@ over_is x y top bottom some_x some_y some low =
     (ap (λ s. differ s (int_lt (pos x.den *ℤ y.num) (pos 0))) (sign_kept x.num y.den some_y) ∙ ap (differ (int_lt x.num (pos 0))) (sign_kept_left y.num x.den some_x))
 
 -- a quotient that is too wide
-pub over_wide : (x y : Fraction) → 0 < x.den → 0 < y.den → 0 < unsigned_abs y.num → IsWide (unsigned_abs x.num * y.den) (x.den * unsigned_abs y.num) → over x y ≡ Err Overflow
+pub over_wide : (x y : Fraction) → 0 < x.den → 0 < y.den → 0 < unsigned_abs y.num
+    → IsWide (unsigned_abs x.num * y.den) (x.den * unsigned_abs y.num) → over x y ≡ Err Overflow
 over_wide x y some_x some_y some wide = over_is x y _ _ some_x some_y some (record { top_is = refl; bottom_is = refl }) ∙ wide_over _ _ _ wide
 
 -- the magnitude of a number other than 0

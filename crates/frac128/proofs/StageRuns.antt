@@ -1,5 +1,6 @@
 -- Numerals that are read byte by byte.
-use Rattle.std.proofs.Common.{inl, inr, add-one, subst, ◌≡◌, ◌+◌, ◌-◌, ◌<◌, ◌≤◌, ℕ, suc, zero, Bool, true, false, List, [], ◌∷◌, take, drop, length, get_or, Option, Some, None, arith, refl, sym, ap, ◌∙◌}
+use Rattle.std.proofs.Common.{inl, inr, add-one, subst, ◌≡◌, ◌+◌, ◌-◌, ◌<◌, ◌≤◌, ℕ, suc, zero, Bool, true, false, List, [], ◌∷◌, take}
+use Rattle.std.proofs.Common.{drop, length, get_or, Option, Some, None, arith, refl, sym, ap, ◌∙◌}
 use Rattle.std.specs.Prelude.{nat_eq, ◌&&◌, if◌then◌else◌}
 use Rattle.std.specs.List.{list_all}
 use Rattle.std.proofs.lemmas.Bool.{cases_lt}
@@ -8,7 +9,8 @@ use Rattle.std.proofs.lemmas.List.{drop_more, take_all}
 use Rattle.frac128.specs.declared.spelling.Kind.{Kind}
 use Rattle.frac128.specs.declared.spelling.Stage.{Stage}
 use Rattle.frac128.specs.declared.spelling.Stage.TheVariants.{Start, Whole, Pointed, Fraction, Marked, Signed, Exponent}
-use Rattle.frac128.specs.Numerals.{before, behind_sign, from, greatest, is_digit, is_exponent, is_mark_byte, is_numeral, is_point_byte, is_pointed, is_sign_byte, is_whole, numeral_len_of}
+use Rattle.frac128.specs.Numerals.{before, behind_sign, from, greatest, is_digit, is_exponent, is_mark_byte, is_numeral, is_point_byte}
+use Rattle.frac128.specs.Numerals.{is_pointed, is_sign_byte, is_whole, numeral_len_of}
 use Rattle.frac128.specs.Stages.{kind_of, may_end, stage_after}
 use Rattle.frac128.proofs.Comparisons.{and-false}
 
@@ -167,7 +169,8 @@ greatest_more test i b e = subst (λ n. test n ≡ b → greatest test n ≡ (if
     step n e h = rw h refl
 
 -- one byte more
-pub read_more : (bytes : List ℕ) (i : ℕ) (s next : Stage) (k : Kind) (len more : ℕ) → IsReadTo bytes i s len → i < length bytes → k ≡ kind_of (get_or bytes i 0)
+pub read_more : (bytes : List ℕ) (i : ℕ) (s next : Stage) (k : Kind) (len more : ℕ) → IsReadTo bytes i s len → i < length bytes
+    → k ≡ kind_of (get_or bytes i 0)
     → Some next ≡ stage_after s k → more ≡ (if may_end next then i + 1 else len) → IsReadTo bytes (i + 1) next more
 read_more bytes i s next k len more is h k_is next_is more_is =
     let on : (n : ℕ) → is_numeral (take (i + 1 + n) bytes) ≡ rest_of next (take n (drop (i + 1) bytes)) =
@@ -192,7 +195,8 @@ greatest-stays test i (suc n) h none = elim (cases_lt i (suc n)) [
 ]
 
 -- no numeral goes on by the byte
-pub read_end : (bytes : List ℕ) (i : ℕ) (s : Stage) (k : Kind) (len : ℕ) → IsReadTo bytes i s len → i < length bytes → k ≡ kind_of (get_or bytes i 0)
+pub read_end : (bytes : List ℕ) (i : ℕ) (s : Stage) (k : Kind) (len : ℕ) → IsReadTo bytes i s len → i < length bytes
+    → k ≡ kind_of (get_or bytes i 0)
     → None ≡ stage_after s k → len ≡ numeral_len_of bytes
 read_end bytes i s k len is h k_is none =
     is.longest ∙ sym (greatest-stays (λ n. is_numeral (take n bytes)) i (length bytes) is.within (λ m p q. longer m p))

@@ -1,5 +1,6 @@
 -- Sums over a common multiple.
-use Rattle.std.proofs.Common.{◌≡◌, ◌*◌, ◌/◌, ◌<◌, ◌≤◌, ◌+ℤ◌, ◌-ℤ◌, ◌*ℤ◌, ℕ, ℤ, pos, neg_ℤ, suc, zero, Bool, true, false, unsigned_abs, arith, refl, sym, ap, ◌∙◌}
+use Rattle.std.proofs.Common.{◌≡◌, ◌*◌, ◌/◌, ◌<◌, ◌≤◌, ◌+ℤ◌, ◌-ℤ◌, ◌*ℤ◌, ℕ, ℤ, pos, neg_ℤ, suc, zero, Bool, true, false, unsigned_abs}
+use Rattle.std.proofs.Common.{arith, refl, sym, ap, ◌∙◌}
 use Rattle.std.specs.Prelude.{int_lt, Ok, Err, if◌then◌else◌}
 use Rattle.std.specs.Int.{IsGcd}
 use Rattle.std.proofs.Math.Nat.{mul_comm, mul-div_cancel', mul-div_cancel_left, mul-pos, mul-zero, div-le_self}
@@ -95,11 +96,13 @@ joined-left : (step : ℤ → ℤ → ℤ) (m : ℕ) (l r n : ℤ) (e : FracFaul
 joined-left step m l r n e p h = let no = within_err l e h in rw ((within_ok n (pos m) p).0, no.0, no.1) refl
 
 -- also the second
-joined-right : (step : ℤ → ℤ → ℤ) (m : ℕ) (l r n k : ℤ) (e : FracFault) → Ok n ≡ within (pos m) → Ok k ≡ within l → Err e ≡ within r → joined step m l r ≡ Err e
+joined-right : (step : ℤ → ℤ → ℤ) (m : ℕ) (l r n k : ℤ) (e : FracFault) → Ok n ≡ within (pos m) → Ok k ≡ within l → Err e ≡ within r
+    → joined step m l r ≡ Err e
 joined-right step m l r n k e p q h = let no = within_err r e h in rw ((within_ok n (pos m) p).0, (within_ok k l q).0, no.0, no.1) refl
 
 -- all parts in range
-joined-sum : (step : ℤ → ℤ → ℤ) (m : ℕ) (l r n k j : ℤ) → Ok n ≡ within (pos m) → Ok k ≡ within l → Ok j ≡ within r → joined step m l r ≡ sum_over (unsigned_abs n) (step k j)
+joined-sum : (step : ℤ → ℤ → ℤ) (m : ℕ) (l r n k j : ℤ) → Ok n ≡ within (pos m) → Ok k ≡ within l → Ok j ≡ within r
+    → joined step m l r ≡ sum_over (unsigned_abs n) (step k j)
 joined-sum step m l r n k j p q h =
     let n_is = within_ok n (pos m) p in
     let k_is = within_ok k l q in
@@ -107,13 +110,15 @@ joined-sum step m l r n k j p q h =
     rw (n_is.0, k_is.0, j_is.0, n_is.1, k_is.1, j_is.1) refl
 
 -- the sum by the parts that the code makes
-plus_by : (x y : Fraction) (b d g p q top other : ℕ) (s t : Bool) → IsParts x y b d g p q top other → s ≡ int_lt x.num (pos 0) → t ≡ int_lt y.num (pos 0)
+plus_by : (x y : Fraction) (b d g p q top other : ℕ) (s t : Bool) → IsParts x y b d g p q top other → s ≡ int_lt x.num (pos 0)
+    → t ≡ int_lt y.num (pos 0)
     → plus x y ≡ joined ◌+ℤ◌ (p * d) (signed s (top * q)) (signed t (other * p))
 plus_by x y b d g p q top other s t is s_is t_is =
     rw (sym (numerator-signed x.num s top q s_is is.top_is), sym (numerator-signed y.num t other p t_is is.other_is), is.p_is, is.q_is, is.g_is, is.b_is, is.d_is)
     (by_divisor x y (rw (← is.b_is) is.some_b) (rw (← is.d_is) is.some_d))
   where
-    by_divisor : (x y : Fraction) → 0 < x.den → 0 < y.den → plus x y ≡ joined ◌+ℤ◌ (x.den / gcd x.den y.den * y.den) (x.num *ℤ pos (y.den / gcd x.den y.den)) (y.num *ℤ pos (x.den / gcd x.den y.den))
+    by_divisor : (x y : Fraction) → 0 < x.den → 0 < y.den
+        → plus x y ≡ joined ◌+ℤ◌ (x.den / gcd x.den y.den * y.den) (x.num *ℤ pos (y.den / gcd x.den y.den)) (y.num *ℤ pos (x.den / gcd x.den y.den))
     by_divisor x y some_x some_y =
         let parts = lcm-div x.den y.den some_x some_y in
         ap (λ k. joined ◌+ℤ◌ (lcm x.den y.den) (x.num *ℤ pos k) (y.num *ℤ pos (lcm x.den y.den / y.den))) parts.0
@@ -132,12 +137,14 @@ multiple_some x y b d g p q top other is = mul-pos (above p refl) is.some_d
     above (suc n) e = omega arith
 
 -- the sum where the multiple is out of range
-pub plus-multiple : (x y : Fraction) (b d g p q top other : ℕ) (e : FracFault) → IsParts x y b d g p q top other → Err e ≡ within (pos (p * d)) → plus x y ≡ Err e
+pub plus-multiple : (x y : Fraction) (b d g p q top other : ℕ) (e : FracFault) → IsParts x y b d g p q top other
+    → Err e ≡ within (pos (p * d)) → plus x y ≡ Err e
 plus-multiple x y b d g p q top other e is h =
     plus_by x y b d g p q top other _ _ is refl refl ∙ joined-multiple ◌+ℤ◌ (p * d) (signed (int_lt x.num (pos 0)) (top * q)) (signed (int_lt y.num (pos 0)) (other * p)) e h
 
 -- the sum where the first numerator is
-pub plus-left : (x y : Fraction) (b d g p q top other : ℕ) (s : Bool) (n : ℤ) (e : FracFault) → IsParts x y b d g p q top other → s ≡ int_lt x.num (pos 0)
+pub plus-left : (x y : Fraction) (b d g p q top other : ℕ) (s : Bool) (n : ℤ) (e : FracFault) → IsParts x y b d g p q top other
+    → s ≡ int_lt x.num (pos 0)
     → Ok n ≡ within (pos (p * d)) → Err e ≡ within (signed s (top * q)) → plus x y ≡ Err e
 plus-left x y b d g p q top other s n e is s_is m h =
     plus_by x y b d g p q top other s _ is s_is refl ∙ joined-left ◌+ℤ◌ (p * d) (signed s (top * q)) (signed (int_lt y.num (pos 0)) (other * p)) n e m h
@@ -158,7 +165,8 @@ plus-sum x y b d g p q top other s t n k j is s_is t_is m l h =
     plus_by x y b d g p q top other s t is s_is t_is ∙ joined-sum ◌+ℤ◌ (p * d) (signed s (top * q)) (signed t (other * p)) n k j m l h
 
 -- what the sum shares with the multiple, it shares with the divisor
-pub sum-shared : (x y : Fraction) (b d g p q top other : ℕ) (s t : Bool) (n k j : ℤ) → IsParts x y b d g p q top other → IsGcd top b 1 → IsGcd other d 1
+pub sum-shared : (x y : Fraction) (b d g p q top other : ℕ) (s t : Bool) (n k j : ℤ) → IsParts x y b d g p q top other → IsGcd top b 1
+    → IsGcd other d 1
     → Ok n ≡ within (pos (p * d)) → Ok k ≡ within (signed s (top * q)) → Ok j ≡ within (signed t (other * p))
     → gcd (unsigned_abs (k +ℤ j)) g ≡ gcd (unsigned_abs (k +ℤ j)) (unsigned_abs n)
 sum-shared x y b d g p q top other s t n k j is first second m l h =

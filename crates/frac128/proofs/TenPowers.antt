@@ -1,10 +1,12 @@
 -- Numbers times and over powers of ten.
-use Rattle.std.proofs.Common.{◌≡◌, ◌*◌, ◌/◌, ◌^◌, ◌+◌, ◌<◌, ◌≤◌, ℕ, ℤ, suc, pos, negsuc, Bool, true, false, arith, refl, sym, ap, subst, ◌∙◌, lit<, lit≤}
+use Rattle.std.proofs.Common.{◌≡◌, ◌*◌, ◌/◌, ◌^◌, ◌+◌, ◌<◌, ◌≤◌, ℕ, ℤ, suc, pos, negsuc, Bool, true, false, arith, refl, sym, ap, subst}
+use Rattle.std.proofs.Common.{◌∙◌, lit<, lit≤}
 use Rattle.std.specs.Prelude.{◌&&◌, Ok, Err, nat_le, if◌then◌else◌}
 use Rattle.std.specs.Int.{◌∣◌}
 use Rattle.std.proofs.lemmas.Bool.Decides.{nat_tests}
 use Rattle.std.proofs.lemmas.Nat.{le-div, mul-le, pow-add}
-use Rattle.std.proofs.Math.Nat.{div-le_self, le-mul_of_pos_right, mul_comm, mul-one, mul-div_cancel_left, mul-pos, mul-div_cancel', dvd-mul_left_of_dvd, zero-mul, le_refl, one-dvd, pow-le-pow_right}
+use Rattle.std.proofs.Math.Nat.{div-le_self, le-mul_of_pos_right, mul_comm, mul-one, mul-div_cancel_left, mul-pos, mul-div_cancel'}
+use Rattle.std.proofs.Math.Nat.{dvd-mul_left_of_dvd, zero-mul, le_refl, one-dvd, pow-le-pow_right}
 use Rattle.std.proofs.lemmas.Nat.Gcd.{le_of_dvd}
 use Rattle.frac128.specs.declared.fault.FracFault.{FracFault}
 use Rattle.frac128.specs.declared.fault.FracFault.TheVariants.{Overflow}
@@ -34,7 +36,8 @@ digit_wide n z d other h low =
     omega arith
 
 -- the ratio of two numbers
-ratio_low : (a b top bottom : ℕ) → 0 < b → IsLowest a b top bottom → ratio (pos a) (pos b) ≡ fitting (record { num = pos top; den = bottom })
+ratio_low : (a b top bottom : ℕ) → 0 < b → IsLowest a b top bottom
+    → ratio (pos a) (pos b) ≡ fitting (record { num = pos top; den = bottom })
 ratio_low a b top bottom some low = ratio-signed false a b top bottom some low
 
 -- the ratio by its quotients
@@ -155,7 +158,8 @@ pub down_err : (n k : ℕ) (e : FracFault) → n ≤ most → Err e ≡ ratio (p
 down_err n k e low h = ap (λ d. ratio (pos n) (pos d)) (pow-add 10 38 k) ∙ twice_err n (10 ^ 38) (10 ^ k) e low (lit< tt) (pow_some 10 k (lit< tt)) h
 
 -- both are one division
-pub down_ok : (n k : ℕ) (x : Fraction) → Ok x ≡ ratio (pos n) (pos (10 ^ 38)) → over x (whole (pos (10 ^ k))) ≡ ratio (pos n) (pos (10 ^ (38 + k)))
+pub down_ok : (n k : ℕ) (x : Fraction) → Ok x ≡ ratio (pos n) (pos (10 ^ 38))
+    → over x (whole (pos (10 ^ k))) ≡ ratio (pos n) (pos (10 ^ (38 + k)))
 down_ok n k x h = twice_ok n (10 ^ 38) (10 ^ k) x (lit< tt) (pow_some 10 k (lit< tt)) h ∙ ap (λ d. ratio (pos n) (pos d)) (sym (pow-add 10 38 k))
 
 -- nothing times ten to any power

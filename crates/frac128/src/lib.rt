@@ -19,8 +19,8 @@ mod sum;
 pub use fault::FracFault;
 pub use fraction::Frac;
 pub use laws::{
-    compared_law, digits_law, floor_law, gcd_law, lcm_law, nearest_whole_law, numeral_law, order_law,
-    reduced_law, root_law, root_of_law, steps_law,
+    compared_law, digits_law, floor_law, gcd_law, lcm_law, nearest_whole_law, numeral_law,
+    order_law, reduced_law, root_law, root_of_law, steps_law,
 };
 pub use numeral::{Numeral, NumeralFault};
 pub use reading::{read_longest, read_numeral};

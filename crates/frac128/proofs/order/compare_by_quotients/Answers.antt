@@ -1,7 +1,8 @@
 use Rattle.std.proofs.Common.{◌≡◌, ◌%◌, ◌⊎◌, inl, inr, sym, ◌∙◌, arith}
 use Rattle.std.proofs.Math.Nat.{mul_comm}
 use Rattle.frac128.proofs.Quotients.{quotients_decide, quotient_same, rest_decides}
-use Rattle.frac128.proofs.order.compare_by_quotients.Goals.{then-left_rest-eq0-via-then-left_rest-eq0, then-left_rest-eq0-via-else-left_rest-eq0+then-right_rest-eq0}
+use Rattle.frac128.proofs.order.compare_by_quotients.Goals.{then-left_rest-eq0-via-then-left_rest-eq0}
+use Rattle.frac128.proofs.order.compare_by_quotients.Goals.{then-left_rest-eq0-via-else-left_rest-eq0+then-right_rest-eq0}
 use Rattle.frac128.proofs.order.compare_by_quotients.Goals as goal
 
 pub returns-then-left-right : goal.returns-then-left-right

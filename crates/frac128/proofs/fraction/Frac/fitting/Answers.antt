@@ -8,7 +8,8 @@ use Rattle.frac128.proofs.Signs.{abs-signed}
 use Rattle.frac128.proofs.fraction.Frac.fitting.Goals as goal
 
 -- a number with a sign, and a denominator, that are in lowest terms and not too large
-kept : (num : ℤ) (s : Bool) (top bottom : ℕ) → num ≡ signed s top → 0 < bottom → IsGcd top bottom 1 → top ≤ most → bottom ≤ most → IsKept (record { num = num; den = bottom })
+kept : (num : ℤ) (s : Bool) (top bottom : ℕ) → num ≡ signed s top → 0 < bottom → IsGcd top bottom 1 → top ≤ most → bottom ≤ most
+    → IsKept (record { num = num; den = bottom })
 kept num s top bottom is some lowest low high =
     let abs : unsigned_abs num ≡ top = ap unsigned_abs is ∙ abs-signed s top in
     record { reduced = record { positive = some; lowest = rw abs lowest }; num_fits = rw abs low; den_fits = high }

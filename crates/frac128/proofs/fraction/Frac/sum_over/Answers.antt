@@ -15,7 +15,8 @@ not_least (pos n) fits other = let h = fits.sfits in omega arith
 not_least (negsuc n) fits other = let h = fits.sfits in omega arith
 
 -- a ratio by its sign and magnitudes, over a number above 0
-ratio_over : (sum m : ℤ) (top bottom : ℕ) → top ≡ unsigned_abs sum → bottom ≡ unsigned_abs m → pos 0 <ℤ m → unsigned_abs m ≤ most → unsigned_abs sum ≤ most
+ratio_over : (sum m : ℤ) (top bottom : ℕ) → top ≡ unsigned_abs sum → bottom ≡ unsigned_abs m → pos 0 <ℤ m → unsigned_abs m ≤ most
+    → unsigned_abs sum ≤ most
     → ratio (signed (int_lt sum (pos 0)) top) (pos bottom) ≡ sum_over (unsigned_abs m) sum
 ratio_over sum (pos m) top bottom p q some low h =
     ap (λ k. ratio (signed (int_lt sum (pos 0)) k) (pos bottom)) p
