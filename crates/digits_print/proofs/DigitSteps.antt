@@ -204,7 +204,6 @@ unit_even n whole unit places is = let ten = ten_before places is.some in let po
 -- with n digits it is rounded by what is cut off
 pub shortened_end : (n top bottom unit places : ℕ) → 0 < n → 0 < bottom → IsShortened n (top / bottom) unit places
     → top / bottom / unit < 10 ^ n
-   
     → carried n (by_half (top / bottom / unit) (nat_cmp (2 * (top / bottom % unit * bottom + top % bottom)) (bottom * unit))) (pos places) ≡ rounded n top bottom
 shortened_end n top bottom unit places some some_bottom is below =
     let some_unit = unit_some n (top / bottom) unit places is in

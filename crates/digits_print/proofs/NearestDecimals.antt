@@ -46,7 +46,6 @@ gap_on : (a b : ℕ) (d : Decimal) (s : ℤ) (m : ℕ) → IsOnGrid d s m
 unfolding gap
 gap_on a b d s m on =
     abs_diff-mul (a * down d.scale) (d.coefficient * up d.scale * b) (down s)
-   
     ∙ sides (a * down d.scale * down s) (d.coefficient * up d.scale * b * down s) (a * down s * down d.scale) (m * (b * up s) * down d.scale)
     (omega arith) (turned (d.coefficient * up d.scale) b (down s) ∙ ap (λ n. n * b) on.steps ∙ gathered m (up s) (down d.scale) b)
     ∙ sym (abs_diff-mul (a * down s) (m * (b * up s)) (down d.scale))

@@ -34,8 +34,6 @@ returns-clause-value c =
     let few = few_places _ _ _ _ _ _ c.requires.top c.requires.fits c.requires.most c.loop-number.invariant in
     let scale : to_z w32 (of_z w32 (pos 0 -ℤ to_z w32 c.loop-number.places)) ≡ neg_ℤ (pos c.loop-number.places) = omega (arith, ints) in
     c.rounded.ensures.value
-   
     ∙ ap (λ cut. carried c.args.digits (by_half c.loop-number.number cut) (to_z w32 (of_z w32 (pos 0 -ℤ to_z w32 c.loop-number.places)))) c.cmp.ensures
     ∙ ap (λ s. carried c.args.digits (by_half c.loop-number.number (nat_cmp (c.loop-number.rest * 2) c.args.bottom)) s) scale
-   
     ∙ lengthened_end c.args.digits c.args.top c.args.bottom c.loop-number.number c.loop-number.rest c.loop-number.places c.requires.some c.requires.top c.loop-number.invariant (omega arith)

@@ -44,7 +44,5 @@ returns-clause-value c =
     let number = c.args.top / c.args.bottom / c.loop-unit.unit in
     c.rounded.ensures.value
     ∙ ap (λ cut. carried c.args.digits (by_half number cut) (to_z w32 c.loop-unit.places)) c.compared_with_half-cut.ensures
-   
     ∙ ap (λ s. carried c.args.digits (by_half number (nat_cmp (2 * (c.args.top / c.args.bottom % c.loop-unit.unit * c.args.bottom + c.args.top % c.args.bottom)) (c.args.bottom * c.loop-unit.unit))) s) scale
-   
     ∙ shortened_end c.args.digits c.args.top c.args.bottom c.loop-unit.unit c.loop-unit.places c.requires.some c.requires.bottom c.loop-unit.invariant (omega arith)
