@@ -1,5 +1,5 @@
 -- What the words of a command line plan.
-use Rattle.std.proofs.Common.{◌≡◌, [], ℕ, List, true, Option, Some, None, Result, if◌then◌else◌, sym, ap, subst, ◌∙◌}
+use Rattle.std.proofs.Common.{◌≡◌, [], ℕ, List, true, Option, Some, None, Result, if◌then◌else◌, sym, ap, subst, ◌∙◌, true≢false}
 use Rattle.std.specs.Prelude.{IfSome, IfOk}
 use Rattle.units_io.specs.FileMap.{FileMap, file_of}
 use Rattle.command_line.specs.Taken.{are_taken}
@@ -8,18 +8,14 @@ use Rattle.command_line.specs.declared.fields.CommandLine.{CommandLine}
 use Rattle.units.specs.Request.{Request, request_of}
 use Rattle.command_line.specs.Usage.{usage_text}
 use Rattle.units.specs.declared.status.Status.TheVariants.{Usage}
+use Rattle.units.specs.Telling.{TellsIf}
 use Rattle.units.specs.Run.{Run, unsupported, complaint, run_on, run_for, run_of, requested}
 
--- what holds over all files holds over those that are told
-pub told-all : (files : Option FileMap) (P : FileMap → Type 0) → ((m : FileMap) → P m) → IfSome files P
-told-all None P all = tt
-told-all (Some m) P all = all m
-
--- a plan by one definition of a run is one by an equal definition
-pub told-by : {E : Type 0} (files : Option FileMap) (result : Result Run E) (f g : FileMap → Run) → ((m : FileMap) → f m ≡ g m)
-    → IfSome files (λ m. IfOk result (λ p. p ≡ f m)) → IfSome files (λ m. IfOk result (λ p. p ≡ g m))
-told-by None result f g same planned = tt
-told-by (Some m) result f g same planned = subst (λ (r : Run). IfOk result (λ p. p ≡ r)) (same m) planned
+-- a plan over the files that are told is one over those that are needed
+pub told-needed : {E : Type 0} (files : Option FileMap) (result : Result Run E) (f : FileMap → Run) (m : FileMap) (run : Run)
+    → f m ≡ run → TellsIf true files m → IfSome files (λ m. IfOk result (λ p. p ≡ f m)) → IfOk result (λ p. p ≡ run)
+told-needed None result f m run same tells planned = absurd (true≢false tells)
+told-needed (Some told) result f m run same tells planned = subst (λ (r : Run). IfOk result (λ p. p ≡ r)) (ap f tells ∙ same) planned
 
 -- what taken words request
 pub requested-taken : (words : List (List ℕ)) (line : CommandLine) → are_taken words ≡ true → line ≡ command_line_of words → requested words ≡ request_of line

@@ -1,7 +1,10 @@
 pub mod Style
+pub mod Environment
 pub mod Request
 pub mod Factors
 pub mod Reply
 pub mod Endings
 pub mod Run
+pub mod Needs
+pub mod Telling
 pub mod Written

@@ -1,4 +1,7 @@
 //! The words of the command line and the variables of the environment, as bytes.
+ghost use Rattle.std.specs.Prelude.{◌≡◌, OnOk, OnErr};
+ghost use Rattle.std.specs.Str.{is_utf8};
+ghost use Rattle.units.specs.Environment as spec;
 
 use std::alloc::{AllocError, Global};
 use std::env::FillError;
@@ -49,17 +52,49 @@ pub fn collect_words<R: Env>(rt: &R, alloc: Global) -> Result<Texts, AllocError>
     Ok(words)
 }
 
-// Puts an entry `NAME=VALUE` at the end of the variables, unless its name is there.
-fn push_variable(alloc: Global, vars: &mut Vars, entry: &str) -> Result<(), AllocError> {
-    let Some((name, value)) = entry.split_once('=') else {
-        return Ok(());
-    };
-    if vars.value(name.as_bytes()).is_some() {
+// The place of the first `=`.
+fn place_of_mark(entry: &[u8]) -> Option<usize>
+    ensures { result ≡ spec.place_of_mark entry.now }
+{
+    entry.iter().position(|b| *b == b'=')
+}
+
+// Whether the bytes of an entry are UTF-8.
+fn is_text(entry: &[u8]) -> bool
+    ensures { result ≡ is_utf8 entry.now }
+{
+    match str::from_utf8(entry) {
+        Ok(_) => true,
+        Err(_) => false,
+    }
+}
+
+// Puts a variable at the end, unless its name has a value already.
+fn push_new(alloc: Global, vars: &mut Vars, name: &[u8], value: &[u8]) -> Result<(), AllocError>
+    ensures ok { OnOk result (vars.new ≡ spec.with_new vars.old name.now value.now) }
+    ensures err { OnErr result (vars.new ≡ vars.old) }
+{
+    if vars.value(name).is_some() {
         return Ok(());
     }
-    let name = Text::from_bytes(alloc, name.as_bytes())?;
-    let value = Text::from_bytes(alloc, value.as_bytes())?;
+    let name = Text::from_bytes(alloc, name)?;
+    let value = Text::from_bytes(alloc, value)?;
     vars.push(alloc, (name, value))
+}
+
+/// Adds the variable of an entry `NAME=VALUE` in UTF-8 whose name is new. Any other entry changes nothing, nor does
+/// a refusal.
+pub fn add_entry(alloc: Global, vars: &mut Vars, entry: &[u8]) -> Result<(), AllocError>
+    ensures ok { OnOk result (vars.new ≡ spec.with_entry vars.old entry.now) }
+    ensures err { OnErr result (vars.new ≡ vars.old) }
+{
+    if !is_text(entry) {
+        return Ok(());
+    }
+    let Some(place) = place_of_mark(entry) else {
+        return Ok(());
+    };
+    push_new(alloc, vars, &entry[..place], &entry[place + 1..])
 }
 
 /// The variables of the environment that are UTF-8, of those with one name the first.
@@ -69,9 +104,7 @@ pub fn collect_vars<R: Env>(rt: &R, alloc: Global) -> Result<Vars, AllocError> {
         let Some(entry) = entry_at(rt, alloc, Place::Variable(i))? else {
             break;
         };
-        if let Ok(entry) = str::from_utf8(entry.as_slice()) {
-            push_variable(alloc, &mut vars, entry)?;
-        }
+        add_entry(alloc, &mut vars, entry.as_slice())?;
     }
     Ok(vars)
 }

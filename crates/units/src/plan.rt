@@ -1,9 +1,11 @@
 //! What a run is to write, and how it is to end.
-ghost use Rattle.std.specs.Prelude.{◌≡◌, ◌≢◌, ◌≤◌, ◌++◌, [], IfOk, IfErr, IfSome, None, if◌then◌else◌, false};
-ghost use Rattle.units_io.specs.FileMap.{file_of};
+ghost use Rattle.std.specs.Prelude.{◌≡◌, ◌≢◌, ◌≤◌, ◌++◌, [], IfOk, IfErr, IfSome, if◌then◌else◌, false};
+ghost use Rattle.units_io.specs.FileMap.{FileMap, file_of};
 ghost use Rattle.units_io.specs.Faults.{Rose};
 ghost use Rattle.command_line.specs.Taken.{are_taken};
-ghost use Rattle.units.specs.Run.{unsupported, complaint, answered, run_on, run_of, requested, declined};
+ghost use Rattle.units.specs.Needs.{needs_file};
+ghost use Rattle.units.specs.Run.{unsupported, complaint, answered, run_on, run_of};
+ghost use Rattle.units.specs.Telling.{TellsIf};
 ghost use Rattle.units.specs.Reply.{line_of};
 ghost use Rattle.units.specs.Endings.{IsStated};
 ghost use Rattle.units.specs.Style.{IsStyle};
@@ -140,8 +142,9 @@ fn plan_request<F: Files>(
 
 /// The plan of these words over these files.
 pub fn make_plan<F: Files>(alloc: Global, words: &[Text], files: &mut F) -> Result<Plan, Halt>
-    ensures told { IfSome (F.files files.old) (λ m. IfOk result (λ plan. plan ≡ run_of words.now [] m)) }
-    ensures declined { requested words.now ≡ None → IfOk result (λ plan. plan ≡ declined words.now) }
+    ensures told { (m : FileMap) → TellsIf (needs_file words.now) (F.files files.old) m →
+        IfOk result (λ plan. plan ≡ run_of words.now [] m) }
+    ensures unasked { needs_file words.now ≡ false → files.new ≡ files.old }
     ensures usage { IfOk result (λ plan. plan.status ≡ Status.Usage → are_taken words.now ≡ false) }
     ensures later { F.faults files.old ≤ F.faults files.new }
     ensures cause { IfErr result (λ e. e ≡ Halt.ReadFault → Rose (F.faults files.old) (F.faults files.new)) }
