@@ -27,8 +27,10 @@ REGISTRY = Path("/usr/share/cargo/registry")
 SHOWN = 5  # how many differences are printed
 USAGE = (2, b"", b"units: usage: units [options] [FROM [TO]]\n")
 UNSUPPORTED = (8, b"", b"units: unsupported\n")
-VALUES = {"m": Fraction(1), "in": Fraction(254, 10000), "ft": Fraction(3048, 10000), "yd": Fraction(9144, 10000)}
-OTHER_OPTIONS = {"one-line", "compact", "terse", "quiet", "strict", "round", "verbose", "check", "locale", "trial"}
+UNITS = ["m", "in", "ft", "yd"]
+VALUES = dict(zip(UNITS, map(Fraction, ["1", "0.0254", "0.3048", "0.9144"])))
+OTHER_OPTIONS = {"one-line", "compact", "terse", "quiet", "strict", "round", "verbose", "check"}
+OTHER_OPTIONS |= {"locale", "trial"}
 REFUSED = {"per", "sqrt", "cuberoot", "sin", "ln"}
 
 MANIFEST = """[package]
@@ -41,23 +43,30 @@ path = "words_by_clap.rs"
 [dependencies]
 clap = "4"
 """
+SOURCE = f"""[source.crates-io]
+replace-with = "debian"
+[source.debian]
+directory = "{REGISTRY}"
+"""
 
 # Words
-FLAGS = ["--exact", "--one-line", "-1", "--compact", "--terse", "-t", "--quiet", "-q", "--strict", "-s"]
-FLAGS += ["--round", "-r", "--verbose", "-v", "--check", "-c"]
-NUMBERS = ["1", "3", "8", "36", "37", "0", "-1", "+5", "007", "256", "20000", "20001", "65536", "", "x", "3.0", " 3"]
+FLAGS = "--exact --one-line -1 --compact --terse -t --quiet -q --strict -s".split()
+FLAGS += "--round -r --verbose -v --check -c".split()
+NUMBERS = "1 3 8 36 37 0 -1 +5 007 256 20000 20001 65536 x 3.0".split() + ["", " 3"]
 TEXTS = ["first.units", "gone.units", "", "m", "-", "--", "-q", "--file", "=first.units", "en_GB"]
 NAMES = ["m", "in", "ft", "yd", "kg", "per", "sin", "m2", "", "-", "help", "a b"]
-OTHERS = ["--", "-x", "--help", "-h", "--version", "-V", "--exac", "--exact=true", "-qs", "-qd3", "-d3", "-d=3"]
-OTHERS += ["-1t", "-tf", "-qffirst.units", "--digits", "-f", "--no-exact", "-", "--=", "-\u00e9", "\u00e9"]
+OTHERS = "-- -x --help -h --version -V --exac --exact=true -qs -qd3 -d3 -d=3 -1t -tf".split()
+OTHERS += "-qffirst.units --digits -f --no-exact - --= -\u00e9 \u00e9".split()
 
 
 def conversion(r):
     """Words that mostly are a conversion."""
-    words = [["-f", "first.units"], ["--file=first.units"], ["-ffirst.units"], ["--file", "first.units"]]
-    parts = [r.choice(words), [r.choice(["m", "in", "ft", "yd"])], [r.choice(["m", "in", "ft", "yd", "kg"])]]
+    file = "gone.units" if r.randrange(10) == 0 else "first.units"
+    words = [["-f", file], [f"--file={file}"], [f"-f{file}"], ["--file", file]]
+    parts = [r.choice(words), [r.choice(UNITS)], [r.choice([*UNITS, "kg"])]]
     if r.randrange(2):
-        parts.append(r.choice([["--exact"], ["-d", r.choice(NUMBERS)], [f"--digits={r.randrange(1, 38)}"]]))
+        digits = [["-d", r.choice(NUMBERS)], [f"--digits={r.randrange(1, 38)}"]]
+        parts.append(r.choice([["--exact"], *digits]))
     r.shuffle(parts)
     return [word for part in parts for word in part]
 
@@ -133,8 +142,7 @@ def build(folder):
     (folder / "Cargo.toml").write_text(MANIFEST)
     (folder / "words_by_clap.rs").write_text((TOOLS / "words_by_clap.rs").read_text())
     (folder / ".cargo").mkdir()
-    replaced = f'[source.crates-io]\nreplace-with = "debian"\n[source.debian]\ndirectory = "{REGISTRY}"\n'
-    (folder / ".cargo/config.toml").write_text(replaced)
+    (folder / ".cargo/config.toml").write_text(SOURCE)
     subprocess.run(["cargo", "build", "--quiet", "--release", "--offline"], cwd=folder, check=True)
     return folder / "target/release/words_by_clap"
 
@@ -146,8 +154,8 @@ def by_clap(reader, lists):
 
 
 def by_program(program, folder, words):
-    given = [os.fsencode(program), *words]
-    run = subprocess.run(given, cwd=folder, stdin=subprocess.DEVNULL, capture_output=True, check=False)
+    how = {"cwd": folder, "stdin": subprocess.DEVNULL, "capture_output": True}
+    run = subprocess.run([os.fsencode(program), *words], check=False, **how)
     return run.returncode, run.stdout, run.stderr
 
 

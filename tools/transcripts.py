@@ -204,7 +204,8 @@ def run_file(file, path):
         failed += got != case.wanted
         before += [*case.told(), *(INDENT + line for line in case.wanted), *case.comments]
         after += [*case.told(), *(INDENT + line for line in got), *case.comments]
-    difference = difflib.diff_bytes(difflib.unified_diff, before, after, name.encode(), b"what came")
+    files = name.encode(), b"what came"
+    difference = difflib.diff_bytes(difflib.unified_diff, before, after, *files)
     sys.stdout.buffer.write(b"".join(difference))
     lost = cases[len(answers) :]
     if lost:
