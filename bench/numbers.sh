@@ -1,8 +1,8 @@
 #!/usr/bin/env bash
 # Times the program of crates/number_calls beside Python's fractions on the same 200,000 sums and as many products: of small
 # numbers, of numbers of one word, and of numbers of two words that share a factor. Both read a call a line and write an
-# answer a line. Prints the processor seconds, the lower of three runs, without those that the same numbers take to be
-# compared alone, and in all; and whether the answers are equal, those aside that overflow.
+# answer a line. Prints the processor seconds, the lower of three runs, behind them in parentheses those that the same
+# numbers take to be read and compared alone, and whether the answers are equal, those aside that overflow.
 set -u
 root=$(cd "$(dirname "${BASH_SOURCE[0]}")/.." && pwd)
 program=$("$root/tools/built.sh" number_calls) || exit
@@ -90,7 +90,7 @@ for word, kind, operands in RUNS:
     overflows = answers.count(b"overflow")
     equal = all(a in (b, b"overflow") for a, b in zip(answers, wanted))
     print(
-        f"{word} {kind:9}  {ours - spare:5.2f} of {ours:5.2f} s, Python {theirs - their_spare:5.2f} of {theirs:5.2f} s, "
+        f"{word} {kind:9}  {ours:5.2f} s ({spare:.2f}), Python {theirs:5.2f} s ({their_spare:.2f}), "
         f"{overflows} overflows, {'equal' if equal else 'NOT EQUAL'}"
     )
 PYTHON
