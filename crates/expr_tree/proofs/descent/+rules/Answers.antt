@@ -11,10 +11,10 @@ use Rattle.expr_tree.specs.declared.operator.Sign.TheVariants as signs
 use Rattle.expr_tree.specs.declared.token.Token.{Token}
 use Rattle.expr_tree.specs.declared.tree.Tree.{Tree}
 use Rattle.expr_tree.proofs.Fronts.{word_front, word_power_front, bar_front, numeral_front, call_front, inverse_front, root_front, group_front, bare_front, raised_front, exponent_front, signed_exponent_front, signed_front, sign_wants, caret_wants, closed_front}
-use Rattle.expr_tree.proofs.JuxtapositionSteps.{one_member, members_begun, next_member, all_members}
-use Rattle.expr_tree.proofs.ProductSteps.{one_factor, factors_begun, next_factor, all_factors, factor_wants}
 use Rattle.expr_tree.proofs.Stands.{stands_as, begun, rooted, barred, head_wanted, close_stands, sign_stands, scale_stands, caret_stands}
-use Rattle.expr_tree.proofs.SumSteps.{one_term, terms_begun, next_term, all_terms, term_wants}
+use Rattle.expr_tree.proofs.Steps.{one_member, members_begun, next_member, all_members}
+use Rattle.expr_tree.proofs.Steps.{one_factor, factors_begun, next_factor, all_factors, factor_wants}
+use Rattle.expr_tree.proofs.Steps.{one_term, terms_begun, next_term, all_terms, term_wants}
 use Rattle.expr_tree.proofs.Views.{of_number, of_bar, of_root, of_group, of_juxtaposed, of_product, of_sum}
 use Rattle.expr_tree.proofs.descent.+rules.Goals as goal
 

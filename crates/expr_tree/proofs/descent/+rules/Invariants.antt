@@ -2,9 +2,7 @@ use Rattle.std.proofs.Common.{◌+◌, ◌-◌, ◌*◌, ◌<◌, ◌≤◌, len
 use Rattle.std.specs.Option.{option_copied}
 use Rattle.expr_tree.specs.Front.{tokens_from}
 use Rattle.expr_tree.specs.Trees.{factors_of, terms_of, trees_of}
-use Rattle.expr_tree.proofs.JuxtapositionSteps.{MembersRead}
-use Rattle.expr_tree.proofs.ProductSteps.{FactorsRead}
-use Rattle.expr_tree.proofs.SumSteps.{TermsRead}
+use Rattle.expr_tree.proofs.Steps.{FactorsRead, MembersRead, TermsRead}
 use Rattle.expr_tree.proofs.descent.+rules.Given as goal
 
 -- A call goes on to later tokens, or to a rule that binds tighter at the same one.
