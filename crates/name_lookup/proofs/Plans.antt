@@ -1,5 +1,5 @@
 -- What the run of a plan depends on.
-use Rattle.std.proofs.Common.{◌≡◌, ◌⊎◌, ℕ, zero, suc, Bool, true, false, List, [], ◌∷◌, ◌++◌, length, take, drop, codes, if◌then◌else◌, refl, sym, ap, subst, inl, inr}
+use Rattle.std.proofs.Common.{◌≡◌, ◌⊎◌, ℕ, zero, suc, Bool, true, false, List, [], ◌∷◌, ◌++◌, length, take, drop, codes, if◌then◌else◌, ◌<◌, slice_index_or, Contains, refl, sym, ap, subst, inl, inr, arith}
 use Rattle.expr_tree.specs.declared.word_list.WordKind.{WordKind}
 use Rattle.expr_tree.specs.declared.word_list.WordKind.TheVariants as place
 use Rattle.def_entry.specs.declared.key.Key.{Key}
@@ -10,7 +10,21 @@ use Rattle.name_lookup.specs.declared.found.Found.{Found}
 use Rattle.name_lookup.specs.Laws.{SameLaw, TargetsLaw}
 use Rattle.name_lookup.specs.Order.{has_ending, plan, try_key, try_kinds, try_prefixes, try_stem, try_stem_if, try_stems, with_prefix, without}
 use Rattle.name_lookup.specs.Plans.{Plan, Gives, Asks, after, run}
-use Rattle.name_lookup.specs.Present.{IsIn}
+
+-- the key is one of these, by recursion
+abbrev IsIn : Key → List Key → Type 0
+IsIn k [] = ⊥
+IsIn k (x ∷ xs) = (k ≡ x) ⊎ IsIn k xs
+
+found_in : (xs : List Key) (k : Key) (i : ℕ) → i < length xs → slice_index_or xs i k ≡ k → IsIn k xs
+found_in [] k i within is = absurd (omega arith)
+found_in (x ∷ xs) k zero within is = inl (sym is)
+found_in (x ∷ xs) k (suc i) within is = inr (found_in xs k i (omega arith) is)
+
+contained : (xs : List Key) (k : Key) → IsIn k xs → Contains xs k
+contained [] k i = absurd i
+contained (x ∷ xs) k (inl is) = (0, omega arith, sym is)
+contained (x ∷ xs) k (inr i) = let there : Contains xs k = contained xs k i in (suc there.0, omega (arith, there.1), there.2)
 
 -- what a plan gives was asked for, and was present
 abbrev IsHonest : List Key → Plan → Type 0
@@ -106,8 +120,8 @@ of_looked A (inr a) = a
 pub targets_are_present : TargetsLaw
 targets_are_present has at w k i =
     let r : (has k ≡ true) × (IsIn k [] ⊎ IsIn k (run has (plan at w)).looked) =
-    targets_asked has [] (plan at w) (λ q j. absurd j) (plan_sound at w []) k i in
-    (of_looked (IsIn k (run has (plan at w)).looked) r.1, r.0)
+    targets_asked has [] (plan at w) (λ q j. absurd j) (plan_sound at w []) k (found_in _ k i.0 i.1 i.2) in
+    (contained _ k (of_looked (IsIn k (run has (plan at w)).looked) r.1), r.0)
 
 same_rest :
     (has had : Key → Bool) (present absent : Plan) (b c : Bool) → b ≡ c
@@ -125,4 +139,4 @@ same_run has had (Asks k present absent) h =
     ap (after k) (same_rest has had present absent (has k) (had k) (h k (inl refl)) (same_run has had present) (same_run has had absent) (λ q i. h q (inr i)))
 
 pub same_answers : SameLaw
-same_answers has had at w h = same_run has had (plan at w) h
+same_answers has had at w h = same_run has had (plan at w) (λ k i. h k (contained _ k i))

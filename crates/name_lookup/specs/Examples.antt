@@ -6,7 +6,7 @@ use Rattle.def_entry.specs.declared.key.Kind.TheVariants as kind
 use Rattle.def_entry.specs.Keys.{key}
 use Rattle.name_lookup.specs.Order.{plan}
 use Rattle.name_lookup.specs.Plans.{run}
-use Rattle.name_lookup.specs.Present.{is_among}
+use Rattle.def_entry.specs.SameKeys.{is_among}
 
 -- two prefixes, of which one begins with the other, and a unit
 abbrev pub few_keys : List Key

@@ -2,5 +2,4 @@ pub mod Examples
 pub mod Laws
 pub mod Order
 pub mod Plans
-pub mod Present
 pub mod Steps

@@ -7,8 +7,6 @@ mod present;
 mod resolving;
 mod searching;
 mod stems;
-#[cfg(test)]
-mod tests;
 
 pub use found::Found;
 pub use laws::{order_examples, same_answers, targets_are_present};

@@ -3,7 +3,7 @@
 ghost use Rattle.std.specs.Prelude.{◌≡◌, List};
 ghost use Rattle.def_entry.specs.Keys.{key};
 ghost use Rattle.def_entry.specs.declared.key.Key.{Key};
-ghost use Rattle.name_lookup.specs.Present.{is_among};
+ghost use Rattle.def_entry.specs.SameKeys.{is_among};
 
 use def_entry::Kind;
 

@@ -3,7 +3,7 @@
 ghost use Rattle.std.specs.Prelude.{◌≡◌, ◌++◌, [], codes, IfOk, length};
 ghost use Rattle.name_lookup.specs.Order.{has_ending, plan, try_kinds as kinds_step, try_parts as parts_step, try_stem_if, try_stems as stems_step, try_word as word_step, without};
 ghost use Rattle.name_lookup.specs.Plans.{run};
-ghost use Rattle.name_lookup.specs.Present.{is_among};
+ghost use Rattle.def_entry.specs.SameKeys.{is_among};
 ghost use Rattle.name_lookup.specs.Steps.{IsTaken};
 
 use crate::found::Found;

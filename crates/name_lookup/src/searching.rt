@@ -5,7 +5,7 @@ ghost use Rattle.def_entry.specs.Keys.{key};
 ghost use Rattle.def_entry.specs.declared.key.Kind.TheVariants as kinds;
 ghost use Rattle.name_lookup.specs.Order.{try_key as key_step, try_prefixes as prefix_steps, try_stem as stem_step, with_prefix};
 ghost use Rattle.name_lookup.specs.Plans.{Asks};
-ghost use Rattle.name_lookup.specs.Present.{is_among};
+ghost use Rattle.def_entry.specs.SameKeys.{is_among};
 ghost use Rattle.name_lookup.specs.Steps.{IsTaken};
 
 use crate::found::Found;

@@ -1,7 +1,7 @@
 use Rattle.std.proofs.Common.{true, false, subst}
 use Rattle.def_entry.specs.Keys.{key}
 use Rattle.name_lookup.specs.Order.{try_key, try_parts}
-use Rattle.name_lookup.specs.Present.{is_among}
+use Rattle.def_entry.specs.SameKeys.{is_among}
 use Rattle.name_lookup.specs.Steps.{IsTaken}
 use Rattle.name_lookup.proofs.Taking.{ended_there, then_last, went_on}
 use Rattle.name_lookup.proofs.resolving.try_kinds.Goals as goal

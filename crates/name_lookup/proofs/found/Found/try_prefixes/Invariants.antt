@@ -1,7 +1,7 @@
 use Rattle.std.proofs.Common.{◌≡◌, ◌≤◌, [], length}
 use Rattle.name_lookup.specs.Order.{try_prefixes}
 use Rattle.name_lookup.specs.Plans.{Plan, run}
-use Rattle.name_lookup.specs.Present.{is_among}
+use Rattle.def_entry.specs.SameKeys.{is_among}
 use Rattle.name_lookup.specs.Steps.{behind}
 use Rattle.name_lookup.proofs.found.Found.try_prefixes.Given as goal
 
