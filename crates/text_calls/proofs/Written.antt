@@ -8,6 +8,9 @@ use Rattle.expr_tree.specs.declared.tree.Tree.{Tree}
 use Rattle.expr_tree.specs.declared.word_list.WordUse.{WordUse}
 use Rattle.expr_tree.specs.Trees.{factor, factors, members, syntax, term, terms}
 use Rattle.expr_tree.proofs.Views.{views}
+use Rattle.def_entry.specs.declared.key.Key.{Key}
+use Rattle.def_entry.specs.Keys.{key_text}
+use Rattle.text_calls.specs.Lookups.{keys_text}
 use Rattle.text_calls.specs.Notation.{factors_text, kind_text, members_text, scale_text, sign_text, terms_text, tree_text, uses_text, word_text}
 
 pub ruleset appends = (append_assoc, append-nil)
@@ -33,6 +36,12 @@ term_text ts i d h = ap (λ xs. terms_text (terms (map term xs))) (drop_more ts 
 pub use_text : (uses : List WordUse) (i : ℕ) (d : WordUse) → i < length uses
     → uses_text (drop i uses) ≡ kind_text (get_or uses i d).kind ++ word_text (get_or uses i d).text ++ uses_text (drop (i + 1) uses)
 use_text uses i d h = ap uses_text (drop_more uses i d h)
+
+pub key_written : (keys : List Key) (i : ℕ) (d : Key) → i < length keys
+    → keys_text (drop i keys) ≡ codes " " ++ key_text (get_or keys i d) ++ keys_text (drop (i + 1) keys)
+key_written keys i d h = ap keys_text (drop_more keys i d h)
+
+pub ruleset keys_written = (key_written, append_assoc, append-nil)
 
 pub ruleset members_written = (member_text, append_assoc, append-nil)
 

@@ -6,6 +6,8 @@ ghost use Rattle.expr_tree.specs.Parsed.{parsed};
 ghost use Rattle.text_calls.specs.Notation.{fault_text, name_text, parsed_text, place_text, uses_text, verdict_text, words_text};
 ghost use Rattle.text_calls.specs.Notation.{kind_text as kind_text_of};
 
+use crate::line::split_at_blank;
+use crate::lookup::lookup_answer;
 use crate::notation::{put_tree, put_word};
 use expr_tree::{ParseFault, WordKind, Words, is_name, is_refused, parse_expr, words};
 use std::alloc::{AllocError, Global};
@@ -13,7 +15,7 @@ use std::alloc::{AllocError, Global};
 // What a call and the text behind it answer: `plain` the tree of the text without a binder, `with`
 // the tree with the binder that stands before the text, `copy` the tree of a copy, `parse` that
 // there is a tree, `words` its words, and each of these a fault where there is one; `name`
-// whether the text is a name.
+// whether the text is a name; `find` what a word leads to at its place in a table.
 pub(crate) fn line_answer(alloc: Global, line: &[u8]) -> Result<Vec<u8>, AllocError> {
     let (call, text) = split_at_blank(line);
     match call {
@@ -25,16 +27,9 @@ pub(crate) fn line_answer(alloc: Global, line: &[u8]) -> Result<Vec<u8>, AllocEr
         b"copy" => copy_of(alloc, text),
         b"parse" => verdict_on(alloc, text),
         b"words" => words_of(alloc, text),
+        b"find" => lookup_answer(alloc, text),
         b"name" => Vec::from_slice(alloc, naming(text)),
         _ => Vec::from_slice(alloc, b"bad call"),
-    }
-}
-
-// What stands before the first blank, and what stands behind it.
-fn split_at_blank(line: &[u8]) -> (&[u8], &[u8]) {
-    match line.iter().position(|byte| *byte == b' ') {
-        Some(end) => (&line[..end], &line[end + 1..]),
-        None => (line, b""),
     }
 }
 

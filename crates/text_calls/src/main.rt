@@ -1,8 +1,10 @@
-//! Reads one expression a line on standard input, and writes its tree or its fault on standard
-//! output.
+//! Reads one call on a text a line on standard input, and writes its answer on standard output: the
+//! tree of an expression or its fault, its words, or what a word leads to.
 #![tactic(auto)]
 
 mod answer;
+mod line;
+mod lookup;
 mod notation;
 
 use std::io;

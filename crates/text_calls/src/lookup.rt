@@ -1,0 +1,119 @@
+//! What a word leads to in a table of a few keys.
+
+ghost use Rattle.std.specs.Prelude.{◌≡◌, ◌++◌, IfOk};
+ghost use Rattle.def_entry.specs.Keys.{key as key_named};
+ghost use Rattle.def_entry.specs.SameKeys.{is_among, is_same, is_same_kind};
+ghost use Rattle.name_lookup.specs.Order.{plan};
+ghost use Rattle.name_lookup.specs.Plans.{run};
+ghost use Rattle.text_calls.specs.Lookups.{found_text, keys_text};
+
+use crate::line::split_at_blank;
+use def_entry::{Key, KeyFault, Keys, Kind, key_text, read_key};
+use expr_tree::WordKind;
+use name_lookup::{Found, Present, resolve};
+use std::alloc::{AllocError, Global};
+
+// A list of keys as a table.
+#[derive(Drop)]
+struct Table {
+    keys: Keys,
+}
+
+impl Table {
+    // The table of the keys that stand between semicolons. What is no key is left out.
+    fn read(alloc: Global, texts: &[u8]) -> Result<Table, AllocError> {
+        let mut keys = Keys::new(alloc);
+        for text in texts.split(|byte| *byte == b';') {
+            match read_key(alloc, text) {
+                Ok(key) => keys.push(alloc, key)?,
+                Err(KeyFault::NotKey) => {}
+                Err(KeyFault::OutOfMemory) => return Err(AllocError),
+            }
+        }
+        Ok(Table { keys })
+    }
+}
+
+impl Present for Table {
+    ghost keys = { λ table. table.keys };
+
+    fn has(&self, kind: Kind, name: &[u8]) -> bool {
+        self.keys
+            .as_slice()
+            .iter()
+            .any(|key| is_key(key, kind, name))
+    }
+}
+
+// Whether the key is of this kind and name.
+fn is_key(key: &Key, kind: Kind, name: &[u8]) -> bool
+    ensures { result ≡ is_same (key_named kind name.now) key.now }
+{
+    is_kind(kind, key.kind) && name == key.name.as_bytes()
+}
+
+// Whether the kinds are one.
+fn is_kind(kind: Kind, other: Kind) -> bool
+    ensures { result ≡ is_same_kind kind other }
+{
+    kind == other
+}
+
+// What the place, the word and the keys of a line answer.
+pub(crate) fn lookup_answer(alloc: Global, text: &[u8]) -> Result<Vec<u8>, AllocError> {
+    let (place, text) = split_at_blank(text);
+    let (word, keys) = split_at_blank(text);
+    let kind = match place {
+        b"plain" => WordKind::Plain,
+        b"call" => WordKind::Call,
+        b"inverse" => WordKind::Inverse,
+        _ => return Vec::from_slice(alloc, b"bad call"),
+    };
+    let table = Table::read(alloc, keys)?;
+    found_in(alloc, &table, word, kind)
+}
+
+// The keys that a word leads to at its place, and the keys that are looked at.
+fn found_in(
+    alloc: Global,
+    table: &Table,
+    word: &[u8],
+    kind: WordKind,
+) -> Result<Vec<u8>, AllocError>
+    ensures { IfOk result (λ out. out.items ≡ found_text (run (is_among table.now.keys) (plan kind word.now))) }
+{
+    let found = resolve(alloc, table, word, kind)?;
+    let mut out = Vec::new(alloc);
+    put_found(alloc, &mut out, &found)?;
+    Ok(out)
+}
+
+// Puts what a word leads to at the end.
+fn put_found(alloc: Global, out: &mut Vec<u8>, found: &Found) -> Result<(), AllocError>
+    ensures { IfOk result (λ _. out.new.items ≡ out.old.items ++ found_text found.now) }
+{
+    put_named(alloc, out, b"found", &found.targets)?;
+    put_named(alloc, out, b"; looked at", &found.looked)?;
+    Ok(())
+}
+
+// Puts what some keys are and their texts at the end.
+#[tactic(auto, using(crate::proofs::Written::appends))]
+fn put_named(alloc: Global, out: &mut Vec<u8>, what: &[u8], keys: &Keys) -> Result<(), AllocError>
+    ensures { IfOk result (λ _. out.new.items ≡ out.old.items ++ (what.now ++ keys_text keys.now)) }
+{
+    out.extend_from_slice(what)?;
+    put_keys(alloc, out, keys)
+}
+
+// Puts the texts of keys at the end, each with a blank before it.
+#[tactic(auto, using(crate::proofs::Written::keys_written))]
+fn put_keys(alloc: Global, out: &mut Vec<u8>, keys: &Keys) -> Result<(), AllocError>
+    ensures { IfOk result (λ _. out.new.items ≡ out.old.items ++ keys_text keys.now) }
+{
+    for key in keys.as_slice() {
+        out.extend_from_slice(b" ")?;
+        out.extend_from_slice(key_text(alloc, key)?.as_bytes())?;
+    }
+    Ok(())
+}
