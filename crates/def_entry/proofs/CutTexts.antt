@@ -50,11 +50,12 @@ cut-at mark front behind clear =
     ∙ (λ i. Some (take-append_seam front (mark ∷ behind) i, drop-append-add front (mark ∷ behind) 1 i))
 
 -- what stands before the first byte that passes has none
-front-clear : (q : ℕ → Bool) (text : List ℕ) → list_all q (take (prefix_len q text) text) ≡ true
+pub front-clear : (q : ℕ → Bool) (text : List ℕ) → list_all q (take (prefix_len q text) text) ≡ true
 front-clear q [] = refl
 front-clear q (b ∷ text) = go (q b) refl (front-clear q text)
   where
-    go : (t : Bool) → q b ≡ t → list_all q (take (prefix_len q text) text) ≡ true → list_all q (take (prefix_len q (b ∷ text)) (b ∷ text)) ≡ true
+    go : (t : Bool) → q b ≡ t → list_all q (take (prefix_len q text) text) ≡ true
+        → list_all q (take (prefix_len q (b ∷ text)) (b ∷ text)) ≡ true
     go true e rest =
         ap (λ t. list_all q (take (cond t (1 + prefix_len q text) 0) (b ∷ text))) e
         ∙ ap (λ n. list_all q (take n (b ∷ text))) (one-add (prefix_len q text))
@@ -81,7 +82,8 @@ around p text n found = go (nat_lt (position_or_len p text) (length text)) refl 
       clear = ap (λ k. list_all (λ c. not (p c)) (take k text)) (sym same) ∙ front-clear (λ c. not (p c)) text;
     }
 
-    go : (t : Bool) → nat_lt (position_or_len p text) (length text) ≡ t → cond t (Some (position_or_len p text)) None ≡ Some n → Around p text n
+    go : (t : Bool) → nat_lt (position_or_len p text) (length text) ≡ t → cond t (Some (position_or_len p text)) None ≡ Some n
+        → Around p text n
     go true e found =
         let same : position_or_len p text ≡ n = cc in
         let less : position_or_len p text < length text = (Decides-ltb (position_or_len p text) (length text)).0 e in
@@ -89,10 +91,12 @@ around p text n found = go (nat_lt (position_or_len p text) (length text)) refl 
     go false e found = cc
 
 -- a text that is cut has the mark behind a text that lacks it
-pub cut-is : (mark : ℕ) (text front behind : List ℕ) → cut_at mark text ≡ Some (front, behind) → (text ≡ front ++ (mark ∷ behind)) × (lacks mark front ≡ true)
+pub cut-is : (mark : ℕ) (text front behind : List ℕ) → cut_at mark text ≡ Some (front, behind)
+    → (text ≡ front ++ (mark ∷ behind)) × (lacks mark front ≡ true)
 cut-is mark text front behind cut = go (position (λ b. b == mark) text) refl cut
   where
-    go : (found : Option ℕ) → position (λ b. b == mark) text ≡ found → option_map {U = List ℕ × List ℕ} (λ n. (take n text, drop (n + 1) text)) found ≡ Some (front, behind)
+    go : (found : Option ℕ) → position (λ b. b == mark) text ≡ found
+        → option_map {U = List ℕ × List ℕ} (λ n. (take n text, drop (n + 1) text)) found ≡ Some (front, behind)
         → (text ≡ front ++ (mark ∷ behind)) × (lacks mark front ≡ true)
     go None e cut = cc
     go (Some n) e cut =
@@ -105,7 +109,8 @@ cut-is mark text front behind cut = go (position (λ b. b == mark) text) refl cu
 all-clear : (p : ℕ → Bool) (text : List ℕ) → position p text ≡ None → list_all (λ c. not (p c)) text ≡ true
 all-clear p text none = go (nat_lt (position_or_len p text) (length text)) refl none
   where
-    go : (t : Bool) → nat_lt (position_or_len p text) (length text) ≡ t → cond t (Some (position_or_len p text)) None ≡ None → list_all (λ c. not (p c)) text ≡ true
+    go : (t : Bool) → nat_lt (position_or_len p text) (length text) ≡ t → cond t (Some (position_or_len p text)) None ≡ None
+        → list_all (λ c. not (p c)) text ≡ true
     go true e none = cc
     go false e none =
         let more : length text ≤ position_or_len p text = ltb-false (position_or_len p text) (length text) e in
@@ -116,7 +121,8 @@ all-clear p text none = go (nat_lt (position_or_len p text) (length text)) refl 
 pub cut-none : (mark : ℕ) (text : List ℕ) → cut_at mark text ≡ None → lacks mark text ≡ true
 cut-none mark text none = go (position (λ b. b == mark) text) refl none
   where
-    go : (found : Option ℕ) → position (λ b. b == mark) text ≡ found → option_map {U = List ℕ × List ℕ} (λ n. (take n text, drop (n + 1) text)) found ≡ None → lacks mark text ≡ true
+    go : (found : Option ℕ) → position (λ b. b == mark) text ≡ found
+        → option_map {U = List ℕ × List ℕ} (λ n. (take n text, drop (n + 1) text)) found ≡ None → lacks mark text ≡ true
     go None e none = all-clear (λ b. b == mark) text e
     go (Some n) e none = cc
 

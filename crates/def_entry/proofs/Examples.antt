@@ -9,10 +9,11 @@ use Rattle.expr_tree.specs.Faults.{fault_from}
 use Rattle.expr_tree.specs.Lexemes.{lexemes_from, tokens_in}
 use Rattle.expr_tree.specs.Parsed.{parsed}
 use Rattle.expr_tree.specs.Reading.{tree_of}
-use Rattle.def_entry.specs.Examples.{EntriesLaw, FaultsLaw}
+use Rattle.def_entry.specs.Examples.{EntriesLaw, ExamplesLaw, FaultTextsLaw, FaultsLaw, KeysLaw}
 use Rattle.def_entry.specs.Forms.{form_of}
 use Rattle.def_entry.specs.Headings.{heading}
 use Rattle.def_entry.specs.Intervals.{interval_at}
+use Rattle.def_entry.specs.Keys.{key_of}
 use Rattle.def_entry.specs.Numbers.{number_of}
 use Rattle.def_entry.specs.Options.{options_from}
 use Rattle.def_entry.specs.PointLists.{points_of}
@@ -24,4 +25,14 @@ entries = (refl, refl, refl, refl, refl, refl, refl, refl, refl)
 
 pub faults : FaultsLaw
 unfolding gcd gcd_within greatest reduced rises words_of fault_from lexemes_from tokens_in parsed tree_of form_of heading interval_at number_of options_from points_of what_of
-faults = (refl, refl, refl, refl, refl, refl, refl, refl, refl, refl, refl)
+faults = (refl, refl, refl, refl, refl, refl, refl, refl, refl, refl, refl, refl)
+
+keys_read : KeysLaw
+unfolding key_of
+keys_read = record { written = refl; read = refl; refused = refl }
+
+faults_told : FaultTextsLaw
+faults_told = refl
+
+pub examples : ExamplesLaw
+examples = record { entries = entries; faults = faults; keys_read = keys_read; faults_told = faults_told }

@@ -50,7 +50,7 @@ name_last w h =
     not_false _ (λ e. true≢false (sym parts.2 ∙ list_all_at is_word_byte w (length w - 1) 0 (omega (arith, parts.0)) e))
 
 -- the last byte is that of what stands behind
-last_behind : (w bs : List ℕ) → 0 < length bs → last_byte (w ++ bs) ≡ last_byte bs
+pub last_behind : (w bs : List ℕ) → 0 < length bs → last_byte (w ++ bs) ≡ last_byte bs
 last_behind w bs h =
     get_or-append_right w bs (length w) (length (w ++ bs) - 1) 0 refl (omega (arith, length-append w bs))
     ∙ ap (λ n. get_or bs n 0) (omega (arith, length-append w bs))
@@ -77,7 +77,7 @@ written_shows kind.List w h =
     ap (λ b. told_by b 33) (last_behind (codes "!unitlist ") w (name_parts w h).0) ∙ no_mark (last_byte w) 33 (name_last w h)
 
 -- and its name
-written_names : (k : Kind) (w : List ℕ) → name_shown k (written k w) ≡ w
+pub written_names : (k : Kind) (w : List ℕ) → name_shown k (written k w) ≡ w
 written_names kind.Unit w = refl
 written_names kind.Prefix w =
     ap (λ n. take n (w ++ codes "-")) (omega (arith, length-append w (codes "-"))) ∙ take-append_seam w (codes "-")

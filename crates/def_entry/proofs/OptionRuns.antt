@@ -29,7 +29,8 @@ record Behind (o : Options) (os : List WrittenOption) (new : Options) : Type 0 w
   no_error : at_most (flag o.no_error) ++ filter_map no_error_of os ≡ at_most (flag new.no_error)
 
 -- one more value, where none stood before
-more : {A : Type 0} (had v made : Option A) (rest : List A) → not (is_some had) ≡ true → at_most v ++ rest ≡ at_most made → at_most had ++ cons_option v rest ≡ at_most made
+more : {A : Type 0} (had v made : Option A) (rest : List A) → not (is_some had) ≡ true → at_most v ++ rest ≡ at_most made
+    → at_most had ++ cons_option v rest ≡ at_most made
 more None None made rest free e = e
 more None (Some x) made rest free e = e
 more (Some y) v made rest free e = cc
@@ -50,7 +51,8 @@ flag_free : (b : Bool) → not (is_some (flag b)) ≡ true → not b ≡ true
 flag_free true e = cc
 flag_free false e = refl
 
-behind-more : (w : WrittenOption) (o : Options) (os : List WrittenOption) (new : Options) → is_free w o ≡ true → Behind (added w o) os new → Behind o (w ∷ os) new
+behind-more : (w : WrittenOption) (o : Options) (os : List WrittenOption) (new : Options) → is_free w o ≡ true → Behind (added w o) os new
+    → Behind o (w ∷ os) new
 behind-more (UnitsOption a b) o os new free is = record {
   units = more o.units (units_of (UnitsOption a b)) new.units (filter_map units_of os) free is.units;
   domain = is.domain;
@@ -76,7 +78,8 @@ behind-more NoErrorOption o os new free is = record {
   range = is.range;
 }
 
-behind-less : (w : WrittenOption) (o : Options) (os : List WrittenOption) (new : Options) (rest : List ℕ) → is_whole w rest ≡ true → Behind o (w ∷ os) new
+behind-less : (w : WrittenOption) (o : Options) (os : List WrittenOption) (new : Options) (rest : List ℕ) → is_whole w rest ≡ true
+    → Behind o (w ∷ os) new
     → (is_free w o ≡ true) × Behind (added w o) os new
 behind-less (UnitsOption a b) o os new rest whole is =
     let parts : (not (is_some o.units) ≡ true) × (at_most (units_of (UnitsOption a b)) ++ filter_map units_of os ≡ at_most new.units) =
@@ -141,7 +144,8 @@ unfolding options_from
 read-is zero o text rest new e = cc
 read-is (suc n) o text rest new e = go (choice_at (after_blanks text)) refl e (fronted text) (read-is n)
   where
-    go : (found : Option Choice) → choice_at (after_blanks text) ≡ found → with_next (options_from n) found o (after_blanks text) ≡ Some (new, rest) → Fronted text
+    go : (found : Option Choice) → choice_at (after_blanks text) ≡ found
+        → with_next (options_from n) found o (after_blanks text) ≡ Some (new, rest) → Fronted text
         → ((o : Options) (text rest : List ℕ) (new : Options) → options_from n o text ≡ Some (new, rest) → ReadFrom o text rest new)
         → ReadFrom o text rest new
     go None none e front next =
@@ -157,7 +161,8 @@ read-is (suc n) o text rest new e = go (choice_at (after_blanks text)) refl e (f
         let step = bind_some (with_choice c o (behind c (after_blanks text))) (λ found. options_from n found.0 found.1) (new, rest) e in
         done step.0.0 step.0.1 step.1 (next step.0.0 step.0.1 rest new step.2)
       where
-        done : (o' : Options) (left : List ℕ) → with_choice c o (behind c (after_blanks text)) ≡ Some (o', left) → ReadFrom o' left rest new → ReadFrom o text rest new
+        done : (o' : Options) (left : List ℕ) → with_choice c o (behind c (after_blanks text)) ≡ Some (o', left) → ReadFrom o' left rest new
+            → ReadFrom o text rest new
         done o' left taken rests =
             let one : Added (after_blanks text) o o' left = value-is c (after_blanks text) o o' left some taken in
             record {
@@ -169,7 +174,8 @@ read-is (suc n) o text rest new e = go (choice_at (after_blanks text)) refl e (f
             }
 
 -- what is written is read so
-written-read : (w : WrittenOptions) (n : ℕ) (o new : Options) (rest : List ℕ) → are_whole w rest ≡ true → has_ended rest ≡ true → Behind o (in_order w) new → length (in_order w) < n
+written-read : (w : WrittenOptions) (n : ℕ) (o new : Options) (rest : List ℕ) → are_whole w rest ≡ true → has_ended rest ≡ true
+    → Behind o (in_order w) new → length (in_order w) < n
     → options_from n o (options w rest) ≡ Some (new, rest)
 unfolding options_from
 written-read (NoOption blanks) zero o new rest whole ended said room = absurd (omega arith)
@@ -271,7 +277,8 @@ exchanged {A = A} h front x y back v e = filter_map-append h front (y ∷ x ∷ 
     long before a b behind e =
         let n : length (before ++ (a ∷ b ∷ behind)) ≤ 1 = few v (before ++ (a ∷ b ∷ behind)) e in omega (arith, length-append before (a ∷ b ∷ behind))
 
-    go : (p q : Option A) (before behind : List A) → before ++ cons_option p (cons_option q behind) ≡ at_most v → before ++ cons_option q (cons_option p behind) ≡ at_most v
+    go : (p q : Option A) (before behind : List A) → before ++ cons_option p (cons_option q behind) ≡ at_most v
+        → before ++ cons_option q (cons_option p behind) ≡ at_most v
     go None q before behind e = e
     go (Some a) None before behind e = e
     go (Some a) (Some b) before behind e = absurd (long before a b behind e)

@@ -1,10 +1,11 @@
 -- The trees of the parts of a list, from left to right.
 use Rattle.std.proofs.Common.{◌≡◌, ◌⊎◌, inl, inr, ◌++◌, ℕ, List, [], ◌∷◌, None, Result, Ok, Err, refl, sym, ap, ◌∙◌, append_assoc}
+use Rattle.units_io.specs.Outcomes.{◌>>=◌}
 use Rattle.def_lines.specs.Blanks.{trimmed}
 use Rattle.expr_tree.specs.Syntax.{Syntax}
 use Rattle.def_entry.specs.declared.fault.EntryFault.{EntryFault}
 use Rattle.def_entry.specs.declared.fault.EntryFault.TheVariants.{OutOfMemory}
-use Rattle.def_entry.specs.Outcomes.{◌>>=◌, tree_in}
+use Rattle.def_entry.specs.Outcomes.{tree_in}
 use Rattle.def_entry.specs.Reading.{trees_in}
 
 -- some trees, and behind them those that are given

@@ -1,5 +1,7 @@
 -- The words of a text taken two and two, as the pairs of numbers that they are.
-use Rattle.std.proofs.Common.{◌≡◌, ◌<◌, ◌++◌, ◌==◌, ℕ, List, [], ◌∷◌, true, false, length, Option, Some, None, option_map, refl, sym, ap, ◌∙◌, arith, append_assoc}
+use Rattle.std.proofs.Common.{◌≡◌, ◌<◌, ◌≤◌, ◌++◌, ◌==◌, ℕ, List, [], ◌∷◌, Bool, true, false, cond, length, Option, Some, None, Ok, option_map, refl, sym, ap, ◌∙◌, subst, arith, append_assoc, length-append}
+use Rattle.std.specs.Prelude.{nat_le}
+use Rattle.std.proofs.lemmas.Bool.{leb-true, le-leb}
 use Rattle.std.proofs.lemmas.List.{append-nil}
 use Rattle.def_lines.specs.Blanks.{after_blanks}
 use Rattle.def_lines.specs.Parts.{is_begun}
@@ -8,8 +10,10 @@ use Rattle.def_lines.proofs.Listing.{is_begun-after_word, length-after_word, sho
 use Rattle.def_lines.proofs.Trimming.{empty-nil, is_begun-after_blanks}
 use Rattle.frac128.specs.Fraction.{Fraction}
 use Rattle.piecewise.specs.Lines.{Point}
+use Rattle.def_entry.specs.declared.fault.EntryFault.TheVariants.{BadTable}
 use Rattle.def_entry.specs.Numbers.{number_of}
-use Rattle.def_entry.specs.PointLists.{pairs_of, some_pairs}
+use Rattle.def_entry.specs.Outcomes.{or_fault}
+use Rattle.def_entry.specs.PointLists.{few, most_points, pairs_of, some_pairs}
 use Rattle.def_entry.specs.Steps.{◌>>=◌}
 
 -- a number and another, and the pairs behind them
@@ -65,12 +69,14 @@ pairs-step b text begun =
 abbrev pub onto : List Point → Option (List Point) → Option (List Point)
 onto front given = option_map (λ pairs. front ++ pairs) given
 
-join-pair : (front new : List Point) (pair : Point) (given : Option (List Point)) → new ≡ front ++ pair ∷ [] → onto new given ≡ onto front (paired (Some pair) given)
+join-pair : (front new : List Point) (pair : Point) (given : Option (List Point)) → new ≡ front ++ pair ∷ []
+    → onto new given ≡ onto front (paired (Some pair) given)
 join-pair front new pair None made = refl
 join-pair front new pair (Some pairs) made = ap Some (ap (λ t. t ++ pairs) made ∙ append_assoc front (pair ∷ []) pairs)
 
 -- one more pair
-pub pairs-more : (front new : List Point) (text word behind word' behind' : List ℕ) (x y : Fraction) → is_begun text ≡ true → (length text == 0) ≡ false
+pub pairs-more : (front new : List Point) (text word behind word' behind' : List ℕ) (x y : Fraction) → is_begun text ≡ true
+    → (length text == 0) ≡ false
     → word ≡ first_word text → behind ≡ after_word text → number_of word ≡ Some x
     → word' ≡ first_word behind → behind' ≡ after_word behind → number_of word' ≡ Some y
     → new ≡ front ++ (x, y) ∷ [] → onto new (pairs_of (words_of behind')) ≡ onto front (pairs_of (words_of text))
@@ -86,7 +92,8 @@ pairs-more front new (b ∷ text) word behind word' behind' x y begun some is fr
     ∙ ap (onto front) (sym (pairs-step b text begun))
 
 -- no number at the front
-pub pairs-no_first : (front : List Point) (text word : List ℕ) → is_begun text ≡ true → (length text == 0) ≡ false → word ≡ first_word text → number_of word ≡ None
+pub pairs-no_first : (front : List Point) (text word : List ℕ) → is_begun text ≡ true → (length text == 0) ≡ false → word ≡ first_word text
+    → number_of word ≡ None
     → onto front (pairs_of (words_of text)) ≡ None
 pairs-no_first front [] word begun some is none = cc
 pairs-no_first front (b ∷ text) word begun some is none =
@@ -95,7 +102,8 @@ pairs-no_first front (b ∷ text) word begun some is none =
     (ap number_of (sym is) ∙ none)
 
 -- no number behind the first
-pub pairs-no_second : (front : List Point) (text behind word' : List ℕ) → is_begun text ≡ true → (length text == 0) ≡ false → behind ≡ after_word text → word' ≡ first_word behind
+pub pairs-no_second : (front : List Point) (text behind word' : List ℕ) → is_begun text ≡ true → (length text == 0) ≡ false
+    → behind ≡ after_word text → word' ≡ first_word behind
     → number_of word' ≡ None → onto front (pairs_of (words_of text)) ≡ None
 pairs-no_second front [] behind word' begun some from is' none = cc
 pairs-no_second front (b ∷ text) behind word' begun some from is' none =
@@ -104,12 +112,14 @@ pairs-no_second front (b ∷ text) behind word' begun some from is' none =
     (ap (λ t. number_of (first_word t)) (sym from) ∙ ap number_of (sym is') ∙ none)
     ∙ lost (number_of (first_word (b ∷ text)))
   where
-    lost : (x : Option Fraction) → onto front (paired (x >>= (λ v. nothing >>= (λ w. Some (v, w)))) (pairs_of (words_of (after_word (after_word (b ∷ text)))))) ≡ None
+    lost : (x : Option Fraction)
+        → onto front (paired (x >>= (λ v. nothing >>= (λ w. Some (v, w)))) (pairs_of (words_of (after_word (after_word (b ∷ text)))))) ≡ None
     lost None = refl
     lost (Some v) = refl
 
 -- what is left gets shorter
-pub shorter-pair : (text behind behind' : List ℕ) → is_begun text ≡ true → (length text == 0) ≡ false → behind ≡ after_word text → behind' ≡ after_word behind → length behind' < length text
+pub shorter-pair : (text behind behind' : List ℕ) → is_begun text ≡ true → (length text == 0) ≡ false → behind ≡ after_word text
+    → behind' ≡ after_word behind → length behind' < length text
 shorter-pair [] behind behind' begun some from from' = cc
 shorter-pair (b ∷ text) behind behind' begun some from from' =
     omega (arith, ap length from, ap length from', length-after_word behind, shorter-after_word b text begun)
@@ -124,13 +134,55 @@ words_of-blanks : (text rest : List ℕ) → rest ≡ after_blanks text → (len
 words_of-blanks text rest is none = sym (words_of-after_blanks text) ∙ ap words_of (sym is ∙ empty-nil rest none) ∙ words_of-nil
 
 -- blanks have no pair
-pub some_pairs-none : (front : List Point) (text rest : List ℕ) → rest ≡ after_blanks text → (length rest == 0) ≡ true → onto front (some_pairs (words_of text)) ≡ None
+pub some_pairs-none : (front : List Point) (text rest : List ℕ) → rest ≡ after_blanks text → (length rest == 0) ≡ true
+    → onto front (some_pairs (words_of text)) ≡ None
 some_pairs-none front text rest is none = ap (λ ws. onto front (some_pairs ws)) (words_of-blanks text rest is none)
 
 -- any other text has to have one
-pub some_pairs-some : (text rest : List ℕ) → rest ≡ after_blanks text → (length rest == 0) ≡ false → some_pairs (words_of text) ≡ pairs_of (words_of text)
+pub some_pairs-some : (text rest : List ℕ) → rest ≡ after_blanks text → (length rest == 0) ≡ false
+    → some_pairs (words_of text) ≡ pairs_of (words_of text)
 some_pairs-some text [] is some = cc
 some_pairs-some text (b ∷ rest) is some =
     let words : words_of text ≡ first_word (b ∷ rest) ∷ words_of (after_word (b ∷ rest)) =
     sym (words_of-after_blanks text) ∙ ap words_of (sym is) ∙ words_of-first b rest (ap is_begun is ∙ is_begun-after_blanks text) in
     ap some_pairs words ∙ sym (ap pairs_of words)
+
+-- points that are few, and those that are not
+
+pub few-at : (points : List Point) → length points ≤ most_points → few (Some points) ≡ Some points
+few-at points less = ap (λ t. cond t (Some points) None) (le-leb (length points) most_points less)
+
+pub few-none : (points : List Point) → most_points < length points → few (Some points) ≡ None
+few-none points more = go (nat_le (length points) most_points) refl
+  where
+    go : (t : Bool) → nat_le (length points) most_points ≡ t → cond t (Some points) None ≡ None
+    go true e = let less : length points ≤ most_points = leb-true (length points) most_points e in absurd (omega arith)
+    go false e = refl
+
+-- what is few is kept
+pub record Few (found : Option (List Point)) (points : List Point) : Type 0 where
+  pub is : found ≡ Some points
+  pub within : length points ≤ most_points
+
+pub few-is : (found : Option (List Point)) (points : List Point) → or_fault BadTable (few found) ≡ Ok points → Few found points
+few-is None points e = cc
+few-is (Some some) points e = go (nat_le (length some) most_points) refl e
+  where
+    go : (t : Bool) → nat_le (length some) most_points ≡ t → or_fault BadTable (cond t (Some some) None) ≡ Ok points
+        → Few (Some some) points
+    go true f e =
+        let same : some ≡ points = cc in
+        record { is = ap Some same; within = subst (λ ps. length ps ≤ most_points) same (leb-true (length some) most_points f) }
+    go false f e = cc
+
+-- a further pair is one too many
+pub pairs-many : (front : List Point) (text : List ℕ) → is_begun text ≡ true → (length text == 0) ≡ false → most_points ≤ length front
+    → few (onto front (pairs_of (words_of text))) ≡ None
+pairs-many front [] begun some more = cc
+pairs-many front (b ∷ text) begun some more =
+    ap (λ found. few (onto front found)) (pairs-step b text begun) ∙ go (front_pair (b ∷ text)) (pairs_of (words_of (after_word (after_word (b ∷ text)))))
+  where
+    go : (pair : Option Point) (points : Option (List Point)) → few (onto front (paired pair points)) ≡ None
+    go None points = refl
+    go (Some p) None = refl
+    go (Some p) (Some points) = few-none (front ++ (p ∷ points)) (omega (arith, length-append front (p ∷ points)))

@@ -1,11 +1,11 @@
 -- What an entry says follows from its key and its text.
 use Rattle.std.proofs.Common.{◌≡◌, ℕ, List, Result, Ok, Err, refl, sym, ap, ◌∙◌}
+use Rattle.units_io.specs.Outcomes.{◌>>=◌}
 use Rattle.def_entry.specs.declared.fault.EntryFault.{EntryFault}
 use Rattle.def_entry.specs.declared.key.Key.{Key}
 use Rattle.def_entry.specs.Entries.{Entry, What}
 use Rattle.def_entry.specs.Headings.{Heading, heading}
 use Rattle.def_entry.specs.Keys.{key}
-use Rattle.def_entry.specs.Outcomes.{◌>>=◌}
 use Rattle.def_entry.specs.Reading.{SameTextLaw, entry_by, what_of}
 
 abbrev value_or : {A : Type 0} → A → Result A EntryFault → A

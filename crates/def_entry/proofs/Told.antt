@@ -1,6 +1,7 @@
 -- The faults of lines are never want of memory.
 use Rattle.std.proofs.Common.{◌≡◌, ◌==◌, ℕ, List, [], ◌∷◌, Bool, true, false, if◌then◌else◌, Option, Some, None, Result, Ok, Err, codes, refl, sym, ap, ◌∙◌}
 use Rattle.std.specs.List.{slice_split}
+use Rattle.units_io.specs.Outcomes.{◌>>=◌}
 use Rattle.def_lines.specs.Blanks.{trimmed}
 use Rattle.std.specs.Str.{bytes_eq}
 use Rattle.expr_tree.specs.declared.fault.ParseFault.{ParseFault}
@@ -20,7 +21,7 @@ use Rattle.def_entry.specs.Forms.{Form, form_of, some_text}
 use Rattle.def_entry.specs.Headings.{Heading, heading}
 use Rattle.def_entry.specs.Keys.{key}
 use Rattle.def_entry.specs.Options.{Units}
-use Rattle.def_entry.specs.Outcomes.{◌>>=◌, named, or_fault, parsed_entry, tree_in}
+use Rattle.def_entry.specs.Outcomes.{named, or_fault, parsed_entry, tree_in}
 use Rattle.def_entry.specs.PointLists.{points_of, table_points}
 use Rattle.def_entry.specs.Reading.{alias_in, body_in, call_in, entry_of, func_in, function, function_of, inverse_in, is_semicolon, list_in, name_in, parted_call, parted_table, points_in, table_in, trees_in, unit_in, unit_tree, units_in, wanted, what_in, what_of, without_call}
 

@@ -15,11 +15,13 @@ use Rattle.def_entry.specs.Steps.{◌>>=◌}
 use Rattle.def_entry.proofs.CutTexts.{Around, around, cut-at, cut-is, index-at, position-at}
 
 -- the first step of two that give something
-pub bind_some : {A B : Type 0} (given : Option A) (step : A → Option B) (y : B) → (given >>= step) ≡ Some y → (x : A) × (given ≡ Some x) × (step x ≡ Some y)
+pub bind_some : {A B : Type 0} (given : Option A) (step : A → Option B) (y : B) → (given >>= step) ≡ Some y
+    → (x : A) × (given ≡ Some x) × (step x ≡ Some y)
 bind_some None step y e = cc
 bind_some (Some x) step y e = (x, refl, e)
 
-pub mapped_some : {A B : Type 0} (f : A → B) (given : Option A) (y : B) → option_map f given ≡ Some y → (x : A) × (given ≡ Some x) × (f x ≡ y)
+pub mapped_some : {A B : Type 0} (f : A → B) (given : Option A) (y : B) → option_map f given ≡ Some y
+    → (x : A) × (given ≡ Some x) × (f x ≡ y)
 mapped_some f None y e = cc
 mapped_some f (Some x) y e = let same : f x ≡ y = cc in (x, refl, same)
 
@@ -30,11 +32,13 @@ opened-at : (is_closed : Bool) (text : List ℕ) → opened (opening is_closed �
 opened-at true text = refl
 opened-at false text = refl
 
-opened-is : (text : List ℕ) (is_closed : Bool) (behind : List ℕ) → opened text ≡ Some (is_closed, behind) → text ≡ opening is_closed ∷ behind
+opened-is : (text : List ℕ) (is_closed : Bool) (behind : List ℕ) → opened text ≡ Some (is_closed, behind)
+    → text ≡ opening is_closed ∷ behind
 opened-is [] is_closed behind e = cc
 opened-is (b ∷ text) is_closed behind e = go (b == 91) (b == 40) refl refl e
   where
-    go : (s t : Bool) → (b == 91) ≡ s → (b == 40) ≡ t → cond {A = Option (Bool × List ℕ)} s (Some (true, text)) (cond t (Some (false, text)) None) ≡ Some (is_closed, behind)
+    go : (s t : Bool) → (b == 91) ≡ s → (b == 40) ≡ t
+        → cond {A = Option (Bool × List ℕ)} s (Some (true, text)) (cond t (Some (false, text)) None) ≡ Some (is_closed, behind)
         → b ∷ text ≡ opening is_closed ∷ behind
     go true t f g e =
         let parts : (true ≡ is_closed) × (text ≡ behind) = one_pair true is_closed text behind e in
@@ -77,7 +81,8 @@ pub record Closed (text front : List ℕ) (is_closed : Bool) (behind : List ℕ)
   pub whole : text ≡ front ++ (closing is_closed ∷ behind)
   pub clear : list_all (λ b. not (is_closing b)) front ≡ true
 
-closed-is : (text front : List ℕ) (is_closed : Bool) (behind : List ℕ) → closed text ≡ Some (front, is_closed, behind) → Closed text front is_closed behind
+closed-is : (text front : List ℕ) (is_closed : Bool) (behind : List ℕ) → closed text ≡ Some (front, is_closed, behind)
+    → Closed text front is_closed behind
 closed-is text front is_closed behind e = go (position is_closing text) refl e
   where
     go : (found : Option ℕ) → position is_closing text ≡ found
@@ -106,7 +111,8 @@ both-some None high s rest e = cc
 both-some (Some l) None s rest e = cc
 both-some (Some l) (Some h) s rest e = let same : ◌≡◌ {A = Span} (record { low = l; high = h }) s = cc in ap (λ (x : Span). Some (x, rest)) same
 
-some-both : (low high : Option (Option Bound)) (s : Span) (rest behind : List ℕ) → both low high behind ≡ Some (s, rest) → (span low high ≡ Some s) × (behind ≡ rest)
+some-both : (low high : Option (Option Bound)) (s : Span) (rest behind : List ℕ) → both low high behind ≡ Some (s, rest)
+    → (span low high ≡ Some s) × (behind ≡ rest)
 some-both None high s rest behind e = cc
 some-both (Some l) None s rest behind e = cc
 some-both (Some l) (Some h) s rest behind e =
@@ -114,7 +120,8 @@ some-both (Some l) (Some h) s rest behind e =
     (ap Some parts.0, parts.1)
 
 -- what is written so is read so
-pub interval-at : (i : WrittenInterval) (rest : List ℕ) (s : Span) → is_interval i ≡ true → span_of i ≡ Some s → interval_at (interval i rest) ≡ Some (s, rest)
+pub interval-at : (i : WrittenInterval) (rest : List ℕ) (s : Span) → is_interval i ≡ true → span_of i ≡ Some s
+    → interval_at (interval i rest) ≡ Some (s, rest)
 unfolding interval_at
 interval-at i rest s whole value =
     let most : ((lacks 44 i.low && list_all (λ b. not (is_closing b)) i.high) ≡ true) × (is_some (span_of i) ≡ true) = and_parts _ _ whole in
@@ -142,8 +149,10 @@ interval-is text rest s e =
     let three = bind_some (closed two.0.1) (λ back. both (bound_in one.0.0 (trimmed two.0.0)) (bound_in back.1 (trimmed back.0)) back.2) (s, rest) two.2 in
     done one.0.0 one.0.1 two.0.0 two.0.1 three.0.0 three.0.1 three.0.2 one.1 two.1 three.1 three.2
   where
-    done : (is_low : Bool) (inside low behind high : List ℕ) (is_high : Bool) (left : List ℕ) → opened text ≡ Some (is_low, inside) → cut_at 44 inside ≡ Some (low, behind)
-        → closed behind ≡ Some (high, is_high, left) → both (bound_in is_low (trimmed low)) (bound_in is_high (trimmed high)) left ≡ Some (s, rest) → Interval text rest s
+    done : (is_low : Bool) (inside low behind high : List ℕ) (is_high : Bool) (left : List ℕ) → opened text ≡ Some (is_low, inside)
+        → cut_at 44 inside ≡ Some (low, behind)
+        → closed behind ≡ Some (high, is_high, left)
+        → both (bound_in is_low (trimmed low)) (bound_in is_high (trimmed high)) left ≡ Some (s, rest) → Interval text rest s
     done is_low inside low behind high is_high left first second third last =
         let a : text ≡ opening is_low ∷ inside = opened-is text is_low inside first in
         let b : (inside ≡ low ++ (44 ∷ behind)) × (lacks 44 low ≡ true) = cut-is 44 inside low behind second in

@@ -16,8 +16,8 @@ use Rattle.def_entry.specs.declared.options.Choice.TheVariants.{Units as UnitsCh
 use Rattle.def_entry.specs.Cuts.{behind_byte, cut_at, lacks}
 use Rattle.def_entry.specs.Headings.{stands_apart}
 use Rattle.def_entry.specs.Intervals.{interval_at}
-use Rattle.def_entry.specs.OptionGrammar.{WrittenOption, UnitsOption, DomainOption, RangeOption, NoErrorOption}
-use Rattle.def_entry.specs.OptionGrammar.{has_ended, interval, is_whole, option, span_of}
+use Rattle.def_entry.specs.OptionGrammar.{WrittenInterval, WrittenOption, UnitsOption, DomainOption, RangeOption, NoErrorOption}
+use Rattle.def_entry.specs.OptionGrammar.{has_ended, interval, is_interval, is_whole, option, span_of}
 use Rattle.def_entry.specs.Options.{Options, Units, begins_with, begins_with_no_error, behind, choice_at, units_at, with_choice}
 use Rattle.def_entry.specs.Steps.{◌>>=◌}
 use Rattle.def_entry.proofs.Choices.{begins-choice_at}
@@ -26,12 +26,14 @@ use Rattle.def_entry.proofs.WrittenIntervals.{Interval, bind_some, interval-at, 
 
 -- blanks
 
-pub after_blanks-front : (blanks text : List ℕ) → list_all is_blank blanks ≡ true → is_begun text ≡ true → after_blanks (blanks ++ text) ≡ text
+pub after_blanks-front : (blanks text : List ℕ) → list_all is_blank blanks ≡ true → is_begun text ≡ true
+    → after_blanks (blanks ++ text) ≡ text
 after_blanks-front [] [] clear begun = refl
 after_blanks-front [] (b ∷ text) clear begun = after_blanks-word b text (not_true (is_blank b) begun)
 after_blanks-front (b ∷ blanks) text clear begun = go (and_parts (is_blank b) (list_all is_blank blanks) clear) (after_blanks-front blanks text)
   where
-    go : (is_blank b ≡ true) × (list_all is_blank blanks ≡ true) → (list_all is_blank blanks ≡ true → is_begun text ≡ true → after_blanks (blanks ++ text) ≡ text)
+    go : (is_blank b ≡ true) × (list_all is_blank blanks ≡ true)
+        → (list_all is_blank blanks ≡ true → is_begun text ≡ true → after_blanks (blanks ++ text) ≡ text)
         → after_blanks ((b ∷ blanks) ++ text) ≡ text
     go parts rest = after_blanks-blank b (blanks ++ text) parts.0 ∙ rest parts.1 begun
 
@@ -54,7 +56,7 @@ fronted (b ∷ text) = go (is_blank b) refl (fronted text)
     go false e rest = record { blanks = []; whole = sym (after_blanks-word b text e); clear = refl }
 
 -- what a text begins with
-starts-is : (text front : List ℕ) → starts_with nat_eq text front ≡ true → text ≡ front ++ drop (length front) text
+pub starts-is : (text front : List ℕ) → starts_with nat_eq text front ≡ true → text ≡ front ++ drop (length front) text
 starts-is text front e =
     sym (take-append-drop (length front) text)
     ∙ ap (λ t. t ++ drop (length front) text) (sym ((bytes_eq-Decides front (take (length front) text)).0 e))
@@ -93,7 +95,8 @@ pub no-choice : (rest : List ℕ) → has_ended rest ≡ true → (choice_at res
 no-choice rest e =
     ended-cases (begins_with UnitsChoice rest) (begins_with Domain rest) (begins_with Range rest) (begins_with_no_error rest) (is_begun rest) e
 
-cases-ended : (u d r n b : Bool) → cond u (Some UnitsChoice) (cond d (Some Domain) (cond r (Some Range) (cond n (Some NoError) None))) ≡ None → b ≡ true
+cases-ended : (u d r n b : Bool)
+    → cond u (Some UnitsChoice) (cond d (Some Domain) (cond r (Some Range) (cond n (Some NoError) None))) ≡ None → b ≡ true
     → (not (u || d || r || n) && b) ≡ true
 cases-ended false false false false b e f = f
 cases-ended true d r n b e f = cc
@@ -141,7 +144,8 @@ pub some_value : {A : Type 0} (v : Option A) → is_some v ≡ true → (x : A) 
 some_value None e = cc
 some_value (Some x) e = (x, refl)
 
-units-at : (a b rest : List ℕ) → lacks 59 a ≡ true → lacks 93 b ≡ true → units_at (91 ∷ (a ++ (59 ∷ (b ++ (93 ∷ rest))))) ≡ Some (units_by a b, rest)
+units-at : (a b rest : List ℕ) → lacks 59 a ≡ true → lacks 93 b ≡ true
+    → units_at (91 ∷ (a ++ (59 ∷ (b ++ (93 ∷ rest))))) ≡ Some (units_by a b, rest)
 units-at a b rest clear clear' =
     (λ i. cut-at 59 a (b ++ (93 ∷ rest)) clear i >>= (λ first. cut_at 93 first.1 >>= (λ second. Some (units_by first.0 second.0, second.1))))
     ∙ (λ i. cut-at 93 b rest clear' i >>= (λ second. Some (units_by a second.0, second.1)))
@@ -203,7 +207,8 @@ units-is text rest u e =
     let three = bind_some (cut_at 93 two.0.1) (λ second. Some (units_by two.0.0 second.0, second.1)) (u, rest) two.2 in
     done one.0 two.0.0 two.0.1 three.0.0 three.0.1 one.1 two.1 three.1 three.2
   where
-    done : (inside a more b left : List ℕ) → behind_byte 91 text ≡ Some inside → cut_at 59 inside ≡ Some (a, more) → cut_at 93 more ≡ Some (b, left)
+    done : (inside a more b left : List ℕ) → behind_byte 91 text ≡ Some inside → cut_at 59 inside ≡ Some (a, more)
+        → cut_at 93 more ≡ Some (b, left)
         → ◌≡◌ {A = Option (Units × List ℕ)} (Some (units_by a b, left)) (Some (u, rest)) → UnitsWritten text rest u
     done inside a more b left first second third last =
         let front : text ≡ 91 ∷ inside = byte-is 91 text inside first in
@@ -232,7 +237,9 @@ taken false put given made e = (refl, mapped_some put given made e)
 apart : (text : List ℕ) → choice_at text ≡ Some NoError → stands_apart (behind NoError text) ≡ true
 apart text e = go (begins_with UnitsChoice text) (begins_with Domain text) (begins_with Range text) (begins_with NoError text) (stands_apart (behind NoError text)) e
   where
-    go : (u d r n s : Bool) → cond u (Some UnitsChoice) (cond d (Some Domain) (cond r (Some Range) (cond (n && s) (Some NoError) None))) ≡ Some NoError → s ≡ true
+    go : (u d r n s : Bool)
+        → cond u (Some UnitsChoice) (cond d (Some Domain) (cond r (Some Range) (cond (n && s) (Some NoError) None))) ≡ Some NoError
+        → s ≡ true
     go true d r n s e = cc
     go false true r n s e = cc
     go false false true n s e = cc
@@ -240,13 +247,33 @@ apart text e = go (begins_with UnitsChoice text) (begins_with Domain text) (begi
     go false false false true false e = cc
     go false false false false s e = cc
 
-pub value-is : (c : Choice) (text : List ℕ) (o new : Options) (rest : List ℕ) → choice_at text ≡ Some c → with_choice c o (behind c text) ≡ Some (new, rest) → Added text o new rest
+-- options with an interval that is read
+record Spanned (text rest : List ℕ) (put : Option Span → Options) (new : Options) : Type 0 where
+  written : WrittenInterval
+  spelled : text ≡ interval written rest
+  whole : is_interval written ≡ true
+  made : new ≡ put (span_of written)
+
+spanned : (text rest : List ℕ) (put : Option Span → Options) (new : Options) (s : Span) (left : List ℕ)
+    → interval_at text ≡ Some (s, left) → ◌≡◌ {A = Options × List ℕ} (put (Some s), left) (new, rest) → Spanned text rest put new
+spanned text rest put new s left value made =
+    let is : Interval text left s = interval-is text left s value in
+    record {
+      written = is.written;
+      spelled = is.spelled ∙ ap (interval is.written) (ap (λ (p : Options × List ℕ). p.1) made);
+      whole = is.whole;
+      made = sym (ap (λ (p : Options × List ℕ). p.0) made) ∙ ap put (sym is.value);
+    }
+
+pub value-is : (c : Choice) (text : List ℕ) (o new : Options) (rest : List ℕ) → choice_at text ≡ Some c
+    → with_choice c o (behind c text) ≡ Some (new, rest) → Added text o new rest
 value-is UnitsChoice text o new rest begins e =
     let front : text ≡ codes "units=" ++ behind UnitsChoice text = starts-is text (codes "units=") (begins-choice_at text (choice_at text) UnitsChoice refl begins) in
     let read = taken (is_some o.units) (with_units o) (units_at (behind UnitsChoice text)) (new, rest) e in
     done front read.0 read.1.0.0 read.1.0.1 read.1.1 read.1.2
   where
-    done : text ≡ codes "units=" ++ behind UnitsChoice text → not (is_some o.units) ≡ true → (u : Units) (left : List ℕ) → units_at (behind UnitsChoice text) ≡ Some (u, left)
+    done : text ≡ codes "units=" ++ behind UnitsChoice text → not (is_some o.units) ≡ true → (u : Units) (left : List ℕ)
+        → units_at (behind UnitsChoice text) ≡ Some (u, left)
         → ◌≡◌ {A = Options × List ℕ} (with_units o (u, left)) (new, rest) → Added text o new rest
     done front free u left value made =
         let is : UnitsWritten (behind UnitsChoice text) left u = units-is (behind UnitsChoice text) left u value in
@@ -260,46 +287,38 @@ value-is UnitsChoice text o new rest begins e =
           made = sym new_is ∙ ap (λ (v : Units). record o { units = Some v }) is.value;
         }
 value-is Domain text o new rest begins e =
-    let front : text ≡ codes "domain=" ++ behind Domain text = starts-is text (codes "domain=") (begins-choice_at text (choice_at text) Domain refl begins) in
+    let front : text ≡ codes "domain=" ++ behind Domain text =
+    starts-is text (codes "domain=") (begins-choice_at text (choice_at text) Domain refl begins) in
     let read = taken (is_some o.domain) (with_domain o) (interval_at (behind Domain text)) (new, rest) e in
-    done front read.0 read.1.0.0 read.1.0.1 read.1.1 read.1.2
-  where
-    done : text ≡ codes "domain=" ++ behind Domain text → not (is_some o.domain) ≡ true → (s : Span) (left : List ℕ) → interval_at (behind Domain text) ≡ Some (s, left)
-        → ◌≡◌ {A = Options × List ℕ} (with_domain o (s, left)) (new, rest) → Added text o new rest
-    done front free s left value made =
-        let is : Interval (behind Domain text) left s = interval-is (behind Domain text) left s value in
-        let left_is : left ≡ rest = ap (λ (p : Options × List ℕ). p.1) made in
-        let new_is : ◌≡◌ {A = Options} (record o { domain = Some s }) new = ap (λ (p : Options × List ℕ). p.0) made in
-        record {
-          written = DomainOption is.written;
-          spelled = front ∙ ap (λ t. codes "domain=" ++ t) is.spelled ∙ ap (λ t. option (DomainOption is.written) t) left_is;
-          whole = is.whole;
-          free = free;
-          made = sym new_is ∙ ap (λ (v : Option Span). record o { domain = v }) (sym is.value);
-        }
+    let is : Spanned (behind Domain text) rest (λ v. record o { domain = v }) new =
+    spanned (behind Domain text) rest (λ v. record o { domain = v }) new read.1.0.0 read.1.0.1 read.1.1 read.1.2 in
+    record {
+      written = DomainOption is.written;
+      spelled = front ∙ ap (λ t. codes "domain=" ++ t) is.spelled;
+      whole = is.whole;
+      free = read.0;
+      made = is.made;
+    }
 value-is Range text o new rest begins e =
-    let front : text ≡ codes "range=" ++ behind Range text = starts-is text (codes "range=") (begins-choice_at text (choice_at text) Range refl begins) in
+    let front : text ≡ codes "range=" ++ behind Range text =
+    starts-is text (codes "range=") (begins-choice_at text (choice_at text) Range refl begins) in
     let read = taken (is_some o.range) (with_range o) (interval_at (behind Range text)) (new, rest) e in
-    done front read.0 read.1.0.0 read.1.0.1 read.1.1 read.1.2
-  where
-    done : text ≡ codes "range=" ++ behind Range text → not (is_some o.range) ≡ true → (s : Span) (left : List ℕ) → interval_at (behind Range text) ≡ Some (s, left)
-        → ◌≡◌ {A = Options × List ℕ} (with_range o (s, left)) (new, rest) → Added text o new rest
-    done front free s left value made =
-        let is : Interval (behind Range text) left s = interval-is (behind Range text) left s value in
-        let left_is : left ≡ rest = ap (λ (p : Options × List ℕ). p.1) made in
-        let new_is : ◌≡◌ {A = Options} (record o { range = Some s }) new = ap (λ (p : Options × List ℕ). p.0) made in
-        record {
-          written = RangeOption is.written;
-          spelled = front ∙ ap (λ t. codes "range=" ++ t) is.spelled ∙ ap (λ t. option (RangeOption is.written) t) left_is;
-          whole = is.whole;
-          free = free;
-          made = sym new_is ∙ ap (λ (v : Option Span). record o { range = v }) (sym is.value);
-        }
+    let is : Spanned (behind Range text) rest (λ v. record o { range = v }) new =
+    spanned (behind Range text) rest (λ v. record o { range = v }) new read.1.0.0 read.1.0.1 read.1.1 read.1.2 in
+    record {
+      written = RangeOption is.written;
+      spelled = front ∙ ap (λ t. codes "range=" ++ t) is.spelled;
+      whole = is.whole;
+      free = read.0;
+      made = is.made;
+    }
 value-is NoError text o new rest begins e =
     let front : text ≡ codes "noerror" ++ behind NoError text = starts-is text (codes "noerror") (begins-choice_at text (choice_at text) NoError refl begins) in
     go o.no_error refl e front
   where
-    go : (t : Bool) → o.no_error ≡ t → cond {A = Option (Options × List ℕ)} t None (Some (with_no_error o, behind NoError text)) ≡ Some (new, rest) → text ≡ codes "noerror" ++ behind NoError text
+    go : (t : Bool) → o.no_error ≡ t
+        → cond {A = Option (Options × List ℕ)} t None (Some (with_no_error o, behind NoError text)) ≡ Some (new, rest)
+        → text ≡ codes "noerror" ++ behind NoError text
         → Added text o new rest
     go true f e front = cc
     go false f e front =

@@ -1,6 +1,6 @@
--- The keys and entries of a few lines, and the faults of others, found by hand.
-use Rattle.std.specs.Prelude.{◌≡◌, ℕ, pos, negsuc, true, List, [], ◌∷◌, Some, None, Result, Ok, Err, codes}
-use Rattle.expr_tree.specs.declared.fault.ParseFault.TheVariants.{Syntax as SyntaxFault, NumeralTooLong}
+-- The keys and entries of a few lines, the faults of others, and the texts of keys and faults, found by hand.
+use Rattle.std.specs.Prelude.{◌≡◌, ℕ, pos, negsuc, true, List, [], ◌∷◌, Some, None, Result, Ok, Err, codes, map}
+use Rattle.expr_tree.specs.declared.fault.ParseFault.TheVariants.{Syntax as SyntaxFault, NumeralTooLong, NestedTooDeep}
 use Rattle.expr_tree.specs.Syntax.{Syntax, Number, Word, Argument, Juxtaposed, NoMember, Member}
 use Rattle.frac128.specs.Fraction.{whole}
 use Rattle.def_entry.specs.declared.fault.EntryFault.{EntryFault}
@@ -9,8 +9,9 @@ use Rattle.def_entry.specs.declared.key.Key.{Key}
 use Rattle.def_entry.specs.declared.key.Kind.{Kind}
 use Rattle.def_entry.specs.declared.key.Kind.TheVariants as kind
 use Rattle.def_entry.specs.Entries.{Entry, What, Primitive, Dimensionless, Body, Function, Alias, Table, ListOf}
+use Rattle.def_entry.specs.Faults.{entry_fault_text}
 use Rattle.def_entry.specs.Intervals.{bound}
-use Rattle.def_entry.specs.Keys.{key}
+use Rattle.def_entry.specs.Keys.{key, key_of, key_text}
 use Rattle.def_entry.specs.Reading.{entry_of}
 
 -- a key of this kind and this name, whose entry has this text and says this
@@ -71,6 +72,7 @@ abbrev pub FaultsLaw : Type 0
 FaultsLaw =
     (entry_of (codes "foo2 m") ≡ Err (BadName (codes "foo2")))
     × (entry_of (codes "- 3") ≡ Err (BadName []))
+    × (entry_of (codes " m !") ≡ Err (BadName []))
     × (entry_of (codes "f(2 x) units=[") ≡ Err (BadName (codes "2 x")))
     × (entry_of (codes "g() f ()") ≡ Err (BadName (codes "f ")))
     × (entry_of (codes "f(x) ; x") ≡ Err BadForm)
@@ -81,6 +83,51 @@ FaultsLaw =
     × (entry_of (codes "!unitlist l m;;s") ≡ Err (Parse (SyntaxFault 0)))
     × (entry_of (codes "a 1e10000 m") ≡ Err (Parse NumeralTooLong))
 
--- law: both
-abbrev pub ExamplesLaw : Type 0
-ExamplesLaw = EntriesLaw × FaultsLaw
+-- keys with their texts
+abbrev pub keys : List (Key × List ℕ)
+keys =
+    (key kind.Unit (codes "m"), codes "m")
+    ∷ (key kind.Prefix (codes "milli"), codes "milli-")
+    ∷ (key kind.Func (codes "tempC"), codes "tempC()")
+    ∷ (key kind.List (codes "hms"), codes "!unitlist hms")
+    ∷ (key kind.Unit (codes "%"), codes "%")
+    ∷ (key kind.List (codes "unitlist"), codes "!unitlist unitlist")
+    ∷ (key kind.Func (codes "x_2"), codes "x_2()")
+    ∷ []
+
+-- texts of no key
+abbrev pub no_keys : List (List ℕ)
+no_keys =
+    codes "" ∷ codes "-" ∷ codes "()" ∷ codes ")" ∷ codes "!"
+    ∷ codes "!unitlist" ∷ codes "!unitlist " ∷ codes "!unitlist  z" ∷ codes "!unitlist z "
+    ∷ codes "a b" ∷ codes "a--" ∷ codes "a-()" ∷ codes "a()-" ∷ codes "a(x)" ∷ codes "a)"
+    ∷ codes "2m" ∷ codes "foo2" ∷ codes "sin" ∷ codes "sin()" ∷ codes "per-"
+    ∷ codes "!unitlist z-" ∷ codes "!Unitlist z" ∷ codes "!unitlist !z"
+    ∷ codes " m" ∷ codes "m " ∷ codes "a()()" ∷ []
+
+-- law: each key has its text and is read from it, and no key is read from the other texts
+pub record KeysLaw : Type 0 where
+  pub written : map (λ row. key_text row.0) keys ≡ map (λ row. row.1) keys
+  pub read : map (λ row. key_of row.1) keys ≡ map (λ row. Some row.0) keys
+  pub refused : map key_of no_keys ≡ map (λ bytes. None) no_keys
+
+-- faults with their texts
+abbrev pub fault_texts : List (EntryFault × List ℕ)
+fault_texts =
+    (BadName (codes "foo2"), codes "bad name: foo2")
+    ∷ (BadForm, codes "bad definition")
+    ∷ (BadTable, codes "bad table")
+    ∷ (Parse NumeralTooLong, codes "numeral too long")
+    ∷ (Parse NestedTooDeep, codes "nested too deep")
+    ∷ []
+
+-- law: each fault has its text
+abbrev pub FaultTextsLaw : Type 0
+FaultTextsLaw = map (λ row. entry_fault_text row.0) fault_texts ≡ map (λ row. row.1) fault_texts
+
+-- law: all of them
+pub record ExamplesLaw : Type 0 where
+  pub entries : EntriesLaw
+  pub faults : FaultsLaw
+  pub keys_read : KeysLaw
+  pub faults_told : FaultTextsLaw

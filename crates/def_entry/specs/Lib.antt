@@ -1,8 +1,11 @@
 pub mod Cuts
 pub mod Entries
+pub mod EntryGrammar
 pub mod Examples
 pub mod Faults
+pub mod FormGrammar
 pub mod Forms
+pub mod HeadingGrammar
 pub mod Headings
 pub mod Intervals
 pub mod KeyOrder
@@ -11,6 +14,7 @@ pub mod Numbers
 pub mod OptionGrammar
 pub mod Options
 pub mod Outcomes
+pub mod PointGrammar
 pub mod PointLists
 pub mod Reading
 pub mod SameKeys

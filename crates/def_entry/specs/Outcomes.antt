@@ -1,5 +1,6 @@
--- Steps that may have a fault, and what calls of the program give.
-use Rattle.std.specs.Prelude.{◌≡◌, ◌⊎◌, ℕ, List, if◌then◌else◌, Option, Some, None, Result, Ok, Err, MatchResult}
+-- What calls of the program give, and parts that may be faults.
+use Rattle.std.specs.Prelude.{ℕ, List, if◌then◌else◌, Option, Some, None, Result, Ok, Err}
+use Rattle.units_io.specs.Outcomes.{Gives as GivesUnless}
 use Rattle.expr_tree.specs.declared.fault.ParseFault.{ParseFault}
 use Rattle.expr_tree.specs.Names.{is_name}
 use Rattle.expr_tree.specs.Parsed.{parsed}
@@ -7,17 +8,9 @@ use Rattle.expr_tree.specs.Syntax.{Syntax}
 use Rattle.def_entry.specs.declared.fault.EntryFault.{EntryFault}
 use Rattle.def_entry.specs.declared.fault.EntryFault.TheVariants.{BadName, Parse, OutOfMemory}
 
--- a step, and then another on what it gives; the first fault is the answer of both
-infixl 10 ◌>>=◌
-abbrev pub ◌>>=◌ : {A B : Type 0} → Result A EntryFault → (A → Result B EntryFault)
-    → Result B EntryFault
-(Ok x) >>= step = step x
-(Err fault) >>= step = Err fault
-
 -- a call gives what is said, as it is seen, or there is no memory
 abbrev pub Gives : {A B : Type 0} → (A → B) → Result A EntryFault → Result B EntryFault → Type 0
-Gives seen given said =
-    MatchResult given (λ x. said ≡ Ok (seen x)) (λ fault. (fault ≡ OutOfMemory) ⊎ (said ≡ Err fault))
+Gives seen given said = GivesUnless OutOfMemory seen given said
 
 -- what some parts give, or a fault where there are none
 abbrev pub or_fault : {A : Type 0} → EntryFault → Option A → Result A EntryFault

@@ -1,5 +1,5 @@
 -- The points of a table: pairs of numbers, with an optional comma behind each pair.
-use Rattle.std.specs.Prelude.{◌==◌, ◌++◌, ℕ, List, [], ◌∷◌, Bool, if◌then◌else◌, Option, Some, None}
+use Rattle.std.specs.Prelude.{◌==◌, ◌++◌, ℕ, List, [], ◌∷◌, Bool, length, nat_le, if◌then◌else◌, Option, Some, None}
 use Rattle.std.specs.List.{slice_split}
 use Rattle.def_lines.specs.Blanks.{after_blanks}
 use Rattle.def_lines.specs.Words.{words_of}
@@ -46,6 +46,15 @@ behind_no_error text = if begins_with_no_error text then behind NoError text els
 -- the points of a list, if it is one
 unfoldable pub points_of : List ℕ → Option (List Point)
 points_of text = points_between (slice_split is_comma (behind_no_error (after_blanks text)))
+
+-- the most points of a table
+abbrev pub most_points : ℕ
+most_points = 1000
+
+-- points, but none where they are more than those of any table
+abbrev pub few : Option (List Point) → Option (List Point)
+few None = None
+few (Some points) = if nat_le (length points) most_points then Some points else None
 
 -- those of a table
 abbrev pub table_points : List Point → Option (List Point)

@@ -1,6 +1,7 @@
 -- The key and the entry of a line.
 use Rattle.std.specs.Prelude.{◌≡◌, ◌↔◌, ◌==◌, ◌-◌, ℕ, List, [], ◌∷◌, Bool, true, false, length, take, codes, nat_eq, if◌then◌else◌, Option, Some, None, Result, Ok, Err}
 use Rattle.std.specs.List.{ends_with, slice_split}
+use Rattle.units_io.specs.Outcomes.{◌>>=◌}
 use Rattle.def_lines.specs.Blanks.{trimmed}
 use Rattle.def_lines.specs.Kinds.{Kind as LineKind, Definition, UnitList}
 use Rattle.std.specs.Str.{bytes_eq}
@@ -13,7 +14,7 @@ use Rattle.def_entry.specs.declared.fault.EntryFault.{EntryFault}
 use Rattle.def_entry.specs.declared.fault.EntryFault.TheVariants.{BadForm, BadTable}
 use Rattle.def_entry.specs.Cuts.{cut_at}
 use Rattle.def_entry.specs.Entries.{Entry, What, Primitive, Dimensionless, Body, Function, Alias, Table, ListOf}
-use Rattle.def_entry.specs.Outcomes.{◌>>=◌, named, or_fault, tree_in}
+use Rattle.def_entry.specs.Outcomes.{named, or_fault, tree_in}
 use Rattle.def_entry.specs.Forms.{Form, form_of, some_text}
 use Rattle.def_entry.specs.Headings.{Heading, heading}
 use Rattle.def_entry.specs.Keys.{key}

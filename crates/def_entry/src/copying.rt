@@ -13,7 +13,7 @@ impl Entry {
     pub fn copy(&self, alloc: Global) -> Result<Entry, AllocError>
         ensures { IfOk result (λ entry. entry_view entry ≡ entry_view self.now) }
     {
-        let text = self.text.copy()?;
+        let text = self.text.copy(alloc)?;
         let what = self.what.copy(alloc)?;
         Ok(Entry { text, what })
     }
@@ -29,7 +29,7 @@ impl What {
             What::Dimensionless => Ok(What::Dimensionless),
             What::Body(tree) => Ok(What::Body(tree.copy(alloc)?)),
             What::Function(function) => Ok(What::Function(function.copy(alloc)?)),
-            What::Alias(target) => Ok(What::Alias(target.copy()?)),
+            What::Alias(target) => Ok(What::Alias(target.copy(alloc)?)),
             What::Table(table) => Ok(What::Table(table.copy(alloc)?)),
             What::ListOf(parts) => Ok(What::ListOf(parts.copy(alloc)?)),
         }

@@ -9,7 +9,7 @@ ghost use Rattle.def_entry.specs.Seen.{seen_heading};
 
 use crate::key::Kind;
 use def_lines::{split_word, trim, trim_front};
-use units_io::is_blank;
+use units_io::{is_blank, prefix_len};
 
 // The kind of a line's key, its name, and the text of its entry.
 #[derive(Clone, Copy)]
@@ -81,11 +81,7 @@ fn head_len(line: &[u8]) -> usize
     ensures is { result ≡ position_or_len ends_head_at line.now }
     ensures within { result ≤ length line.now }
 {
-    let mut len = 0;
-    while len < line.len() && !ends_head(line[len]) {
-        len += 1;
-    }
-    len
+    prefix_len(line, |byte| !ends_head(byte))
 }
 
 // Whether the byte is a blank, `(` or `[`.

@@ -1,10 +1,13 @@
 //! Laws of keys, of their texts and of entries.
 
+ghost use Rattle.def_entry.specs.EntryGrammar.{EntryLaw, OneEntryLaw};
 ghost use Rattle.def_entry.specs.Examples.{ExamplesLaw};
 ghost use Rattle.def_entry.specs.Faults.{ToldLaw};
+ghost use Rattle.def_entry.specs.HeadingGrammar.{HeadingLaw};
 ghost use Rattle.def_entry.specs.KeyOrder.{KeyOrderLaw};
 ghost use Rattle.def_entry.specs.Keys.{KeyOfLaw, OneKeyLaw};
 ghost use Rattle.def_entry.specs.OptionGrammar.{AnyOrderLaw, OptionsLaw};
+ghost use Rattle.def_entry.specs.PointGrammar.{PointsLaw};
 ghost use Rattle.def_entry.specs.Reading.{SameTextLaw};
 ghost use Rattle.def_entry.specs.SameKeys.{SameKeysLaw};
 
@@ -28,14 +31,25 @@ pub fn told_law()
     ensures { ToldLaw }
 {}
 
-/// A few lines have the keys, the entries and the faults that were found by hand.
+/// A few lines have the keys, the entries and the faults that were found by hand, and a few keys and
+/// faults their texts.
 pub fn examples_law()
     ensures { ExamplesLaw }
+{}
+
+/// The heading of a line is the one that it is written with.
+pub fn heading_law()
+    ensures { HeadingLaw }
 {}
 
 /// Options are read exactly where they are written as the grammar says.
 pub fn options_law()
     ensures { OptionsLaw }
+{}
+
+/// Points are read exactly where they are written as the grammar says.
+pub fn points_law()
+    ensures { PointsLaw }
 {}
 
 /// Options that change places say the same.
@@ -52,4 +66,15 @@ pub fn same_keys_law()
 /// and lists. Only equal keys tie.
 pub fn key_order_law()
     ensures { KeyOrderLaw }
+{}
+
+/// A line gives a key and an entry exactly where it is so written, and a fault exactly where that
+/// is its first one.
+pub fn entry_law()
+    ensures { EntryLaw }
+{}
+
+/// What is written in two ways has one key and one entry, or one fault, and never both.
+pub fn one_entry_law()
+    ensures { OneEntryLaw }
 {}

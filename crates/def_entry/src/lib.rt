@@ -21,8 +21,6 @@ mod options;
 mod point_list;
 mod reading;
 mod spelling;
-#[cfg(test)]
-mod tests;
 mod what;
 
 pub use entry::{Bound, Entry, FunctionDef, Span, TableDef, What};
@@ -31,8 +29,8 @@ pub use fault_text::entry_fault_text;
 pub use key::{Key, Kind};
 pub use keys::Keys;
 pub use laws::{
-    any_order_law, examples_law, key_order_law, key_text_law, one_key_law, options_law,
-    same_keys_law, same_text_law, told_law,
+    any_order_law, entry_law, examples_law, heading_law, key_order_law, key_text_law,
+    one_entry_law, one_key_law, options_law, points_law, same_keys_law, same_text_law, told_law,
 };
 pub use reading::read_entry;
 pub use spelling::{KeyFault, key_text, read_key};

@@ -1,9 +1,9 @@
 //! The points of a table.
 
-ghost use Rattle.std.specs.Prelude.{◌≡◌, ◌++◌, option_map};
+ghost use Rattle.std.specs.Prelude.{◌≡◌, ◌≤◌, ◌++◌, length, option_map};
 ghost use Rattle.def_lines.specs.Words.{words_of};
 ghost use Rattle.def_entry.specs.Outcomes.{Gives, or_fault};
-ghost use Rattle.def_entry.specs.PointLists.{behind_no_error as behind_no_error_word, pairs_of, points_of as points_of_list, some_pairs};
+ghost use Rattle.def_entry.specs.PointLists.{behind_no_error as behind_no_error_word, few, most_points, pairs_of, points_of as points_of_list, some_pairs};
 ghost use Rattle.def_entry.specs.Reading.{points_in};
 
 use crate::cuts::cut_at;
@@ -14,6 +14,9 @@ use def_lines::{cut_word, trim_front};
 use frac128::Frac;
 use piecewise::{Points, PointsFault};
 use std::alloc::Global;
+
+// The most points of a table.
+const MOST_POINTS: usize = 1_000;
 
 // The table of a list of points.
 pub(crate) fn table_points(alloc: Global, text: &[u8]) -> Result<Points, EntryFault>
@@ -27,9 +30,10 @@ pub(crate) fn table_points(alloc: Global, text: &[u8]) -> Result<Points, EntryFa
     }
 }
 
-// The points of a list, whose pairs commas may part.
+// The points of a list, whose pairs commas may part. `BadTable` where they are more than those of
+// any table: no more is read or kept than decides that.
 fn points_of(alloc: Global, text: &[u8]) -> Result<Vec<(Frac, Frac)>, EntryFault>
-    ensures { Gives (λ points. points.items) result (or_fault EntryFault.BadTable (points_of_list text.now)) }
+    ensures { Gives (λ points. points.items) result (or_fault EntryFault.BadTable (few (points_of_list text.now))) }
 {
     let mut points = Vec::new(alloc);
     let mut rest = behind_no_error(trim_front(text));
@@ -54,8 +58,9 @@ fn behind_no_error(text: &[u8]) -> &[u8]
 
 // Puts the pairs of numbers in a text, at least one, behind the points.
 fn push_some_pairs(points: &mut Vec<(Frac, Frac)>, text: &[u8]) -> Result<(), EntryFault>
+    requires { length points.old.items ≤ most_points }
     ensures { Gives (λ done. points.new.items) result
-        (or_fault EntryFault.BadTable (option_map (λ pairs. points.old.items ++ pairs) (some_pairs (words_of text.now)))) }
+        (or_fault EntryFault.BadTable (few (option_map (λ pairs. points.old.items ++ pairs) (some_pairs (words_of text.now))))) }
 {
     if trim_front(text).is_empty() {
         return Err(EntryFault::BadTable);
@@ -63,13 +68,17 @@ fn push_some_pairs(points: &mut Vec<(Frac, Frac)>, text: &[u8]) -> Result<(), En
     push_pairs(points, text)
 }
 
-// Puts the pairs of numbers in a text behind the points.
+// Puts the pairs of numbers in a text behind the points, as long as a table has so many.
 fn push_pairs(points: &mut Vec<(Frac, Frac)>, text: &[u8]) -> Result<(), EntryFault>
+    requires { length points.old.items ≤ most_points }
     ensures { Gives (λ done. points.new.items) result
-        (or_fault EntryFault.BadTable (option_map (λ pairs. points.old.items ++ pairs) (pairs_of (words_of text.now)))) }
+        (or_fault EntryFault.BadTable (few (option_map (λ pairs. points.old.items ++ pairs) (pairs_of (words_of text.now))))) }
 {
     let mut rest = trim_front(text);
     while !rest.is_empty() {
+        if points.len() >= MOST_POINTS {
+            return Err(EntryFault::BadTable);
+        }
         let (x, behind) = cut_word(rest);
         let (y, behind) = cut_word(behind);
         let x = number(x).ok_or(EntryFault::BadTable)?;

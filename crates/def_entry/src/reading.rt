@@ -1,14 +1,16 @@
 //! The key and the entry of a line.
 
-ghost use Rattle.std.specs.Prelude.{◌≡◌, true};
+ghost use Rattle.std.specs.Prelude.{◌≡◌, ◌⊎◌, true, MatchResult};
 ghost use Rattle.def_lines.specs.Kinds.{kind_of};
+ghost use Rattle.def_entry.specs.EntryGrammar.{HasFault, IsEntry};
 ghost use Rattle.def_entry.specs.Outcomes.{Gives};
-ghost use Rattle.def_entry.specs.Reading.{entry_of, has_entry};
-ghost use Rattle.def_entry.specs.Seen.{seen_entry};
+ghost use Rattle.def_entry.specs.Reading.{entry_by, entry_of, has_entry};
+ghost use Rattle.def_entry.specs.Seen.{seen_entry, seen_heading};
+ghost use Rattle.def_entry.specs.Views.{entry_view};
 
 use crate::entry::Entry;
 use crate::fault::EntryFault;
-use crate::heading::heading_in;
+use crate::heading::{Heading, heading_in};
 use crate::key::Key;
 use crate::what::what_of;
 use std::alloc::Global;
@@ -21,10 +23,19 @@ use units_io::Text;
 /// are no table; `Parse` with the first fault of its expressions.
 pub fn read_entry(alloc: Global, line: &[u8]) -> Result<(Key, Entry), EntryFault>
     requires { has_entry (kind_of line.now) ≡ true }
-    ensures { Gives seen_entry result (entry_of line.now) }
+    ensures exact { MatchResult result
+        (λ made. IsEntry line.now made.0 (entry_view made.1))
+        (λ fault. (fault ≡ EntryFault.OutOfMemory) ⊎ HasFault line.now fault) }
+    ensures computed { Gives seen_entry result (entry_of line.now) }
 {
-    let heading = heading_in(line);
-    let what = what_of(alloc, &heading)?;
+    entry_behind(alloc, &heading_in(line))
+}
+
+// The key and the entry of a line by its heading.
+fn entry_behind(alloc: Global, heading: &Heading) -> Result<(Key, Entry), EntryFault>
+    ensures { Gives seen_entry result (entry_by (seen_heading heading.now)) }
+{
+    let what = what_of(alloc, heading)?;
     let name = Text::from_bytes(alloc, heading.name)?;
     let text = Text::from_bytes(alloc, heading.text)?;
     let key = Key {

@@ -47,7 +47,7 @@ pub fn key_text(alloc: Global, key: &Key) -> Result<Text, AllocError>
 
 /// The key that has a name and is written so. `NotKey` where there is none.
 pub fn read_key(alloc: Global, bytes: &[u8]) -> Result<Key, KeyFault>
-    ensures is { MatchResult result
+    ensures exact { MatchResult result
         (λ key. IsNamed key × (text_of_key key ≡ bytes.now))
         (λ fault. (fault ≡ key_fault.OutOfMemory) ⊎ ((fault ≡ key_fault.NotKey) × IsNoKey bytes.now)) }
     ensures computed { MatchResult result

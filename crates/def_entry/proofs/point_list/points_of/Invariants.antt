@@ -1,11 +1,14 @@
-use Rattle.std.proofs.Common.{◌≡◌, length}
-use Rattle.def_entry.specs.PointLists.{points_of}
+use Rattle.std.proofs.Common.{◌≡◌, ◌≤◌, length}
+use Rattle.def_entry.specs.PointLists.{most_points, points_of}
 use Rattle.def_entry.proofs.PointRuns.{points_in_runs}
 use Rattle.def_entry.proofs.PointWords.{onto}
 use Rattle.def_entry.proofs.point_list.points_of.Given as goal
 
 abbrev pub invariant-loop-part : goal.invariant-loop-part
-invariant-loop-part l = onto l.points.items (points_in_runs l.rest) ≡ points_of l.text
+invariant-loop-part l = record {
+  same : onto l.points.items (points_in_runs l.rest) ≡ points_of l.text;
+  few : length l.points.items ≤ most_points;
+}
 
 abbrev pub decreases-loop-part : goal.decreases-loop-part
 decreases-loop-part l = length l.rest

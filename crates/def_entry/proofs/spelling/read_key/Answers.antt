@@ -8,7 +8,7 @@ pub returns-in_default : goal.returns-in_default
 returns-in_default c =
     let none : key_of c.args.bytes.now ≡ None =
     read_key-none c.args.bytes.now (λ w h e. c.in_default.ensures w (ap (λ k. written k w) c.shown_kind-kind.ensures ∙ e)) in
-    record { is = inr (refl, no_key c.args.bytes.now none); computed = inr (refl, none) }
+    record { exact = inr (refl, no_key c.args.bytes.now none); computed = inr (refl, none) }
 
 pub returns-then-not-is_name : goal.returns-then-not-is_name
 returns-then-not-is_name c =
@@ -19,13 +19,13 @@ returns-then-not-is_name c =
     ∙ (ap is_name (written_once (kind_shown c.args.bytes.now) w c.in-Some.shown.now
     (e ∙ (sym c.in-Some.ensures ∙ ap (λ k. written k c.in-Some.shown.now) c.shown_kind-kind.ensures)))
     ∙ (sym c.is_name.ensures ∙ c.if-not-is_name.true)))) in
-    record { is = inr (refl, no_key c.args.bytes.now none); computed = inr (refl, none) }
+    record { exact = inr (refl, no_key c.args.bytes.now none); computed = inr (refl, none) }
 
 pub returns : goal.returns
 returns c =
     let named = ap is_name c.in_ok-name.ensures ∙ (sym c.is_name.ensures ∙ c.if-not-is_name.false) in
     let text = ap (written c.shown_kind-kind.result) c.in_ok-name.ensures ∙ c.in-Some.ensures in
     record {
-      is = (named, text);
+      exact = (named, text);
       computed = read_key-some c.args.bytes.now (record { kind = c.shown_kind-kind.result; name = c.in_ok-name.name }) named text;
     }

@@ -1,0 +1,146 @@
+-- Texts whose front ends at the first byte of a kind.
+use Rattle.std.proofs.Common.{◌≡◌, ◌<◌, ◌≤◌, ◌+◌, ◌∷◌, [], ◌++◌, ℕ, suc, List, Bool, true, false, not, cond, length, take, drop, reverse, refl, sym, ap, ◌∙◌, one-add}
+use Rattle.std.specs.List.{before_first, list_all, position_or_len}
+use Rattle.std.specs.Prelude.{nat_lt}
+use Rattle.std.proofs.lemmas.Bool.{and_parts, ltb-false}
+use Rattle.std.proofs.lemmas.Bool.Decides.{Decides-ltb}
+use Rattle.std.proofs.lemmas.List.{append-nil, reverse-append, reverse-reverse, take-append-drop}
+use Rattle.std.proofs.lemmas.List.Sums.{passes_at_first}
+use Rattle.std.proofs.Math.ListN.{drop_of_length-le}
+use Rattle.std.proofs.Math.Seq.{drop-append_seam, drop-cons, take-append_seam, take-length}
+use Rattle.units_io.specs.Blanks.{is_blank}
+use Rattle.def_lines.specs.Blanks.{after_blanks, before_blanks, trimmed}
+use Rattle.def_lines.specs.Parts.{is_begun}
+use Rattle.def_lines.specs.Words.{behind_word, first_word}
+use Rattle.def_lines.proofs.Trimming.{after_blanks-blank, after_blanks-word, before_blanks-word, is_begun-after_blanks, trimmed-begun, trimmed-blank}
+use Rattle.def_entry.specs.Headings.{stands_apart}
+use Rattle.def_entry.proofs.CutTexts.{front-clear, not_true, place-at}
+
+-- the text is empty, or begins with such a byte
+abbrev pub stops : (ℕ → Bool) → List ℕ → Bool
+stops p [] = true
+stops p (b ∷ text) = p b
+
+place-all : (p : ℕ → Bool) (text : List ℕ) → list_all (λ c. not (p c)) text ≡ true → position_or_len p text ≡ length text
+place-all p [] clear = refl
+place-all p (b ∷ text) clear = go (and_parts (not (p b)) (list_all (λ c. not (p c)) text) clear) (place-all p text)
+  where
+    go : (not (p b) ≡ true) × (list_all (λ c. not (p c)) text ≡ true)
+        → (list_all (λ c. not (p c)) text ≡ true → position_or_len p text ≡ length text)
+        → position_or_len p (b ∷ text) ≡ length (b ∷ text)
+    go parts rest =
+        ap (λ t. cond t (1 + position_or_len p text) 0) parts.0 ∙ one-add (position_or_len p text) ∙ ap suc (rest parts.1)
+
+-- a front without such a byte is what stands before the first one
+pub before-at : (p : ℕ → Bool) (front behind : List ℕ) → list_all (λ c. not (p c)) front ≡ true → stops p behind ≡ true
+    → before_first p (front ++ behind) ≡ front
+before-at p front [] clear stop =
+    ap (before_first p) (append-nil front) ∙ ap (λ n. take n front) (place-all p front clear) ∙ take-length front
+before-at p front (b ∷ behind) clear stop =
+    ap (λ n. take n (front ++ (b ∷ behind))) (place-at p front b behind clear stop) ∙ take-append_seam front (b ∷ behind)
+
+-- a text, by what stands before the first such byte
+pub record Parted (p : ℕ → Bool) (text : List ℕ) : Type 0 where
+  pub front : List ℕ
+  pub behind : List ℕ
+  pub whole : text ≡ front ++ behind
+  pub clear : list_all (λ c. not (p c)) front ≡ true
+  pub stop : stops p behind ≡ true
+
+pub parted : (p : ℕ → Bool) (text : List ℕ) → Parted p text
+parted p text =
+    let n : ℕ = position_or_len p text in
+    record {
+      front = take n text;
+      behind = drop n text;
+      whole = sym (take-append-drop n text);
+      clear = front-clear (λ c. not (p c)) text;
+      stop = go (nat_lt (position_or_len p text) (length text)) refl;
+    }
+  where
+    go : (t : Bool) → nat_lt (position_or_len p text) (length text) ≡ t → stops p (drop (position_or_len p text) text) ≡ true
+    go true e =
+        let less : position_or_len p text < length text = (Decides-ltb (position_or_len p text) (length text)).0 e in
+        ap (stops p) (drop-cons text (position_or_len p text) 0 less) ∙ passes_at_first p text 0 less
+    go false e =
+        let more : length text ≤ position_or_len p text = ltb-false (position_or_len p text) (length text) e in
+        ap (stops p) (drop_of_length-le text more)
+
+-- blanks
+
+pub after_blanks-begun : (text : List ℕ) → is_begun text ≡ true → after_blanks text ≡ text
+after_blanks-begun [] begun = refl
+after_blanks-begun (b ∷ text) begun = after_blanks-word b text (not_true (is_blank b) begun)
+
+-- blanks at the end are dropped once
+before_blanks-again : (text : List ℕ) → before_blanks (before_blanks text) ≡ before_blanks text
+before_blanks-again text =
+    ap (λ t. reverse (after_blanks t)) (reverse-reverse (after_blanks (reverse text)))
+    ∙ ap reverse (after_blanks-begun (after_blanks (reverse text)) (is_begun-after_blanks (reverse text)))
+
+pub trimmed-before_blanks : (text : List ℕ) → trimmed (before_blanks text) ≡ trimmed text
+trimmed-before_blanks text = ap after_blanks (before_blanks-again text)
+
+pub trimmed-blanks : (blanks text : List ℕ) → list_all is_blank blanks ≡ true → trimmed (blanks ++ text) ≡ trimmed text
+trimmed-blanks [] text clear = refl
+trimmed-blanks (b ∷ blanks) text clear = go (and_parts (is_blank b) (list_all is_blank blanks) clear) (trimmed-blanks blanks text)
+  where
+    go : (is_blank b ≡ true) × (list_all is_blank blanks ≡ true)
+        → (list_all is_blank blanks ≡ true → trimmed (blanks ++ text) ≡ trimmed text)
+        → trimmed ((b ∷ blanks) ++ text) ≡ trimmed text
+    go parts rest = trimmed-blank b (blanks ++ text) parts.0 ∙ rest parts.1
+
+-- a word in front stays as it is
+pub before_blanks-front : (word text : List ℕ) → list_all (λ b. not (is_blank b)) word ≡ true
+    → before_blanks (word ++ text) ≡ word ++ before_blanks text
+before_blanks-front [] text clear = refl
+before_blanks-front (b ∷ word) text clear =
+    go (and_parts (not (is_blank b)) (list_all (λ b. not (is_blank b)) word) clear) (before_blanks-front word text)
+  where
+    go : (not (is_blank b) ≡ true) × (list_all (λ b. not (is_blank b)) word ≡ true)
+        → (list_all (λ b. not (is_blank b)) word ≡ true → before_blanks (word ++ text) ≡ word ++ before_blanks text)
+        → before_blanks ((b ∷ word) ++ text) ≡ (b ∷ word) ++ before_blanks text
+    go parts rest = before_blanks-word b (word ++ text) (not_true (is_blank b) parts.0) ∙ ap (λ t. b ∷ t) (rest parts.1)
+
+-- a blank in front stays, or nothing does
+blank_stays : (b : ℕ) (text : List ℕ) → is_blank b ≡ true → stands_apart (reverse (after_blanks (text ++ b ∷ []))) ≡ true
+blank_stays b [] blank = ap (λ t. stands_apart (reverse t)) (after_blanks-blank b [] blank)
+blank_stays b (c ∷ text) blank = go (is_blank c) refl (blank_stays b text blank)
+  where
+    go : (t : Bool) → is_blank c ≡ t → stands_apart (reverse (after_blanks (text ++ b ∷ []))) ≡ true
+        → stands_apart (reverse (after_blanks ((c ∷ text) ++ b ∷ []))) ≡ true
+    go true e rest = ap (λ t. stands_apart (reverse t)) (after_blanks-blank c (text ++ b ∷ []) e) ∙ rest
+    go false e rest =
+        ap (λ t. stands_apart (reverse t)) (after_blanks-word c (text ++ b ∷ []) e)
+        ∙ ap stands_apart (reverse-append (c ∷ text) (b ∷ []))
+        ∙ blank
+
+pub apart-before_blanks : (text : List ℕ) → stands_apart text ≡ true → stands_apart (before_blanks text) ≡ true
+apart-before_blanks [] apart = refl
+apart-before_blanks (b ∷ text) apart = ap (λ t. stands_apart (reverse (after_blanks t))) (reverse-append (b ∷ []) text) ∙ blank_stays b (reverse text) apart
+
+pub stops-apart : (text : List ℕ) → stands_apart text ≡ true → stops is_blank text ≡ true
+stops-apart [] apart = refl
+stops-apart (b ∷ text) apart = apart
+
+-- the first word of a trimmed text, and what stands behind it
+pub record FirstWord (text word behind : List ℕ) : Type 0 where
+  pub first : first_word (trimmed text) ≡ word
+  pub rest : behind_word (trimmed text) ≡ trimmed behind
+
+pub first-word : (blanks word behind : List ℕ) → list_all is_blank blanks ≡ true → is_begun (word ++ behind) ≡ true
+    → list_all (λ b. not (is_blank b)) word ≡ true
+    → stands_apart behind ≡ true → FirstWord (blanks ++ (word ++ behind)) word behind
+first-word blanks word behind clear begun is_word apart =
+    let bare : trimmed (blanks ++ (word ++ behind)) ≡ word ++ before_blanks behind =
+    trimmed-blanks blanks (word ++ behind) clear ∙ trimmed-begun (word ++ behind) begun ∙ before_blanks-front word behind is_word in
+    let front : first_word (word ++ before_blanks behind) ≡ word =
+    before-at is_blank word (before_blanks behind) is_word (stops-apart (before_blanks behind) (apart-before_blanks behind apart)) in
+    record {
+      first = ap first_word bare ∙ front;
+      rest =
+          ap behind_word bare
+          ∙ ap (λ w. trimmed (drop (length w) (word ++ before_blanks behind))) front
+          ∙ ap trimmed (drop-append_seam word (before_blanks behind))
+          ∙ trimmed-before_blanks behind;
+    }

@@ -1,0 +1,121 @@
+-- The first fault of expressions that are parsed one behind another.
+use Rattle.std.proofs.Common.{◌≡◌, inl, inr, ◌∷◌, [], ◌++◌, ℕ, List, Option, Result, Ok, Err, refl, sym, ap, ◌∙◌, subst}
+use Rattle.std.proofs.lemmas.List.{append-nil}
+use Rattle.units_io.specs.Outcomes.{◌>>=◌}
+use Rattle.expr_tree.specs.declared.fault.ParseFault.{ParseFault}
+use Rattle.expr_tree.specs.Parsed.{parsed}
+use Rattle.expr_tree.specs.Syntax.{Syntax}
+use Rattle.def_entry.specs.declared.fault.EntryFault.{EntryFault}
+use Rattle.def_entry.specs.declared.fault.EntryFault.TheVariants.{Parse}
+use Rattle.def_entry.specs.EntryGrammar.{IsFirstFault}
+use Rattle.def_entry.specs.Outcomes.{parsed_entry, tree_in}
+
+-- an expression by its binder and its text
+abbrev pub Expression : Type 0
+Expression = Option (List ℕ) × List ℕ
+
+-- each expression has a tree
+abbrev pub AllParse : List Expression → Type 0
+AllParse [] = Unit {0}
+AllParse (e ∷ es) = ((tree : Syntax) × (parsed e.0 e.1 ≡ Ok tree)) × AllParse es
+
+-- a fault that expressions have
+pub record Faulty (es : List Expression) (fault : EntryFault) : Type 0 where
+  pub of : ParseFault
+  pub is : fault ≡ Parse of
+  pub first : IsFirstFault es of
+
+-- what is given where each expression has a tree, and else the first fault
+pub record Runs {A : Type 0} (given : Result A EntryFault) (es : List Expression) : Type 0 where
+  pub ok : (x : A) → given ≡ Ok x → AllParse es
+  pub err : (fault : EntryFault) → given ≡ Err fault → Faulty es fault
+
+both_parse : (es fs : List Expression) → AllParse es → AllParse fs → AllParse (es ++ fs)
+both_parse [] fs first second = second
+both_parse (e ∷ es) fs first second = (first.0, both_parse es fs first.1 second)
+
+fault_front : (es fs : List Expression) (x : ParseFault) → IsFirstFault es x → IsFirstFault (es ++ fs) x
+fault_front [] fs x is = absurd is
+fault_front (e ∷ es) fs x (inl is) = inl is
+fault_front (e ∷ es) fs x (inr is) = inr (is.0, fault_front es fs x is.1)
+
+fault_behind : (es fs : List Expression) (x : ParseFault) → AllParse es → IsFirstFault fs x → IsFirstFault (es ++ fs) x
+fault_behind [] fs x first is = is
+fault_behind (e ∷ es) fs x first is = inr (first.0, fault_behind es fs x first.1 is)
+
+-- a first fault is one, and none where each expression has a tree
+
+pub no-fault : (es : List Expression) (x : ParseFault) → AllParse es → IsFirstFault es x → ⊥
+no-fault [] x all is = is
+no-fault (e ∷ es) x all (inl is) = let tree : parsed e.0 e.1 ≡ Ok all.0.0 = all.0.1 in absurd (apart (all.0.0) (sym tree ∙ is))
+  where
+    apart : (t : Syntax) → ◌≡◌ {A = Result Syntax ParseFault} (Ok t) (Err x) → ⊥
+    apart t e = cc
+no-fault (e ∷ es) x all (inr is) = no-fault es x all.1 is.1
+
+pub one-fault : (es : List Expression) (x y : ParseFault) → IsFirstFault es x → IsFirstFault es y → x ≡ y
+one-fault [] x y is other = absurd is
+one-fault (e ∷ es) x y (inl is) (inl other) = let same : ◌≡◌ {A = Result Syntax ParseFault} (Err x) (Err y) = sym is ∙ other in cc
+one-fault (e ∷ es) x y (inl is) (inr other) = let no_way : ◌≡◌ {A = Result Syntax ParseFault} (Err x) (Ok other.0.0) = sym is ∙ other.0.1 in cc
+one-fault (e ∷ es) x y (inr is) (inl other) = let no_way : ◌≡◌ {A = Result Syntax ParseFault} (Ok is.0.0) (Err y) = sym is.0.1 ∙ other in cc
+one-fault (e ∷ es) x y (inr is) (inr other) = one-fault es x y is.1 other.1
+
+-- one expression
+pub runs-tree : (binder : Option (List ℕ)) (text : List ℕ) → Runs (tree_in binder text) ((binder, text) ∷ [])
+runs-tree binder text = go (parsed binder text) refl
+  where
+    go : (given : Result Syntax ParseFault) → parsed binder text ≡ given → Runs (parsed_entry given) ((binder, text) ∷ [])
+    go (Ok tree) e = record { ok = λ x f. ((tree, e), tt); err = λ fault f. cc }
+    go (Err x) e = record { ok = λ y f. cc; err = λ fault f. let same : fault ≡ Parse x = cc in record { of = x; is = same; first = inl e } }
+
+-- one step behind another
+pub runs-then : {A B : Type 0} (given : Result A EntryFault) (step : A → Result B EntryFault) (es fs : List Expression) → Runs given es
+    → ((x : A) → Runs (step x) fs)
+    → Runs (given >>= step) (es ++ fs)
+runs-then (Ok x) step es fs first next = record {
+  ok = λ y e. both_parse es fs (first.ok x refl) ((next x).ok y e);
+  err = λ fault e.
+      let last : Faulty fs fault = (next x).err fault e in
+      record { of = last.of; is = last.is; first = fault_behind es fs last.of (first.ok x refl) last.first };
+}
+runs-then {A = A} {B = B} (Err fault) step es fs first next = record {
+  ok = λ y e. absurd (apart fault y e);
+  err = λ other e.
+      let same : fault ≡ other = same_fault fault other e in
+      let front : Faulty es fault = first.err fault refl in
+      record { of = front.of; is = sym same ∙ front.is; first = fault_front es fs front.of front.first };
+}
+  where
+    apart : (f : EntryFault) (y : B) → ◌≡◌ {A = Result B EntryFault} (Err f) (Ok y) → ⊥
+    apart f y e = cc
+
+    same_fault : (f g : EntryFault) → ◌≡◌ {A = Result B EntryFault} (Err f) (Err g) → f ≡ g
+    same_fault f g e = cc
+
+-- what is given without a fault
+pub runs-done : {A : Type 0} (x : A) → Runs {A = A} (Ok x) []
+runs-done x = record { ok = λ y e. tt; err = λ fault e. cc }
+
+-- the same of what is made of it
+pub runs-map : {A B : Type 0} (given : Result A EntryFault) (make : A → B) (es : List Expression) → Runs given es
+    → Runs (given >>= (λ x. Ok (make x))) es
+runs-map {A = A} {B = B} given make es first =
+    subst (Runs (given >>= (λ x. Ok (make x)))) (append-nil es) (runs-then given (λ x. Ok (make x)) es [] first (λ x. runs-done (make x)))
+
+-- a step that gives something
+pub bind_ok : {A B : Type 0} (given : Result A EntryFault) (step : A → Result B EntryFault) (y : B) → (given >>= step) ≡ Ok y
+    → (x : A) × (given ≡ Ok x) × (step x ≡ Ok y)
+bind_ok (Ok x) step y e = (x, refl, e)
+bind_ok (Err fault) step y e = cc
+
+-- the tree of an expression
+
+pub tree-ok : (binder : Option (List ℕ)) (text : List ℕ) (tree : Syntax) → tree_in binder text ≡ Ok tree → parsed binder text ≡ Ok tree
+tree-ok binder text tree e = go (parsed binder text) refl e
+  where
+    go : (given : Result Syntax ParseFault) → parsed binder text ≡ given → parsed_entry given ≡ Ok tree → parsed binder text ≡ Ok tree
+    go (Ok other) f e = let same : other ≡ tree = cc in f ∙ ap Ok same
+    go (Err x) f e = cc
+
+pub ok-tree : (binder : Option (List ℕ)) (text : List ℕ) (tree : Syntax) → parsed binder text ≡ Ok tree → tree_in binder text ≡ Ok tree
+ok-tree binder text tree e = ap parsed_entry e

@@ -1,0 +1,172 @@
+-- The key and the entry of a line by how it is written, or the fault of one that has none.
+use Rattle.std.specs.Prelude.{◌≡◌, ◌↔◌, ◌⊎◌, ◌++◌, ℕ, List, [], ◌∷◌, true, false, map, Option, Some, None, Ok, Err}
+use Rattle.def_lines.specs.Kinds.{kind_of}
+use Rattle.expr_tree.specs.declared.fault.ParseFault.{ParseFault}
+use Rattle.expr_tree.specs.Names.{is_name}
+use Rattle.expr_tree.specs.Parsed.{parsed}
+use Rattle.expr_tree.specs.Syntax.{Syntax}
+use Rattle.piecewise.specs.Lines.{Point}
+use Rattle.piecewise.specs.Points.{is_table}
+use Rattle.def_entry.specs.declared.fault.EntryFault.{EntryFault}
+use Rattle.def_entry.specs.declared.fault.EntryFault.TheVariants as fault
+use Rattle.def_entry.specs.declared.key.Key.{Key}
+use Rattle.def_entry.specs.declared.key.Kind.{Kind}
+use Rattle.def_entry.specs.declared.key.Kind.TheVariants as kind
+use Rattle.def_entry.specs.Entries.{Entry, FunctionDef, What, Primitive, Dimensionless, Body, Function, Alias, Table, ListOf}
+use Rattle.def_entry.specs.FormGrammar.{IsAlias, IsBracketed, IsTrimmed, IsWritten}
+use Rattle.def_entry.specs.FormGrammar.{WrittenForm, PrimitiveForm, DimensionlessForm, BodyForm, FunctionForm, AliasForm, TableForm, ListForm}
+use Rattle.def_entry.specs.Forms.{Form, some_text}
+use Rattle.def_entry.specs.HeadingGrammar.{IsHeaded}
+use Rattle.def_entry.specs.Headings.{Heading}
+use Rattle.def_entry.specs.Keys.{key}
+use Rattle.def_entry.specs.Options.{Units}
+use Rattle.def_entry.specs.PointGrammar.{AreWrittenPoints}
+use Rattle.def_entry.specs.Reading.{entry_of, has_entry}
+
+-- names
+
+-- the text of a function has this name: its parameter, or the target of an alias
+pub data HasInnerName (text w : List ℕ) : Type 0 where
+  Parameter : (inside behind : List ℕ) → IsBracketed 40 41 text inside behind → IsTrimmed inside w
+      → HasInnerName text w
+  Target : IsAlias text w → HasInnerName text w
+
+-- beside the name of its key a line has this name
+abbrev pub HasFurtherName : Kind → List ℕ → List ℕ → Type 0
+HasFurtherName kind.Func text w = HasInnerName text w
+HasFurtherName _ text w = ⊥
+
+-- all its names are names
+pub record HasNames (h : Heading) : Type 0 where
+  pub own : is_name h.name ≡ true
+  pub further : (w : List ℕ) → HasFurtherName h.kind h.text w → is_name w ≡ true
+
+-- a list without a name
+abbrev pub LacksName : Heading → Type 0
+LacksName h = (h.kind ≡ kind.List) × (h.name ≡ [])
+
+-- the first of its names that is none
+pub data HasBadName (h : Heading) (w : List ℕ) : Type 0 where
+  OwnName : (LacksName h → ⊥) → h.name ≡ w → is_name w ≡ false → HasBadName h w
+  FurtherName : is_name h.name ≡ true → HasFurtherName h.kind h.text w → is_name w ≡ false → HasBadName h w
+
+-- points
+
+-- the points of a table
+abbrev pub ArePoints : List ℕ → List Point → Type 0
+ArePoints text points = AreWrittenPoints text points × (is_table points ≡ true)
+
+-- a table has points
+abbrev pub HasPoints : WrittenForm → Type 0
+HasPoints (TableForm unit text) = (points : List Point) × ArePoints text points
+HasPoints _ = Unit {0}
+
+-- expressions
+
+-- the texts of the units of a function, where they stand and are not empty
+
+abbrev pub in_unit_text : Option Units → Option (List ℕ)
+in_unit_text None = None
+in_unit_text (Some units) = some_text units.in_unit
+
+abbrev pub out_unit_text : Option Units → Option (List ℕ)
+out_unit_text None = None
+out_unit_text (Some units) = some_text units.out_unit
+
+-- an expression by its binder and its text, where there is one
+abbrev pub expression : Option (List ℕ) → Option (List ℕ) → List (Option (List ℕ) × List ℕ)
+expression binder None = []
+expression binder (Some text) = (binder, text) ∷ []
+
+-- the expressions of a form, in the order of their faults; in the forward one the parameter stands
+-- for the argument, in the inverse one the name of the function
+abbrev pub expressions : List ℕ → WrittenForm → List (Option (List ℕ) × List ℕ)
+expressions name (BodyForm body) = (None, body) ∷ []
+expressions name (FunctionForm parameter form) =
+    expression None (in_unit_text form.options.units)
+    ++ expression None (out_unit_text form.options.units)
+    ++ ((Some parameter, form.forward) ∷ expression (Some name) form.inverse)
+expressions name (TableForm unit points) = (None, unit) ∷ []
+expressions name (ListForm parts) = map (λ part. (None, part)) parts
+expressions name _ = []
+
+-- the first fault of some expressions
+abbrev pub IsFirstFault : List (Option (List ℕ) × List ℕ) → ParseFault → Type 0
+IsFirstFault [] x = ⊥
+IsFirstFault (e ∷ es) x =
+    (parsed e.0 e.1 ≡ Err x) ⊎ (((tree : Syntax) × (parsed e.0 e.1 ≡ Ok tree)) × IsFirstFault es x)
+
+-- the tree of an expression, where there is one
+abbrev pub IsTreeOf : Option (List ℕ) → Option (List ℕ) → Option Syntax → Type 0
+IsTreeOf binder None tree = tree ≡ None
+IsTreeOf binder (Some text) tree = (e : Syntax) × (parsed binder text ≡ Ok e) × (tree ≡ Some e)
+
+-- the trees of some parts
+abbrev pub AreTreesOf : List (List ℕ) → List Syntax → Type 0
+AreTreesOf [] [] = Unit {0}
+AreTreesOf (part ∷ parts) (e ∷ es) = (parsed None part ≡ Ok e) × AreTreesOf parts es
+AreTreesOf _ _ = ⊥
+
+-- what is said
+
+pub record IsSaidOf (name parameter : List ℕ) (form : Form) (f : FunctionDef) : Type 0 where
+  pub in_unit : IsTreeOf None (in_unit_text form.options.units) f.in_unit
+  pub out_unit : IsTreeOf None (out_unit_text form.options.units) f.out_unit
+  pub domain : f.domain ≡ form.options.domain
+  pub range : f.range ≡ form.options.range
+  pub forward : parsed (Some parameter) form.forward ≡ Ok f.forward
+  pub inverse : IsTreeOf (Some name) form.inverse f.inverse
+
+-- what a form says of a key of this name
+abbrev pub Says : List ℕ → WrittenForm → What → Type 0
+Says name PrimitiveForm Primitive = Unit {0}
+Says name DimensionlessForm Dimensionless = Unit {0}
+Says name (BodyForm body) (Body e) = parsed None body ≡ Ok e
+Says name (FunctionForm parameter form) (Function f) = IsSaidOf name parameter form f
+Says name (AliasForm target) (Alias other) = target ≡ other
+Says name (TableForm unit points) (Table t) = (parsed None unit ≡ Ok t.unit) × ArePoints points t.points
+Says name (ListForm parts) (ListOf es) = AreTreesOf parts es
+Says _ _ _ = ⊥
+
+-- the line is written so that it gives this key and this entry
+pub record IsEntry (line : List ℕ) (k : Key) (e : Entry) : Type 0 where
+  pub heading : Heading
+  pub headed : IsHeaded line heading
+  pub key_is : k ≡ key heading.kind heading.name
+  pub text_is : e.text ≡ heading.text
+  pub names : HasNames heading
+  pub form : WrittenForm
+  pub written : IsWritten heading.kind heading.text form
+  pub says : Says heading.name form e.what
+
+-- the first fault of a line: a name that is none, before a form that fits none, before points that
+-- are no table, before an expression
+abbrev pub IsFaultOf : Heading → EntryFault → Type 0
+IsFaultOf h (fault.BadName w) = HasBadName h w
+IsFaultOf h fault.BadForm =
+    LacksName h ⊎ (HasNames h × ((form : WrittenForm) → IsWritten h.kind h.text form → ⊥))
+IsFaultOf h fault.BadTable =
+    HasNames h × ((form : WrittenForm) × IsWritten h.kind h.text form × (HasPoints form → ⊥))
+IsFaultOf h (fault.Parse x) =
+    HasNames h
+    × ((form : WrittenForm) × IsWritten h.kind h.text form × HasPoints form
+    × IsFirstFault (expressions h.name form) x)
+IsFaultOf h fault.OutOfMemory = ⊥
+
+pub record HasFault (line : List ℕ) (x : EntryFault) : Type 0 where
+  pub heading : Heading
+  pub headed : IsHeaded line heading
+  pub is : IsFaultOf heading x
+
+-- law: a line gives a key and an entry exactly where it is so written, and a fault exactly where
+-- that is its first one
+abbrev pub EntryLaw : Type 0
+EntryLaw = (line : List ℕ) → has_entry (kind_of line) ≡ true
+    → ((k : Key) (e : Entry) → (entry_of line ≡ Ok (k, e)) ↔ IsEntry line k e)
+    × ((x : EntryFault) → (entry_of line ≡ Err x) ↔ HasFault line x)
+
+-- law: what is written in two ways has one key and one entry, or one fault, and never both
+pub record OneEntryLaw : Type 0 where
+  pub entries : (line : List ℕ) (k l : Key) (e f : Entry) → IsEntry line k e → IsEntry line l f → (k ≡ l) × (e ≡ f)
+  pub faults : (line : List ℕ) (x y : EntryFault) → HasFault line x → HasFault line y → x ≡ y
+  pub apart : (line : List ℕ) (k : Key) (e : Entry) (x : EntryFault) → IsEntry line k e → HasFault line x → ⊥

@@ -1,0 +1,92 @@
+-- How what a line says of its key is written. Expressions are left aside: a form has their texts.
+use Rattle.std.specs.Prelude.{◌≡◌, ◌≢◌, ◌⊎◌, ◌++◌, ℕ, List, [], ◌∷◌, true, false, codes, nat_eq, map, Option, Some, None}
+use Rattle.std.specs.List.{ends_with, join_with_byte, list_all}
+use Rattle.def_lines.specs.Blanks.{trimmed}
+use Rattle.def_entry.specs.declared.key.Kind.{Kind}
+use Rattle.def_entry.specs.declared.key.Kind.TheVariants as kind
+use Rattle.def_entry.specs.Cuts.{lacks}
+use Rattle.def_entry.specs.Forms.{Form}
+use Rattle.def_entry.specs.OptionGrammar.{AreOptions}
+
+pub data WrittenForm : Type 0 where
+  -- "!"
+  PrimitiveForm : WrittenForm
+  -- "!dimensionless"
+  DimensionlessForm : WrittenForm
+  -- an expression
+  BodyForm : List ℕ → WrittenForm
+  -- "(" parameter ")" options bodies
+  FunctionForm : List ℕ → Form → WrittenForm
+  -- "(" ")" target [ "()" ]
+  AliasForm : List ℕ → WrittenForm
+  -- "[" unit "]" points
+  TableForm : List ℕ → List ℕ → WrittenForm
+  -- part { ";" part }
+  ListForm : List (List ℕ) → WrittenForm
+
+-- a bracket, what is in it, the first byte that closes it, and what is behind that
+pub record IsBracketed (open_byte close_byte : ℕ) (text inside behind : List ℕ) : Type 0 where
+  pub spelled : text ≡ open_byte ∷ (inside ++ (close_byte ∷ behind))
+  pub clear : lacks close_byte inside ≡ true
+
+-- a text without the blanks at its ends, where something is left
+abbrev pub IsTrimmed : List ℕ → List ℕ → Type 0
+IsTrimmed text bare = (trimmed text ≡ bare) × (bare ≢ [])
+
+-- forward, or forward ";" inverse
+abbrev pub AreBodies : List ℕ → List ℕ → Option (List ℕ) → Type 0
+AreBodies text forward None = IsTrimmed text forward × (lacks 59 text ≡ true)
+AreBodies text forward (Some inverse) =
+    (front : List ℕ) × (behind : List ℕ) × (text ≡ front ++ (59 ∷ behind)) × (lacks 59 front ≡ true)
+    × IsTrimmed front forward × IsTrimmed behind inverse
+
+-- "(" parameter ")" options bodies
+pub record IsFunction (text parameter : List ℕ) (form : Form) : Type 0 where
+  pub inside : List ℕ
+  pub behind : List ℕ
+  pub bodies : List ℕ
+  pub bracketed : IsBracketed 40 41 text inside behind
+  pub parameter_is : IsTrimmed inside parameter
+  pub options_are : AreOptions behind bodies form.options
+  pub bodies_are : AreBodies bodies form.forward form.inverse
+
+-- a target, with or without a final "()"
+abbrev pub IsTarget : List ℕ → List ℕ → Type 0
+IsTarget text target =
+    (text ≡ target ++ codes "()") ⊎ ((text ≡ target) × (ends_with nat_eq text (codes "()") ≡ false))
+
+-- "(" ")" target [ "()" ]
+pub record IsAlias (text target : List ℕ) : Type 0 where
+  pub inside : List ℕ
+  pub behind : List ℕ
+  pub bracketed : IsBracketed 40 41 text inside behind
+  pub blank : trimmed inside ≡ []
+  pub target_is : IsTarget (trimmed behind) target
+  pub some : target ≢ []
+
+-- "[" unit "]" points
+pub record IsTable (text unit points : List ℕ) : Type 0 where
+  pub inside : List ℕ
+  pub bracketed : IsBracketed 91 93 text inside points
+  pub unit_is : IsTrimmed inside unit
+
+-- part { ";" part }
+pub record AreParts (text : List ℕ) (parts : List (List ℕ)) : Type 0 where
+  pub pieces : List (List ℕ)
+  pub joined : text ≡ join_with_byte 59 pieces
+  pub clear : list_all (lacks 59) pieces ≡ true
+  pub parts_are : parts ≡ map trimmed pieces
+  pub some : text ≢ []
+
+-- what is written of a key of this kind
+abbrev pub IsWritten : Kind → List ℕ → WrittenForm → Type 0
+IsWritten kind.Unit text PrimitiveForm = text ≡ codes "!"
+IsWritten kind.Unit text DimensionlessForm = text ≡ codes "!dimensionless"
+IsWritten kind.Unit text (BodyForm body) =
+    (text ≡ body) × (text ≢ []) × (text ≢ codes "!") × (text ≢ codes "!dimensionless")
+IsWritten kind.Prefix text (BodyForm body) = (text ≡ body) × (text ≢ [])
+IsWritten kind.Func text (FunctionForm parameter form) = IsFunction text parameter form
+IsWritten kind.Func text (AliasForm target) = IsAlias text target
+IsWritten kind.Func text (TableForm unit points) = IsTable text unit points
+IsWritten kind.List text (ListForm parts) = AreParts text parts
+IsWritten _ _ _ = ⊥

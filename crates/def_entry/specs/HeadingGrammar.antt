@@ -1,0 +1,94 @@
+-- How the headings of lines are written.
+use Rattle.std.specs.Prelude.{◌≡◌, ◌↔◌, ◌==◌, ◌&&◌, ◌||◌, ◌++◌, ℕ, List, [], ◌∷◌, Bool, true, false, not, codes}
+use Rattle.std.specs.List.{list_all}
+use Rattle.units_io.specs.Blanks.{is_blank}
+use Rattle.def_lines.specs.Blanks.{trimmed}
+use Rattle.def_lines.specs.Kinds.{kind_of}
+use Rattle.def_lines.specs.Parts.{is_begun}
+use Rattle.def_entry.specs.declared.key.Kind.TheVariants.{Unit as UnitKind, Prefix, Func, List as ListKind}
+use Rattle.def_entry.specs.Headings.{Heading, ends_head, ends_in_minus, heading, is_opened, stands_apart}
+use Rattle.def_entry.specs.Reading.{has_entry}
+
+-- what is before the name of a definition
+pub data Lead : Type 0 where
+  -- nothing
+  NoLead : Lead
+  -- "+" blanks
+  PlusLead : List ℕ → Lead
+
+-- what is before a name, the name, and what is behind it
+pub data WrittenHeading : Type 0 where
+  -- lead name, and a text apart from it
+  UnitHeading : Lead → List ℕ → List ℕ → WrittenHeading
+  -- lead name "-", and a text apart from it
+  PrefixHeading : Lead → List ℕ → List ℕ → WrittenHeading
+  -- lead name, and a text that begins with "(" or "["
+  FuncHeading : Lead → List ℕ → List ℕ → WrittenHeading
+  -- "!" blanks "unitlist" blanks name, and a text apart from it
+  ListHeading : List ℕ → List ℕ → List ℕ → List ℕ → WrittenHeading
+
+-- the bytes of a heading
+
+abbrev pub lead : Lead → List ℕ → List ℕ
+lead NoLead rest = rest
+lead (PlusLead blanks) rest = 43 ∷ (blanks ++ rest)
+
+abbrev pub bytes : WrittenHeading → List ℕ
+bytes (UnitHeading l name behind) = lead l (name ++ behind)
+bytes (PrefixHeading l name behind) = lead l (name ++ (45 ∷ behind))
+bytes (FuncHeading l name behind) = lead l (name ++ behind)
+bytes (ListHeading before between name behind) =
+    33 ∷ (before ++ (codes "unitlist" ++ (between ++ (name ++ behind))))
+
+-- a `!` or a `+` is at the front
+abbrev pub is_marked : List ℕ → Bool
+is_marked [] = false
+is_marked (b ∷ text) = b == 33 || b == 43
+
+-- blanks are behind a leading `+`, all that are there; and none begins with a mark of its own
+abbrev pub is_lead : Lead → List ℕ → Bool
+is_lead NoLead rest = not (is_marked rest)
+is_lead (PlusLead blanks) rest = list_all is_blank blanks && is_begun rest
+
+-- no blank, `(` or `[` stands in the head of a definition
+abbrev pub is_head : List ℕ → Bool
+is_head name = list_all (λ b. not (ends_head b)) name
+
+-- no blank stands in the name of a list
+abbrev pub is_list_name : List ℕ → Bool
+is_list_name name = list_all (λ b. not (is_blank b)) name
+
+-- the parts of a heading are such
+abbrev pub is_heading : WrittenHeading → Bool
+is_heading (UnitHeading l name behind) =
+    is_lead l (name ++ behind) && is_head name && stands_apart behind && not (ends_in_minus name)
+is_heading (PrefixHeading l name behind) =
+    is_lead l (name ++ (45 ∷ behind)) && is_head name && stands_apart behind
+is_heading (FuncHeading l name behind) = is_lead l (name ++ behind) && is_head name && is_opened behind
+is_heading (ListHeading before between name behind) =
+    list_all is_blank before
+    && list_all is_blank between
+    && stands_apart (between ++ (name ++ behind))
+    && is_begun (name ++ behind)
+    && is_list_name name
+    && stands_apart behind
+
+-- the heading that is so written
+abbrev pub heading_of : WrittenHeading → Heading
+heading_of (UnitHeading l name behind) = record { kind = UnitKind; name = name; text = trimmed behind }
+heading_of (PrefixHeading l name behind) = record { kind = Prefix; name = name; text = trimmed behind }
+heading_of (FuncHeading l name behind) = record { kind = Func; name = name; text = trimmed behind }
+heading_of (ListHeading before between name behind) =
+    record { kind = ListKind; name = name; text = trimmed behind }
+
+-- the line is written with this heading
+pub record IsHeaded (line : List ℕ) (h : Heading) : Type 0 where
+  pub written : WrittenHeading
+  pub spelled : line ≡ bytes written
+  pub whole : is_heading written ≡ true
+  pub same : h ≡ heading_of written
+
+-- law: the heading of a line is the one that it is written with
+abbrev pub HeadingLaw : Type 0
+HeadingLaw = (line : List ℕ) (h : Heading) → has_entry (kind_of line) ≡ true
+    → (heading line ≡ h) ↔ IsHeaded line h

@@ -1,0 +1,92 @@
+-- How the points of a table are written: pairs of numbers, with an optional comma behind each pair.
+use Rattle.std.specs.Prelude.{◌≡◌, ◌↔◌, ◌⊎◌, ◌==◌, ◌||◌, ◌&&◌, ◌++◌, ℕ, List, [], ◌∷◌, Bool, true, not, codes, Option, Some}
+use Rattle.std.specs.List.{list_all}
+use Rattle.std.specs.Option.{is_some}
+use Rattle.units_io.specs.Blanks.{is_blank}
+use Rattle.def_lines.specs.Words.{is_empty}
+use Rattle.piecewise.specs.Lines.{Point}
+use Rattle.def_entry.specs.Headings.{stands_apart}
+use Rattle.def_entry.specs.Numbers.{number_of}
+use Rattle.def_entry.specs.PointLists.{points_of}
+use Rattle.def_entry.specs.Steps.{◌>>=◌}
+
+-- what is behind a pair
+pub data PairEnd : Type 0 where
+  -- nothing: blanks or the end part it from what follows
+  Apart : PairEnd
+  -- blanks ","
+  Comma : List ℕ → PairEnd
+
+-- { blanks number blanks number end } blanks
+pub data WrittenPoints : Type 0 where
+  NoPair : List ℕ → WrittenPoints
+  NextPair : List ℕ → List ℕ → List ℕ → List ℕ → PairEnd → WrittenPoints → WrittenPoints
+
+-- the bytes of each
+
+abbrev pub pair_end : PairEnd → List ℕ → List ℕ
+pair_end Apart rest = rest
+pair_end (Comma blanks) rest = blanks ++ (44 ∷ rest)
+
+abbrev pub points : WrittenPoints → List ℕ
+points (NoPair blanks) = blanks
+points (NextPair before x gap y end rest) = before ++ (x ++ (gap ++ (y ++ pair_end end (points rest))))
+
+-- a blank or a comma
+abbrev pub ends_number : ℕ → Bool
+ends_number b = is_blank b || b == 44
+
+-- a number runs to the first blank or comma
+abbrev pub is_number : List ℕ → Bool
+is_number text = list_all (λ b. not (ends_number b)) text && is_some (number_of text)
+
+abbrev pub is_pair_end : PairEnd → List ℕ → Bool
+is_pair_end Apart rest = stands_apart rest
+is_pair_end (Comma blanks) rest = list_all is_blank blanks
+
+abbrev pub are_points : WrittenPoints → Bool
+are_points (NoPair blanks) = list_all is_blank blanks
+are_points (NextPair before x gap y end rest) =
+    list_all is_blank before
+    && is_number x
+    && not (is_empty gap)
+    && list_all is_blank gap
+    && is_number y
+    && is_pair_end end (points rest)
+    && are_points rest
+
+-- two numbers, and the points behind them
+abbrev pub pair_then : List ℕ → List ℕ → Option (List Point) → Option (List Point)
+pair_then x y found = do
+  a ← number_of x
+  b ← number_of y
+  behind ← found
+  Some ((a, b) ∷ behind)
+
+abbrev pub values : WrittenPoints → Option (List Point)
+values (NoPair blanks) = Some []
+values (NextPair before x gap y end rest) = pair_then x y (values rest)
+
+-- the text is pairs, which are these points
+pub record ArePairs (text : List ℕ) (list : List Point) : Type 0 where
+  pub written : WrittenPoints
+  pub spelled : text ≡ points written
+  pub whole : are_points written ≡ true
+  pub same : values written ≡ Some list
+
+-- the same behind `noerror`, which has no effect
+pub record ArePairsBehind (text : List ℕ) (list : List Point) : Type 0 where
+  pub blanks : List ℕ
+  pub rest : List ℕ
+  pub spelled : text ≡ blanks ++ (codes "noerror" ++ rest)
+  pub blank : list_all is_blank blanks ≡ true
+  pub apart : stands_apart rest ≡ true
+  pub pairs : ArePairs rest list
+
+-- [ blanks "noerror" ] pairs
+abbrev pub AreWrittenPoints : List ℕ → List Point → Type 0
+AreWrittenPoints text list = ArePairs text list ⊎ ArePairsBehind text list
+
+-- law: points are read exactly where they are so written
+abbrev pub PointsLaw : Type 0
+PointsLaw = (text : List ℕ) (list : List Point) → (points_of text ≡ Some list) ↔ AreWrittenPoints text list
