@@ -35,16 +35,17 @@ known() {
 }
 
 "$program" < "$file" > "$folder/report" || exit 1
-# Each row of the report with the name that its line begins with.
+# Each refused row of the report with the name that its line begins with.
+sed -n 's/^\([0-9]*\): refused: /\1\t/p' "$folder/report" > "$folder/refused"
 LC_ALL=C awk -F '\t' '
-    NR == FNR { if (NF > 1) fault[$1] = $2; next }
+    NR == FNR { fault[$1] = $2; next }
     FNR in fault {
         name = $0
         sub(/[ \t#(].*/, "", name)
         sub(/^\357\273\277$/, "byte order mark", name)
         print FNR "\t" name "\t" fault[FNR]
     }
-' "$folder/report" "$file" > "$folder/rows"
+' "$folder/refused" "$file" > "$folder/rows"
 cat "$folder/rows"
 tail -n 1 "$folder/report"
 

@@ -1,24 +1,20 @@
 -- What is found on a line.
-use Rattle.std.specs.Prelude.{ℕ, List, Bool, true, Result, Ok, Err, if◌then◌else◌}
+use Rattle.std.specs.Prelude.{ℕ, List, Result, Ok, Err, if◌then◌else◌}
 use Rattle.def_lines.specs.Kinds.{kind_of}
 use Rattle.def_entry.specs.declared.fault.EntryFault.{EntryFault}
 use Rattle.def_entry.specs.declared.key.Key.{Key}
 use Rattle.def_entry.specs.Entries.{Entry}
-use Rattle.def_entry.specs.Faults.{is_told as is_told_fault}
+use Rattle.def_entry.specs.Faults.{entry_fault_text}
 use Rattle.def_entry.specs.Reading.{entry_of, has_entry}
 use Rattle.entry_calls.specs.declared.finding.Finding.{Finding}
 use Rattle.entry_calls.specs.declared.finding.Finding.TheVariants as finding
+use Rattle.entry_calls.specs.Shown.{entry_text}
 
 -- an entry, or the fault of a line that has none
 abbrev pub finding_by : Result (Key × Entry) EntryFault → Finding
-finding_by (Ok entry) = finding.Entry
-finding_by (Err fault) = finding.Refused fault
+finding_by (Ok made) = finding.Entry (entry_text made.0 made.1)
+finding_by (Err fault) = finding.Refused (entry_fault_text fault)
 
 -- what is found on a line of this text
 unfoldable pub finding_of : List ℕ → Finding
 finding_of text = if has_entry (kind_of text) then finding_by (entry_of text) else finding.Other
-
--- a fault that is found can be told
-abbrev pub is_told : Finding → Bool
-is_told (finding.Refused fault) = is_told_fault fault
-is_told _ = true

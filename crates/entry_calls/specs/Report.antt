@@ -4,15 +4,15 @@ use Rattle.std.specs.Fmt.{decimal}
 use Rattle.units_io.specs.FileMap.{longest_file}
 use Rattle.def_lines.specs.declared.line.Line.{Line}
 use Rattle.def_lines.specs.Lines.{logical_lines}
-use Rattle.def_entry.specs.Faults.{entry_fault_text}
 use Rattle.entry_calls.specs.declared.finding.Finding.{Finding}
 use Rattle.entry_calls.specs.declared.finding.Finding.TheVariants as finding
 use Rattle.entry_calls.specs.Findings.{finding_of}
 
--- a refused line has its number, a tab and its fault, and no other has a row
+-- a definition or a list has its number, and its entry or why it is refused; no other line has a row
 abbrev pub row : ℕ → Finding → List ℕ
-row number (finding.Refused fault) = decimal number ++ codes "\t" ++ entry_fault_text fault ++ codes "\n"
-row number _ = []
+row number (finding.Entry text) = decimal number ++ codes ": " ++ text ++ codes "\n"
+row number (finding.Refused text) = decimal number ++ codes ": refused: " ++ text ++ codes "\n"
+row number finding.Other = []
 
 -- that of a line
 abbrev pub row_of : Line → List ℕ
@@ -29,7 +29,7 @@ is_entry_line line = is_entry (finding_of line.text)
 
 -- a fault
 abbrev pub is_refused : Finding → Bool
-is_refused (finding.Refused fault) = true
+is_refused (finding.Refused text) = true
 is_refused _ = false
 
 -- a definition or a list that is refused

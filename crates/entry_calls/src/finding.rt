@@ -2,29 +2,32 @@
 
 ghost use Rattle.std.specs.Prelude.{◌≡◌, true, IfOk};
 ghost use Rattle.def_lines.specs.Kinds.{kind_of};
+ghost use Rattle.def_entry.specs.Faults.{is_told};
 ghost use Rattle.def_entry.specs.Reading.{entry_of, has_entry};
-ghost use Rattle.entry_calls.specs.Findings.{finding_by, finding_of, is_told};
+ghost use Rattle.def_entry.specs.Views.{entry_view};
+ghost use Rattle.entry_calls.specs.Findings.{finding_by, finding_of};
 
-use def_entry::{EntryFault, read_entry, told_law};
+use crate::shown::entry_text;
+use def_entry::{Entry, EntryFault, Key, entry_fault_text, read_entry, told_law};
 use def_lines::{LineKind, classify};
 use std::alloc::{AllocError, Global};
+use units_io::Text;
 
 // What is found on a line.
 #[derive(Drop)]
 pub(crate) enum Finding {
     // It is neither a definition nor a list.
     Other,
-    // It has an entry.
-    Entry,
-    // It has this fault, which is not want of memory.
-    Refused(EntryFault),
+    // It has an entry, which is shown so.
+    Entry(Text),
+    // It has a fault, with this text.
+    Refused(Text),
 }
 
 // What is found on a line of this text.
 #[tactic(auto, unfolding(crate::specs::Findings::finding_of))]
 pub(crate) fn finding_on(alloc: Global, text: &[u8]) -> Result<Finding, AllocError>
-    ensures is { IfOk result (λ finding. finding ≡ finding_of text.now) }
-    ensures told { IfOk result (λ finding. is_told finding ≡ true) }
+    ensures { IfOk result (λ finding. finding ≡ finding_of text.now) }
 {
     match classify(text) {
         LineKind::Definition | LineKind::UnitList => entry_finding(alloc, text),
@@ -35,13 +38,30 @@ pub(crate) fn finding_on(alloc: Global, text: &[u8]) -> Result<Finding, AllocErr
 // What is found on a definition or a list.
 fn entry_finding(alloc: Global, text: &[u8]) -> Result<Finding, AllocError>
     requires { has_entry (kind_of text.now) ≡ true }
-    ensures is { IfOk result (λ finding. finding ≡ finding_by (entry_of text.now)) }
-    ensures told { IfOk result (λ finding. is_told finding ≡ true) }
+    ensures { IfOk result (λ finding. finding ≡ finding_by (entry_of text.now)) }
 {
     told_law();
     match read_entry(alloc, text) {
-        Ok(_) => Ok(Finding::Entry),
+        Ok((key, entry)) => found_entry(alloc, &key, &entry),
         Err(EntryFault::OutOfMemory) => Err(AllocError),
-        Err(fault) => Ok(Finding::Refused(fault)),
+        Err(fault) => found_fault(alloc, &fault),
     }
+}
+
+// A key and its entry, of which a copy is shown.
+fn found_entry(alloc: Global, key: &Key, entry: &Entry) -> Result<Finding, AllocError>
+    ensures { IfOk result (λ finding. finding ≡ finding_by (Ok (key.now, entry_view entry.now))) }
+{
+    let copy = entry.copy(alloc)?;
+    let shown = entry_text(alloc, key, &copy)?;
+    Ok(Finding::Entry(shown))
+}
+
+// A fault, which is told.
+fn found_fault(alloc: Global, fault: &EntryFault) -> Result<Finding, AllocError>
+    requires { is_told fault.now ≡ true }
+    ensures { IfOk result (λ finding. finding ≡ finding_by (Err fault.now)) }
+{
+    let told = entry_fault_text(alloc, fault)?;
+    Ok(Finding::Refused(told))
 }

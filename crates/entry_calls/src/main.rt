@@ -1,11 +1,10 @@
-//! Reads a definition file on standard input, and writes which of its lines are refused on standard
-//! output.
+//! Reads a definition file on standard input, and writes what each of its definitions and lists gives
+//! on standard output: its number, and its key with its entry or why it is refused.
 #![tactic(auto)]
 
 mod finding;
 mod report;
-#[cfg(test)]
-mod tests;
+mod shown;
 
 use std::io;
 use std::io::{Read, Write};

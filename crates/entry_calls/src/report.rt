@@ -1,16 +1,14 @@
 //! The report on a definition file.
 
-ghost use Rattle.std.specs.Prelude.{◌≡◌, ◌≤◌, ◌<◌, ◌+◌, ◌^◌, ◌++◌, [], length, true, if◌then◌else◌, IfOk, OnOk};
+ghost use Rattle.std.specs.Prelude.{◌≡◌, ◌≤◌, ◌<◌, ◌+◌, ◌^◌, ◌++◌, [], codes, length, true, if◌then◌else◌, IfOk, OnOk};
+ghost use Rattle.std.specs.Fmt.{decimal};
 ghost use Rattle.units_io.specs.FileMap.{longest_file};
-ghost use Rattle.entry_calls.specs.declared.finding.Finding.TheVariants as found;
-ghost use Rattle.entry_calls.specs.Findings.{is_told};
-ghost use Rattle.entry_calls.specs.Report.{answer_of, is_entry_line, is_refused_line, report_of, row, row_of, totals_text};
+ghost use Rattle.entry_calls.specs.Report.{answer_of, is_entry_line, is_refused_line, report_of, row_of, totals_text};
 
 use crate::finding::{Finding, finding_on};
-use def_entry::{EntryFault, entry_fault_text};
 use def_lines::{Line, split_lines};
 use std::alloc::{AllocError, Global};
-use units_io::LONGEST_FILE;
+use units_io::{LONGEST_FILE, Text};
 
 // The report on a file, or that it is too long.
 pub(crate) fn answer_to(alloc: Global, bytes: &[u8]) -> Result<Vec<u8>, AllocError>
@@ -22,7 +20,7 @@ pub(crate) fn answer_to(alloc: Global, bytes: &[u8]) -> Result<Vec<u8>, AllocErr
     report_on(alloc, bytes)
 }
 
-// The report on a file: each refused line, and how many there are.
+// The report on a file: what each definition and list gives, and how many there are and are refused.
 fn report_on(alloc: Global, bytes: &[u8]) -> Result<Vec<u8>, AllocError>
     requires { length bytes.now ≤ longest_file }
     ensures { IfOk result (λ out. out.items ≡ report_of bytes.now) }
@@ -40,7 +38,7 @@ fn report_on(alloc: Global, bytes: &[u8]) -> Result<Vec<u8>, AllocError>
 // The report on the lines so far.
 #[derive(Drop)]
 struct Report {
-    // A row for each refused line.
+    // A row for each definition and list.
     rows: Vec<u8>,
     // How many definitions and lists there are.
     entries: usize,
@@ -72,28 +70,35 @@ impl Report {
     {
         match finding_on(alloc, line.text.as_bytes())? {
             Finding::Other => {}
-            Finding::Entry => self.entries += 1,
-            Finding::Refused(fault) => {
+            Finding::Entry(text) => {
+                self.entries += 1;
+                self.put_row(alloc, line.number, b": ", &text)?;
+            }
+            Finding::Refused(text) => {
                 self.entries += 1;
                 self.refusals += 1;
-                self.put_row(alloc, line.number, &fault)?;
+                self.put_row(alloc, line.number, b": refused: ", &text)?;
             }
         }
         Ok(())
     }
 
-    // Puts the row of a refused line at the end.
-    fn put_row(&mut self, alloc: Global, number: u32, fault: &EntryFault) -> Result<(), AllocError>
-        requires { is_told (found.Refused fault.now) ≡ true }
-        ensures rows { OnOk result (self.new.rows.items ≡ self.old.rows.items ++ row number (found.Refused fault.now)) }
+    // Puts a row at the end.
+    fn put_row(
+        &mut self,
+        alloc: Global,
+        number: u32,
+        mark: &[u8],
+        text: &Text,
+    ) -> Result<(), AllocError>
+        ensures rows { OnOk result (self.new.rows.items ≡ self.old.rows.items ++ (decimal number ++ mark.now ++ text.now ++ codes "\n")) }
         ensures entries { self.new.entries ≡ self.old.entries }
         ensures refusals { self.new.refusals ≡ self.old.refusals }
     {
         self.rows
             .extend_from_slice(number.to_string(alloc)?.as_bytes())?;
-        self.rows.push(b'\t')?;
-        self.rows
-            .extend_from_slice(entry_fault_text(alloc, fault)?.as_bytes())?;
+        self.rows.extend_from_slice(mark)?;
+        self.rows.extend_from_slice(text.as_bytes())?;
         self.rows.push(b'\n')?;
         Ok(())
     }
