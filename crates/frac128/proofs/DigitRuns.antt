@@ -75,16 +75,13 @@ collect-others n z (suc d ∷ ds) h =
     ∙ ap (λ w. (fold extend (n * 10 ^ z) w, suc (length ds) - length w)) (sym (without-other (suc d) ds h))
   where
     by_test : (b : Bool) → all_zero ds ≡ b
-       
         → ((m k : ℕ) → all_zero ds ≡ false → collect m k ds ≡ (fold extend (m * 10 ^ k) (without_end_zeros ds), length ds - length (without_end_zeros ds)))
-       
         → collect (n * 10 ^ (z + 1) + suc d) 0 ds ≡ (fold extend (n * 10 ^ z * 10 + suc d) (without_end_zeros ds), suc (length ds) - suc (length (without_end_zeros ds)))
     by_test true e others =
         rw (without-all_zero ds e) (collect-zeros (n * 10 ^ (z + 1) + suc d) 0 ds e ∙ ap (λ m. (m + suc d, 0 + length ds)) (power_more n z)
         ∙ ap (λ k. (n * 10 ^ z * 10 + suc d, k)) (one_less (length ds)))
     by_test false e others =
         others (n * 10 ^ (z + 1) + suc d) 0 e
-       
         ∙ ap (λ m. (fold extend m (without_end_zeros ds), length ds - length (without_end_zeros ds))) (once (n * 10 ^ (z + 1) + suc d) ∙ ap (λ m. m + suc d) (power_more n z))
         ∙ ap (λ k. (fold extend (n * 10 ^ z * 10 + suc d) (without_end_zeros ds), k)) (taken (length ds) (length (without_end_zeros ds)))
 
@@ -117,9 +114,7 @@ fold-without n (d ∷ ds) h =
     ∙ ap (λ w. fold extend n w * 10 ^ (suc (length ds) - length w)) (sym (without-other d ds h))
   where
     by_test : (b : Bool) → all_zero ds ≡ b
-       
         → ((m : ℕ) → all_zero ds ≡ false → fold extend m ds ≡ fold extend m (without_end_zeros ds) * 10 ^ (length ds - length (without_end_zeros ds)))
-       
         → fold extend (n * 10 + d) ds ≡ fold extend (n * 10 + d) (without_end_zeros ds) * 10 ^ (suc (length ds) - suc (length (without_end_zeros ds)))
     by_test true e others =
         rw (without-all_zero ds e) (fold-zeros (n * 10 + d) ds e ∙ ap (λ k. (n * 10 + d) * 10 ^ k) (sym (zero-add (length ds)) ∙ one_less (length ds)))

@@ -93,7 +93,6 @@ plus_value x y z some_x some_y h =
 minus_value : (x y z : Fraction) → 0 < x.den → 0 < y.den → minus x y ≡ Ok z → SameValue z (difference x y)
 minus_value x y z some_x some_y h =
     plus_value x (negated y) z some_x some_y (sym (minus-negated x y) ∙ h)
-   
     ∙ ap (λ n. n *ℤ pos z.den) (ap (λ k. (x.num *ℤ pos y.den) +ℤ k) (sym (neg-times y.num x.den)) ∙ less (x.num *ℤ pos y.den) (y.num *ℤ pos x.den))
   where
     less : (a b : ℤ) → a +ℤ neg_ℤ b ≡ a -ℤ b
@@ -117,7 +116,6 @@ over_value n (pos (suc k)) b d z some h =
     ∙ ratio_value (n *ℤ pos d) (b * suc k) z (mul-pos some (omega arith)) h ∙ mul-twice n d z.den ∙ ap (λ j. n *ℤ pos j) (mul_comm d z.den)
 over_value n (negsuc k) b d z some h =
     ap (λ j. j *ℤ pos b) (*ℤ-negsuc z.num k) ∙ sym (neg-times (z.num *ℤ pos (suc k)) b)
-   
     ∙ ap neg_ℤ (mul-twice z.num (suc k) b ∙ ap (λ j. z.num *ℤ pos j) (mul_comm (suc k) b) ∙ below (b * suc k) (mul-pos some (omega arith)) (ap (ratio (n *ℤ pos d)) (sym (pos-*ℤ-negsuc b k)) ∙ h))
     ∙ ap neg_ℤ (sym (neg-times (n *ℤ pos d) z.den)) ∙ neg_ℤ-neg_ℤ (n *ℤ pos d *ℤ pos z.den) ∙ mul-twice n d z.den
     ∙ ap (λ j. n *ℤ pos j) (mul_comm d z.den)

@@ -55,7 +55,6 @@ zeros-out c z (negsuc k) = elim (cases_lt k z) [
     above j is =
         ap (times_power c) (up j is)
         ∙ sym (ratio-mul (c * 10 ^ j) 1 (10 ^ suc k) (lit< tt) (pow_some 10 (suc k) (lit< tt)))
-       
         ∙ ap (λ n. ratio (pos n) (pos (1 * 10 ^ suc k))) (sym (spread c (10 ^ j) (10 ^ suc k)) ∙ ap (λ p. c * p) (sym (pow-add 10 j (suc k)) ∙ ap (λ n. 10 ^ n) (sym is)))
         ∙ ap (λ n. ratio (pos (c * 10 ^ z)) (pos n)) (one (10 ^ suc k))
       where
@@ -83,7 +82,6 @@ decimal_value : (bytes : List ℕ) (power : ℤ)
 decimal_value bytes power = by_coefficient (coefficient_of bytes) (number-without (digits_of bytes))
   where
     by_coefficient : (c : ℕ) → number (digits_of bytes) ≡ c * 10 ^ end_zeros bytes
-       
         → value_of (if c == 0 then record { coefficient = 0; scale = pos 0 } else record { coefficient = c; scale = power -ℤ pos (places bytes) +ℤ pos (end_zeros bytes) })
         ≡ times_power (number (digits_of bytes)) (power -ℤ pos (places bytes))
     by_coefficient zero is = zero_power (pos 0) ∙ sym (ap (λ n. times_power n (power -ℤ pos (places bytes))) (is ∙ zero-mul (10 ^ end_zeros bytes)) ∙ zero_power (power -ℤ pos (places bytes)))

@@ -81,7 +81,6 @@ read_long bytes m t c z is some wide =
 
 -- the numeral by its parts
 pub read_short : (bytes m t : List ℕ) (c z : ℕ) → IsSplit bytes m t → Some (c, z) ≡ short_coefficient m → exponent_size t ≤ most_exponent
-   
     → read bytes ≡ Ok (if c == 0 then record { coefficient = 0; scale = pos 0 } else record { coefficient = c; scale = exponent_of t -ℤ pos (places m) +ℤ pos z })
 read_short bytes m t c z is some low =
     let short = is_shortened (nat_le (coefficient_of m) most) (c, z) (coefficient_of m, end_zeros m) some in

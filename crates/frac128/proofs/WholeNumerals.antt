@@ -46,16 +46,13 @@ digits_numeral (b ∷ bs) some h =
     let parts = both (is_digit b) (list_all is_digit bs) h in
     ap (λ xs. is_mantissa xs && is_exponent (from is_mark_byte ds)) (before_digits is_mark_byte ds digit_no_mark h)
     ∙ ap (λ xs. is_mantissa ds && is_exponent xs) (from_digits is_mark_byte ds digit_no_mark h)
-   
     ∙ ap (λ xs. (list_any is_digit ds && (list_all is_digit xs && list_all is_digit (drop 1 (from is_point_byte ds)))) && true) (before_digits is_point_byte ds digit_no_point h)
-   
     ∙ ap (λ xs. (list_any is_digit ds && (list_all is_digit ds && list_all is_digit (drop 1 xs))) && true) (from_digits is_point_byte ds digit_no_point h)
     ∙ ap (λ t. (list_any is_digit ds && (t && true)) && true) h
     ∙ ap (λ t. ((t || list_any is_digit bs) && true) && true) parts.0
 
 -- the value of a coefficient and the zeros at its end
 value_zeros : (c z n : ℕ) → n ≡ c * 10 ^ z → n ≤ most
-   
     → (x : Decimal) × ((if c == 0 then record { coefficient = 0; scale = pos 0 } else record { coefficient = c; scale = pos z }) ≡ x) × (value_of x ≡ Ok (whole (pos n)))
 value_zeros zero z n e fits = (record { coefficient = 0; scale = pos 0 }, refl, zero_power (pos 0) ∙ ap (λ m. Ok (whole (pos m))) (sym (e ∙ zero-mul (10 ^ z))))
 value_zeros (suc c) z n e fits = (record { coefficient = suc c; scale = pos z }, rw (other c) refl, rw (← e) (whole_ratio n fits))

@@ -55,5 +55,4 @@ returns c =
     let parts = are_parts c.args.self.now c.args.other.now c.bottom-b.ensures.is c.bottom-d.ensures.is c.gcd-shared.ensures.is
     c.quotient-ours.ensures c.quotient-theirs.ensures c.bottom-b.ensures.some c.bottom-d.ensures.some c.top-a.ensures.is c.top-c.ensures.is in
     (simp to_z-of_z at c.sum_over.ensures)
-   
     ∙ sym (plus-sum _ _ _ _ _ _ _ _ _ _ _ _ _ _ parts c.is_negative.ensures c.is_negative-2.ensures c.in_ok-multiple.ensures c.in_ok-left.ensures c.in_ok-right.ensures)

@@ -30,7 +30,6 @@ returns-in-Some c =
     let signs : c.differ-negative.result ≡ signs_differ c.args.self.now.num c.args.other.now.num = rw (← c.is_negative.ensures, ← c.is_negative-2.ensures) c.differ-negative.ensures in
     c.fitting.ensures
     ∙ ap (λ s. fitting (record { num = signed s c.in-Some.top; den = c.in-Some.bottom })) signs
-   
     ∙ sym (over_is c.args.self.now c.args.other.now c.in-Some.top c.in-Some.bottom (rw (← c.bottom.ensures.is) c.bottom.ensures.some) (rw (← c.bottom-2.ensures.is) c.bottom-2.ensures.some) (grind (arith, common_steps)) low)
 
 pub returns-in-None : goal.returns-in-None
