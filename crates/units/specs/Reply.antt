@@ -3,7 +3,7 @@ use Rattle.std.specs.Prelude.{◌++◌, ◌∷◌, [], ℕ, List, true, false, O
 use Rattle.frac128.specs.Fraction.{Fraction}
 use Rattle.frac128.specs.Steps.{over}
 use Rattle.frac128.specs.declared.fault.FracFault.{FracFault}
-use Rattle.frac128.specs.declared.fault.FracFault.TheVariants.{Overflow, DivisionByZero, NoExactRoot}
+use Rattle.frac128.specs.Faults.{fault_text}
 use Rattle.deck.specs.FirstFile.{Definition}
 use Rattle.deck.specs.FirstValues.{outcome_of}
 use Rattle.units.specs.Style.{number_text}
@@ -17,11 +17,6 @@ line_of text = text ++ 10 ∷ []
 -- a fault text on a line of its own
 abbrev pub refusal : List ℕ → Reply
 refusal text = record { text = line_of text; refused = true }
-
-abbrev pub fault_text : FracFault → List ℕ
-fault_text Overflow = codes "overflow"
-fault_text DivisionByZero = codes "division by zero"
-fault_text NoExactRoot = codes "no exact root"
 
 abbrev pub unknown_text : List ℕ → List ℕ
 unknown_text name = codes "unknown unit: " ++ name

@@ -1,8 +1,9 @@
 //! The reply to two names of a first file.
 ghost use Rattle.std.specs.Prelude.{◌≡◌, ◌++◌, IfOk, OnOk};
+ghost use Rattle.frac128.specs.Faults.{fault_text};
 ghost use Rattle.deck.specs.FirstValues.{outcome_of};
 ghost use Rattle.units.specs.Style.{IsStyle, number_text as number_text_of};
-ghost use Rattle.units.specs.Reply.{line_of, refusal, fault_text as fault_text_of, unknown_text, linear, reply_to, reply_of};
+ghost use Rattle.units.specs.Reply.{line_of, refusal, unknown_text, linear, reply_to, reply_of};
 
 use super::value::value_of;
 use crate::style::{Style, number_text};
@@ -18,16 +19,6 @@ pub struct Reply {
     pub refused: bool,
 }
 
-fn fault_text(fault: FracFault) -> &'static [u8]
-    ensures { result.now ≡ fault_text_of fault }
-{
-    match fault {
-        FracFault::Overflow => b"overflow",
-        FracFault::DivisionByZero => b"division by zero",
-        FracFault::NoExactRoot => b"no exact root",
-    }
-}
-
 // A refusal with this text.
 fn refuse(mut text: Vec<u8>) -> Result<Reply, AllocError>
     ensures { IfOk result (λ reply. reply ≡ refusal text.items) }
@@ -40,9 +31,9 @@ fn refuse(mut text: Vec<u8>) -> Result<Reply, AllocError>
 }
 
 fn fault_reply(alloc: Global, fault: FracFault) -> Result<Reply, AllocError>
-    ensures { IfOk result (λ reply. reply ≡ refusal (fault_text_of fault)) }
+    ensures { IfOk result (λ reply. reply ≡ refusal (fault_text fault)) }
 {
-    refuse(Vec::from_slice(alloc, fault_text(fault))?)
+    refuse(Vec::from_slice(alloc, fault.text())?)
 }
 
 fn unknown_reply(alloc: Global, name: &[u8]) -> Result<Reply, AllocError>
