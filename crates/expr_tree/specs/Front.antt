@@ -1,16 +1,19 @@
 -- What stands at the front of tokens: single tokens, and derivations before the other tokens.
-use Rattle.std.specs.Prelude.{◌≡◌, ℕ, Bool, true, false, List, [], ◌∷◌, drop, map, Option, Some, None}
+use Rattle.std.specs.Prelude.{◌≡◌, ◌<◌, ◌≤◌, ℕ, Bool, true, false, List, [], ◌∷◌, drop, length, map, Option, Some, None, Result, IfOk}
+use Rattle.std.specs.declared.alloc.AllocError.{AllocError}
 use Rattle.frac128.specs.Decimals.{Decimal}
 use Rattle.expr_tree.specs.declared.operator.Scale.{Scale}
 use Rattle.expr_tree.specs.declared.operator.Scale.TheVariants.{Multiply, Divide}
 use Rattle.expr_tree.specs.declared.operator.Sign.{Sign}
 use Rattle.expr_tree.specs.declared.operator.Sign.TheVariants as signs
 use Rattle.expr_tree.specs.declared.token.Token.{Token as Made}
+use Rattle.expr_tree.specs.declared.tree.Tree.{Tree}
 use Rattle.expr_tree.specs.Grammar.{Sum, sum, sum_tree, product, product_tree, juxtaposition, juxtaposition_tree, power, power_tree, exponent, exponent_tree, atom, atom_tree}
 use Rattle.expr_tree.specs.Rules.{EndsOperand, begins_operand, fits}
 use Rattle.expr_tree.specs.Seen.{seen}
 use Rattle.expr_tree.specs.Syntax.{Syntax}
 use Rattle.expr_tree.specs.Tokens.{Token, Numeral, Plus, Minus, Star, Slash, Bar, Caret, Close}
+use Rattle.expr_tree.specs.Trees.{syntax}
 
 -- the tokens from a place on
 abbrev pub tokens_from : List Made → ℕ → List Token
@@ -112,3 +115,8 @@ pub record IsClosed (binder : Option (List ℕ)) (opened : ℕ) (ts : List Token
   pub is : ts ≡ sum made (Close ∷ others)
   pub says : e ≡ sum_tree binder made
   pub fit : fits EndsOperand opened others ≡ true
+
+-- what a rule reads at a place: its tree stands there, before the tokens from a later place on
+abbrev pub IsReadAt : (List Token → Syntax → List Token → Type 0) → List Made → ℕ → Result (Tree × ℕ) AllocError → Type 0
+IsReadAt Stands tokens at result = IfOk result (λ read. Stands (tokens_from tokens at) (syntax read.0) (tokens_from tokens read.1)
+    × (at < read.1) × (read.1 ≤ length tokens))

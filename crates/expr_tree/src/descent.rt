@@ -1,9 +1,9 @@
 //! Recursive descent over tokens that fit: a function for each rule of the grammar, each of which
 //! gives the tree at a place and the place after it. Calls nest as deep as the tokens are.
 
-ghost use Rattle.std.specs.Prelude.{◌≡◌, ◌+◌, ◌<◌, ◌≤◌, ◌∷◌, true, IfOk, Some, length, map};
+ghost use Rattle.std.specs.Prelude.{◌≡◌, ◌+◌, ◌<◌, ◌≤◌, ◌∷◌, true, IfOk, Some, map};
 ghost use Rattle.std.specs.Option.{option_copied};
-ghost use Rattle.expr_tree.specs.Front.{AtomAt, ExponentAt, IsClosed, JuxtapositionAt, PowerAt, ProductAt, SumAt, begins, tokens_from};
+ghost use Rattle.expr_tree.specs.Front.{AtomAt, ExponentAt, IsClosed, IsReadAt, JuxtapositionAt, PowerAt, ProductAt, SumAt, begins, tokens_from};
 ghost use Rattle.expr_tree.specs.Reading.{tree_of};
 ghost use Rattle.expr_tree.specs.Rules.{WantsHead, WantsOperand, fits};
 ghost use Rattle.expr_tree.specs.Seen.{seen};
@@ -40,7 +40,7 @@ fn sum_at(
 ) -> Result<(Tree, usize), AllocError>
     requires deep { opened ≤ at }
     requires fit { fits WantsOperand opened (tokens_from tokens.now at) ≡ true }
-    ensures { IfOk result (λ r. SumAt (option_copied binder.entry) opened (tokens_from tokens.now at) (syntax r.0) (tokens_from tokens.now r.1) × (at < r.1) × (r.1 ≤ length tokens.now)) }
+    ensures { IsReadAt (SumAt (option_copied binder.entry) opened) tokens.now at result }
 {
     let (first, mut next) = product_at(alloc, tokens, at, opened, binder)?;
     if sign_at(tokens, next).is_none() {
@@ -66,7 +66,7 @@ fn product_at(
 ) -> Result<(Tree, usize), AllocError>
     requires deep { opened ≤ at }
     requires fit { fits WantsOperand opened (tokens_from tokens.now at) ≡ true }
-    ensures { IfOk result (λ r. ProductAt (option_copied binder.entry) opened (tokens_from tokens.now at) (syntax r.0) (tokens_from tokens.now r.1) × (at < r.1) × (r.1 ≤ length tokens.now)) }
+    ensures { IsReadAt (ProductAt (option_copied binder.entry) opened) tokens.now at result }
 {
     let (first, mut next) = juxtaposition_at(alloc, tokens, at, opened, binder)?;
     if scale_at(tokens, next).is_none() {
@@ -92,7 +92,7 @@ fn juxtaposition_at(
 ) -> Result<(Tree, usize), AllocError>
     requires deep { opened ≤ at }
     requires fit { fits WantsOperand opened (tokens_from tokens.now at) ≡ true }
-    ensures { IfOk result (λ r. JuxtapositionAt (option_copied binder.entry) opened (tokens_from tokens.now at) (syntax r.0) (tokens_from tokens.now r.1) × (at < r.1) × (r.1 ≤ length tokens.now)) }
+    ensures { IsReadAt (JuxtapositionAt (option_copied binder.entry) opened) tokens.now at result }
 {
     match sign_at(tokens, at) {
         Some(sign) => {
@@ -115,7 +115,7 @@ fn powers_at(
     requires deep { opened ≤ at }
     requires fit { fits WantsOperand opened (tokens_from tokens.now at) ≡ true }
     requires begun { begins (tokens_from tokens.now at) ≡ true }
-    ensures { IfOk result (λ r. JuxtapositionAt (option_copied binder.entry) opened (tokens_from tokens.now at) (syntax r.0) (tokens_from tokens.now r.1) × (at < r.1) × (r.1 ≤ length tokens.now)) }
+    ensures { IsReadAt (JuxtapositionAt (option_copied binder.entry) opened) tokens.now at result }
 {
     let (first, mut next) = power_at(alloc, tokens, at, opened, binder)?;
     if !has_operand(tokens, next) {
@@ -142,7 +142,7 @@ fn power_at(
     requires deep { opened ≤ at }
     requires fit { fits WantsOperand opened (tokens_from tokens.now at) ≡ true }
     requires begun { begins (tokens_from tokens.now at) ≡ true }
-    ensures { IfOk result (λ r. PowerAt (option_copied binder.entry) opened (tokens_from tokens.now at) (syntax r.0) (tokens_from tokens.now r.1) × (at < r.1) × (r.1 ≤ length tokens.now)) }
+    ensures { IsReadAt (PowerAt (option_copied binder.entry) opened) tokens.now at result }
 {
     let (base, next) = atom_at(alloc, tokens, at, opened, binder)?;
     if !has_caret(tokens, next) {
@@ -162,7 +162,7 @@ fn exponent_at(
 ) -> Result<(Tree, usize), AllocError>
     requires deep { opened ≤ at }
     requires fit { fits WantsOperand opened (tokens_from tokens.now at) ≡ true }
-    ensures { IfOk result (λ r. ExponentAt (option_copied binder.entry) opened (tokens_from tokens.now at) (syntax r.0) (tokens_from tokens.now r.1) × (at < r.1) × (r.1 ≤ length tokens.now)) }
+    ensures { IsReadAt (ExponentAt (option_copied binder.entry) opened) tokens.now at result }
 {
     match sign_at(tokens, at) {
         Some(sign) => {
@@ -184,7 +184,7 @@ fn atom_at(
     requires deep { opened ≤ at }
     requires fit { fits WantsOperand opened (tokens_from tokens.now at) ≡ true }
     requires begun { begins (tokens_from tokens.now at) ≡ true }
-    ensures { IfOk result (λ r. AtomAt (option_copied binder.entry) opened (tokens_from tokens.now at) (syntax r.0) (tokens_from tokens.now r.1) × (at < r.1) × (r.1 ≤ length tokens.now)) }
+    ensures { IsReadAt (AtomAt (option_copied binder.entry) opened) tokens.now at result }
 {
     match tokens[at] {
         Token::Numeral(n) => match denominator_at(tokens, at + 1) {
@@ -225,7 +225,7 @@ fn inverse_at(
 ) -> Result<(Tree, usize), AllocError>
     requires deep { opened < at }
     requires fit { fits WantsHead opened (tokens_from tokens.now at) ≡ true }
-    ensures { IfOk result (λ r. AtomAt (option_copied binder.entry) opened (Tilde ∷ tokens_from tokens.now at) (syntax r.0) (tokens_from tokens.now r.1) × (at < r.1) × (r.1 ≤ length tokens.now)) }
+    ensures { IsReadAt (λ ts. AtomAt (option_copied binder.entry) opened (Tilde ∷ ts)) tokens.now at result }
 {
     match tokens[at] {
         Token::Head(word) => {
@@ -247,7 +247,7 @@ fn closed_sum_at(
 ) -> Result<(Tree, usize), AllocError>
     requires deep { opened < at }
     requires fit { fits WantsOperand (opened + 1) (tokens_from tokens.now at) ≡ true }
-    ensures { IfOk result (λ r. IsClosed (option_copied binder.entry) opened (tokens_from tokens.now at) (syntax r.0) (tokens_from tokens.now r.1) × (at < r.1) × (r.1 ≤ length tokens.now)) }
+    ensures { IsReadAt (IsClosed (option_copied binder.entry) opened) tokens.now at result }
 {
     let (sum, next) = sum_at(alloc, tokens, at, opened + 1, binder)?;
     Ok((sum, next + 1))
