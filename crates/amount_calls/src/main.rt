@@ -1,0 +1,23 @@
+//! Reads one call on quantities, lists of units or tables of points a line on standard input, and
+//! writes one answer a line on standard output.
+#![tactic(auto)]
+
+mod answer;
+mod call;
+mod line;
+mod reading;
+mod texts;
+
+use std::io;
+use std::io::{BufRead, BufReader, BufWriter, Write};
+
+fn main(rt: HostRuntime) -> io::Result<()> {
+    let alloc = rt.alloc();
+    let mut output = BufWriter::new(alloc, io::writer(&rt))?;
+    for line in BufReader::new(alloc, rt.reader())?.split(alloc, b'\n') {
+        let text = line::line_answer(alloc, &line?)?;
+        output.write_all(text.as_bytes())?;
+        output.write_all(b"\n")?;
+    }
+    output.flush()
+}
