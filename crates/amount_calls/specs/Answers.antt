@@ -3,8 +3,7 @@ use Rattle.std.specs.Prelude.{◌≡◌, ◌++◌, ℕ, Bool, List, [], ◌∷�
 use Rattle.std.specs.Fmt.{decimal}
 use Rattle.std.specs.List.{flat_map}
 use Rattle.frac128.specs.Fraction.{Fraction, negated}
-use Rattle.frac128.specs.declared.fault.FracFault.{FracFault}
-use Rattle.frac128.specs.declared.fault.FracFault.TheVariants.{Overflow, DivisionByZero, NoExactRoot}
+use Rattle.frac128.specs.Faults.{fault_text}
 use Rattle.digits_print.specs.Exact.{exact_text}
 use Rattle.quantity.specs.Amount.{Amount, are_reciprocal, conform, is_number}
 use Rattle.quantity.specs.Powers.{power_of}
@@ -32,12 +31,6 @@ use Rattle.amount_calls.specs.declared.call.Single.TheVariants as single
 use Rattle.amount_calls.specs.declared.call.Pair.{Pair}
 use Rattle.amount_calls.specs.declared.call.Pair.TheVariants as pair
 
--- the text of a fault of fractions
-abbrev pub number_fault : FracFault → List ℕ
-number_fault Overflow = codes "overflow"
-number_fault DivisionByZero = codes "division by zero"
-number_fault NoExactRoot = codes "no exact root"
-
 -- whether something holds
 abbrev pub yes_or_no : Bool → List ℕ
 yes_or_no holds = if holds then codes "yes" else codes "no"
@@ -61,7 +54,7 @@ unlike_text x y = codes "not conformable: " ++ exactly x ++ codes " and " ++ exa
 -- the quantity that a step gives, or the text of its fault
 abbrev pub quantity_text : Result Amount QuantityFault → List ℕ
 quantity_text (Ok x) = exactly x
-quantity_text (Err (step.Number fault)) = number_fault fault
+quantity_text (Err (step.Number fault)) = fault_text fault
 quantity_text (Err (step.NotConformable x y)) = unlike_text x y
 quantity_text (Err step.ExponentNotNumber) = codes "exponent not a number"
 quantity_text (Err step.ExponentRange) = codes "exponent out of range"
@@ -85,7 +78,7 @@ abbrev pub counts_text : Result (List Fraction) SplitFault → List ℕ
 counts_text (Ok counts) = codes "counts" ++ listed counts
 counts_text (Err (splitting.NotConformable place)) = placed_text (codes "not conformable: ") place
 counts_text (Err (splitting.ListUnitNotPositive place)) = placed_text (codes "not positive: ") place
-counts_text (Err (splitting.Number fault)) = number_fault fault
+counts_text (Err (splitting.Number fault)) = fault_text fault
 counts_text (Err splitting.OutOfMemory) = []
 
 -- the text is that of a split, which is not want of memory
@@ -103,7 +96,7 @@ split_text round x (unit ∷ units) = counts_text (counts_in round x (unit ∷ u
 abbrev pub reading_text : Result Fraction TableFault → List ℕ
 reading_text (Ok x) = exact_text x
 reading_text (Err table.OutsideTable) = codes "outside the table"
-reading_text (Err (table.Number fault)) = number_fault fault
+reading_text (Err (table.Number fault)) = fault_text fault
 
 -- what a table gives
 abbrev pub read : Way → List Point → Fraction → Result Fraction TableFault

@@ -106,7 +106,7 @@ pub(crate) fn read_quantity(alloc: Global, text: &[u8]) -> Result<Quantity, Unre
 // A name with its exponent.
 fn read_power(alloc: Global, word: &[u8]) -> Result<Quantity, Unread> {
     let (name, power) = parted(word, b'^');
-    let name = Quantity::primitive(alloc, name)?;
+    let name = Quantity::one(alloc, name)?;
     if power.is_empty() {
         return Ok(name);
     }

@@ -5,7 +5,7 @@ ghost use Rattle.digits_print.specs.Exact.{exact_text};
 ghost use Rattle.amount_calls.specs.Answers as spec;
 
 use digits_print::print_exact;
-use frac128::{Frac, FracFault};
+use frac128::Frac;
 use piecewise::TableFault;
 use quantity::{Exponent, Quantity, QuantityFault, Style};
 use std::alloc::{AllocError, Global};
@@ -44,7 +44,7 @@ pub(crate) fn quantity_text(
 {
     match answer {
         Ok(x) => x.show(alloc, Style::Exact),
-        Err(QuantityFault::Number(fault)) => Text::from_bytes(alloc, number_fault(fault)),
+        Err(QuantityFault::Number(fault)) => Text::from_bytes(alloc, fault.text()),
         Err(QuantityFault::NotConformable(x, y)) => unlike_text(alloc, &x, &y),
         Err(QuantityFault::ExponentNotNumber) => {
             Text::from_bytes(alloc, b"exponent not a number")
@@ -80,7 +80,7 @@ pub(crate) fn counts_text(
         }
         Err(SplitFault::NotConformable(place)) => placed_text(alloc, b"not conformable: ", place),
         Err(SplitFault::ListUnitNotPositive(place)) => placed_text(alloc, b"not positive: ", place),
-        Err(SplitFault::Number(fault)) => Text::from_bytes(alloc, number_fault(fault)),
+        Err(SplitFault::Number(fault)) => Text::from_bytes(alloc, fault.text()),
         Err(SplitFault::OutOfMemory) => Err(AllocError),
     }
 }
@@ -115,17 +115,6 @@ pub(crate) fn reading_text(
     match reading {
         Ok(x) => print_exact(alloc, &x),
         Err(TableFault::OutsideTable) => Text::from_bytes(alloc, b"outside the table"),
-        Err(TableFault::Number(fault)) => Text::from_bytes(alloc, number_fault(fault)),
-    }
-}
-
-// The text of a fault of fractions.
-fn number_fault(fault: FracFault) -> &'static [u8]
-    ensures { result.now ≡ spec.number_fault fault }
-{
-    match fault {
-        FracFault::Overflow => b"overflow",
-        FracFault::DivisionByZero => b"division by zero",
-        FracFault::NoExactRoot => b"no exact root",
+        Err(TableFault::Number(fault)) => Text::from_bytes(alloc, fault.text()),
     }
 }
