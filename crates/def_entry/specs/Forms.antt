@@ -1,4 +1,4 @@
--- The bodies of a function, behind its parameter.
+-- The bodies of a function, behind its parameter, as they are computed. FormGrammar says how they are written.
 use Rattle.std.specs.Prelude.{ℕ, List, [], ◌∷◌, Option, Some, None}
 use Rattle.def_lines.specs.Blanks.{trimmed}
 use Rattle.def_entry.specs.Cuts.{cut_at}

@@ -1,4 +1,5 @@
--- The head of a line: the kind of its key, its name, and what stands behind that.
+-- The head of a line: the kind of its key, its name, and what stands behind that, as they are computed.
+-- HeadingGrammar says how they are written.
 use Rattle.std.specs.Prelude.{◌==◌, ◌||◌, ◌&&◌, ℕ, List, [], ◌∷◌, Bool, true, false, length, drop, nat_lt, if◌then◌else◌}
 use Rattle.std.specs.List.{before_first}
 use Rattle.units_io.specs.Blanks.{is_blank}

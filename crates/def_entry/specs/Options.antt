@@ -1,4 +1,4 @@
--- The options of a function.
+-- The options of a function, as they are computed. OptionGrammar says how they are written.
 use Rattle.std.specs.Prelude.{◌&&◌, ℕ, zero, suc, List, Bool, true, false, length, drop, codes, nat_eq, if◌then◌else◌, Option, Some, None, option_map}
 use Rattle.std.specs.List.{starts_with}
 use Rattle.std.specs.Option.{is_some}

@@ -1,4 +1,4 @@
--- The points of a table: pairs of numbers, with an optional comma behind each pair.
+-- The points of a table, as they are computed. PointGrammar says how they are written.
 use Rattle.std.specs.Prelude.{◌==◌, ◌++◌, ℕ, List, [], ◌∷◌, Bool, length, nat_le, if◌then◌else◌, Option, Some, None}
 use Rattle.std.specs.List.{slice_split}
 use Rattle.def_lines.specs.Blanks.{after_blanks}

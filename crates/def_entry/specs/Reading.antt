@@ -1,4 +1,4 @@
--- The key and the entry of a line.
+-- The key and the entry of a line, as they are computed. EntryGrammar says how a line is written that has them.
 use Rattle.std.specs.Prelude.{◌≡◌, ◌↔◌, ◌==◌, ◌-◌, ℕ, List, [], ◌∷◌, Bool, true, false, length, take, codes, nat_eq, if◌then◌else◌, Option, Some, None, Result, Ok, Err}
 use Rattle.std.specs.List.{ends_with, slice_split}
 use Rattle.units_io.specs.Outcomes.{◌>>=◌}

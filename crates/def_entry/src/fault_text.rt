@@ -26,8 +26,9 @@ pub fn entry_fault_text(alloc: Global, fault: &EntryFault) -> Result<Text, Alloc
     }
 }
 
-// The fault of an expression in words.
-fn parse_fault_text(alloc: Global, fault: ParseFault) -> Result<Text, AllocError>
+/// The fault of an expression in words: `syntax error at ` and the place, `numeral too long`, or
+/// `nested too deep`. The only error is want of memory.
+pub fn parse_fault_text(alloc: Global, fault: ParseFault) -> Result<Text, AllocError>
     requires { fault ≢ parse.OutOfMemory }
     ensures { IfOk result (λ text. text ≡ parse_text fault) }
 {

@@ -25,7 +25,7 @@ mod what;
 
 pub use entry::{Bound, Entry, FunctionDef, Span, TableDef, What};
 pub use fault::EntryFault;
-pub use fault_text::entry_fault_text;
+pub use fault_text::{entry_fault_text, parse_fault_text};
 pub use key::{Key, Kind};
 pub use keys::Keys;
 pub use laws::{

@@ -3,7 +3,6 @@ use Rattle.std.specs.Prelude.{ℕ, ℤ, pos, zero, List, [], ◌∷◌, ◌++◌
 use Rattle.std.specs.Fmt.{decimal, signed_decimal}
 use Rattle.frac128.specs.Decimals.{Decimal}
 use Rattle.expr_tree.specs.declared.fault.ParseFault.{ParseFault}
-use Rattle.expr_tree.specs.declared.fault.ParseFault.TheVariants as fault
 use Rattle.expr_tree.specs.declared.operator.Scale.{Scale}
 use Rattle.expr_tree.specs.declared.operator.Scale.TheVariants.{Multiply, Divide}
 use Rattle.expr_tree.specs.declared.operator.Sign.{Sign}
@@ -15,6 +14,7 @@ use Rattle.expr_tree.specs.Names.{is_name, is_refused}
 use Rattle.expr_tree.specs.Syntax.{Syntax, degree, Members, NoMember, Member, Factors, NoFactor, Factor, Terms, NoTerm, Term}
 use Rattle.expr_tree.specs.Syntax as tree
 use Rattle.expr_tree.specs.Words.{words_in}
+use Rattle.def_entry.specs.Faults.{parse_fault_text}
 
 -- a power of ten, which is not written where it is 1
 abbrev pub power_text : ℤ → List ℕ
@@ -66,25 +66,15 @@ abbrev mutual
   terms_text NoTerm = []
   terms_text (Term s e ts) = sign_text s ++ tree_text e ++ terms_text ts
 
-abbrev pub place_text : ℕ → List ℕ
-place_text place = codes "syntax error at " ++ decimal place
-
--- a fault in words
-abbrev pub fault_text : ParseFault → List ℕ
-fault_text (fault.Syntax place) = place_text place
-fault_text fault.NumeralTooLong = codes "numeral too long"
-fault_text fault.NestedTooDeep = codes "nested too deep"
-fault_text fault.OutOfMemory = codes "out of memory"
-
 -- a tree or its fault
 abbrev pub parsed_text : Result Syntax ParseFault → List ℕ
 parsed_text (Ok e) = tree_text e
-parsed_text (Err x) = fault_text x
+parsed_text (Err x) = parse_fault_text x
 
 -- that there is a tree, or its fault
 abbrev pub verdict_text : Result Syntax ParseFault → List ℕ
 verdict_text (Ok e) = codes "tree"
-verdict_text (Err x) = fault_text x
+verdict_text (Err x) = parse_fault_text x
 
 -- how a word stands
 abbrev pub kind_text : WordKind → List ℕ
@@ -99,7 +89,7 @@ uses_text (word ∷ words) = kind_text word.kind ++ word_text word.text ++ uses_
 -- the words of a tree, each with how it stands, or its fault
 abbrev pub words_text : Result Syntax ParseFault → List ℕ
 words_text (Ok e) = codes "words" ++ uses_text (words_in e)
-words_text (Err x) = fault_text x
+words_text (Err x) = parse_fault_text x
 
 -- whether some bytes are a name, or a refused one
 abbrev pub name_text : List ℕ → List ℕ

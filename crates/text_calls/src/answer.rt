@@ -1,14 +1,17 @@
 //! What a line answers.
 
-ghost use Rattle.std.specs.Prelude.{◌≡◌, ◌++◌, IfOk, None};
+ghost use Rattle.std.specs.Prelude.{◌≡◌, ◌≢◌, ◌++◌, IfOk, None};
 ghost use Rattle.std.specs.Option.{option_copied};
+ghost use Rattle.expr_tree.specs.declared.fault.ParseFault.TheVariants as parse;
 ghost use Rattle.expr_tree.specs.Parsed.{parsed};
-ghost use Rattle.text_calls.specs.Notation.{fault_text, name_text, parsed_text, place_text, uses_text, verdict_text, words_text};
+ghost use Rattle.def_entry.specs.Faults.{parse_fault_text as fault_text};
+ghost use Rattle.text_calls.specs.Notation.{name_text, parsed_text, uses_text, verdict_text, words_text};
 ghost use Rattle.text_calls.specs.Notation.{kind_text as kind_text_of};
 
 use crate::line::split_at_blank;
 use crate::lookup::lookup_answer;
 use crate::notation::{put_tree, put_word};
+use def_entry::parse_fault_text;
 use expr_tree::{ParseFault, WordKind, Words, is_name, is_refused, parse_expr, words};
 use std::alloc::{AllocError, Global};
 
@@ -129,24 +132,10 @@ fn naming(bytes: &[u8]) -> &'static [u8]
 }
 
 // Puts a fault at the end.
-#[tactic(auto, using(crate::proofs::Written::appends))]
 fn put_fault(alloc: Global, out: &mut Vec<u8>, fault: ParseFault) -> Result<(), AllocError>
+    requires { fault ≢ parse.OutOfMemory }
     ensures { IfOk result (λ _. out.new.items ≡ out.old.items ++ fault_text fault) }
 {
-    match fault {
-        ParseFault::Syntax(place) => put_place(alloc, out, place),
-        ParseFault::NumeralTooLong => out.extend_from_slice(b"numeral too long"),
-        ParseFault::NestedTooDeep => out.extend_from_slice(b"nested too deep"),
-        ParseFault::OutOfMemory => out.extend_from_slice(b"out of memory"),
-    }
-}
-
-// Puts the place of a syntax error at the end.
-#[tactic(auto, using(crate::proofs::Written::appends))]
-fn put_place(alloc: Global, out: &mut Vec<u8>, place: usize) -> Result<(), AllocError>
-    ensures { IfOk result (λ _. out.new.items ≡ out.old.items ++ place_text place) }
-{
-    out.extend_from_slice(b"syntax error at ")?;
-    out.extend_from_slice(place.to_string(alloc)?.as_bytes())?;
+    out.extend_from_slice(parse_fault_text(alloc, fault)?.as_bytes())?;
     Ok(())
 }
