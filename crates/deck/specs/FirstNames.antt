@@ -1,27 +1,17 @@
 -- The names and the fractions of a first file.
-use Rattle.std.specs.Prelude.{◌&&◌, ◌==◌, ◌∷◌, [], ℕ, List, Bool, not, if◌then◌else◌, Option, Some, None, Result, Ok, Err, codes, length, nat_lt, nat_le, pos}
+use Rattle.std.specs.Prelude.{◌&&◌, ◌==◌, ℕ, List, Bool, if◌then◌else◌, Option, Some, None, Result, Ok, Err, length, nat_lt, nat_le, pos}
 use Rattle.std.specs.List.{list_all, list_any, before_first, after_first}
 use Rattle.std.specs.Char.{is_ascii_alphabetic}
-use Rattle.std.specs.Str.{bytes_eq, all_ascii_digits}
+use Rattle.std.specs.Str.{all_ascii_digits}
 use Rattle.std.specs.Str.Parse.{digits_value}
+use Rattle.expr_tree.specs.Names.{is_name}
 use Rattle.frac128.specs.Fraction.{Fraction, most}
 use Rattle.frac128.specs.Steps.{ratio}
 use Rattle.frac128.specs.declared.fault.FracFault.{FracFault}
 
--- the operator and the keywords that are spelled as words
-abbrev pub keywords : List (List ℕ)
-keywords = codes "per" ∷ codes "sqrt" ∷ codes "cuberoot" ∷ []
-
--- the transcendental functions, which are refused by name
-abbrev pub refused_names : List (List ℕ)
-refused_names = codes "sin" ∷ codes "cos" ∷ codes "tan" ∷ codes "asin" ∷ codes "acos" ∷ codes "atan"
-    ∷ codes "sinh" ∷ codes "cosh" ∷ codes "tanh" ∷ codes "asinh" ∷ codes "acosh" ∷ codes "atanh"
-    ∷ codes "ln" ∷ codes "log" ∷ codes "log2" ∷ codes "exp" ∷ []
-
--- 1 to 255 letters that are no keyword and no refused name
+-- a name of letters alone: 1 to 255 of them that are no keyword and no refused name
 abbrev pub is_first_name : List ℕ → Bool
-is_first_name name = nat_lt 0 (length name) && nat_le (length name) 255 && list_all is_ascii_alphabetic name
-    && not (list_any (bytes_eq name) keywords) && not (list_any (bytes_eq name) refused_names)
+is_first_name name = is_name name && list_all is_ascii_alphabetic name
 
 -- the number that 1 to 39 decimal digits write, where it is from 1 to the largest of a fraction
 abbrev pub whole_number : List ℕ → Option ℕ
