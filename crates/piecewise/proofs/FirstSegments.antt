@@ -30,14 +30,16 @@ segments-last (p ∷ q ∷ points) zero h = absurd (omega arith)
 segments-last (p ∷ q ∷ points) (suc i) h = segments-last (q ∷ points) i (omega arith)
 
 -- the search for y goes on behind neighbours that are not around it
-pub find-y_more : (points : List Point) (i : ℕ) (p q : Point) (y : Fraction) → AreNeighbours points i p q → are_around (compared p.1 y) (compared q.1 y) ≡ false
+pub find-y_more : (points : List Point) (i : ℕ) (p q : Point) (y : Fraction) → AreNeighbours points i p q
+    → are_around (compared p.1 y) (compared q.1 y) ≡ false
     → find (holds_y y) (segments (drop (i - 1) points)) ≡ find (holds_y y) (segments (drop i points))
 find-y_more points i p q y are other =
     ap (find (holds_y y)) (segments-left points i p q are)
     ∙ ap (λ b. cond b (Some (record { left = p; right = q })) (find (holds_y y) (segments (drop i points)))) (between-around p.1 q.1 y ∙ other)
 
 -- and ends at neighbours that are
-pub find-y_here : (points : List Point) (i : ℕ) (p q : Point) (y : Fraction) → AreNeighbours points i p q → are_around (compared p.1 y) (compared q.1 y) ≡ true
+pub find-y_here : (points : List Point) (i : ℕ) (p q : Point) (y : Fraction) → AreNeighbours points i p q
+    → are_around (compared p.1 y) (compared q.1 y) ≡ true
     → find (holds_y y) (segments (drop (i - 1) points)) ≡ Some (record { left = p; right = q })
 find-y_here points i p q y are around =
     ap (find (holds_y y)) (segments-left points i p q are)
@@ -100,7 +102,8 @@ unfolding rises
 rising-next p q points are = less_is _ (both _ _ are.rise).0
 
 -- and than each other one
-rising-first : OrderLaw → (p : Point) (points : List Point) → AreRising (p ∷ points) → (j : ℕ) (d : Point) → j < length points → compared p.0 (get_or points j d).0 ≡ Less
+rising-first : OrderLaw → (p : Point) (points : List Point) → AreRising (p ∷ points) → (j : ℕ) (d : Point) → j < length points
+    → compared p.0 (get_or points j d).0 ≡ Less
 rising-first law p [] are j d h = absurd (omega arith)
 rising-first law p (q ∷ points) are zero d h = rising-next p q points are
 rising-first law p (q ∷ points) are (suc j) d h =
@@ -117,7 +120,8 @@ abbrev pub is_left : Fraction → Point → Bool
 is_left x p = is_lt (compared p.0 x)
 
 -- the points whose x is less stand before the others
-pub rising-partitioned : OrderLaw → (x : Fraction) → 0 < x.den → (points : List Point) → AreRising points → IsPartitionedBy (is_left x) points
+pub rising-partitioned : OrderLaw → (x : Fraction) → 0 < x.den → (points : List Point) → AreRising points
+    → IsPartitionedBy (is_left x) points
 rising-partitioned law x some [] are i j d low within left = absurd (omega arith)
 rising-partitioned law x some (p ∷ points) are zero zero d low within left = left
 rising-partitioned law x some (p ∷ points) are zero (suc j) d low within left =
@@ -131,23 +135,27 @@ rising-partitioned law x some (p ∷ points) are (suc i) (suc j) d low within le
     rising-partitioned law x some points (rising-tail p points are) i j d (omega arith) (omega arith) left
 
 -- no segment holds a number below the first x
-find-x_before : OrderLaw → (x : Fraction) → 0 < x.den → (p : Point) (points : List Point) → AreRising (p ∷ points) → compared x p.0 ≡ Less → find (holds_x x) (segments (p ∷ points)) ≡ None
+find-x_before : OrderLaw → (x : Fraction) → 0 < x.den → (p : Point) (points : List Point) → AreRising (p ∷ points)
+    → compared x p.0 ≡ Less → find (holds_x x) (segments (p ∷ points)) ≡ None
 find-x_before law x some p [] are h = refl
 find-x_before law x some p (q ∷ points) are h =
     let rest = rising-tail p (q ∷ points) are in
     let low : is_le (compared p.0 x) ≡ false = le-less p.0 x false (ap is_lt h) in
-    let next = law.1 x p.0 q.0 some (All-head IsKnown p (q ∷ points) are.denominators) (All-head IsKnown q points rest.denominators) h (rising-next p q points are) in
+    let next =
+    law.1 x p.0 q.0 some (All-head IsKnown p (q ∷ points) are.denominators) (All-head IsKnown q points rest.denominators) h (rising-next p q points are) in
     ap (λ b. cond (b && is_le (compared x q.0)) (Some (record { left = p; right = q })) (find (holds_x x) (segments (q ∷ points)))) low
     ∙ find-x_before law x some q points rest next
 
 -- a segment whose right end is less does not hold the number
-find-x_more : (x : Fraction) (p q : Point) (points : List Point) → is_left x q ≡ true → find (holds_x x) (segments (p ∷ q ∷ points)) ≡ find (holds_x x) (segments (q ∷ points))
+find-x_more : (x : Fraction) (p q : Point) (points : List Point) → is_left x q ≡ true
+    → find (holds_x x) (segments (p ∷ q ∷ points)) ≡ find (holds_x x) (segments (q ∷ points))
 find-x_more x p q points left =
     ap (λ b. cond b (Some (record { left = p; right = q })) (find (holds_x x) (segments (q ∷ points))))
     (and-false (is_le (compared p.0 x)) (is_le (compared x q.0)) (le-less x q.0 false left))
 
 -- no segment holds a number above all x but the first
-find-x_past : (x : Fraction) (d : Point) (points : List Point) → ((k : ℕ) → 0 < k → k < length points → is_left x (get_or points k d) ≡ true) → find (holds_x x) (segments points) ≡ None
+find-x_past : (x : Fraction) (d : Point) (points : List Point)
+    → ((k : ℕ) → 0 < k → k < length points → is_left x (get_or points k d) ≡ true) → find (holds_x x) (segments points) ≡ None
 find-x_past x d [] left = refl
 find-x_past x d (p ∷ []) left = refl
 find-x_past x d (p ∷ q ∷ points) left =
@@ -185,14 +193,16 @@ pub record IsPlace (x : Fraction) (points : List Point) (count place : ℕ) : Ty
   pub place_is : place ≡ max count 1
 
 -- no point stands behind those that are less
-pub y_at-past : (x : Fraction) (points : List Point) (count place : ℕ) → IsPlace x points count place → place ≡ length points → Err OutsideTable ≡ y_at points x
+pub y_at-past : (x : Fraction) (points : List Point) (count place : ℕ) → IsPlace x points count place → place ≡ length points
+    → Err OutsideTable ≡ y_at points x
 unfolding y_at
 y_at-past x [] count place is last = absurd (omega arith)
 y_at-past x (p ∷ points) count place is last =
     sym (ap (given_by (y_on x)) (find-x_past x p (p ∷ points) (λ k some within. is.parted.0 k p (omega arith) (omega arith))))
 
 -- the number is less than the x of the left point
-pub y_at-before : OrderLaw → (x : Fraction) → 0 < x.den → (points : List Point) (count place : ℕ) (left : Point) → AreRising points → IsPlace x points count place
+pub y_at-before : OrderLaw → (x : Fraction) → 0 < x.den → (points : List Point) (count place : ℕ) (left : Point)
+    → AreRising points → IsPlace x points count place
     → left ≡ get_or points (place - 1) left → is_lt (compared x left.0) ≡ true → place ≤ length points → Err OutsideTable ≡ y_at points x
 unfolding y_at
 y_at-before law x some [] count place left are is left_is h within = absurd (omega arith)
@@ -210,12 +220,14 @@ y_at-before law x some (p ∷ points) (suc count) place left are is left_is h wi
     clash o a b = cc
 
 -- the segment at the place holds the number
-pub y_at-here : (x : Fraction) (points : List Point) (count place : ℕ) (left right : Point) → IsPlace x points count place → AreNeighbours points place left right
+pub y_at-here : (x : Fraction) (points : List Point) (count place : ℕ) (left right : Point) → IsPlace x points count place
+    → AreNeighbours points place left right
     → is_lt (compared x left.0) ≡ false → y_at points x ≡ numbered (y_on x (record { left = left; right = right }))
 unfolding y_at
 y_at-here x points count place left right is are low =
     let shift : suc (place - 1) ≡ place = shifted place are.some in
-    let left_is : left ≡ get_or points (place - 1) right = get_or_read points (place - 1) left (before place (length points) are.within) are.left right in
+    let left_is : left ≡ get_or points (place - 1) right =
+    get_or_read points (place - 1) left (before place (length points) are.within) are.left right in
     let right_is : right ≡ get_or points (suc (place - 1)) right = are.right ∙ ap (λ k. get_or points k right) (sym shift) in
     let found = find-x_here x right points (place - 1) (record {
       within = rw shift are.within;
@@ -238,7 +250,8 @@ pub record IsSearched (points : List Point) (y : Fraction) (i : ℕ) (before : O
   pub rest : find (holds_y y) (segments (drop (i - 1) points)) ≡ find (holds_y y) (segments points)
 
 -- and goes on
-pub x_at-more : (points : List Point) (y : Fraction) (i : ℕ) (before after : Ordering) (right : Point) → IsSearched points y i before → 0 < i → i < length points
+pub x_at-more : (points : List Point) (y : Fraction) (i : ℕ) (before after : Ordering) (right : Point)
+    → IsSearched points y i before → 0 < i → i < length points
     → right ≡ get_or points i right → after ≡ compared right.1 y → are_around before after ≡ false → IsSearched points y (i + 1) after
 x_at-more points y i before after right is some within right_is after_is other =
     let left = get_or points (i - 1) right in
@@ -262,8 +275,10 @@ x_at-more points y i before after right is some within right_is after_is other =
     back i = omega arith
 
 -- it ends at neighbours that are around y
-pub x_at-here : (points : List Point) (y : Fraction) (i : ℕ) (before after : Ordering) (left right : Point) → IsSearched points y i before → AreNeighbours points i left right
-    → after ≡ compared right.1 y → are_around before after ≡ true → x_at points y ≡ numbered (x_on y (record { left = left; right = right }))
+pub x_at-here : (points : List Point) (y : Fraction) (i : ℕ) (before after : Ordering) (left right : Point)
+    → IsSearched points y i before → AreNeighbours points i left right
+    → after ≡ compared right.1 y → are_around before after ≡ true
+        → x_at points y ≡ numbered (x_on y (record { left = left; right = right }))
 unfolding x_at
 x_at-here points y i before after left right is are after_is around =
     let same : are_around before after ≡ are_around (compared left.1 y) (compared right.1 y) =
@@ -271,6 +286,7 @@ x_at-here points y i before after left right is are after_is around =
     ap (given_by (x_on y)) (sym is.rest ∙ find-y_here points i left right y are (sym same ∙ around))
 
 -- or behind the last point
-pub x_at-past : (points : List Point) (y : Fraction) (i : ℕ) (before : Ordering) → IsSearched points y i before → length points ≡ i - 1 + 1 → Err OutsideTable ≡ x_at points y
+pub x_at-past : (points : List Point) (y : Fraction) (i : ℕ) (before : Ordering) → IsSearched points y i before
+    → length points ≡ i - 1 + 1 → Err OutsideTable ≡ x_at points y
 unfolding x_at
 x_at-past points y i before is last = ap (given_by (x_on y)) (ap (find (holds_y y)) (sym (segments-last points (i - 1) last)) ∙ is.rest)

@@ -51,17 +51,20 @@ rises-left points i p q are =
     ap rises (drop-left points i p q are) ∙ sym (ap (λ xs. is_lt (compared p.0 q.0) && rises xs) (drop-right points i p q are))
 
 -- how they stand to each other
-same_order : {points : List Point} {i : ℕ} {p q : Point} → AreNeighbours points i p q → compared p.0 q.0 ≡ compared (get_or points (i - 1) p).0 (get_or points i q).0
+same_order : {points : List Point} {i : ℕ} {p q : Point} → AreNeighbours points i p q
+    → compared p.0 q.0 ≡ compared (get_or points (i - 1) p).0 (get_or points i q).0
 same_order {points} {i} {p} {q} are = ap (λ r. compared r.0 q.0) are.left ∙ ap (λ r. compared (get_or points (i - 1) p).0 r.0) are.right
 
 -- a point that is not less than the next one
-pub rises-stop : (points : List Point) (i : ℕ) (p q : Point) (less : Bool) → AreNeighbours points i p q → less ≡ is_lt (compared (get_or points (i - 1) p).0 (get_or points i q).0)
+pub rises-stop : (points : List Point) (i : ℕ) (p q : Point) (less : Bool) → AreNeighbours points i p q
+    → less ≡ is_lt (compared (get_or points (i - 1) p).0 (get_or points i q).0)
     → less ≡ false → rises (drop (i - 1) points) ≡ rises points → false ≡ rises points
 rises-stop points i p q less are less_is none rest =
     ap (λ b. b && rises (drop i points)) (sym none ∙ less_is ∙ sym (ap is_lt (same_order are))) ∙ sym (rises-left points i p q are) ∙ rest
 
 -- a point that is less
-pub rises-on : (points : List Point) (i : ℕ) (p q : Point) (less : Bool) → AreNeighbours points i p q → less ≡ is_lt (compared (get_or points (i - 1) p).0 (get_or points i q).0)
+pub rises-on : (points : List Point) (i : ℕ) (p q : Point) (less : Bool) → AreNeighbours points i p q
+    → less ≡ is_lt (compared (get_or points (i - 1) p).0 (get_or points i q).0)
     → less ≡ true → rises (drop (i - 1) points) ≡ rises points → rises (drop (i + 1 - 1) points) ≡ rises points
 rises-on points i p q less are less_is some rest =
     ap (λ k. rises (drop k points)) (back i) ∙ ap (λ b. b && rises (drop i points)) (sym some ∙ less_is ∙ sym (ap is_lt (same_order are)))
@@ -87,7 +90,8 @@ compared-reverse a b = int_cmp_total.antisymm (a.num *ℤ pos b.den) (b.num *ℤ
 pub between-around : (a b y : Fraction) → (is_from_to a b y || is_from_to b a y) ≡ are_around (compared a y) (compared b y)
 between-around a b y = rw (compared-reverse y b, compared-reverse y a) (by_order (compared a y) (compared b y))
   where
-    by_order : (left right : Ordering) → (is_le left && is_le (ordering_reverse right) || is_le right && is_le (ordering_reverse left)) ≡ are_around left right
+    by_order : (left right : Ordering)
+        → (is_le left && is_le (ordering_reverse right) || is_le right && is_le (ordering_reverse left)) ≡ are_around left right
     by_order Less Less = refl
     by_order Less Equal = refl
     by_order Less Greater = refl

@@ -71,14 +71,16 @@ module _ (law : ReducedLaw) where
   pub sum_left : (a : Fraction) → IsReduced a → exponent_sum a nothing ≡ a
   unfolding one
   sum_left a is =
-      let num : (a.num *ℤ pos 1) +ℤ (pos 0 *ℤ pos a.den) ≡ a.num = ap (λ z. (a.num *ℤ pos 1) +ℤ z) (zero-*ℤ (pos a.den)) ∙ +ℤ_idr _ ∙ *ℤ-one a.num in
+      let num : (a.num *ℤ pos 1) +ℤ (pos 0 *ℤ pos a.den) ≡ a.num =
+      ap (λ z. (a.num *ℤ pos 1) +ℤ z) (zero-*ℤ (pos a.den)) ∙ +ℤ_idr _ ∙ *ℤ-one a.num in
       let den : a.den * 1 ≡ a.den = omega arith in
       ap (λ z. reduced z (a.den * 1)) num ∙ ap (reduced a.num) den ∙ sym ((law a.num a.den is.positive).2 a is refl)
 
   pub sum_right : (b : Fraction) → IsReduced b → exponent_sum nothing b ≡ b
   unfolding one
   sum_right b is =
-      let num : (pos 0 *ℤ pos b.den) +ℤ (b.num *ℤ pos 1) ≡ b.num = ap (λ z. z +ℤ (b.num *ℤ pos 1)) (zero-*ℤ (pos b.den)) ∙ +ℤ_idl _ ∙ *ℤ-one b.num in
+      let num : (pos 0 *ℤ pos b.den) +ℤ (b.num *ℤ pos 1) ≡ b.num =
+      ap (λ z. z +ℤ (b.num *ℤ pos 1)) (zero-*ℤ (pos b.den)) ∙ +ℤ_idl _ ∙ *ℤ-one b.num in
       let den : 1 * b.den ≡ b.den = omega arith in
       ap (λ z. reduced z (1 * b.den)) num ∙ ap (reduced b.num) den ∙ sym ((law b.num b.den is.positive).2 b is refl)
 

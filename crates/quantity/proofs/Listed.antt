@@ -34,7 +34,8 @@ none_at true v e = e
 none_at false v e = refl
 
 -- what a function gives a name that is among those given
-find-given : (f : Name → Fraction) (names : List Name) (q : Name) → find by_bytes q (given f names) ≡ cond (list_any (is_name q) names) (kept (f q)) None
+find-given : (f : Name → Fraction) (names : List Name) (q : Name)
+    → find by_bytes q (given f names) ≡ cond (list_any (is_name q) names) (kept (f q)) None
 find-given f [] q = refl
 find-given f (n ∷ ns) q =
     let rest = find-given f ns q in
@@ -55,7 +56,8 @@ find-given f (n ∷ ns) q =
         ∙ here q (f q) (given f ns)
         ∙ sym stays ∙ sym (ap (λ b. cond (b || list_any (is_name q) ns) (kept (f q)) None) (is_itself q))
 
-    another : (z : Bool) → is_name q n ≡ false → find by_bytes q (cond (not z) ((n, f n) ∷ given f ns) (given f ns)) ≡ find by_bytes q (given f ns)
+    another : (z : Bool) → is_name q n ≡ false
+        → find by_bytes q (cond (not z) ((n, f n) ∷ given f ns) (given f ns)) ≡ find by_bytes q (given f ns)
     another true other = refl
     another false other = past q n (f n) (given f ns) other
 
@@ -65,7 +67,8 @@ pub record GivesNames (f : Name → Fraction) (names : List Name) : Type 0 where
   pub others : (q : Name) → list_any (is_name q) names ≡ false → f q ≡ nothing
 
 -- the exponent of a name in the map of a function
-pub get-exponents_by : (f : Name → Fraction) (names : List Name) (q : Name) → GivesNames f names → map_of.get (exponents_by f names) q ≡ kept (f q)
+pub get-exponents_by : (f : Name → Fraction) (names : List Name) (q : Name) → GivesNames f names
+    → map_of.get (exponents_by f names) q ≡ kept (f q)
 unfolding exponents_by
 get-exponents_by f names q is =
     map_of.get-from_entries nat_list_cmp_total (given f names) q ∙ find-given f names q ∙ go (list_any (is_name q) names) refl
@@ -74,7 +77,8 @@ get-exponents_by f names q is =
     go true e = refl
     go false e = sym (ap kept (is.others q e))
 
-pub exponent_of-exponents_by : (f : Name → Fraction) (names : List Name) (q : Name) → GivesNames f names → exponent_of (exponents_by f names) q ≡ f q
+pub exponent_of-exponents_by : (f : Name → Fraction) (names : List Name) (q : Name) → GivesNames f names
+    → exponent_of (exponents_by f names) q ≡ f q
 exponent_of-exponents_by f names q is = ap (λ o. unwrap_or o nothing) (get-exponents_by f names q is) ∙ unwrap_kept (f q) (is.reduced q)
 
 -- a list in order has what a function gives
@@ -83,7 +87,8 @@ pub record Lists (f : Name → Fraction) (es : Powers) : Type 0 where
   pub found : (q : Name) → find by_bytes q es ≡ kept (f q)
 
 -- then it is the map of that function
-pub listed_map : (f : Name → Fraction) (names : List Name) (es : Powers) → GivesNames f names → Lists f es → exponents_in es ≡ exponents_by f names
+pub listed_map : (f : Name → Fraction) (names : List Name) (es : Powers) → GivesNames f names → Lists f es
+    → exponents_in es ≡ exponents_by f names
 listed_map f names es is lists = map_of.same_map nat_list_cmp_total same_name _ _ (λ q.
     map_of.get-from_sorted by_bytes es q lists.sorted ∙ lists.found q ∙ sym (get-exponents_by f names q is))
 
@@ -119,19 +124,22 @@ found_exponent : (es : Powers) (q : Name) (v : Fraction) → are_exponents es �
 found_exponent [] q v all is = absurd (cc)
 found_exponent (e ∷ es) q v all is = go (is_name q e.0) is (λ rest. found_exponent es q v (second_so (is_exponent e.1) _ all) rest)
   where
-    go : (b : Bool) → cond b (Some e.1) (find by_bytes q es) ≡ Some v → (find by_bytes q es ≡ Some v → is_exponent v ≡ true) → is_exponent v ≡ true
+    go : (b : Bool) → cond b (Some e.1) (find by_bytes q es) ≡ Some v → (find by_bytes q es ≡ Some v → is_exponent v ≡ true)
+        → is_exponent v ≡ true
     go true is rest = subst (λ x. is_exponent x ≡ true) (some_same e.1 v is) (first_so _ _ all)
     go false is rest = rest is
 
 -- what is found in the rest of a list in order is found in the list
-found_behind : (e : Name × Fraction) (es : Powers) → T (is_sorted by_bytes (e ∷ es)) → (q : Name) (v : Fraction) → find by_bytes q es ≡ Some v → find by_bytes q (e ∷ es) ≡ Some v
+found_behind : (e : Name × Fraction) (es : Powers) → T (is_sorted by_bytes (e ∷ es)) → (q : Name) (v : Fraction)
+    → find by_bytes q es ≡ Some v → find by_bytes q (e ∷ es) ≡ Some v
 found_behind e es sorted q v found = elim (one_or_two q e.0) [
   | inl same ↦ (let gone : find by_bytes q es ≡ None = ap (λ k. find by_bytes k es) same ∙ find_below e.0 es (first _ _ sorted) in absurd (cc))
   | inr other ↦ past q e.0 e.1 es other ∙ found
 ]
 
 -- a power of a list in order that has no exponent is found
-found_fault : (es : Powers) → T (is_sorted by_bytes es) → are_exponents es ≡ false → (q : Name) × (v : Fraction) × (find by_bytes q es ≡ Some v) × (is_exponent v ≡ false)
+found_fault : (es : Powers) → T (is_sorted by_bytes es) → are_exponents es ≡ false
+    → (q : Name) × (v : Fraction) × (find by_bytes q es ≡ Some v) × (is_exponent v ≡ false)
 found_fault [] sorted some = absurd (cc)
 found_fault (e ∷ es) sorted some = go (is_exponent e.1) refl some (λ rest. found_fault es (second _ _ sorted) rest)
   where
@@ -144,14 +152,16 @@ found_fault (e ∷ es) sorted some = go (is_exponent e.1) refl some (λ rest. fo
     go false is some rest = (e.0, e.1, here e.0 e.1 es, is)
 
 -- the two tests agree
-pub listed_range : (f : Name → Fraction) (names : List Name) (es : Powers) → GivesNames f names → Lists f es → are_exponents es ≡ list_all (λ q. is_exponent (f q)) names
+pub listed_range : (f : Name → Fraction) (names : List Name) (es : Powers) → GivesNames f names → Lists f es
+    → are_exponents es ≡ list_all (λ q. is_exponent (f q)) names
 listed_range f names es is lists = go (are_exponents es) refl
   where
     inside : are_exponents es ≡ true → (q : Name) (z : Bool) → is_zero (f q) ≡ z → is_exponent (f q) ≡ true
     inside all q true none = ap is_exponent (zero_is (f q) (is.reduced q) none)
     inside all q false some = found_exponent es q (f q) all (lists.found q ∙ some_kept (f q) some)
 
-    outside : (q : Name) (v : Fraction) → find by_bytes q es ≡ Some v → is_exponent v ≡ false → list_all (λ q. is_exponent (f q)) names ≡ false
+    outside : (q : Name) (v : Fraction) → find by_bytes q es ≡ Some v → is_exponent v ≡ false
+        → list_all (λ q. is_exponent (f q)) names ≡ false
     outside q v found fails =
         let same : kept (f q) ≡ Some v = sym (lists.found q) ∙ found in
         let value : f q ≡ v = kept_value (f q) v same in
@@ -188,7 +198,8 @@ exponent_fits e is h = record {
   den_fits = within _ _ (second_so (nat_le (unsigned_abs e.num) 32767) (nat_le e.den 60) h);
 }
 
-pub all_kept : (f : Name → Fraction) (names : List Name) (es : Powers) → GivesNames f names → Lists f es → are_exponents es ≡ true → Each IsPower es
+pub all_kept : (f : Name → Fraction) (names : List Name) (es : Powers) → GivesNames f names → Lists f es → are_exponents es ≡ true
+    → Each IsPower es
 all_kept f names es is lists all = go es (all_found es lists.sorted) all
   where
     some_is : (q : Name) (v : Fraction) (z : Bool) → is_zero (f q) ≡ z → cond z None (Some (f q)) ≡ Some v → is_zero v ≡ false

@@ -14,10 +14,13 @@ use Rattle.quantity.proofs.Names.{Name, by_bytes, is_name, one_or_two}
 parted_at : (es : Powers) (i : ℕ) (e : Name × Fraction) → i < length es → e ≡ get_or es i e → drop i es ≡ e ∷ drop (suc i) es
 parted_at es i e lt is = drop-cons es i e lt ∙ ap (λ d. d ∷ drop (suc i) es) (sym is)
 
-pub found_at : (es : Powers) (i : ℕ) (q : Name) (e : Name × Fraction) → i < length es → e ≡ get_or es i e → true ≡ pointwise eqb q e.0 → find by_bytes q (drop i es) ≡ Some e.1
-found_at es i q e lt is same = ap (find by_bytes q) (parted_at es i e lt is) ∙ here_own q e.0 e.1 (drop (suc i) es) ((bytes_decides q e.0).0 (sym same))
+pub found_at : (es : Powers) (i : ℕ) (q : Name) (e : Name × Fraction) → i < length es → e ≡ get_or es i e
+    → true ≡ pointwise eqb q e.0 → find by_bytes q (drop i es) ≡ Some e.1
+found_at es i q e lt is same =
+    ap (find by_bytes q) (parted_at es i e lt is) ∙ here_own q e.0 e.1 (drop (suc i) es) ((bytes_decides q e.0).0 (sym same))
 
-pub passed_at : (es : Powers) (i : ℕ) (q : Name) (e : Name × Fraction) → i < length es → e ≡ get_or es i e → false ≡ pointwise eqb q e.0 → find by_bytes q (drop (i + 1) es) ≡ find by_bytes q (drop i es)
+pub passed_at : (es : Powers) (i : ℕ) (q : Name) (e : Name × Fraction) → i < length es → e ≡ get_or es i e
+    → false ≡ pointwise eqb q e.0 → find by_bytes q (drop (i + 1) es) ≡ find by_bytes q (drop i es)
 passed_at es i q e lt is other =
     let up : i + 1 ≡ suc i = omega arith in
     ap (λ k. find by_bytes q (drop k es)) up ∙ sym (ap (find by_bytes q) (parted_at es i e lt is) ∙ past q e.0 e.1 (drop (suc i) es) (apart (one_or_two q e.0)))

@@ -89,7 +89,9 @@ find-negated (o ∷ os) q all = go (is_name q o.0) (find-negated os q all.1)
 
 matches_negated : (os : Powers) → matches negated (map (taken negated) os) os ≡ true
 matches_negated [] = refl
-matches_negated (o ∷ os) = ap₂ (λ a b. (a && b) && matches negated (map (taken negated) os) os) (name_self o.0) (same_self (negated o.1)) ∙ matches_negated os
+matches_negated (o ∷ os) =
+    ap₂ (λ a b. (a && b) && matches negated (map (taken negated) os) os) (name_self o.0) (same_self (negated o.1))
+    ∙ matches_negated os
 
 -- lists in order match by the negative of each exponent where the maps give them so
 pub opposite_is : (ps os : Powers) → T (is_sorted by_bytes ps) → T (is_sorted by_bytes os) → Each IsPower ps → Each IsPower os
@@ -119,7 +121,8 @@ same_exponents_law p o all all_o same =
 pub reciprocal_is : (p o : Exponents) → AreKept p → AreKept o
     → (matches negated (map_of.entries p) (map_of.entries o) ≡ true) ↔ ((q : Name) → exponent_of p q ≡ negated (exponent_of o q))
 reciprocal_is p o all all_o =
-    let both = opposite_is (map_of.entries p) (map_of.entries o) (map_of.entries_sorted p) (map_of.entries_sorted o) (recursion_from_All IsPower _ all) (recursion_from_All IsPower _ all_o) in (
+    let both =
+    opposite_is (map_of.entries p) (map_of.entries o) (map_of.entries_sorted p) (map_of.entries_sorted o) (recursion_from_All IsPower _ all) (recursion_from_All IsPower _ all_o) in (
       λ h q. exponent_at p q ∙ both.0 h q ∙ ap negated (sym (exponent_at o q)),
       λ h. both.1 (λ q. sym (exponent_at p q) ∙ h q ∙ ap negated (exponent_at o q)),
     )

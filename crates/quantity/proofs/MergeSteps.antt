@@ -21,7 +21,8 @@ use Rattle.quantity.proofs.Names.{Name, by_bytes}
 
 -- ---- what stands at the front of a merge
 
-merged_left : (step : Fraction → Fraction) (p : Name × Fraction) (ps os : Powers) → first_of (p ∷ ps) os ≡ Left → merged step (p ∷ ps) os ≡ p ∷ merged step ps os
+merged_left : (step : Fraction → Fraction) (p : Name × Fraction) (ps os : Powers) → first_of (p ∷ ps) os ≡ Left
+    → merged step (p ∷ ps) os ≡ p ∷ merged step ps os
 merged_left step p ps [] h = refl
 merged_left step p ps (o ∷ os) h = go (by_bytes p.0 o.0) h
   where
@@ -31,7 +32,8 @@ merged_left step p ps (o ∷ os) h = go (by_bytes p.0 o.0) h
     go Equal h = cc
     go Greater h = cc
 
-merged_right : (step : Fraction → Fraction) (o : Name × Fraction) (ps os : Powers) → first_of ps (o ∷ os) ≡ Right → merged step ps (o ∷ os) ≡ taken step o ∷ merged step ps os
+merged_right : (step : Fraction → Fraction) (o : Name × Fraction) (ps os : Powers) → first_of ps (o ∷ os) ≡ Right
+    → merged step ps (o ∷ os) ≡ taken step o ∷ merged step ps os
 merged_right step o [] os h = refl
 merged_right step o (p ∷ ps) os h = go (by_bytes p.0 o.0) h
   where
@@ -70,12 +72,14 @@ within m n h = grind (arith, nat_tests)
 pub exponent_passes : (e : Fraction) → IsExponent e → is_exponent e ≡ true
 exponent_passes e is = ap₂ (λ a b. a && b) (within (unsigned_abs e.num) 32767 is.num_fits) (within e.den 60 is.den_fits)
 
-pub all_push : (out : Powers) (p : Name × Fraction) → are_exponents out ≡ true → is_exponent p.1 ≡ true → are_exponents (out ++ p ∷ []) ≡ true
+pub all_push : (out : Powers) (p : Name × Fraction) → are_exponents out ≡ true → is_exponent p.1 ≡ true
+    → are_exponents (out ++ p ∷ []) ≡ true
 all_push [] p all fits = ap (λ b. b && true) fits
 all_push (e ∷ out) p all fits =
     ap₂ (λ a b. a && b) (first_so _ _ all) (all_push out p (second_so (is_exponent e.1) _ all) fits)
 
-pub all_put : (out : Powers) (p : Name × Fraction) → are_exponents out ≡ true → is_exponent p.1 ≡ true → are_exponents (out ++ put_some p []) ≡ true
+pub all_put : (out : Powers) (p : Name × Fraction) → are_exponents out ≡ true → is_exponent p.1 ≡ true
+    → are_exponents (out ++ put_some p []) ≡ true
 all_put out p all fits = go (is_zero p.1)
   where
     go : (z : Bool) → are_exponents (out ++ cond z [] (p ∷ [])) ≡ true
@@ -92,7 +96,8 @@ fault_after (e ∷ out) p rest fails = go (is_exponent e.1) (fault_after out p r
     go false h = refl
 
 -- what is out of range is not 0
-pub fault_stays : (out : Powers) (p : Name × Fraction) (rest : Powers) → IsReduced p.1 → is_exponent p.1 ≡ false → are_exponents (out ++ put_some p rest) ≡ false
+pub fault_stays : (out : Powers) (p : Name × Fraction) (rest : Powers) → IsReduced p.1 → is_exponent p.1 ≡ false
+    → are_exponents (out ++ put_some p rest) ≡ false
 fault_stays out p rest reduced fails = go (is_zero p.1) refl
   where
     none : is_zero p.1 ≡ true → true ≡ false
@@ -122,13 +127,15 @@ pub record IsMerging (step : Fraction → Fraction) (ps os out left right : Powe
 pub merging_start : (step : Fraction → Fraction) (ps os : Powers) → All IsPower ps → All IsPower os → IsMerging step ps os [] ps os
 merging_start step ps os all all_os = record { done = refl; fits = refl; left_kept = all; right_kept = all_os }
 
-pub merging_end : (step : Fraction → Fraction) (ps os out left right : Powers) → IsMerging step ps os out left right → first_of left right ≡ Neither
+pub merging_end : (step : Fraction → Fraction) (ps os out left right : Powers) → IsMerging step ps os out left right
+    → first_of left right ≡ Neither
     → (out ≡ merged step ps os) × IsTrue (are_exponents (merged step ps os))
 merging_end step ps os out left right is none =
     let all : out ≡ merged step ps os = sym (append-nil out) ∙ ap (λ es. out ++ es) (sym (merged_none step left right none)) ∙ is.done in
     (all, ap are_exponents (sym all) ∙ is.fits)
 
-pub merging_left : (step : Fraction → Fraction) (ps os out left right new rest : Powers) (p power : Name × Fraction) → IsMerging step ps os out left right
+pub merging_left : (step : Fraction → Fraction) (ps os out left right new rest : Powers) (p power : Name × Fraction)
+    → IsMerging step ps os out left right
     → Left ≡ first_of left right → left ≡ p ∷ rest → power ≡ p → new ≡ out ++ power ∷ [] → IsMerging step ps os new rest right
 merging_left step ps os out left right new rest p power is front parts same pushed =
     let order : first_of (p ∷ rest) right ≡ Left = ap (λ es. first_of es right) (sym parts) ∙ sym front in
@@ -142,7 +149,8 @@ merging_left step ps os out left right new rest p power is front parts same push
       right_kept = is.right_kept;
     }
 
-pub merging_right : (step : Fraction → Fraction) (ps os out left right new rest : Powers) (o power : Name × Fraction) → IsStep step → IsMerging step ps os out left right
+pub merging_right : (step : Fraction → Fraction) (ps os out left right new rest : Powers) (o power : Name × Fraction)
+    → IsStep step → IsMerging step ps os out left right
     → Right ≡ first_of left right → right ≡ o ∷ rest → power ≡ taken step o → new ≡ out ++ power ∷ [] → IsMerging step ps os new left rest
 merging_right step ps os out left right new rest o power known is front parts same pushed =
     let order : first_of left (o ∷ rest) ≡ Right = ap (λ es. first_of left es) (sym parts) ∙ sym front in
@@ -157,7 +165,8 @@ merging_right step ps os out left right new rest o power known is front parts sa
     }
 
 -- the merge goes on with a sum
-both_next : (step : Fraction → Fraction) (ps os out left right left_rest right_rest : Powers) (p o : Name × Fraction) → IsMerging step ps os out left right
+both_next : (step : Fraction → Fraction) (ps os out left right left_rest right_rest : Powers) (p o : Name × Fraction)
+    → IsMerging step ps os out left right
     → Both ≡ first_of left right → left ≡ p ∷ left_rest → right ≡ o ∷ right_rest
     → out ++ put_some (p.0, exponent_sum p.1 (step o.1)) (merged step left_rest right_rest) ≡ merged step ps os
 both_next step ps os out left right left_rest right_rest p o is front left_parts right_parts =
@@ -166,9 +175,11 @@ both_next step ps os out left right left_rest right_rest p o is front left_parts
 
 pub merging_both : (step : Fraction → Fraction) (ps os out left right new left_rest right_rest : Powers) (p o : Name × Fraction) (e : Fraction) → IsMerging step ps os out left right
     → Both ≡ first_of left right → left ≡ p ∷ left_rest → right ≡ o ∷ right_rest → e ≡ step o.1
-    → (new ≡ out ++ put_some (p.0, exponent_sum p.1 e) []) × IsTrue (is_exponent (exponent_sum p.1 e)) → IsMerging step ps os new left_rest right_rest
+    → (new ≡ out ++ put_some (p.0, exponent_sum p.1 e) []) × IsTrue (is_exponent (exponent_sum p.1 e))
+        → IsMerging step ps os new left_rest right_rest
 merging_both step ps os out left right new left_rest right_rest p o e is front left_parts right_parts same put =
-    let now : new ≡ out ++ put_some (p.0, exponent_sum p.1 (step o.1)) [] = put.0 ∙ ap (λ v. out ++ put_some (p.0, exponent_sum p.1 v) []) same in
+    let now : new ≡ out ++ put_some (p.0, exponent_sum p.1 (step o.1)) [] =
+    put.0 ∙ ap (λ v. out ++ put_some (p.0, exponent_sum p.1 v) []) same in
     record {
       done = ap (λ es. es ++ merged step left_rest right_rest) now
           ∙ append_assoc out (put_some (p.0, exponent_sum p.1 (step o.1)) []) (merged step left_rest right_rest)
@@ -179,7 +190,9 @@ merging_both step ps os out left right new left_rest right_rest p o e is front l
       right_kept = All-tail IsPower o right_rest (subst (All IsPower) right_parts is.right_kept);
     }
 
-pub merging_fault : ReducedLaw → (step : Fraction → Fraction) (ps os out left right left_rest right_rest : Powers) (p o : Name × Fraction) (e : Fraction) → IsStep step → IsMerging step ps os out left right
+pub merging_fault : ReducedLaw
+    → (step : Fraction → Fraction) (ps os out left right left_rest right_rest : Powers) (p o : Name × Fraction) (e : Fraction)
+    → IsStep step → IsMerging step ps os out left right
     → Both ≡ first_of left right → left ≡ p ∷ left_rest → right ≡ o ∷ right_rest → e ≡ step o.1
     → IsFalse (is_exponent (exponent_sum p.1 e)) → IsFalse (are_exponents (merged step ps os))
 merging_fault law step ps os out left right left_rest right_rest p o e known is front left_parts right_parts same fails =

@@ -23,11 +23,13 @@ pub record IsStep (step : Fraction → Fraction) : Type 0 where
 
 -- ---- the names still rise
 
-below-map : (step : Fraction → Fraction) (x : Name) (os : Powers) → T (below_all by_bytes x os) → T (below_all by_bytes x (map (taken step) os))
+below-map : (step : Fraction → Fraction) (x : Name) (os : Powers) → T (below_all by_bytes x os)
+    → T (below_all by_bytes x (map (taken step) os))
 below-map step x [] h = tt
 below-map step x (o ∷ os) h = both _ _ (first _ _ h) (below-map step x os (second _ _ h))
 
-pub below-put : (x : Name) (p : Name × Fraction) (es : Powers) → T (is_lt (by_bytes x p.0)) → T (below_all by_bytes x es) → T (below_all by_bytes x (put_some p es))
+pub below-put : (x : Name) (p : Name × Fraction) (es : Powers) → T (is_lt (by_bytes x p.0)) → T (below_all by_bytes x es)
+    → T (below_all by_bytes x (put_some p es))
 below-put x p es h g = go (is_zero p.1)
   where
     go : (z : Bool) → T (below_all by_bytes x (cond z es (p ∷ es)))
@@ -46,7 +48,8 @@ below-into step x p rest (o ∷ os) below h g =
       | Greater ↦ both _ _ (first _ _ g) more
     ]
 
-below-merged : (step : Fraction → Fraction) (x : Name) (ps os : Powers) → T (below_all by_bytes x ps) → T (below_all by_bytes x os) → T (below_all by_bytes x (merged step ps os))
+below-merged : (step : Fraction → Fraction) (x : Name) (ps os : Powers) → T (below_all by_bytes x ps)
+    → T (below_all by_bytes x os) → T (below_all by_bytes x (merged step ps os))
 below-merged step x [] os h g = below-map step x os g
 below-merged step x (p ∷ ps) os h g =
     below-into step x p (merged step ps) os (λ os g. below-merged step x ps os (second _ _ h) g) (first _ _ h) g
@@ -55,7 +58,8 @@ pub sorted-map : (step : Fraction → Fraction) (os : Powers) → T (is_sorted b
 sorted-map step [] h = tt
 sorted-map step (o ∷ os) h = both _ _ (below-map step o.0 os (first _ _ h)) (sorted-map step os (second _ _ h))
 
-pub sorted-put : (p : Name × Fraction) (es : Powers) → T (below_all by_bytes p.0 es) → T (is_sorted by_bytes es) → T (is_sorted by_bytes (put_some p es))
+pub sorted-put : (p : Name × Fraction) (es : Powers) → T (below_all by_bytes p.0 es) → T (is_sorted by_bytes es)
+    → T (is_sorted by_bytes (put_some p es))
 sorted-put p es h g = go (is_zero p.1)
   where
     go : (z : Bool) → T (is_sorted by_bytes (cond z es (p ∷ es)))
@@ -80,7 +84,8 @@ sorted-into step p ps (o ∷ os) rest h g =
           more
     ] refl
 
-pub sorted-merged : (step : Fraction → Fraction) (ps os : Powers) → T (is_sorted by_bytes ps) → T (is_sorted by_bytes os) → T (is_sorted by_bytes (merged step ps os))
+pub sorted-merged : (step : Fraction → Fraction) (ps os : Powers) → T (is_sorted by_bytes ps) → T (is_sorted by_bytes os)
+    → T (is_sorted by_bytes (merged step ps os))
 sorted-merged step [] os h g = sorted-map step os g
 sorted-merged step (p ∷ ps) os h g = sorted-into step p ps os (λ os g. sorted-merged step ps os (second _ _ h) g) (first _ _ h) g
 
@@ -119,11 +124,13 @@ module _ (law : ReducedLaw) (step : Fraction → Fraction) (is : IsStep step) wh
   total ps os q = exponent_sum (at ps q) (step (at os q))
 
   -- of a name that one list alone has
-  left_alone : (ps os : Powers) (q : Name) (v : Fraction) → IsReduced v → IsFalse (is_zero v) → at ps q ≡ v → at os q ≡ nothing → Some v ≡ kept (total ps os q)
+  left_alone : (ps os : Powers) (q : Name) (v : Fraction) → IsReduced v → IsFalse (is_zero v) → at ps q ≡ v → at os q ≡ nothing
+      → Some v ≡ kept (total ps os q)
   left_alone ps os q v reduced some here gone =
       sym (some_kept v some) ∙ ap kept (sym (ap₂ (λ a b. exponent_sum a (step b)) here gone ∙ ap (exponent_sum v) is.nothing ∙ sum_left law v reduced))
 
-  right_alone : (ps os : Powers) (q : Name) (v : Fraction) → IsReduced v → IsFalse (is_zero v) → at ps q ≡ nothing → at os q ≡ v → Some (step v) ≡ kept (total ps os q)
+  right_alone : (ps os : Powers) (q : Name) (v : Fraction) → IsReduced v → IsFalse (is_zero v) → at ps q ≡ nothing → at os q ≡ v
+      → Some (step v) ≡ kept (total ps os q)
   right_alone ps os q v reduced some gone here =
       sym (some_kept (step v) (is.zero v ∙ some)) ∙ ap kept (sym (ap₂ (λ a b. exponent_sum a (step b)) gone here ∙ sum_right law (step v) (is.reduced v reduced)))
 
@@ -163,7 +170,8 @@ module _ (law : ReducedLaw) (step : Fraction → Fraction) (is : IsStep step) wh
   ]
 
   -- at the front of both lists
-  find-both : (p o : Name × Fraction) (ps os : Powers) (q : Name) → p.0 ≡ o.0 → T (below_all by_bytes p.0 ps) → T (below_all by_bytes o.0 os)
+  find-both : (p o : Name × Fraction) (ps os : Powers) (q : Name) → p.0 ≡ o.0 → T (below_all by_bytes p.0 ps)
+      → T (below_all by_bytes o.0 os)
       → find by_bytes q (merged step ps os) ≡ kept (total ps os q)
       → find by_bytes q (put_some (p.0, exponent_sum p.1 (step o.1)) (merged step ps os)) ≡ kept (total (p ∷ ps) (o ∷ os) q)
   find-both p o ps os q names below_p below_o rest = elim (one_or_two q p.0) [
@@ -172,7 +180,8 @@ module _ (law : ReducedLaw) (step : Fraction → Fraction) (is : IsStep step) wh
         ∙ same_total (p ∷ ps) (o ∷ os) ps os q (at-past q p.0 p.1 ps other) (at-past q o.0 o.1 os (subst (λ n. is_name q n ≡ false) names other))
   ]
     where
-      another : (z : Bool) → is_name q p.0 ≡ false → find by_bytes q (cond z (merged step ps os) ((p.0, exponent_sum p.1 (step o.1)) ∷ merged step ps os)) ≡ find by_bytes q (merged step ps os)
+      another : (z : Bool) → is_name q p.0 ≡ false
+          → find by_bytes q (cond z (merged step ps os) ((p.0, exponent_sum p.1 (step o.1)) ∷ merged step ps os)) ≡ find by_bytes q (merged step ps os)
       another true other = refl
       another false other = past q p.0 (exponent_sum p.1 (step o.1)) (merged step ps os) other
 
@@ -191,9 +200,11 @@ module _ (law : ReducedLaw) (step : Fraction → Fraction) (is : IsStep step) wh
           ∙ rest ∙ gone same ∙ sym (ap kept (value same) ∙ ap (λ z. cond z None (Some (exponent_sum p.1 (step o.1)))) e)
       own same false e =
           ap (λ z. find by_bytes q (cond z (merged step ps os) ((p.0, exponent_sum p.1 (step o.1)) ∷ merged step ps os))) e
-          ∙ here_own q p.0 (exponent_sum p.1 (step o.1)) (merged step ps os) same ∙ sym (ap kept (value same) ∙ some_kept (exponent_sum p.1 (step o.1)) e)
+          ∙ here_own q p.0 (exponent_sum p.1 (step o.1)) (merged step ps os) same
+          ∙ sym (ap kept (value same) ∙ some_kept (exponent_sum p.1 (step o.1)) e)
 
-  find-into : (p : Name × Fraction) (ps os : Powers) (q : Name) → IsPower p → Each IsPower os → T (below_all by_bytes p.0 ps) → T (is_sorted by_bytes os)
+  find-into : (p : Name × Fraction) (ps os : Powers) (q : Name) → IsPower p → Each IsPower os → T (below_all by_bytes p.0 ps)
+      → T (is_sorted by_bytes os)
       → ((os : Powers) → Each IsPower os → T (is_sorted by_bytes os) → find by_bytes q (merged step ps os) ≡ kept (total ps os q))
       → find by_bytes q (merged step (p ∷ ps) os) ≡ kept (total (p ∷ ps) os q)
   find-into p ps [] q known all below sorted rest = find-left p ps [] q known tt (rest [] tt tt)

@@ -29,7 +29,8 @@ scaling_more by all out rest new more p is parts put = record {
   kept = All-tail IsPower p more (subst (All IsPower) parts is.kept);
 }
 
-pub scaling_fault : ReducedLaw → (by : Fraction) (all out rest more : Powers) (p : Name × Fraction) → 0 < by.den → IsScaling by all out rest → rest ≡ p ∷ more
+pub scaling_fault : ReducedLaw → (by : Fraction) (all out rest more : Powers) (p : Name × Fraction) → 0 < by.den
+    → IsScaling by all out rest → rest ≡ p ∷ more
     → IsFalse (is_exponent (exponent_product p.1 by)) → IsFalse (are_exponents (scaled by all))
 scaling_fault law by all out rest more p some is parts fails =
     let kept = All-head IsPower p more (subst (All IsPower) parts is.kept) in

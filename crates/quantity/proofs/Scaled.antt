@@ -31,7 +31,8 @@ find-scaled law by (p ∷ ps) q some sorted =
       | inr other ↦ another (is_zero (exponent_product p.1 by)) other ∙ rest ∙ ap (λ e. kept (exponent_product e by)) (sym (at-past q p.0 p.1 ps other))
     ]
   where
-    another : (z : Bool) → is_name q p.0 ≡ false → find by_bytes q (cond z (scaled by ps) ((p.0, exponent_product p.1 by) ∷ scaled by ps)) ≡ find by_bytes q (scaled by ps)
+    another : (z : Bool) → is_name q p.0 ≡ false
+        → find by_bytes q (cond z (scaled by ps) ((p.0, exponent_product p.1 by) ∷ scaled by ps)) ≡ find by_bytes q (scaled by ps)
     another true other = refl
     another false other = past q p.0 (exponent_product p.1 by) (scaled by ps) other
 
@@ -39,9 +40,11 @@ find-scaled law by (p ∷ ps) q some sorted =
     value same = ap (λ e. exponent_product e by) (at_own q p.0 p.1 ps same)
 
     gone : q ≡ p.0 → kept (exponent_product (at ps q) by) ≡ None
-    gone same = ap (λ e. kept (exponent_product e by)) (at-below q ps (subst (λ n. T (below_all by_bytes n ps)) (sym same) (first _ _ sorted))) ∙ ap kept (product_zero law by some)
+    gone same =
+        ap (λ e. kept (exponent_product e by)) (at-below q ps (subst (λ n. T (below_all by_bytes n ps)) (sym same) (first _ _ sorted))) ∙ ap kept (product_zero law by some)
 
-    own : q ≡ p.0 → (z : Bool) → is_zero (exponent_product p.1 by) ≡ z → find by_bytes q (scaled by ps) ≡ kept (exponent_product (at ps q) by)
+    own : q ≡ p.0 → (z : Bool) → is_zero (exponent_product p.1 by) ≡ z
+        → find by_bytes q (scaled by ps) ≡ kept (exponent_product (at ps q) by)
         → find by_bytes q (scaled by (p ∷ ps)) ≡ kept (exponent_product (at (p ∷ ps) q) by)
     own same true e rest =
         ap (λ z. find by_bytes q (cond z (scaled by ps) ((p.0, exponent_product p.1 by) ∷ scaled by ps))) e

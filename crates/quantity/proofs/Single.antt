@@ -13,7 +13,8 @@ use Rattle.quantity.proofs.Matched.{exponent_at}
 use Rattle.quantity.proofs.Names.{Name, by_bytes, same_name}
 
 pub no_power : exponents_in [] ≡ map_of.empty
-no_power = map_of.same_map nat_list_cmp_total same_name _ _ (λ q. map_of.get-from_sorted by_bytes [] q tt ∙ sym (map_of.get-empty by_bytes q))
+no_power =
+    map_of.same_map nat_list_cmp_total same_name _ _ (λ q. map_of.get-from_sorted by_bytes [] q tt ∙ sym (map_of.get-empty by_bytes q))
 
 abbrev one : Fraction
 one = whole (pos 1)

@@ -9,22 +9,27 @@ filter_none : (es : Powers) → list_any is_negative es ≡ false → filter is_
 filter_none [] h = refl
 filter_none (e ∷ es) h = go (is_negative e) h (λ rest. filter_none es rest)
   where
-    go : (b : Bool) → (b || list_any is_negative es) ≡ false → (list_any is_negative es ≡ false → filter is_negative es ≡ []) → cond b (e ∷ filter is_negative es) (filter is_negative es) ≡ []
+    go : (b : Bool) → (b || list_any is_negative es) ≡ false → (list_any is_negative es ≡ false → filter is_negative es ≡ [])
+        → cond b (e ∷ filter is_negative es) (filter is_negative es) ≡ []
     go true h rest = cc
     go false h rest = rest h
 
-filter_some : (es : Powers) → list_any is_negative es ≡ true → divisor_text (filter is_negative es) ≡ codes " /" ++ flat_map power_text (filter is_negative es)
+filter_some : (es : Powers) → list_any is_negative es ≡ true
+    → divisor_text (filter is_negative es) ≡ codes " /" ++ flat_map power_text (filter is_negative es)
 filter_some [] h = cc
 filter_some (e ∷ es) h = go (is_negative e) h (λ rest. filter_some es rest)
   where
-    go : (b : Bool) → (b || list_any is_negative es) ≡ true → (list_any is_negative es ≡ true → divisor_text (filter is_negative es) ≡ codes " /" ++ flat_map power_text (filter is_negative es))
+    go : (b : Bool) → (b || list_any is_negative es) ≡ true
+        → (list_any is_negative es ≡ true → divisor_text (filter is_negative es) ≡ codes " /" ++ flat_map power_text (filter is_negative es))
         → divisor_text (cond b (e ∷ filter is_negative es) (filter is_negative es)) ≡ codes " /" ++ flat_map power_text (cond b (e ∷ filter is_negative es) (filter is_negative es))
     go true h rest = refl
     go false h rest = rest h
 
 -- no name stands behind a slash
-pub listed_above : (text : List ℕ) (es : Powers) → list_any is_negative es ≡ false → text ++ flat_map power_text (filter is_positive es) ≡ text ++ listed_text es
-listed_above text es none = ap (λ t. text ++ t) (sym (ap (λ ds. flat_map power_text (filter is_positive es) ++ divisor_text ds) (filter_none es none) ∙ append-nil _))
+pub listed_above : (text : List ℕ) (es : Powers) → list_any is_negative es ≡ false
+    → text ++ flat_map power_text (filter is_positive es) ≡ text ++ listed_text es
+listed_above text es none =
+    ap (λ t. text ++ t) (sym (ap (λ ds. flat_map power_text (filter is_positive es) ++ divisor_text ds) (filter_none es none) ∙ append-nil _))
 
 -- some do
 pub listed_below : (text : List ℕ) (es : Powers) → list_any is_negative es ≡ true

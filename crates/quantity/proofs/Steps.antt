@@ -26,7 +26,8 @@ use Rattle.quantity.proofs.Scaled.{find-scaled, sorted-scaled}
 
 -- ---- what `ranged` answers
 
-ranged_ok : (f : Name → Fraction) (names : List Name) → list_all (λ q. is_exponent (f q)) names ≡ true → ranged f names ≡ Some (exponents_by f names)
+ranged_ok : (f : Name → Fraction) (names : List Name) → list_all (λ q. is_exponent (f q)) names ≡ true
+    → ranged f names ≡ Some (exponents_by f names)
 unfolding ranged
 ranged_ok f names h = ap (λ b. cond b (Some (exponents_by f names)) None) h
 
@@ -50,14 +51,17 @@ pub record IsRanged (f : Name → Fraction) (names : List Name) (es : Powers) : 
 pub listed_order : (f : Name → Fraction) (names : List Name) (es : Powers) → IsRanged f names es → IsTrue (are_exponents es) → AreInOrder es
 listed_order f names es is all = record { sorted = is.lists.sorted; kept = All-from_recursion IsPower es (all_kept f names es is.gives is.lists all) }
 
-pub listed_ok : (f : Name → Fraction) (names : List Name) (es : Powers) → IsRanged f names es → IsTrue (are_exponents es) → Some (exponents_in es) ≡ ranged f names
+pub listed_ok : (f : Name → Fraction) (names : List Name) (es : Powers) → IsRanged f names es → IsTrue (are_exponents es)
+    → Some (exponents_in es) ≡ ranged f names
 listed_ok f names es is all =
     ap Some (listed_map f names es is.gives is.lists) ∙ sym (ranged_ok f names (sym (listed_range f names es is.gives is.lists) ∙ all))
 
-pub listed_none : (f : Name → Fraction) (names : List Name) (es : Powers) → IsRanged f names es → IsFalse (are_exponents es) → None ≡ ranged f names
+pub listed_none : (f : Name → Fraction) (names : List Name) (es : Powers) → IsRanged f names es → IsFalse (are_exponents es)
+    → None ≡ ranged f names
 listed_none f names es is some = sym (ranged_none f names (sym (listed_range f names es is.gives is.lists) ∙ some))
 
-pub listed_fault : (f : Name → Fraction) (names : List Name) (es : Powers) (fault : ExponentFault) → IsRanged f names es → IsListed (Err fault) es → AreThose (Err fault) (ranged f names)
+pub listed_fault : (f : Name → Fraction) (names : List Name) (es : Powers) (fault : ExponentFault) → IsRanged f names es
+    → IsListed (Err fault) es → AreThose (Err fault) (ranged f names)
 listed_fault f names es Range is listed = listed_none f names es is listed
 listed_fault f names es OutOfMemory is listed = tt
 
@@ -74,7 +78,8 @@ any-append : (test : Name → Bool) (xs ys : List Name) → list_any test (xs ++
 any-append test [] ys = refl
 any-append test (x ∷ xs) ys = go (test x) (any-append test xs ys)
   where
-    go : (b : Bool) → list_any test (xs ++ ys) ≡ (list_any test xs || list_any test ys) → (b || list_any test (xs ++ ys)) ≡ ((b || list_any test xs) || list_any test ys)
+    go : (b : Bool) → list_any test (xs ++ ys) ≡ (list_any test xs || list_any test ys)
+        → (b || list_any test (xs ++ ys)) ≡ ((b || list_any test xs) || list_any test ys)
     go true h = refl
     go false h = h
 
@@ -105,13 +110,15 @@ factor_step Inverse = inverse_step
 abbrev total : (Fraction → Fraction) → Exponents → Exponents → Name → Fraction
 total step p o q = exponent_sum (exponent_of p q) (step (exponent_of o q))
 
-total_gives : ReducedLaw → (step : Fraction → Fraction) (p o : Exponents) → IsStep step → AreKept p → AreKept o → GivesNames (total step p o) (names_of p o)
+total_gives : ReducedLaw → (step : Fraction → Fraction) (p o : Exponents) → IsStep step → AreKept p → AreKept o
+    → GivesNames (total step p o) (names_of p o)
 total_gives law step p o is all all_o = record {
   reduced = λ q. sum_reduced law (exponent_of p q) (step (exponent_of o q)) (exponent_reduced p q all).positive (is.reduced _ (exponent_reduced o q all_o)).positive;
   others = λ q none. others q (sym (any-append (is_name q) (map_of.keys p) (map_of.keys o)) ∙ none);
 }
   where
-    others : (q : Name) → (list_any (is_name q) (map_of.keys p) || list_any (is_name q) (map_of.keys o)) ≡ false → total step p o q ≡ nothing
+    others : (q : Name) → (list_any (is_name q) (map_of.keys p) || list_any (is_name q) (map_of.keys o)) ≡ false
+        → total step p o q ≡ nothing
     others q none =
         ap₂ (λ a b. exponent_sum a (step b)) (absent p q (or_first _ _ none)) (absent o q (or_second (list_any (is_name q) (map_of.keys p)) _ none))
         ∙ ap (exponent_sum nothing) is.nothing ∙ sum_left law nothing nothing_reduced
@@ -145,11 +152,13 @@ product_order law factor p o ps os es left right listed =
     subst AreInOrder (sym listed.0) (listed_order _ _ _ (factor_ranged law factor p o ps os left right) listed.1)
 
 pub product_ok : ReducedLaw → (factor : Factor) (p o : Exponents) (ps os es : Powers) → IsListOf p ps → IsListOf o os
-    → IsListed (Ok (record { items = es; capacity = 0 })) (merged (exponent_in factor) ps os) → Some (exponents_in es) ≡ exponents_with factor p o
+    → IsListed (Ok (record { items = es; capacity = 0 })) (merged (exponent_in factor) ps os)
+        → Some (exponents_in es) ≡ exponents_with factor p o
 product_ok law factor p o ps os es left right listed =
     ap (λ ds. Some (exponents_in ds)) listed.0 ∙ listed_ok _ _ _ (factor_ranged law factor p o ps os left right) listed.1 ∙ with_is factor p o
 
-pub product_fault : ReducedLaw → (factor : Factor) (p o : Exponents) (ps os : Powers) (fault : ExponentFault) → IsListOf p ps → IsListOf o os
+pub product_fault : ReducedLaw → (factor : Factor) (p o : Exponents) (ps os : Powers) (fault : ExponentFault) → IsListOf p ps
+    → IsListOf o os
     → IsListed (Err fault) (merged (exponent_in factor) ps os) → AreThose (Err fault) (exponents_with factor p o)
 product_fault law factor p o ps os fault left right listed =
     subst (AreThose (Err fault)) (with_is factor p o) (listed_fault _ _ _ fault (factor_ranged law factor p o ps os left right) listed)
@@ -188,7 +197,8 @@ power_order law p by ps es some list listed = subst AreInOrder (sym listed.0) (l
 pub power_ok : ReducedLaw → (p : Exponents) (by : Fraction) (ps es : Powers) → 0 < by.den → IsListOf p ps
     → IsListed (Ok (record { items = es; capacity = 0 })) (scaled by ps) → Some (exponents_in es) ≡ power_exponents p by
 unfolding power_exponents
-power_ok law p by ps es some list listed = ap (λ ds. Some (exponents_in ds)) listed.0 ∙ listed_ok _ _ _ (power_ranged law p by ps some list) listed.1
+power_ok law p by ps es some list listed =
+    ap (λ ds. Some (exponents_in ds)) listed.0 ∙ listed_ok _ _ _ (power_ranged law p by ps some list) listed.1
 
 pub power_fault : ReducedLaw → (p : Exponents) (by : Fraction) (ps : Powers) (fault : ExponentFault) → 0 < by.den → IsListOf p ps
     → IsListed (Err fault) (scaled by ps) → AreThose (Err fault) (power_exponents p by)

@@ -57,7 +57,8 @@ map-plain (count ∷ counts) = ap (λ xs. count ∷ xs) (map-plain counts)
 magnitudes-negated : (counts : List Fraction) → map magnitude (map (negated_if true) counts) ≡ map magnitude counts
 magnitudes-negated [] = refl
 magnitudes-negated (count ∷ counts) =
-    ap (λ n. record { num = pos n; den = count.den } ∷ map magnitude (map (negated_if true) counts)) (abs-neg count.num) ∙ ap (λ xs. magnitude count ∷ xs) (magnitudes-negated counts)
+    ap (λ n. record { num =
+        pos n; den = count.den } ∷ map magnitude (map (negated_if true) counts)) (abs-neg count.num) ∙ ap (λ xs. magnitude count ∷ xs) (magnitudes-negated counts)
 
 -- a number is its magnitude with its sign
 sign_back : (x : Fraction) → negated_if (is_negative x) (magnitude x) ≡ x
@@ -104,7 +105,8 @@ signed_split true a b units counts some units_are are = record {
 }
 
 -- they are those of a split of x, where y is the number that is split
-split_of : (round : Bool) (x y : Fraction) (units counts : List Fraction) → y ≡ split_number round (last_of units) x → AreSigned (is_negative x) y units counts
+split_of : (round : Bool) (x y : Fraction) (units counts : List Fraction) → y ≡ split_number round (last_of units) x
+    → AreSigned (is_negative x) y units counts
     → IsSplitOf round x units counts
 split_of round x y units counts same are = record {
   one_each = are.one_each;
@@ -125,7 +127,8 @@ last_unit (unit ∷ next ∷ units) some are = last_unit (next ∷ units) (omega
 pub split_law : ReducedLaw → LcmLaw → SplitLaw
 split_law law multiples false x units counts some many units_are h =
     let inner = goes (counts_of (magnitude x) units) _ counts h in
-    let are = counts_are law multiples units inner.value (magnitude x) (unsigned_abs x.num) x.den (own_value (magnitude x) (unsigned_abs x.num) refl some) some units_are many inner.first_is in
+    let are =
+    counts_are law multiples units inner.value (magnitude x) (unsigned_abs x.num) x.den (own_value (magnitude x) (unsigned_abs x.num) refl some) some units_are many inner.first_is in
     subst (IsSplitOf false x units) (ok_same _ _ _ refl inner.step_is)
     (split_of false x _ units _ (sign_back x) (signed_split (is_negative x) (unsigned_abs x.num) x.den units inner.value some units_are are))
 split_law law multiples true x units counts some many units_are h =
@@ -137,7 +140,8 @@ split_law law multiples true x units counts some many units_are h =
     let inner = goes (counts_of amount.value units) _ counts amount.step_is in
     let n = nearest_to quotient.value in
     let value = times_value law n natural.num unit amount.value natural.num_is unit_is.denominator quotient.step_is in
-    let are = counts_are law multiples units inner.value amount.value (n * natural.num) unit.den value unit_is.denominator units_are many inner.first_is in
+    let are =
+    counts_are law multiples units inner.value amount.value (n * natural.num) unit.den value unit_is.denominator units_are many inner.first_is in
     let quotient_is : quotient.value ≡ quotient_of x unit =
     over_reduced (magnitude x) unit quotient.value (unsigned_abs x.num) natural.num refl natural.num_is some natural.some quotient.first_is
     ∙ ap (λ z. reduced (pos (unsigned_abs x.num * unit.den)) (x.den * unsigned_abs z)) (sym natural.num_is) in

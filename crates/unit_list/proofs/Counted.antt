@@ -23,7 +23,8 @@ pub record Goes {A B : Type 0} (first : Result A FracFault) (step : A → Result
   pub first_is : first ≡ Ok value
   pub step_is : step value ≡ Ok answer
 
-pub goes : {A B : Type 0} (first : Result A FracFault) (step : A → Result B FracFault) (answer : B) → (first >>= step) ≡ Ok answer → Goes first step answer
+pub goes : {A B : Type 0} (first : Result A FracFault) (step : A → Result B FracFault) (answer : B) → (first >>= step) ≡ Ok answer
+    → Goes first step answer
 goes (Ok x) step answer h = record { value = x; first_is = refl; step_is = h }
 goes (Err fault) step answer h = absurd (cc)
 
@@ -53,7 +54,8 @@ pub record IsPart (a b c d : ℕ) (part : Part) : Type 0 where
   pub next : a * d < (count + 1) * c * b
   pub rest : HasValue part.rest left (b * d)
 
-pub part_is : ReducedLaw → LcmLaw → (x unit : Fraction) (a b c : ℕ) (part : Part) → HasValue x a b → 0 < b → unit.num ≡ pos c → 0 < c → 0 < unit.den
+pub part_is : ReducedLaw → LcmLaw → (x unit : Fraction) (a b c : ℕ) (part : Part) → HasValue x a b → 0 < b → unit.num ≡ pos c
+    → 0 < c → 0 < unit.den
     → part_of x unit ≡ Ok part → IsPart a b c unit.den part
 part_is law multiples x unit a b c part is some_b c_is some_c some_d h =
     let quotient = goes (over x unit) _ part h in
@@ -175,7 +177,8 @@ greatest_part y unit count a b c k is some_b c_is some_d count_is low high =
         turn_on e d = omega arith
 
 -- what the part leaves of each fraction of that value
-pub difference_value : (y unit count : Fraction) (a b c k left : ℕ) → HasValue y a b → unit.num ≡ pos c → 0 < unit.den → count ≡ whole (pos k)
+pub difference_value : (y unit count : Fraction) (a b c k left : ℕ) → HasValue y a b → unit.num ≡ pos c → 0 < unit.den
+    → count ≡ whole (pos k)
     → left + k * c * b ≡ a * unit.den → 0 < b → HasValue (difference y (product count unit)) left (b * unit.den)
 difference_value y unit count a b c k left is c_is some_d count_is left_is some_b =
     let low : k * c * y.den ≤ is.num * (1 * unit.den) = at_most is.num y.den is.same in
@@ -244,7 +247,8 @@ pub record AreCounts (a b : ℕ) (units counts : List Fraction) : Type 0 where
   pub plain : map magnitude counts ≡ counts
   pub lowest : All IsReduced counts
 
-pub counts_are : ReducedLaw → LcmLaw → (units counts : List Fraction) (x : Fraction) (a b : ℕ) → HasValue x a b → 0 < b → All IsUnit units → 0 < length units
+pub counts_are : ReducedLaw → LcmLaw → (units counts : List Fraction) (x : Fraction) (a b : ℕ) → HasValue x a b → 0 < b
+    → All IsUnit units → 0 < length units
     → counts_of x units ≡ Ok counts → AreCounts a b units counts
 unfolding counts_of
 counts_are law multiples [] counts x a b is some_b units_are some h = absurd (omega arith)
@@ -252,7 +256,8 @@ counts_are law multiples (unit ∷ []) counts x a b is some_b units_are some h =
     let unit_is : IsUnit unit = All-head IsUnit unit [] units_are in
     let natural = unit_natural unit unit_is in
     let quotient = goes (over x unit) _ counts h in
-    let q = over_value law x unit quotient.value a b natural.num is natural.num_is unit_is.denominator natural.some some_b quotient.first_is in
+    let q =
+    over_value law x unit quotient.value a b natural.num is natural.num_is unit_is.denominator natural.some some_b quotient.first_is in
     let counts_is : quotient.value ∷ [] ≡ counts = ok_same _ _ _ refl quotient.step_is in
     subst (AreCounts a b (unit ∷ [])) counts_is (record {
       one_each = refl;
@@ -275,13 +280,15 @@ counts_are law multiples (unit ∷ []) counts x a b is some_b units_are some h =
     turn d e = omega arith
 
     natural_plain : (q : Fraction) (n : ℕ) → q.num ≡ pos n → magnitude q ≡ q
-    natural_plain q n is = ap (λ z. record { num = pos (unsigned_abs z); den = q.den }) is ∙ sym (ap (λ z. record { num = z; den = q.den }) is)
+    natural_plain q n is =
+        ap (λ z. record { num = pos (unsigned_abs z); den = q.den }) is ∙ sym (ap (λ z. record { num = z; den = q.den }) is)
 counts_are law multiples (unit ∷ next ∷ units) counts x a b is some_b units_are some h =
     let unit_is : IsUnit unit = All-head IsUnit unit (next ∷ units) units_are in
     let natural = unit_natural unit unit_is in
     let part = goes (part_of x unit) _ counts h in
     let others = goes (counts_of part.value.rest (next ∷ units)) _ counts part.step_is in
-    let taken = part_is law multiples x unit a b natural.num part.value is some_b natural.num_is natural.some unit_is.denominator part.first_is in
+    let taken =
+    part_is law multiples x unit a b natural.num part.value is some_b natural.num_is natural.some unit_is.denominator part.first_is in
     let some_bd : 0 < b * unit.den = mul-pos some_b unit_is.denominator in
     let rest = counts_are law multiples (next ∷ units) others.value part.value.rest taken.left (b * unit.den) taken.rest some_bd
     (All-tail IsUnit unit (next ∷ units) units_are) (omega arith) others.first_is in

@@ -35,13 +35,15 @@ behind_none : (counts : Result (List Fraction) FracFault) → behind [] counts �
 behind_none (Ok counts) = refl
 behind_none (Err fault) = refl
 
-pub counting_start : (negative : Bool) (units : List Amount) (x : Fraction) → IsCounting negative units (signed_counts negative (counts_of x (map number_of units))) 0 x []
+pub counting_start : (negative : Bool) (units : List Amount) (x : Fraction)
+    → IsCounting negative units (signed_counts negative (counts_of x (map number_of units))) 0 x []
 counting_start negative units x = record { same = behind_none (signed_counts negative (counts_of x (map number_of units))) }
 
 -- the units from a place on that is not the last
 more_units : (units : List Amount) (i : ℕ) (d : Amount) → i + 1 < length units
     → map number_of (drop i units) ≡ number_of (get_or units i d) ∷ number_of (get_or units (i + 1) d) ∷ map number_of (drop (i + 1 + 1) units)
-more_units units i d h = ap (map number_of) (drop_more units i d (omega arith) ∙ ap (λ xs. get_or units i d ∷ xs) (drop_more units (i + 1) d h))
+more_units units i d h =
+    ap (map number_of) (drop_more units i d (omega arith) ∙ ap (λ xs. get_or units i d ∷ xs) (drop_more units (i + 1) d h))
 
 next_units : (units : List Amount) (i : ℕ) (d : Amount) → i + 1 < length units
     → map number_of (drop (i + 1) units) ≡ number_of (get_or units (i + 1) d) ∷ map number_of (drop (i + 1 + 1) units)
@@ -54,7 +56,8 @@ put_before negative done count (Ok others) = ap Ok (sym (append_assoc done (nega
 put_before negative done count (Err fault) = refl
 
 pub counting_more : (negative : Bool) (units : List Amount) (all : Result (List Fraction) FracFault) (i : ℕ) (rest : Fraction) (done : List Fraction) (unit : Amount) (part : Part)
-    → IsCounting negative units all i rest done → i + 1 < length units → unit ≡ get_or units i unit → part_of rest (number_of unit) ≡ Ok part
+    → IsCounting negative units all i rest done → i + 1 < length units → unit ≡ get_or units i unit
+        → part_of rest (number_of unit) ≡ Ok part
     → IsCounting negative units all (i + 1) part.rest (done ++ negated_if negative part.count ∷ [])
 unfolding counts_of
 counting_more negative units all i rest done unit part is within unit_is part_is =
@@ -70,7 +73,8 @@ counting_more negative units all i rest done unit part is within unit_is part_is
 
 -- a part that has a fault
 pub counting_fault : (negative : Bool) (units : List Amount) (all : Result (List Fraction) FracFault) (i : ℕ) (rest : Fraction) (done : List Fraction) (unit : Amount) (fault : FracFault)
-    → IsCounting negative units all i rest done → i + 1 < length units → unit ≡ get_or units i unit → part_of rest (number_of unit) ≡ Err fault → all ≡ Err fault
+    → IsCounting negative units all i rest done → i + 1 < length units → unit ≡ get_or units i unit
+        → part_of rest (number_of unit) ≡ Err fault → all ≡ Err fault
 unfolding counts_of
 counting_fault negative units all i rest done unit fault is within unit_is part_is =
     let step : counts_of rest (map number_of (drop i units)) ≡ Err fault =
@@ -80,7 +84,8 @@ counting_fault negative units all i rest done unit fault is within unit_is part_
     sym is.same ∙ ap (λ r. behind done (signed_counts negative r)) step
 
 -- the last unit
-last_units : (units : List Amount) (i : ℕ) (unit : Amount) → i + 1 ≡ length units → unit ≡ get_or units (length units - 1) unit → map number_of (drop i units) ≡ number_of unit ∷ []
+last_units : (units : List Amount) (i : ℕ) (unit : Amount) → i + 1 ≡ length units → unit ≡ get_or units (length units - 1) unit
+    → map number_of (drop i units) ≡ number_of unit ∷ []
 last_units units i unit last unit_is =
     ap (map number_of) (drop_more units i unit (omega arith) ∙ ap (λ xs. get_or units i unit ∷ xs) (drop_past units (i + 1) (omega arith))
     ∙ ap (λ k. get_or units k unit ∷ []) (place i (length units) last) ∙ ap (λ u. u ∷ []) (sym unit_is))
@@ -95,7 +100,8 @@ last_units units i unit last unit_is =
 
 -- its count ends them
 pub counting_end : (negative : Bool) (units : List Amount) (all : Result (List Fraction) FracFault) (i : ℕ) (rest : Fraction) (done : List Fraction) (unit : Amount) (count : Fraction)
-    → IsCounting negative units all i rest done → i + 1 ≡ length units → unit ≡ get_or units (length units - 1) unit → over rest (number_of unit) ≡ Ok count
+    → IsCounting negative units all i rest done → i + 1 ≡ length units → unit ≡ get_or units (length units - 1) unit
+        → over rest (number_of unit) ≡ Ok count
     → all ≡ Ok (done ++ negated_if negative count ∷ [])
 unfolding counts_of
 counting_end negative units all i rest done unit count is last unit_is count_is =
@@ -105,7 +111,8 @@ counting_end negative units all i rest done unit count is last unit_is count_is 
 
 -- or has a fault
 pub counting_end_fault : (negative : Bool) (units : List Amount) (all : Result (List Fraction) FracFault) (i : ℕ) (rest : Fraction) (done : List Fraction) (unit : Amount) (fault : FracFault)
-    → IsCounting negative units all i rest done → i + 1 ≡ length units → unit ≡ get_or units (length units - 1) unit → over rest (number_of unit) ≡ Err fault
+    → IsCounting negative units all i rest done → i + 1 ≡ length units → unit ≡ get_or units (length units - 1) unit
+        → over rest (number_of unit) ≡ Err fault
     → all ≡ Err fault
 unfolding counts_of
 counting_end_fault negative units all i rest done unit fault is last unit_is count_is =
@@ -114,14 +121,16 @@ counting_end_fault negative units all i rest done unit fault is last unit_is cou
     ∙ ap (λ r. behind done (signed_counts negative (r >>= (λ count. Ok (count ∷ []))))) count_is
 
 -- the number of the last unit
-last_number : (units : List Amount) (unit : Amount) → 0 < length units → unit ≡ get_or units (length units - 1) unit → last_of (map number_of units) ≡ number_of unit
+last_number : (units : List Amount) (unit : Amount) → 0 < length units → unit ≡ get_or units (length units - 1) unit
+    → last_of (map number_of units) ≡ number_of unit
 unfolding last_of
 last_number units unit some unit_is = by_place units (length units - 1) (next (length units) some) unit_is
   where
     next : (n : ℕ) → 0 < n → n - 1 + 1 ≡ n
     next n h = omega arith
 
-    by_place : (units : List Amount) (i : ℕ) → i + 1 ≡ length units → unit ≡ get_or units i unit → last_of (map number_of units) ≡ number_of unit
+    by_place : (units : List Amount) (i : ℕ) → i + 1 ≡ length units → unit ≡ get_or units i unit
+        → last_of (map number_of units) ≡ number_of unit
     by_place [] i last is = absurd (omega arith)
     by_place (first ∷ []) zero last is = ap number_of (sym is)
     by_place (first ∷ []) (suc i) last is = absurd (omega arith)
@@ -156,13 +165,15 @@ begun_fault round q units negative amount fault is amount_fault =
 
 -- and else its counts are those of the amount
 pub begun_counts : (round : Bool) (q : Amount) (units : List Amount) (negative : Bool) (amount : Result Fraction FracFault) (x : Fraction)
-    → IsBegun round q units negative amount → amount ≡ Ok x → number_counts round q.value (numbers_of units) ≡ signed_counts negative (counts_of x (numbers_of units))
+    → IsBegun round q units negative amount → amount ≡ Ok x
+        → number_counts round q.value (numbers_of units) ≡ signed_counts negative (counts_of x (numbers_of units))
 begun_counts round q units negative amount x is amount_ok =
     ap (λ r. r >>= (λ amount. signed_counts (is_negative q.value) (counts_of amount (numbers_of units)))) (sym is.amount_is ∙ amount_ok)
     ∙ ap (λ b. signed_counts b (counts_of x (numbers_of units))) (sym is.negative_is)
 
 pub begun_ends : (round : Bool) (q : Amount) (units : List Amount) (negative : Bool) (amount : Result Fraction FracFault) (x : Fraction)
-    → IsBegun round q units negative amount → amount ≡ Ok x → counts_in round q units ≡ numbered (signed_counts negative (counts_of x (numbers_of units)))
+    → IsBegun round q units negative amount → amount ≡ Ok x
+        → counts_in round q units ≡ numbered (signed_counts negative (counts_of x (numbers_of units)))
 unfolding counts_in
 begun_ends round q units negative amount x is amount_ok =
     ap (λ f. checked f (number_counts round q.value (numbers_of units))) (sym is.fine)
@@ -182,12 +193,14 @@ handed_on seen (Err other) expected fault given (inr h) = inr (h ∙ ap Err (sym
 
 -- the same, of what is expected in another form
 pub handed_same : {A B : Type 0} (seen : A → B) (answer : Result A SplitFault) (expected given : Result B SplitFault) (fault : SplitFault)
-    → IsErrAnd answer (λ given. given ≡ fault) → expected ≡ given → (fault ≡ OutOfMemory) ⊎ (given ≡ Err fault) → Gives OutOfMemory seen answer expected
+    → IsErrAnd answer (λ given. given ≡ fault) → expected ≡ given → (fault ≡ OutOfMemory) ⊎ (given ≡ Err fault)
+        → Gives OutOfMemory seen answer expected
 handed_same seen answer expected given fault is same (inl none) = handed_on seen answer expected fault is (inl none)
 handed_same seen answer expected given fault is same (inr h) = handed_on seen answer expected fault is (inr (same ∙ h))
 
 -- units that have a fault
-pub unit_fault_ends : (round : Bool) (q : Amount) (units : List Amount) (fault : SplitFault) → Some fault ≡ unit_fault q units → counts_in round q units ≡ Err fault
+pub unit_fault_ends : (round : Bool) (q : Amount) (units : List Amount) (fault : SplitFault) → Some fault ≡ unit_fault q units
+    → counts_in round q units ≡ Err fault
 unfolding counts_in
 unit_fault_ends round q units fault is = ap (λ f. checked f (number_counts round q.value (map number_of units))) (sym is)
 
@@ -205,12 +218,14 @@ none_passes : (test : Amount → Bool) (xs : List Amount) → position test xs �
 none_passes test [] h = tt
 none_passes test (x ∷ xs) h = by_test (test x) refl (none_low (position_or_len test (x ∷ xs)) (length (x ∷ xs)) h) (λ rest. none_passes test xs rest)
   where
-    by_test : (b : Bool) → test x ≡ b → length (x ∷ xs) ≤ position_or_len test (x ∷ xs) → (position test xs ≡ None → Each (λ x. test x ≡ false) xs) → Each (λ x. test x ≡ false) (x ∷ xs)
+    by_test : (b : Bool) → test x ≡ b → length (x ∷ xs) ≤ position_or_len test (x ∷ xs)
+        → (position test xs ≡ None → Each (λ x. test x ≡ false) xs) → Each (λ x. test x ≡ false) (x ∷ xs)
     by_test true is low rest =
         let first : position_or_len test (x ∷ xs) ≡ 0 = ap (λ b. cond (not b) (1 + position_or_len test xs) 0) is in
         absurd (omega arith)
     by_test false is low rest =
-        let later : position_or_len test (x ∷ xs) ≡ 1 + position_or_len test xs = ap (λ b. cond (not b) (1 + position_or_len test xs) 0) is in
+        let later : position_or_len test (x ∷ xs) ≡ 1 + position_or_len test xs =
+        ap (λ b. cond (not b) (1 + position_or_len test xs) 0) is in
         (is, rest (none_high (position_or_len test xs) (length xs) (omega arith)))
 
 -- then each is positive
@@ -227,7 +242,8 @@ positive_is z h = grind (arith, ints)
 
 pub fine_units : (q : Amount) (units : List Amount) → None ≡ unit_fault q units → All HasDenominator units → All IsUnit (numbers_of units)
 fine_units q units fine denominators =
-    let positive = All-from_recursion (λ (unit : Amount). is_not_positive unit ≡ false) units (none_passes is_not_positive units (fine_positive q units fine)) in
+    let positive =
+    All-from_recursion (λ (unit : Amount). is_not_positive unit ≡ false) units (none_passes is_not_positive units (fine_positive q units fine)) in
     All-map IsUnit number_of units (λ k d within. record {
       denominator = denominators k d within;
       positive = positive_is (get_or units k d).value.num (positive k d within);

@@ -59,7 +59,8 @@ natural_low m n h = omega (arith, ints)
 natural_high : (m n : ℕ) → pos m <ℤ pos n → m < n
 natural_high m n h = omega (arith, ints)
 
-greatest_bounds : (y unit count : Fraction) (a b c k : ℕ) → HasValue y a b → 0 < b → unit.num ≡ pos c → count ≡ whole (pos k) → IsGreatest y unit count
+greatest_bounds : (y unit count : Fraction) (a b c k : ℕ) → HasValue y a b → 0 < b → unit.num ≡ pos c → count ≡ whole (pos k)
+    → IsGreatest y unit count
     → AreBounds a b c unit.den k
 greatest_bounds y unit count a b c k is some_b c_is count_is greatest =
     let at : IsGreatest y unit (whole (pos k)) = subst (IsGreatest y unit) count_is greatest in
@@ -126,8 +127,10 @@ rest_value count c a b left unit rest c_is natural left_is is = record {
         ∙ ap (λ z. pos count *ℤ z *ℤ pos rest.den +ℤ rest.num *ℤ pos (1 * unit.den)) c_is
         ∙ ap (λ z. pos (count * c * rest.den) +ℤ z *ℤ pos (1 * unit.den)) natural.num_is)
 
-    settled : (n e d s : ℕ) → s ≡ count * c * e + n * (1 * d) → s * b ≡ a * (1 * d * e) → left + count * c * b ≡ a * d → n * (b * d) ≡ left * e
-    settled n e d s s_is same parts = same_sum _ _ _ (gather n e d ∙ ap (λ z. z * b) (sym s_is) ∙ same ∙ turn e d ∙ ap (λ z. z * e) (sym parts) ∙ spread e)
+    settled : (n e d s : ℕ) → s ≡ count * c * e + n * (1 * d) → s * b ≡ a * (1 * d * e) → left + count * c * b ≡ a * d
+        → n * (b * d) ≡ left * e
+    settled n e d s s_is same parts =
+        same_sum _ _ _ (gather n e d ∙ ap (λ z. z * b) (sym s_is) ∙ same ∙ turn e d ∙ ap (λ z. z * e) (sym parts) ∙ spread e)
       where
         gather : (n e d : ℕ) → n * (b * d) + count * c * e * b ≡ (count * c * e + n * (1 * d)) * b
         gather n e d = omega arith
@@ -157,10 +160,12 @@ last_value c a b unit count c_is is value = gather is.num ∙ ap (λ z. z * b) (
     turn : (e d : ℕ) → a * (e * d * 1) ≡ a * d * e
     turn e d = omega arith
 
-one_last : ReducedLaw → (k l : ℕ) (count other : Fraction) (is : IsPlain count) (of : IsPlain other) → 0 < k → is.num * k ≡ l * count.den → of.num * k ≡ l * other.den → count ≡ other
+one_last : ReducedLaw → (k l : ℕ) (count other : Fraction) (is : IsPlain count) (of : IsPlain other) → 0 < k
+    → is.num * k ≡ l * count.den → of.num * k ≡ l * other.den → count ≡ other
 one_last law k l count other is of some first second =
     let cross : is.num * other.den ≡ of.num * count.den = cancelled _ _ k some (crossed is.num of.num count.den other.den first second) in
-    let same : SameValue count other = ap (λ z. z *ℤ pos other.den) is.num_is ∙ ap pos cross ∙ ap (λ z. z *ℤ pos count.den) (sym of.num_is) in
+    let same : SameValue count other =
+    ap (λ z. z *ℤ pos other.den) is.num_is ∙ ap pos cross ∙ ap (λ z. z *ℤ pos count.den) (sym of.num_is) in
     let unique = (law other.num other.den of.reduced.positive).2 in
     unique count is.reduced same ∙ sym (unique other of.reduced refl)
   where
@@ -181,7 +186,8 @@ one_last law k l count other is of some first second =
 whole_is : (count : Fraction) (is : IsPlain count) → count ≡ whole count.num → count ≡ whole (pos is.num)
 whole_is count is h = h ∙ ap whole is.num_is
 
-same_counts : ReducedLaw → (units ms ns : List Fraction) (y : Fraction) (a b : ℕ) → HasValue y a b → 0 < b → Each IsUnit units → Each IsPlain ms → Each IsPlain ns
+same_counts : ReducedLaw → (units ms ns : List Fraction) (y : Fraction) (a b : ℕ) → HasValue y a b → 0 < b → Each IsUnit units
+    → Each IsPlain ms → Each IsPlain ns
     → length ms ≡ length units → length ns ≡ length units → AreGreatest y units ms → AreGreatest y units ns
     → HasValue (total ms units) a b → HasValue (total ns units) a b → ms ≡ ns
 same_counts law [] [] [] y a b is some units_are plain others one_each others_each greatest others_greatest value others_value = refl
@@ -205,7 +211,9 @@ same_counts law (unit ∷ next ∷ units) (m ∷ ms) (n ∷ ns) y a b is some un
     let n_is : n ≡ whole (pos others.0.num) = whole_is n others.0 others_greatest.0.is_whole in
     let bounds = greatest_bounds y unit m a b c k is some natural.num_is m_is greatest.0 in
     let others_bounds = greatest_bounds y unit n a b c others.0.num is some natural.num_is n_is others_greatest.0 in
-    let same : m ≡ n = m_is ∙ ap (λ j. whole (pos j)) (one_greatest a b c d k others.0.num (mul-pos natural.some some) bounds others_bounds) ∙ sym n_is in
+    let same : m ≡ n =
+    m_is ∙ ap (λ j. whole (pos j)) (one_greatest a b c d k others.0.num (mul-pos natural.some some) bounds others_bounds)
+    ∙ sym n_is in
     let left = a * d - k * c * b in
     let left_is : left + k * c * b ≡ a * d = together (a * d) (k * c * b) bounds.low in
     let rest = total_natural ms (next ∷ units) plain.1 units_are.1 in
@@ -231,7 +239,8 @@ abs-times (pos n) k = refl
 abs-times (negsuc n) k = abs-neg (pos (suc n * k))
 
 -- the total of the magnitudes
-magnitudes_value : (negative : Bool) (counts units : List Fraction) (y : Fraction) → Each IsPlain counts → All IsUnit units → SameValue (total (map (negated_if negative) counts) units) y
+magnitudes_value : (negative : Bool) (counts units : List Fraction) (y : Fraction) → Each IsPlain counts → All IsUnit units
+    → SameValue (total (map (negated_if negative) counts) units) y
     → HasValue (total counts units) (unsigned_abs y.num) y.den
 magnitudes_value negative counts units y plain units_are same =
     let natural = total_natural counts units plain (recursion_from_All IsUnit units units_are) in
@@ -245,16 +254,20 @@ magnitudes_value negative counts units y plain units_are same =
     magnitudes : (z : ℤ) (e n : ℕ) → unsigned_abs z ≡ n → z *ℤ pos y.den ≡ y.num *ℤ pos e → n * y.den ≡ unsigned_abs y.num * e
     magnitudes z e n n_is h = ap (λ m. m * y.den) (sym n_is) ∙ sym (abs-times z y.den) ∙ ap unsigned_abs h ∙ abs-times y.num e
 
-    by_sign : (negative : Bool) (n : ℕ) → (total counts units).num ≡ pos n → SameValue (total (map (negated_if negative) counts) units) y → n * y.den ≡ unsigned_abs y.num * (total counts units).den
+    by_sign : (negative : Bool) (n : ℕ) → (total counts units).num ≡ pos n
+        → SameValue (total (map (negated_if negative) counts) units) y → n * y.den ≡ unsigned_abs y.num * (total counts units).den
     by_sign false n n_is h = magnitudes _ _ n (ap unsigned_abs n_is) (subst (λ cs. SameValue (total cs units) y) (map-plain counts) h)
-    by_sign true n n_is h = magnitudes _ _ n (abs-neg (total counts units).num ∙ ap unsigned_abs n_is) (subst (λ t. SameValue t y) (total-negated counts units units_are) h)
+    by_sign true n n_is h =
+        magnitudes _ _ n (abs-neg (total counts units).num ∙ ap unsigned_abs n_is) (subst (λ t. SameValue t y) (total-negated counts units units_are) h)
 
 -- the number that is split has a denominator
-split_denominator : (round : Bool) (x : Fraction) (units : List Fraction) → 0 < x.den → 0 < length units → All IsUnit units → 0 < (split_number round (last_of units) x).den
+split_denominator : (round : Bool) (x : Fraction) (units : List Fraction) → 0 < x.den → 0 < length units → All IsUnit units
+    → 0 < (split_number round (last_of units) x).den
 split_denominator false x units some many units_are = some
 split_denominator true x units some many units_are = by_sign (is_negative x) (last_unit units many units_are).denominator
   where
-    by_sign : (negative : Bool) → 0 < (last_of units).den → 0 < (negated_if negative (product (whole (pos (nearest_to (quotient_of x (last_of units))))) (last_of units))).den
+    by_sign : (negative : Bool) → 0 < (last_of units).den
+        → 0 < (negated_if negative (product (whole (pos (nearest_to (quotient_of x (last_of units))))) (last_of units))).den
     by_sign false h = omega arith
     by_sign true h = omega arith
 
@@ -267,7 +280,8 @@ unique_law law round x units counts others some many units_are first second =
     let plain = plain_magnitudes counts (recursion_from_All IsReduced counts first.lowest) in
     let others_plain = plain_magnitudes others (recursion_from_All IsReduced others second.lowest) in
     let denominator = split_denominator round x units some many units_are in
-    let same = same_counts law units ms ns (magnitude y) (unsigned_abs y.num) y.den (own_value (magnitude y) (unsigned_abs y.num) refl denominator) denominator
+    let same =
+    same_counts law units ms ns (magnitude y) (unsigned_abs y.num) y.den (own_value (magnitude y) (unsigned_abs y.num) refl denominator) denominator
     (recursion_from_All IsUnit units units_are) plain others_plain (length-map counts magnitude ∙ first.one_each) (length-map others magnitude ∙ second.one_each)
     first.greatest second.greatest
     (magnitudes_value negative ms units y plain units_are (subst (λ cs. SameValue (total cs units) y) first.signs first.sum))

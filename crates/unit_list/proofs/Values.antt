@@ -60,14 +60,16 @@ pub cancelled : (x y k : ℕ) → 0 < k → x * k ≡ y * k → x ≡ y
 cancelled x y k some h = eq_of_mul-eq-mul_right k some x y h
 
 -- the quotient of two natural numerators
-pub over_reduced : (x unit q : Fraction) (n c : ℕ) → x.num ≡ pos n → unit.num ≡ pos c → 0 < x.den → 0 < c → over x unit ≡ Ok q → q ≡ reduced (pos (n * unit.den)) (x.den * c)
+pub over_reduced : (x unit q : Fraction) (n c : ℕ) → x.num ≡ pos n → unit.num ≡ pos c → 0 < x.den → 0 < c → over x unit ≡ Ok q
+    → q ≡ reduced (pos (n * unit.den)) (x.den * c)
 over_reduced x unit q n c n_is c_is some_x some_c h =
     let ratio_is : over x unit ≡ ratio (pos (n * unit.den)) (pos (x.den * c)) =
     ap (λ z. ratio (z *ℤ pos unit.den) (pos x.den *ℤ unit.num)) n_is ∙ ap (λ z. ratio (pos n *ℤ pos unit.den) (pos x.den *ℤ z)) c_is in
     ratio_ok (pos (n * unit.den)) (x.den * c) q (mul-pos some_x some_c) (sym ratio_is ∙ h)
 
 -- it is in lowest terms
-pub over_lowest : ReducedLaw → (x unit q : Fraction) (n c : ℕ) → x.num ≡ pos n → unit.num ≡ pos c → 0 < x.den → 0 < c → over x unit ≡ Ok q → IsReduced q
+pub over_lowest : ReducedLaw → (x unit q : Fraction) (n c : ℕ) → x.num ≡ pos n → unit.num ≡ pos c → 0 < x.den → 0 < c
+    → over x unit ≡ Ok q → IsReduced q
 over_lowest law x unit q n c n_is c_is some_x some_c h =
     subst IsReduced (sym (over_reduced x unit q n c n_is c_is some_x some_c h)) (law (pos (n * unit.den)) (x.den * c) (mul-pos some_x some_c)).0
 
@@ -103,9 +105,11 @@ over_value law x unit q a b c is c_is some_d some_c some_b h =
         third k d e = omega arith
 
 -- a whole multiple of a unit
-pub times_value : ReducedLaw → (k c : ℕ) (unit t : Fraction) → unit.num ≡ pos c → 0 < unit.den → times (whole (pos k)) unit ≡ Ok t → HasValue t (k * c) unit.den
+pub times_value : ReducedLaw → (k c : ℕ) (unit t : Fraction) → unit.num ≡ pos c → 0 < unit.den → times (whole (pos k)) unit ≡ Ok t
+    → HasValue t (k * c) unit.den
 times_value law k c unit t c_is some h =
-    let ratio_is : times (whole (pos k)) unit ≡ ratio (pos (k * c)) (pos (1 * unit.den)) = ap (λ z. ratio (pos k *ℤ z) (pos (1 * unit.den))) c_is in
+    let ratio_is : times (whole (pos k)) unit ≡ ratio (pos (k * c)) (pos (1 * unit.den)) =
+    ap (λ z. ratio (pos k *ℤ z) (pos (1 * unit.den))) c_is in
     let once : 1 * unit.den ≡ unit.den = one_times unit.den in
     let t_is : t ≡ reduced (pos (k * c)) unit.den =
     ratio_ok (pos (k * c)) unit.den t some (ap (λ d. ratio (pos (k * c)) (pos d)) (sym once) ∙ sym ratio_is ∙ h) in
@@ -193,7 +197,8 @@ minus_value law multiples x t r a b p e left is_x is_t some_b some_e left_is h =
         spread_back : (a xd td e : ℕ) → a * xd * (td * e) ≡ a * e * (td * xd)
         spread_back a xd td e = omega arith
 
-    below : (xn xd tn td f g m : ℕ) → xd * f ≡ m → td * g ≡ m → 0 < m → 0 < xd → 0 < td → tn * xd * (b * e) ≤ xn * td * (b * e) → tn * g ≤ xn * f
+    below : (xn xd tn td f g m : ℕ) → xd * f ≡ m → td * g ≡ m → 0 < m → 0 < xd → 0 < td → tn * xd * (b * e) ≤ xn * td * (b * e)
+        → tn * g ≤ xn * f
     below xn xd tn td f g m p q some some_x some_t h =
         let plain : tn * xd ≤ xn * td = le_of_mul-le-mul_right h (mul-pos some_b some_e) in
         let times : tn * xd * m ≤ xn * td * m = mul-le-mul_right m plain in
@@ -242,7 +247,8 @@ minus_value law multiples x t r a b p e left is_x is_t some_b some_e left_is h =
         ∙ turn xn td rd
         ∙ ap (λ z. z * (td * rd * e)) x_is
         ∙ turn_back xd td rd in
-        let whole : a * e * rd * (xd * td) ≡ left * rd * (xd * td) + p * b * rd * (xd * td) = ap (λ z. z * rd * (xd * td)) (sym left_is) ∙ parted (p * b) rd (xd * td) in
+        let whole : a * e * rd * (xd * td) ≡ left * rd * (xd * td) + p * b * rd * (xd * td) =
+        ap (λ z. z * rd * (xd * td)) (sym left_is) ∙ parted (p * b) rd (xd * td) in
         cancelled _ _ (xd * td) (mul-pos some_x some_t) (same_sum _ _ _ (scaled ∙ whole))
       where
         split : (n xd td rd : ℕ) → n * (b * e) * (xd * td) + p * b * rd * (xd * td) ≡ n * (xd * td) * (b * e) + p * td * (xd * rd * b)

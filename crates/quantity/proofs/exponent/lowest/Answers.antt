@@ -10,4 +10,5 @@ pub returns-then-den-eq1 : goal.returns-then-den-eq1
 returns-then-den-eq1 c =
     let fits : SFits w32 c.args.num = c.ranges.num in
     (simp to_z-of_z at c.whole.ensures)
-    ∙ ap as_exponent (sym (whole_is c.reduced_law.ensures c.args.num)) ∙ ap (λ d. as_exponent (reduced c.args.num d)) (sym c.if-den-eq1.true)
+    ∙ ap as_exponent (sym (whole_is c.reduced_law.ensures c.args.num))
+    ∙ ap (λ d. as_exponent (reduced c.args.num d)) (sym c.if-den-eq1.true)

@@ -15,7 +15,9 @@ pub loop-powers-preserved-in-Right : goal.loop-powers-preserved-in-Right
 loop-powers-preserved-in-Right c =
     let front = c.in-Right.ensures ∙ ap (λ (es : Powers). first_of es c.loop-powers.right.now) c.as_slice.ensures in
     let power = c.parted.result.0.now in
-    let same = c.in_ok-with-in-Right.ensures ∙ ap (λ e. (power.0, e)) (c.exponent-in-Right.ensures ∙ ap (exponent_in c.args.factor) c.exponent.ensures) in
+    let same =
+    c.in_ok-with-in-Right.ensures
+    ∙ ap (λ e. (power.0, e)) (c.exponent-in-Right.ensures ∙ ap (exponent_in c.args.factor) c.exponent.ensures) in
     merging_right _ _ _ _ _ c.loop-powers.right.now _ _ power _ (factor_step c.args.factor) c.loop-powers.invariant front c.parted.ensures same c.in_ok-push-in-Right.ensures.ok
 
 pub loop-powers-preserved : goal.loop-powers-preserved

@@ -11,7 +11,8 @@ next_whole a zero some = rw (div-zero a, div-zero (suc a)) refl
 next_whole a (suc d) some =
     let is : suc d * (suc a / suc d) + suc a % suc d ≡ suc a = div-add-mod (suc a) (suc d) in
     let part : suc a % suc d < suc d = mod-lt (suc a) (omega arith) in
-    let same : a / suc d ≡ suc a / suc d = div-eq_of_lt-le {k = suc a / suc d} (suc d) (low (suc a / suc d) (suc d) (suc a % suc d) is some) (high (suc a / suc d) (suc d) (suc a % suc d) is part) in
+    let same : a / suc d ≡ suc a / suc d =
+    div-eq_of_lt-le {k = suc a / suc d} (suc d) (low (suc a / suc d) (suc d) (suc a % suc d) is some) (high (suc a / suc d) (suc d) (suc a % suc d) is part) in
     omega arith
   where
     low : (q e r : ℕ) → e * q + r ≡ suc a → 0 < r → q * e ≤ a
@@ -21,7 +22,8 @@ next_whole a (suc d) some =
     high q e r h k = omega arith
 
 -- the whole part of the number with the other sign, with the other sign
-ceiling_is : (z : ℤ) (d : ℕ) → pos 0 ≤ℤ z → 0 < unsigned_abs z % d → negated (floor_of (negated (record { num = z; den = d }))) ≡ whole (pos (unsigned_abs z / d + 1))
+ceiling_is : (z : ℤ) (d : ℕ) → pos 0 ≤ℤ z → 0 < unsigned_abs z % d
+    → negated (floor_of (negated (record { num = z; den = d }))) ≡ whole (pos (unsigned_abs z / d + 1))
 ceiling_is (pos zero) d natural some = absurd (omega (arith, zero-mod d))
 ceiling_is (pos (suc a)) d natural some = ap (λ n. whole (pos n)) (next_whole a d some)
 ceiling_is (negsuc a) d natural some = absurd (omega (arith, ints))

@@ -17,7 +17,9 @@ loop-power-preserved c =
 
 -- all are copied
 copied : (c : goal.After-loop-power) → c.loop-power.items.items ≡ c.self.inside.items.items
-copied c = c.loop-power.invariant ∙ take_all c.loop-power.power-index c.as_slice-power-items.result.now (omega arith) ∙ c.as_slice-power-items.ensures
+copied c =
+    c.loop-power.invariant ∙ take_all c.loop-power.power-index c.as_slice-power-items.result.now (omega arith)
+    ∙ c.as_slice-power-items.ensures
 
 pub invariant_of-result : goal.invariant_of-result
 invariant_of-result c = subst AreInOrder (sym (copied c)) c.self.invariant
