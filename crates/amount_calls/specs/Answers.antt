@@ -12,7 +12,7 @@ use Rattle.quantity.specs.Sums.{difference_of, sum_of}
 use Rattle.quantity.specs.Text.{shown}
 use Rattle.quantity.specs.declared.fault.QuantityFault.{QuantityFault}
 use Rattle.quantity.specs.declared.fault.QuantityFault.TheVariants as step
-use Rattle.quantity.specs.declared.show.Style.TheVariants as style
+use Rattle.digits_print.specs.declared.style.Style.TheVariants as style
 use Rattle.unit_list.specs.Amounts.{counts_in}
 use Rattle.unit_list.specs.declared.counts.Split.{Split}
 use Rattle.unit_list.specs.declared.fault.SplitFault.{SplitFault}

@@ -7,8 +7,10 @@ mod exact;
 mod laws;
 mod layout;
 mod rounding;
+mod style;
 mod tenfold;
 
 pub use digits::print_digits;
 pub use exact::print_exact;
 pub use laws::{back_law, exact_law, nearest_law};
+pub use style::{Style, print_number};

@@ -176,7 +176,7 @@ both_next step ps os out left right left_rest right_rest p o is front left_parts
 pub merging_both : (step : Fraction → Fraction) (ps os out left right new left_rest right_rest : Powers) (p o : Name × Fraction) (e : Fraction) → IsMerging step ps os out left right
     → Both ≡ first_of left right → left ≡ p ∷ left_rest → right ≡ o ∷ right_rest → e ≡ step o.1
     → (new ≡ out ++ put_some (p.0, exponent_sum p.1 e) []) × IsTrue (is_exponent (exponent_sum p.1 e))
-        → IsMerging step ps os new left_rest right_rest
+    → IsMerging step ps os new left_rest right_rest
 merging_both step ps os out left right new left_rest right_rest p o e is front left_parts right_parts same put =
     let now : new ≡ out ++ put_some (p.0, exponent_sum p.1 (step o.1)) [] =
     put.0 ∙ ap (λ v. out ++ put_some (p.0, exponent_sum p.1 v) []) same in

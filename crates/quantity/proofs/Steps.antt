@@ -153,7 +153,7 @@ product_order law factor p o ps os es left right listed =
 
 pub product_ok : ReducedLaw → (factor : Factor) (p o : Exponents) (ps os es : Powers) → IsListOf p ps → IsListOf o os
     → IsListed (Ok (record { items = es; capacity = 0 })) (merged (exponent_in factor) ps os)
-        → Some (exponents_in es) ≡ exponents_with factor p o
+    → Some (exponents_in es) ≡ exponents_with factor p o
 product_ok law factor p o ps os es left right listed =
     ap (λ ds. Some (exponents_in ds)) listed.0 ∙ listed_ok _ _ _ (factor_ranged law factor p o ps os left right) listed.1 ∙ with_is factor p o
 

@@ -5,24 +5,12 @@ use Rattle.std.specs.Fmt.{decimal}
 use Rattle.std.specs.List.{filter, flat_map}
 use Rattle.frac128.specs.Fraction.{Fraction}
 use Rattle.frac128.specs.Sign as sign
-use Rattle.digits_print.specs.Digits.{digits_text}
-use Rattle.digits_print.specs.Exact.{exact_text}
+use Rattle.digits_print.specs.Styles.{number_text}
+use Rattle.digits_print.specs.declared.style.Style.{Style}
 use Rattle.quantity.specs.Amount.{Amount}
 use Rattle.quantity.specs.Exponents.{Exponents}
-use Rattle.quantity.specs.declared.show.Style.{Style}
-use Rattle.quantity.specs.declared.show.Style.TheVariants.{Digits, Exact}
 use Rattle.quantity.specs.declared.text.Side.{Side}
 use Rattle.quantity.specs.declared.text.Side.TheVariants.{Above, Below}
-
--- the digits of a style are from 1 to 36
-abbrev pub IsPrintable : Style → Type 0
-IsPrintable (Digits n) = (1 ≤ n) × (n ≤ 36)
-IsPrintable Exact = ⊤
-
--- a number by its style
-abbrev pub number_text : Style → Fraction → List ℕ
-number_text (Digits n) x = digits_text x n
-number_text Exact x = exact_text x
 
 -- the exponent n/d behind its name: none for 1, else `^n`, or `^n|d` where d is above 1
 abbrev pub exponent_text : ℕ → ℕ → List ℕ

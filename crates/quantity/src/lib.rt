@@ -19,8 +19,8 @@ mod show;
 mod sum;
 mod text;
 
+pub use digits_print::Style;
 pub use exponent::Exponent;
 pub use fault::QuantityFault;
 pub use laws::{conform_law, product_law, same_exponents_law, told_law};
 pub use quantity::Quantity;
-pub use show::Style;

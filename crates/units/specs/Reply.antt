@@ -6,8 +6,8 @@ use Rattle.frac128.specs.declared.fault.FracFault.{FracFault}
 use Rattle.frac128.specs.Faults.{fault_text}
 use Rattle.deck.specs.FirstFile.{Definition}
 use Rattle.deck.specs.FirstValues.{outcome_of}
-use Rattle.units.specs.Style.{number_text}
-use Rattle.units.specs.declared.style.Style.{Style}
+use Rattle.digits_print.specs.Styles.{number_text}
+use Rattle.digits_print.specs.declared.style.Style.{Style}
 pub use Rattle.units.specs.declared.first.reply.Reply.{Reply}
 
 -- the line feed behind a line

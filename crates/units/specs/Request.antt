@@ -4,7 +4,7 @@ use Rattle.std.specs.List.{list_any}
 use Rattle.command_line.specs.declared.fields.CommandLine.{CommandLine}
 use Rattle.deck.specs.FirstNames.{is_first_name}
 use Rattle.units.specs.Style.{style_of}
-use Rattle.units.specs.declared.style.Style.{Style}
+use Rattle.digits_print.specs.declared.style.Style.{Style}
 
 -- a conversion by a file
 pub record Request : Type 0 where

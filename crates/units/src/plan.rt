@@ -8,7 +8,7 @@ ghost use Rattle.units.specs.Run.{unsupported, complaint, answered, run_on, run_
 ghost use Rattle.units.specs.Telling.{TellsIf};
 ghost use Rattle.units.specs.Reply.{line_of};
 ghost use Rattle.units.specs.Endings.{IsStated};
-ghost use Rattle.units.specs.Style.{IsStyle};
+ghost use Rattle.digits_print.specs.Styles.{IsStyle};
 ghost use Rattle.units.specs.declared.plan.Halt.TheVariants.{NoMemory};
 
 use crate::first::reply::{Reply, first_reply};

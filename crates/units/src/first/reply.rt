@@ -2,12 +2,12 @@
 ghost use Rattle.std.specs.Prelude.{◌≡◌, ◌++◌, IfOk, OnOk};
 ghost use Rattle.frac128.specs.Faults.{fault_text};
 ghost use Rattle.deck.specs.FirstValues.{outcome_of};
-ghost use Rattle.units.specs.Style.{IsStyle, number_text as number_text_of};
+ghost use Rattle.digits_print.specs.Styles.{IsStyle, number_text};
 ghost use Rattle.units.specs.Reply.{line_of, refusal, unknown_text, linear, reply_to, reply_of};
 
 use super::value::value_of;
-use crate::style::{Style, number_text};
 use deck::Deck;
+use digits_print::{Style, print_number};
 use frac128::{Frac, FracFault};
 use std::alloc::{AllocError, Global};
 use units_io::Text;
@@ -53,9 +53,9 @@ fn push_number(
     x: &Frac,
 ) -> Result<(), AllocError>
     requires { IsStyle style }
-    ensures { OnOk result (text.new.items ≡ text.old.items ++ line_of (mark.now ++ number_text_of style x.now)) }
+    ensures { OnOk result (text.new.items ≡ text.old.items ++ line_of (mark.now ++ number_text style x.now)) }
 {
-    let number = number_text(alloc, style, x)?;
+    let number = print_number(alloc, x, style)?;
     text.extend_from_slice(mark)?;
     text.extend_from_slice(number.as_bytes())?;
     text.push(b'\n')?;

@@ -1,11 +1,12 @@
 //! The command lines that ask for a conversion by a first file.
 ghost use Rattle.std.specs.Prelude.{◌≡◌, ◌≤◌, IfSome, option_map};
-ghost use Rattle.units.specs.Style.{IsStyle};
+ghost use Rattle.digits_print.specs.Styles.{IsStyle};
 ghost use Rattle.units.specs.Request.{request_of, has_other_option as has_other_option_in};
 
-use crate::style::{Style, style_of};
+use crate::style::style_of;
 use command_line::CommandLine;
 use deck::is_first_name;
+use digits_print::Style;
 
 /// A file, the two names between which it converts, and how the numbers are printed.
 #[derive(Clone, Copy)]
