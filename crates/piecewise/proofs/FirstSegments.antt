@@ -278,7 +278,7 @@ x_at-more points y i before after right is some within right_is after_is other =
 pub x_at-here : (points : List Point) (y : Fraction) (i : ℕ) (before after : Ordering) (left right : Point)
     → IsSearched points y i before → AreNeighbours points i left right
     → after ≡ compared right.1 y → are_around before after ≡ true
-        → x_at points y ≡ numbered (x_on y (record { left = left; right = right }))
+    → x_at points y ≡ numbered (x_on y (record { left = left; right = right }))
 unfolding x_at
 x_at-here points y i before after left right is are after_is around =
     let same : are_around before after ≡ are_around (compared left.1 y) (compared right.1 y) =

@@ -57,8 +57,11 @@ map-plain (count ∷ counts) = ap (λ xs. count ∷ xs) (map-plain counts)
 magnitudes-negated : (counts : List Fraction) → map magnitude (map (negated_if true) counts) ≡ map magnitude counts
 magnitudes-negated [] = refl
 magnitudes-negated (count ∷ counts) =
-    ap (λ n. record { num =
-        pos n; den = count.den } ∷ map magnitude (map (negated_if true) counts)) (abs-neg count.num) ∙ ap (λ xs. magnitude count ∷ xs) (magnitudes-negated counts)
+    ap (λ n. record {
+      num =
+          pos n;
+      den = count.den;
+    } ∷ map magnitude (map (negated_if true) counts)) (abs-neg count.num) ∙ ap (λ xs. magnitude count ∷ xs) (magnitudes-negated counts)
 
 -- a number is its magnitude with its sign
 sign_back : (x : Fraction) → negated_if (is_negative x) (magnitude x) ≡ x

@@ -57,7 +57,7 @@ put_before negative done count (Err fault) = refl
 
 pub counting_more : (negative : Bool) (units : List Amount) (all : Result (List Fraction) FracFault) (i : ℕ) (rest : Fraction) (done : List Fraction) (unit : Amount) (part : Part)
     → IsCounting negative units all i rest done → i + 1 < length units → unit ≡ get_or units i unit
-        → part_of rest (number_of unit) ≡ Ok part
+    → part_of rest (number_of unit) ≡ Ok part
     → IsCounting negative units all (i + 1) part.rest (done ++ negated_if negative part.count ∷ [])
 unfolding counts_of
 counting_more negative units all i rest done unit part is within unit_is part_is =
@@ -74,7 +74,7 @@ counting_more negative units all i rest done unit part is within unit_is part_is
 -- a part that has a fault
 pub counting_fault : (negative : Bool) (units : List Amount) (all : Result (List Fraction) FracFault) (i : ℕ) (rest : Fraction) (done : List Fraction) (unit : Amount) (fault : FracFault)
     → IsCounting negative units all i rest done → i + 1 < length units → unit ≡ get_or units i unit
-        → part_of rest (number_of unit) ≡ Err fault → all ≡ Err fault
+    → part_of rest (number_of unit) ≡ Err fault → all ≡ Err fault
 unfolding counts_of
 counting_fault negative units all i rest done unit fault is within unit_is part_is =
     let step : counts_of rest (map number_of (drop i units)) ≡ Err fault =
@@ -101,7 +101,7 @@ last_units units i unit last unit_is =
 -- its count ends them
 pub counting_end : (negative : Bool) (units : List Amount) (all : Result (List Fraction) FracFault) (i : ℕ) (rest : Fraction) (done : List Fraction) (unit : Amount) (count : Fraction)
     → IsCounting negative units all i rest done → i + 1 ≡ length units → unit ≡ get_or units (length units - 1) unit
-        → over rest (number_of unit) ≡ Ok count
+    → over rest (number_of unit) ≡ Ok count
     → all ≡ Ok (done ++ negated_if negative count ∷ [])
 unfolding counts_of
 counting_end negative units all i rest done unit count is last unit_is count_is =
@@ -112,7 +112,7 @@ counting_end negative units all i rest done unit count is last unit_is count_is 
 -- or has a fault
 pub counting_end_fault : (negative : Bool) (units : List Amount) (all : Result (List Fraction) FracFault) (i : ℕ) (rest : Fraction) (done : List Fraction) (unit : Amount) (fault : FracFault)
     → IsCounting negative units all i rest done → i + 1 ≡ length units → unit ≡ get_or units (length units - 1) unit
-        → over rest (number_of unit) ≡ Err fault
+    → over rest (number_of unit) ≡ Err fault
     → all ≡ Err fault
 unfolding counts_of
 counting_end_fault negative units all i rest done unit fault is last unit_is count_is =
@@ -166,14 +166,14 @@ begun_fault round q units negative amount fault is amount_fault =
 -- and else its counts are those of the amount
 pub begun_counts : (round : Bool) (q : Amount) (units : List Amount) (negative : Bool) (amount : Result Fraction FracFault) (x : Fraction)
     → IsBegun round q units negative amount → amount ≡ Ok x
-        → number_counts round q.value (numbers_of units) ≡ signed_counts negative (counts_of x (numbers_of units))
+    → number_counts round q.value (numbers_of units) ≡ signed_counts negative (counts_of x (numbers_of units))
 begun_counts round q units negative amount x is amount_ok =
     ap (λ r. r >>= (λ amount. signed_counts (is_negative q.value) (counts_of amount (numbers_of units)))) (sym is.amount_is ∙ amount_ok)
     ∙ ap (λ b. signed_counts b (counts_of x (numbers_of units))) (sym is.negative_is)
 
 pub begun_ends : (round : Bool) (q : Amount) (units : List Amount) (negative : Bool) (amount : Result Fraction FracFault) (x : Fraction)
     → IsBegun round q units negative amount → amount ≡ Ok x
-        → counts_in round q units ≡ numbered (signed_counts negative (counts_of x (numbers_of units)))
+    → counts_in round q units ≡ numbered (signed_counts negative (counts_of x (numbers_of units)))
 unfolding counts_in
 begun_ends round q units negative amount x is amount_ok =
     ap (λ f. checked f (number_counts round q.value (numbers_of units))) (sym is.fine)
@@ -194,7 +194,7 @@ handed_on seen (Err other) expected fault given (inr h) = inr (h ∙ ap Err (sym
 -- the same, of what is expected in another form
 pub handed_same : {A B : Type 0} (seen : A → B) (answer : Result A SplitFault) (expected given : Result B SplitFault) (fault : SplitFault)
     → IsErrAnd answer (λ given. given ≡ fault) → expected ≡ given → (fault ≡ OutOfMemory) ⊎ (given ≡ Err fault)
-        → Gives OutOfMemory seen answer expected
+    → Gives OutOfMemory seen answer expected
 handed_same seen answer expected given fault is same (inl none) = handed_on seen answer expected fault is (inl none)
 handed_same seen answer expected given fault is same (inr h) = handed_on seen answer expected fault is (inr (same ∙ h))
 
