@@ -1,0 +1,159 @@
+-- What is shown after edges were cut off.
+use Rattle.std.proofs.Common.{◌≡◌, ◌⊎◌, ℕ, zero, suc, ◌+◌, ◌-◌, ◌<◌, ◌≤◌, Bool, false, cond, nat_eq, List, [], ◌∷◌, length}
+use Rattle.std.proofs.Common.{get_or, refl, sym, ◌∙◌, ap, subst, arith, inl, inr}
+use Rattle.std.proofs.lemmas.Bool.{cond-true, cond-false, eq-eqb, ne_eqb}
+use Rattle.std.proofs.lemmas.List.{length-append}
+use Rattle.edge_links.specs.Edges.{Edge, edge_count}
+use Rattle.edge_links.specs.Changes.{IsParted}
+use Rattle.edge_links.specs.Owners.{Owners, AreEdges, IsHead}
+use Rattle.edge_links.specs.PlaceReach.{IsCutOff}
+use Rattle.edge_links.specs.Reach.{IsAffected, Forgets, IsCleared}
+use Rattle.edge_links.specs.Shown.{edge_at, edges_below, AreLinks}
+use Rattle.edge_links.specs.PlaceReach as place
+use Rattle.edge_links.specs.Times.{times}
+use Rattle.edge_links.proofs.Counting.{owned_zero}
+use Rattle.edge_links.proofs.Linked.{same_heads}
+use Rattle.edge_links.proofs.Listed.{user, key_of, by_edge, at_none, at_free, at_edge, at_same, count_other, counts_same, counts_none}
+use Rattle.edge_links.proofs.Put.{read}
+use Rattle.edge_links.proofs.Reaching.{user_head, affected_down, affected_up, affected_there}
+
+-- how many of the first n places are free
+abbrev pub frees : (ℕ → ℕ) → ℕ → ℕ
+frees f zero = 0
+frees f (suc n) = cond (nat_eq (f n) 0) 1 0 + frees f n
+
+frees_front : (f : ℕ → ℕ) (n : ℕ) → frees f (suc n) ≡ cond (nat_eq (f 0) 0) 1 0 + frees (λ k. f (suc k)) n
+frees_front f zero = refl
+frees_front f (suc n) = swapped _ _ _ _ (frees_front f n)
+  where
+    swapped : (a b d e : ℕ) → b ≡ d + e → a + b ≡ d + (a + e)
+    swapped a b d e h = omega arith
+
+frees_times : (xs : List ℕ) → frees (λ k. get_or xs k 0) (length xs) ≡ times 0 xs
+frees_times [] = refl
+frees_times (x ∷ xs) = frees_front (λ k. get_or (x ∷ xs) k 0) (length xs) ∙ ap (λ k. cond (nat_eq x 0) 1 0 + k) (frees_times xs)
+
+module _ (s : Owners) (e : AreEdges s.users s.keys) (nodes : List ℕ) (links : AreLinks s nodes) (key : ℕ) (there : key < length nodes)
+    (head : ℕ) (found : head ≡ get_or nodes key head)
+    (t : Owners) (size : length t.users ≡ length s.users) (same_names : t.names ≡ s.names) (parted : IsParted (IsCutOff s head) s t)
+    (idle : (x : ℕ) → get_or t.waits x false ≡ false) where
+  abbrev n : ℕ
+  n = length s.users
+
+  is_head : head ≡ get_or nodes key 0
+  is_head = read nodes key head there found
+
+  cut : IsParted (IsCutOff s (get_or nodes key 0)) s t
+  cut = subst (λ z. IsParted (IsCutOff s z) s t) is_head parted
+
+  abbrev old : List Edge
+  old = edges_below s n
+
+  -- what stays is shown as before, and what is cut off is not
+  abbrev Stays : ℕ → Type 0
+  Stays p = (IsCutOff s (get_or nodes key 0) p → ⊥) × (edge_at t p ≡ edge_at s p)
+
+  at_place : (p : ℕ) → p < n → (IsCutOff s (get_or nodes key 0) p × (edge_at t p ≡ [])) ⊎ Stays p
+  at_place p l = elim (cut p l) [
+    | inl c ↦ inl (c.0, at_free t p c.1)
+    | inr c ↦ inr (c.0, at_same s t p c.1 c.2 (ap (λ xs. get_or xs (user s p) 0) same_names) (ap (λ xs. get_or xs (key_of s p) 0) same_names))
+  ]
+
+  heads_stay : (x : ℕ) → IsHead s x → IsHead t x
+  heads_stay x h = elim (cut x h.0) [
+    | inl c ↦ absurd (c.0.0 h.1)
+    | inr c ↦ (let a = h.0 in omega arith, c.1 ∙ h.1, h.2)
+  ]
+
+  heads_were : (x : ℕ) → IsHead t x → IsHead s x
+  heads_were x h =
+      let l : x < n = let a = h.0 in omega arith in
+      elim (cut x l) [
+        | inl c ↦ absurd (h.2 (sym h.1 ∙ c.1))
+        | inr c ↦ (l, sym c.1 ∙ h.1, h.2)
+      ]
+
+  pub links_after : AreLinks t nodes
+  links_after = same_heads s t nodes size same_names heads_stay heads_were idle links
+
+  -- the edge of an affected user is cut off, and no other
+  cut_off_affected : (p : ℕ) → p < n → IsCutOff s (get_or nodes key 0) p → IsAffected old key (get_or s.names (user s p) 0)
+  cut_off_affected p l c = affected_up s e nodes links key (user s p) there c.2
+
+  affected_cut_off : (p : ℕ) → p < n → (user s p ≡ p → ⊥) → (user s p ≡ 0 → ⊥) → IsAffected old key (get_or s.names (user s p) 0)
+      → IsCutOff s (get_or nodes key 0) p
+  affected_cut_off p l a b f =
+      let h = links.named (user s p) (user_head s e nodes links p l b) in
+      (a, b, subst (λ z. place.IsAffected s (get_or nodes key 0) z) h.1 (affected_down s e nodes links key (get_or s.names (user s p) 0) f))
+
+  gone_at : (x y : ℕ) → IsAffected old key x → (p : ℕ) → p < n → edge_count (edge_at t p) x y ≡ 0
+  gone_at x y f p l = elim (at_place p l) [
+    | inl c ↦ ap (λ es. edge_count es x y) c.1
+    | inr c ↦ ap (λ es. edge_count es x y) c.1 ∙ elim (by_edge s p) [
+      | inl h ↦ ap (λ es. edge_count es x y) (at_none s p h)
+      | inr h ↦ ap (λ es. edge_count es x y) (at_edge s p h.0 h.1)
+          ∙ count_other (get_or s.names (user s p) 0) (get_or s.names (key_of s p) 0) x y
+          (λ q. c.0 (affected_cut_off p l h.0 h.1 (subst (λ z. IsAffected old key z) (sym q) f)))
+    ]
+  ]
+
+  kept_at : (x y : ℕ) → (IsAffected old key x → ⊥) → (p : ℕ) → p < n → edge_count (edge_at t p) x y ≡ edge_count (edge_at s p) x y
+  kept_at x y f p l = elim (at_place p l) [
+    | inl c ↦ ap (λ es. edge_count es x y) c.1 ∙ sym (ap (λ es. edge_count es x y) (at_edge s p c.0.0 c.0.1)
+        ∙ count_other (get_or s.names (user s p) 0) (get_or s.names (key_of s p) 0) x y
+        (λ q. f (subst (λ z. IsAffected old key z) q (cut_off_affected p l c.0))))
+    | inr c ↦ ap (λ es. edge_count es x y) c.1
+  ]
+
+  pub forgets : Forgets key old (edges_below t (length t.users))
+  forgets = record {
+    gone = λ x y f. ap (λ m. edge_count (edges_below t m) x y) size ∙ counts_none t x y n (gone_at x y f);
+    kept = λ x y f. ap (λ m. edge_count (edges_below t m) x y) size ∙ counts_same s t x y n (kept_at x y f);
+  }
+
+  -- each place is as often free as it is not an edge
+  weight : (p : ℕ) → p < n → length (edge_at t p) + cond (nat_eq (user t p) 0) 1 0 ≡ length (edge_at s p) + cond (nat_eq (user s p) 0) 1 0
+  weight p l = elim (cut p l) [
+    | inl c ↦ cut_off _ _ _ _ (ap length (at_free t p c.1)) (cond-true (nat_eq (user t p) 0) 1 0 (eq-eqb (user t p) 0 c.1))
+        (ap length (at_edge s p c.0.0 c.0.1)) (cond-false (nat_eq (user s p) 0) 1 0 (ne_eqb (user s p) 0 c.0.1))
+    | inr c ↦ stays _ _ _ _ (ap length (at_same s t p c.1 c.2 (ap (λ xs. get_or xs (user s p) 0) same_names)
+        (ap (λ xs. get_or xs (key_of s p) 0) same_names))) (ap (λ z. cond (nat_eq z 0) 1 0) c.1)
+  ]
+    where
+      cut_off : (a b d f : ℕ) → a ≡ 0 → b ≡ 1 → d ≡ 1 → f ≡ 0 → a + b ≡ d + f
+      cut_off a b d f h i j k = omega arith
+
+      stays : (a b d f : ℕ) → a ≡ d → b ≡ f → a + b ≡ d + f
+      stays a b d f h i = omega arith
+
+  weights : (m : ℕ) → m ≤ n → length (edges_below t m) + frees (user t) m ≡ length (edges_below s m) + frees (user s) m
+  weights zero l = refl
+  weights (suc m) l = sums _ _ _ _ _ _ _ _ _ _ (length-append (edge_at t m) (edges_below t m))
+      (length-append (edge_at s m) (edges_below s m)) (weight m (omega arith)) (weights m (omega arith))
+    where
+      sums : (a b d f g h i j k o : ℕ) → a ≡ b + d → f ≡ g + h → b + i ≡ g + j → d + k ≡ h + o → a + (i + k) ≡ f + (j + o)
+      sums a b d f g h i j k o p q r u = omega arith
+
+  -- place 0 stays
+  zero_stays : 0 < n → get_or t.users 0 0 ≡ 0
+  zero_stays l = elim (cut 0 l) [ inl c ↦ c.1 | inr c ↦ c.1 ∙ e.zero ]
+
+  pub spare_after : (times 0 t.users - 1) + length (edges_below t (length t.users)) ≡ (times 0 s.users - 1) + length old
+  spare_after =
+      let some : 0 < n = let h = (links.places key there).0.0 in omega arith in
+      sums _ _ _ _ _ _ _ (weights n (omega arith)) (frees_times s.users) (ap (λ m. frees (user t) m) (sym size) ∙ frees_times t.users)
+      (owned_zero s.users some e.zero) (owned_zero t.users (omega arith) (zero_stays some)) (ap (λ m. length (edges_below t m)) size)
+    where
+      sums : (a b d f g h i : ℕ) → a + b ≡ d + f → f ≡ g → b ≡ h → 1 ≤ g → 1 ≤ h → i ≡ a → (h - 1) + i ≡ (g - 1) + d
+      sums a b d f g h i j k l m o p = omega arith
+
+  pub cleared : (now new : ℕ → Bool) → ((x : ℕ) → IsHead s x → place.IsAffected s head x → new (get_or s.names x 0) ≡ false)
+      → ((m : ℕ) → ((x : ℕ) → IsHead s x → place.IsAffected s head x → get_or s.names x 0 ≡ m → ⊥) → new m ≡ now m)
+      → IsCleared (IsAffected old key) now new
+  cleared now new gone kept = record {
+    gone = λ x f. let h = affected_there s e nodes links key x there f in
+        ap new (sym h.1) ∙ gone (get_or nodes x 0) h.0 (subst (λ z. place.IsAffected s z (get_or nodes x 0)) (sym is_head)
+        (affected_down s e nodes links key x f));
+    kept = λ m f. kept m (λ x h a q. f (subst (λ z. IsAffected old key z) q
+        (affected_up s e nodes links key x there (subst (λ z. place.IsAffected s z x) is_head a))));
+  }

@@ -1,0 +1,300 @@
+-- What is cleared so far, and what is left at the end.
+use Rattle.std.proofs.Common.{◌≡◌, ℕ, ◌<◌, Bool, true, false, cond, nat_eq, List, [], ◌∷◌, length, set, get_or, Contains, ◌⊎◌, ◌↔◌}
+use Rattle.std.proofs.Common.{refl, sym, ◌∙◌, ap, subst, inl, inr, arith, get_or-set_other}
+use Rattle.std.proofs.lemmas.Bool.{cases_eq, cond-true, cond-false, eq-eqb, ne_eqb}
+use Rattle.edge_links.specs.Changes.{IsCut, IsParted, HasUser, HasKey}
+use Rattle.edge_links.specs.Owners.{Owners, AreEdges, Waits, IsHead}
+use Rattle.edge_links.specs.PlaceReach.{IsEdge, Reaches, at_once, further, IsAffected, IsCutOff}
+use Rattle.edge_links.proofs.Membership.{contains_none, contains_first, contains_later, contains_cases}
+
+abbrev pub user : Owners → ℕ → ℕ
+user s p = get_or s.users p 0
+
+abbrev pub key_of : Owners → ℕ → ℕ
+key_of s p = get_or s.keys p 0
+
+-- a place that was taken out: its user is done or waits
+abbrev pub IsOut : Owners → Owners → List ℕ → ℕ → Type 0
+IsOut old s done p = (user s p ≡ 0) × (key_of s p ≡ 0) × (user old p ≡ p → ⊥) × (Contains done (user old p) ⊎ Waits s (user old p))
+
+abbrev pub IsSame : Owners → Owners → ℕ → Type 0
+IsSame old s p = (user s p ≡ user old p) × (key_of s p ≡ key_of old p)
+
+abbrev pub IsLive : Owners → ℕ → Type 0
+IsLive s p = (user s p ≡ p → ⊥) × (user s p ≡ 0 → ⊥)
+
+pub record IsUnsettling (old s : Owners) (name : ℕ → ℕ) (marks now : ℕ → Bool) (key : ℕ) : Type 0 where
+  pub size : length s.users ≡ length old.users
+  pub done : List ℕ
+  pub each : (p : ℕ) → p < length old.users → IsOut old s done p ⊎ IsSame old s p
+  pub out_user : (p : ℕ) → p < length old.users → IsLive s p → Contains done (user s p) → ⊥
+  pub out_key : (p : ℕ) → p < length old.users → IsLive s p → Contains done (key_of s p) → ⊥
+  pub reached : (x : ℕ) → Contains done x ⊎ Waits s x → (x < length old.users) × (user old x ≡ x) × (x ≡ 0 → ⊥) × IsAffected old key x
+  pub cleared : (x : ℕ) → Contains done x → now (name x) ≡ false
+  pub kept : (m : ℕ) → ((x : ℕ) → Contains done x → name x ≡ m → ⊥) → now m ≡ marks m
+  pub begun : Contains done key ⊎ Waits s key
+
+module _ (old : Owners) (old_edges : AreEdges old.users old.keys) (key : ℕ) (name : ℕ → ℕ) where
+  -- s: with x taken from the list; t and v: after the cuts
+  module _ (s0 s t v : Owners) (x : ℕ) (marks now : ℕ → Bool)
+      (u : IsUnsettling old s0 name marks now key) (popped : (x < length s0.users) × Waits s0 x × (s.waits ≡ set s0.waits x false))
+      (same_users : s.users ≡ s0.users) (same_keys : s.keys ≡ s0.keys) (edges : AreEdges s.users s.keys)
+      (cut_users : IsCut (HasUser s x) s t) (t_waits : t.waits ≡ s.waits) (t_size : length t.users ≡ length s.users)
+      (cut_keys : IsCut (HasKey t x) t v) (v_waits : (y : ℕ) → Waits v y ↔
+      (Waits t y ⊎ ((p : ℕ) × (p < length t.users) × HasKey t x p × (get_or t.users p 0 ≡ y)))) (v_size : length v.users ≡ length t.users)
+      (now2 : ℕ → Bool) (cleared_x : (m : ℕ) → now2 m ≡ cond (nat_eq m (name x)) false (now m)) where
+    x_facts : (x < length old.users) × (user old x ≡ x) × (x ≡ 0 → ⊥) × IsAffected old key x
+    x_facts = u.reached x (inr popped.1)
+
+    in_s : (p : ℕ) → p < length old.users → p < length s.users
+    in_s p l = let a : length s.users ≡ length s0.users = ap length same_users in let b = u.size in omega arith
+
+    in_t : (p : ℕ) → p < length old.users → p < length t.users
+    in_t p l = let a = in_s p l in omega arith
+
+    su : (p : ℕ) → user s p ≡ user s0 p
+    su p = ap (λ xs. get_or xs p 0) same_users
+
+    sk : (p : ℕ) → key_of s p ≡ key_of s0 p
+    sk p = ap (λ xs. get_or xs p 0) same_keys
+
+    -- a place after both cuts
+    both : (p : ℕ) → p < length old.users
+        → ((user v p ≡ 0) × (key_of v p ≡ 0) × (p ≡ x → ⊥) × ((user s p ≡ x) ⊎ (key_of s p ≡ x)))
+        ⊎ ((user v p ≡ user s p) × (key_of v p ≡ key_of s p) × ((p ≡ x) ⊎ ((user s p ≡ x → ⊥) × (key_of s p ≡ x → ⊥))))
+    both p l =
+        let ls : p < length s.users = in_s p l in
+        let lt : p < length t.users = in_t p l in
+        elim (cases_eq p x) [
+          | inl e ↦
+              let a = (cut_users p ls).1 (λ h. h.0 e) in
+              let b = (cut_keys p lt).1 (λ h. h.0 e) in inr (b.0 ∙ a.0, b.1 ∙ a.1, inl e)
+          | inr ne ↦ elim (cases_eq (user s p) x) [
+            | inl e ↦
+                let a = (cut_users p ls).0 (ne, e) in
+                let b = (cut_keys p lt).1 (λ h. x_facts.2 (sym h.1 ∙ a.1)) in inl (b.0 ∙ a.0, b.1 ∙ a.1, ne, inl e)
+            | inr nu ↦
+                let a = (cut_users p ls).1 (λ h. nu h.1) in
+                elim (cases_eq (key_of s p) x) [
+                  | inl e ↦ let b = (cut_keys p lt).0 (ne, a.1 ∙ e) in inl (b.0, b.1, ne, inr e)
+                  | inr nk ↦ let b = (cut_keys p lt).1 (λ h. nk (sym a.1 ∙ h.1)) in inr (b.0 ∙ a.0, b.1 ∙ a.1, inr (nu, nk))
+                ]
+          ]
+        ]
+
+    still : (y : ℕ) → Waits s0 y → (y ≡ x) ⊎ Waits v y
+    still y h =
+        elim (cases_eq y x) [
+          | inl e ↦ inl e
+          | inr ne ↦ inr ((v_waits y).1 (inl (ap (λ q. get_or q y false) (t_waits ∙ popped.2) ∙ (get_or-set_other s0.waits x y false false ne ∙ h))))
+        ]
+
+    -- an edge to x makes its user wait
+    user_waits : (p : ℕ) → p < length old.users → (p ≡ x → ⊥) → key_of s p ≡ x → (user s p ≡ x → ⊥) → Waits v (user s p)
+    user_waits p l ne e nu =
+        let a = (cut_users p (in_s p l)).1 (λ h. nu h.1) in (v_waits (user s p)).1 (inr (p, in_t p l, (ne, a.1 ∙ e), a.0))
+
+    done2 : List ℕ
+    done2 = x ∷ u.done
+
+    each2 : (p : ℕ) → p < length old.users → IsOut old v (x ∷ u.done) p ⊎ IsSame old v p
+    each2 p l =
+        elim (u.each p l) [
+          | inl o ↦
+              let f : (user v p ≡ 0) × (key_of v p ≡ 0) =
+              elim (both p l) [ inl w ↦ (w.0, w.1) | inr w ↦ (w.0 ∙ (su p ∙ o.0), w.1 ∙ (sk p ∙ o.1)) ] in
+              inl (
+                f.0,
+                f.1,
+                o.2,
+                elim o.3 [
+                  | inl i ↦ inl (contains_later (user old p) x u.done i)
+                  | inr q ↦ elim (still (user old p) q) [ inl e ↦ inl (contains_first (user old p) x u.done e) | inr r ↦ inr r ]
+                ],
+              )
+          | inr m ↦ elim (both p l) [
+            | inr w ↦ inr (w.0 ∙ (su p ∙ m.0), w.1 ∙ (sk p ∙ m.1))
+            | inl w ↦
+                let apart : user old p ≡ p → ⊥ = λ q. elim w.3 [
+                  | inl e ↦ w.2 (sym q ∙ (sym m.0 ∙ (sym (su p) ∙ e)))
+                  | inr e ↦ w.2 (sym ((old_edges.heads p l).0 q) ∙ (sym m.1 ∙ (sym (sk p) ∙ e)))
+                ] in
+                inl (
+                  w.0,
+                  w.1,
+                  apart,
+                  elim (cases_eq (user s p) x) [
+                    | inl e ↦ inl (contains_first (user old p) x u.done (sym m.0 ∙ (sym (su p) ∙ e)))
+                    | inr nu ↦ elim w.3 [
+                      | inl e ↦ absurd (nu e)
+                      | inr e ↦ inr (subst (λ y. Waits v y) (su p ∙ m.0) (user_waits p l w.2 e nu))
+                    ]
+                  ],
+                )
+          ]
+        ]
+
+    -- what is live was live, and has nothing to do with x
+    live_was : (p : ℕ) → p < length old.users → IsLive v p
+        → (user v p ≡ user s0 p) × (key_of v p ≡ key_of s0 p) × IsLive s0 p × (user s p ≡ x → ⊥) × (key_of s p ≡ x → ⊥)
+    live_was p l h =
+        elim (both p l) [
+          | inl w ↦ absurd (h.1 w.0)
+          | inr w ↦
+              let a : user v p ≡ user s0 p = w.0 ∙ su p in (
+                a,
+                w.1 ∙ sk p,
+                (λ q. h.0 (a ∙ q), λ q. h.1 (a ∙ q)),
+                elim w.2 [
+                  | inl e ↦ absurd (h.0 (w.0 ∙ (head_x p l e ∙ sym e)))
+                  | inr n ↦ n.0
+                ],
+                elim w.2 [
+                  | inl e ↦ absurd (h.0 (w.0 ∙ (head_x p l e ∙ sym e)))
+                  | inr n ↦ n.1
+                ],
+              )
+        ]
+      where
+        head_x : (q : ℕ) → q < length old.users → q ≡ x → user s q ≡ x
+        head_x q m e =
+            elim (u.each q m) [
+              | inl o ↦ absurd (o.2 (ap (user old) e ∙ (x_facts.1 ∙ sym e)))
+              | inr w ↦ su q ∙ (w.0 ∙ (ap (user old) e ∙ x_facts.1))
+            ]
+
+    reached_new : (y : ℕ) → Waits v y → (y < length old.users) × (user old y ≡ y) × (y ≡ 0 → ⊥) × IsAffected old key y
+    reached_new y h =
+        elim ((v_waits y).0 h) [
+          | inl q ↦ u.reached y (inr (before y (ap (λ b. get_or b y false) (sym (t_waits ∙ popped.2)) ∙ q)))
+          | inr w ↦
+              let p : ℕ = w.0 in
+              let lo : p < length old.users = let a : length s.users ≡ length s0.users = ap length same_users in let b = u.size in let d =
+              w.1 in omega arith in
+              let was : (user s p ≡ x → ⊥) × (user t p ≡ user s p) × (key_of t p ≡ key_of s p) = uncut p lo w.2 in
+              let ks : key_of s p ≡ x = sym was.2 ∙ w.2.1 in
+              elim (u.each p lo) [
+                | inl o ↦ absurd (x_facts.2 (sym ks ∙ (sk p ∙ o.1)))
+                | inr m ↦
+                    let uo : user old p ≡ y = sym m.0 ∙ (sym (su p) ∙ (sym was.1 ∙ w.3)) in
+                    let ko : key_of old p ≡ x = sym m.1 ∙ (sym (sk p) ∙ ks) in
+                    let nh : user old p ≡ p → ⊥ = λ q. w.2.0 (sym ((old_edges.heads p lo).0 q) ∙ ko) in
+                    let nz : user old p ≡ 0 → ⊥ = λ q. x_facts.2 (sym ko ∙ (old_edges.free p lo).0 q) in
+                    let edge : IsEdge old p y x = (lo, nh, nz, uo, ko) in (
+                      subst (λ z. z < length old.users) uo (old_edges.within p lo),
+                      subst (λ z. user old z ≡ z) uo (old_edges.top p lo),
+                      λ q. nz (uo ∙ q),
+                      inr (elim x_facts.3 [ inl e ↦ subst (λ z. Reaches old y z) e (at_once p edge) | inr r ↦ further p edge r ]),
+                    )
+              ]
+        ]
+      where
+        before : (z : ℕ) → get_or (set s0.waits x false) z false ≡ true → Waits s0 z
+        before z q =
+            elim (cases_eq z x) [
+              | inl e ↦ subst (λ k. Waits s0 k) (sym e) popped.1
+              | inr ne ↦ sym (get_or-set_other s0.waits x z false false ne) ∙ q
+            ]
+
+        uncut : (p : ℕ) → p < length old.users → HasKey t x p → (user s p ≡ x → ⊥) × (user t p ≡ user s p) × (key_of t p ≡ key_of s p)
+        uncut p l k =
+            let n : user s p ≡ x → ⊥ = λ e. let a = (cut_users p (in_s p l)).0 (k.0, e) in x_facts.2 (sym k.1 ∙ a.1) in
+            let a = (cut_users p (in_s p l)).1 (λ w. n w.1) in (n, a.0, a.1)
+
+    pub step : IsUnsettling old v name marks now2 key
+    step = record {
+      size = v_size ∙ (t_size ∙ (ap length same_users ∙ u.size));
+      done = x ∷ u.done;
+      each = each2;
+      out_user = λ p l h i.
+          let w = live_was p l h in elim (contains_cases (user v p) x u.done i)
+          [ inl e ↦ w.3 (su p ∙ (sym w.0 ∙ e)) | inr j ↦ u.out_user p l w.2 (subst (λ y. Contains u.done y) w.0 j) ];
+      out_key = λ p l h i.
+          let w = live_was p l h in elim (contains_cases (key_of v p) x u.done i)
+          [ inl e ↦ w.4 (sk p ∙ (sym w.1 ∙ e)) | inr j ↦ u.out_key p l w.2 (subst (λ y. Contains u.done y) w.1 j) ];
+      reached = λ y h. elim h [
+        | inl i ↦ elim (contains_cases y x u.done i) [
+          | inl e ↦ u.reached y (inr (subst (λ z. Waits s0 z) (sym e) popped.1))
+          | inr j ↦
+              u.reached y (inl j)
+        ]
+        | inr q ↦ reached_new y q
+      ];
+      cleared = λ y i. elim (cases_eq (name y) (name x)) [
+        | inl e ↦ cleared_x (name y) ∙ cond-true (nat_eq (name y) (name x)) false (now (name y)) (eq-eqb (name y) (name x) e)
+        | inr ne ↦ cleared_x (name y) ∙ (cond-false (nat_eq (name y) (name x)) false (now (name y)) (ne_eqb (name y) (name x) ne)
+            ∙ u.cleared y (elim (contains_cases y x u.done i) [ inl e ↦ absurd (ne (ap name e)) | inr j ↦ j ]))
+      ];
+      kept = λ m n. cleared_x m ∙ (cond-false (nat_eq m (name x)) false (now m)
+          (ne_eqb m (name x) (λ e. n x (contains_first x x u.done refl) (sym e))) ∙ u.kept m (λ y i. n y (contains_later y x u.done i)));
+      begun = elim u.begun [
+        | inl i ↦ inl (contains_later key x u.done i)
+        | inr q ↦ elim (still key q)
+            [ inl e ↦ inl (contains_first key x u.done e) | inr r ↦ inr r ]
+      ];
+    }
+
+  pub begin : (s : Owners) (marks : ℕ → Bool) → ((x : ℕ) → get_or old.waits x false ≡ false) → key < length old.users → user old key ≡ key
+      → (key ≡ 0 → ⊥)
+      → s.users ≡ old.users → s.keys ≡ old.keys → ((x : ℕ) → Waits s x ↔ (Waits old x ⊎ (x ≡ key)))
+      → IsUnsettling old s name marks marks key
+  begin s marks idle l h nz us ks q = record {
+    size = ap length us;
+    done = [];
+    each = λ p m. inr (ap (λ xs. get_or xs p 0) us, ap (λ xs. get_or xs p 0) ks);
+    out_user = λ p m w i. absurd (contains_none (user s p) i);
+    out_key = λ p m w i. absurd (contains_none (key_of s p) i);
+    reached = λ x w. elim w [
+      | inl i ↦ absurd (contains_none x i)
+      | inr j ↦ elim ((q x).0 j) [
+        | inl k ↦ absurd (let f = idle x in cc)
+        | inr e ↦ (subst (λ z. z < length old.users) (sym e) l, ap (user old) e ∙ (h ∙ sym e), λ z. nz (sym e ∙ z), inl e)
+      ]
+    ];
+    cleared = λ x i. absurd (contains_none x i);
+    kept = λ x n. refl;
+    begun = inr ((q key).1 (inr refl));
+  }
+
+  -- nothing waits any more
+  module _ (s : Owners) (marks now : ℕ → Bool) (u : IsUnsettling old s name marks now key)
+      (idle : (x : ℕ) → get_or s.waits x false ≡ false) where
+    none : (x : ℕ) → Waits s x → ⊥
+    none x h = let f = idle x in cc
+
+    pred_done : (p x y : ℕ) → IsEdge old p x y → Contains u.done y → Contains u.done x
+    pred_done p x y e i =
+        elim (u.each p e.0) [
+          | inl o ↦ elim o.3 [ inl j ↦ subst (λ z. Contains u.done z) e.3 j | inr q ↦ absurd (none _ q) ]
+          | inr m ↦ absurd (u.out_key p e.0 (λ q. e.1 (sym m.0 ∙ q), λ q. e.2 (sym m.0 ∙ q)) (subst (λ z. Contains u.done z) (sym (m.1 ∙ e.4)) i))
+        ]
+
+    reach_done : {x y : ℕ} → Reaches old x y → Contains u.done y → Contains u.done x
+    reach_done (at_once p e) i = pred_done p _ _ e i
+    reach_done (further p e r) i = pred_done p _ _ e (reach_done r i)
+
+    pub affected_done : (x : ℕ) → IsAffected old key x → Contains u.done x
+    affected_done x (inl e) = subst (λ z. Contains u.done z) (sym e) (elim u.begun [ inl i ↦ i | inr q ↦ absurd (none _ q) ])
+    affected_done x (inr r) = reach_done r (elim u.begun [ inl i ↦ i | inr q ↦ absurd (none _ q) ])
+
+    pub done_affected : (x : ℕ) → Contains u.done x → IsAffected old key x
+    done_affected x i = (u.reached x (inl i)).3
+
+    pub all_cut : IsParted (IsCutOff old key) old s
+    all_cut p l = elim (u.each p l) [
+      | inl o ↦
+          let i : Contains u.done (user old p) = elim o.3 [ inl j ↦ j | inr q ↦ absurd (none _ q) ] in
+          inl ((o.2, (u.reached (user old p) (inl i)).2, done_affected _ i), o.0, o.1)
+      | inr m ↦ inr (
+        λ g. absurd (u.out_user p l (λ q. g.0 (sym m.0 ∙ q), λ q. g.1 (sym m.0 ∙ q))
+            (subst (λ z. Contains u.done z) (sym m.0) (affected_done _ g.2))),
+        m.0,
+        m.1,
+      )
+    ]
+
+    pub all_cleared : (x : ℕ) → IsAffected old key x → now (name x) ≡ false
+    all_cleared x a = u.cleared x (affected_done x a)
+
+    pub all_kept : (m : ℕ) → ((x : ℕ) → IsHead old x → IsAffected old key x → name x ≡ m → ⊥) → now m ≡ marks m
+    all_kept m n = u.kept m (λ x i. let r = u.reached x (inl i) in n x (r.0, r.1, r.2) r.3)

@@ -1,0 +1,152 @@
+-- The list of what waits.
+use Rattle.std.proofs.Common.{◌≡◌, ℕ, zero, suc, ◌+◌, ◌<◌, ◌≤◌, Bool, true, false, List, [], ◌∷◌, ◌++◌, length, set, get_or, Contains, Option, Some, None, ◌↔◌}
+use Rattle.std.proofs.Common.{refl, sym, ◌∙◌, ap, subst, inl, inr, arith, get_or-set_same, get_or-set_other, length-set}
+use Rattle.std.proofs.lemmas.Bool.{cases_eq, false_from_ne_true}
+use Rattle.std.proofs.lemmas.List.{get_or_append_left, length-append}
+use Rattle.edge_links.proofs.Membership.{contains_none, contains_first, contains_later, contains_cases}
+use Rattle.edge_links.specs.Waiting.{AreApart, IsChain, AreWaiting, waiting_count}
+
+chain_set : (behind : List (Option ℕ)) (x : ℕ) (v top : Option ℕ) (xs : List ℕ) → (Contains xs x → ⊥) → IsChain behind top xs
+    → IsChain (set behind x v) top xs
+chain_set behind x v top [] off h = h
+chain_set behind x v top (y ∷ xs) off h =
+    let l : y < length (set behind x v) = let s = length-set behind x v in omega arith in (
+      h.0,
+      l,
+      chain_set behind x v (get_or (set behind x v) y None) xs (λ i. off (contains_later x y xs i))
+          (subst (λ (o : Option ℕ). IsChain behind o xs) (sym (get_or-set_other behind x y v None (λ e. off (contains_first x y xs (sym e))))) h.2),
+    )
+
+pub pushed : (q : List Bool) (behind : List (Option ℕ)) (top : Option ℕ) (x : ℕ) → AreWaiting q behind top → x < length q
+    → get_or q x false ≡ false
+    → AreWaiting (set q x true) (set behind x top) (Some x)
+pushed q behind top x w l new =
+    let off : Contains w.places x → ⊥ = λ i. let e : get_or q x false ≡ true = (w.flags x).1 i in cc in
+    let n : x < length behind = let s = w.size in omega arith in
+    let m : x < length (set behind x top) = let s = length-set behind x top in omega arith in
+    record {
+      size = length-set behind x top ∙ (w.size ∙ sym (length-set q x true));
+      places = x ∷ w.places;
+      chain = (
+        refl,
+        m,
+        subst (λ (o : Option ℕ). IsChain (set behind x top) o w.places) (sym (get_or-set_same behind x top None n))
+            (chain_set behind x top top w.places off w.chain),
+      );
+      flags = λ y. elim (cases_eq y x) [
+        | inl e ↦ (λ _. contains_first y x w.places e, λ _. ap (λ k. get_or (set q x true) k false) e ∙ get_or-set_same q x true false l)
+        | inr ne ↦ (
+          λ h. contains_later y x w.places ((w.flags y).0 (sym (get_or-set_other q x y true false ne) ∙ h)),
+          λ i. get_or-set_other q x y true false ne ∙ (w.flags y).1 (elim (contains_cases y x w.places i) [ inl e ↦ absurd (ne e) | inr j ↦ j ]),
+        )
+      ];
+      apart = (off, w.apart);
+    }
+
+pub nothing : (q : List Bool) (behind : List (Option ℕ)) (x : ℕ) → AreWaiting q behind None → get_or q x false ≡ false
+nothing q behind x w = none w.places w.chain (w.flags x).0
+  where
+    none : (xs : List ℕ) → IsChain behind None xs → (get_or q x false ≡ true → Contains xs x) → get_or q x false ≡ false
+    none [] c f = false_from_ne_true _ (λ e. contains_none x (f e))
+    none (y ∷ xs) c f = absurd (let e : None ≡ Some y = c.0 in cc)
+
+pub popped : (q : List Bool) (behind : List (Option ℕ)) (top : Option ℕ) (x : ℕ) (after : Option ℕ) → AreWaiting q behind top
+    → top ≡ Some x → after ≡ get_or behind x None
+    → (x < length behind) × (x < length q) × (get_or q x false ≡ true) × AreWaiting (set q x false) behind after
+popped q behind top x after w t a = go w.places w.chain w.flags w.apart
+  where
+    go : (xs : List ℕ) → IsChain behind top xs → ((y : ℕ) → (get_or q y false ≡ true) ↔ Contains xs y) → AreApart xs
+        → (x < length behind) × (x < length q) × (get_or q x false ≡ true) × AreWaiting (set q x false) behind after
+    go [] c f p = absurd (let e : None ≡ Some x = sym c ∙ t in cc)
+    go (y ∷ xs) c f p =
+        let e : x ≡ y = let z : Some x ≡ Some y = sym t ∙ c.0 in cc in
+        let n : x < length behind = subst (λ k. k < length behind) (sym e) c.1 in
+        let l : x < length q = let s = w.size in omega arith in
+        let on_it : get_or q x false ≡ true = (f x).1 (contains_first x y xs e) in
+        let g : after ≡ get_or behind y None = a ∙ ap (λ k. get_or behind k None) e in (
+          n,
+          l,
+          on_it,
+          record {
+            size = w.size ∙ sym (length-set q x false);
+            places = xs;
+            chain = subst (λ (o : Option ℕ). IsChain behind o xs) (sym g) c.2;
+            flags = λ k. elim (cases_eq k x) [
+              | inl d ↦ (
+                λ h. absurd (let z : get_or (set q x false) k false ≡ false = ap (λ j. get_or (set q x false) j false) d ∙ get_or-set_same
+                    q x false false l in cc),
+                λ i. absurd (p.0 (subst (λ j. Contains xs j) (d ∙ e) i)),
+              )
+              | inr ne ↦ (
+                λ h. elim (contains_cases k y xs ((f k).0 (sym (get_or-set_other q x k false false ne) ∙ h)))
+                    [ inl d ↦ absurd (ne (d ∙ sym e)) | inr i ↦ i ],
+                λ i. get_or-set_other q x k false false ne ∙ (f k).1 (contains_later k y xs i),
+              )
+            ];
+            apart = p.1;
+          },
+        )
+
+pub top_there : (q : List Bool) (behind : List (Option ℕ)) (top : Option ℕ) (x : ℕ) → AreWaiting q behind top → top ≡ Some x
+    → (x < length behind) × (x < length q)
+top_there q behind top x w t = go w.places w.chain
+  where
+    go : (xs : List ℕ) → IsChain behind top xs → (x < length behind) × (x < length q)
+    go [] c = absurd (let e : None ≡ Some x = sym c ∙ t in cc)
+    go (y ∷ xs) c =
+        let e : x ≡ y = let z : Some x ≡ Some y = sym t ∙ c.0 in cc in
+        let n : x < length behind = subst (λ k. k < length behind) (sym e) c.1 in
+        let l : x < length q = let s = w.size in omega arith in (n, l)
+
+chain_grown : (behind : List (Option ℕ)) (top : Option ℕ) (xs : List ℕ) → IsChain behind top xs → IsChain (behind ++ None ∷ []) top xs
+chain_grown behind top [] h = h
+chain_grown behind top (x ∷ xs) h = (
+  h.0,
+  let a = length-append behind (None ∷ []) in let b = h.1 in omega arith,
+  subst (λ (o : Option ℕ). IsChain (behind ++ None ∷ []) o xs) (sym (get_or_append_left behind (None ∷ []) None x h.1))
+      (chain_grown behind (get_or behind x None) xs h.2),
+)
+
+pub down_at_end : (q : List Bool) (x : ℕ) → get_or (q ++ false ∷ []) x false ≡ get_or q x false
+down_at_end [] zero = refl
+down_at_end [] (suc x) = refl
+down_at_end (b ∷ q) zero = refl
+down_at_end (b ∷ q) (suc x) = down_at_end q x
+
+-- one more place, which does not wait
+pub grown : (q : List Bool) (behind : List (Option ℕ)) (top : Option ℕ) → AreWaiting q behind top
+    → AreWaiting (q ++ false ∷ []) (behind ++ None ∷ []) top
+grown q behind top w = record {
+  size = let a = length-append q (false ∷ []) in let b = length-append behind (None ∷ []) in let d = w.size in omega arith;
+  places = w.places;
+  chain = chain_grown behind top w.places w.chain;
+  flags = λ x. (λ h. (w.flags x).0 (sym (down_at_end q x) ∙ h), λ i. down_at_end q x ∙ (w.flags x).1 i);
+  apart = w.apart;
+}
+
+pub waiting_set : (q : List Bool) (x : ℕ) → get_or q x false ≡ true → waiting_count (set q x false) + 1 ≡ waiting_count q
+waiting_set [] x e = cc
+waiting_set (true ∷ q) zero e = omega arith
+waiting_set (false ∷ q) zero e = cc
+waiting_set (true ∷ q) (suc x) e = omega (arith, waiting_set q x e)
+waiting_set (false ∷ q) (suc x) e = waiting_set q x e
+
+pub waiting_push : (q : List Bool) (x : ℕ) → waiting_count (set q x true) ≤ waiting_count q + 1
+waiting_push [] x = omega arith
+waiting_push (true ∷ q) zero = omega arith
+waiting_push (false ∷ q) zero = omega arith
+waiting_push (true ∷ q) (suc x) = omega (arith, waiting_push q x)
+waiting_push (false ∷ q) (suc x) = waiting_push q x
+
+pub none_waiting : AreWaiting [] [] None
+none_waiting = record {
+  size = refl;
+  places = [];
+  chain = refl;
+  flags = λ x. (λ h. absurd (no_flag x h), λ i. absurd (contains_none x i));
+  apart = tt;
+}
+  where
+    no_flag : (x : ℕ) → get_or [] x false ≡ true → ⊥
+    no_flag zero h = cc
+    no_flag (suc x) h = cc

@@ -1,0 +1,51 @@
+use Rattle.std.proofs.Common.{◌≡◌, ◌⊎◌, ◌↔◌, ℕ, ◌+◌, ◌<◌, List, [], ◌∷◌, sym, subst, arith, inl, inr}
+use Rattle.std.proofs.lemmas.Bool.{cases_eq}
+use Rattle.edge_links.specs.Edges.{Edge, edge, edge_count, SameEdges}
+use Rattle.edge_links.specs.Reach.{HasEdge, Reaches, at_once, further, IsAffected, Forgets}
+use Rattle.edge_links.proofs.Listed.{count_append, count_self, count_found}
+use Rattle.edge_links.proofs.laws.edges_law.Goals as goal
+
+same_edge : (es ds : List Edge) → SameEdges es ds → (x y : ℕ) → HasEdge es x y → HasEdge ds x y
+same_edge es ds s x y h = subst (λ k. 0 < k) (s x y) h
+
+same_reach : (es ds : List Edge) → SameEdges es ds → {x y : ℕ} → Reaches es x y → Reaches ds x y
+same_reach es ds s (at_once h) = at_once (same_edge es ds s _ _ h)
+same_reach es ds s (further h r) = further (same_edge es ds s _ _ h) (same_reach es ds s r)
+
+put_edge : (user key : ℕ) (es : List Edge) (x y : ℕ) → HasEdge (edge user key ∷ es) x y ↔ (((user ≡ x) × (key ≡ y)) ⊎ HasEdge es x y)
+put_edge user key es x y = (
+  λ h. elim (cases_eq (edge_count (edge user key ∷ []) x y) 0) [
+    | inl z ↦ inr (rest _ _ _ (count_append (edge user key ∷ []) es x y) z h)
+    | inr nz ↦ inl (count_found user key x y (omega arith))
+  ],
+  λ h. elim h [
+    | inl w ↦ subst (λ z. HasEdge (edge user key ∷ es) z y) w.0 (subst (λ z. HasEdge (edge user key ∷ es) user z) w.1
+        (first _ _ _ (count_append (edge user key ∷ []) es user key) (count_self user key)))
+    | inr w ↦ later _ _ _ (count_append (edge user key ∷ []) es x y) w
+  ],
+)
+  where
+    rest : (a b d : ℕ) → a ≡ b + d → b ≡ 0 → 0 < a → 0 < d
+    rest a b d e f g = omega arith
+
+    first : (a b d : ℕ) → a ≡ b + d → b ≡ 1 → 0 < a
+    first a b d e f = omega arith
+
+    later : (a b d : ℕ) → a ≡ b + d → 0 < d → 0 < a
+    later a b d e f = omega arith
+
+after_forgetting : (key : ℕ) (old new : List Edge) → Forgets key old new → (x y : ℕ)
+    → HasEdge new x y ↔ (HasEdge old x y × (IsAffected old key x → ⊥))
+after_forgetting key old new f x y = (
+  λ h.
+      let off : IsAffected old key x → ⊥ = λ a. let z = f.gone x y a in omega arith in
+      (subst (λ k. 0 < k) (f.kept x y off) h, off),
+  λ w. subst (λ k. 0 < k) (sym (f.kept x y w.1)) w.0,
+)
+
+pub returns : goal.returns
+returns c = record {
+  reached = λ es ds s x y r. same_reach es ds s r;
+  put = put_edge;
+  forgotten = after_forgetting;
+}

@@ -1,0 +1,19 @@
+use Rattle.std.proofs.Common.{◌≡◌, ◌⊎◌, ◌↔◌, ℕ, ◌<◌, length, get_or}
+use Rattle.edge_links.specs.Changes.{HasKey}
+use Rattle.edge_links.specs.Owners.{Waits}
+use Rattle.edge_links.specs.Changes.{IsPaid}
+use Rattle.edge_links.specs.Owners.{owned}
+use Rattle.edge_links.proofs.Cuts.{IsCutting}
+use Rattle.edge_links.proofs.places.Places.cut_keys.Given as goal
+
+abbrev pub invariant-loop-place : goal.invariant-loop-place
+invariant-loop-place l = record {
+  cutting : IsCutting (HasKey l.initial.self l.key) l.initial.self l.self;
+  waits : (x : ℕ) → Waits l.self x ↔ (Waits l.initial.self x ⊎
+      ((p : ℕ) × (p < length l.initial.self.users) × HasKey l.initial.self l.key p × (get_or l.initial.self.users p 0 ≡ x) ×
+      (get_or l.self.keys p 0 ≡ 0)));
+  paid : IsPaid l.initial.self l.self;
+}
+
+abbrev pub decreases-loop-place : goal.decreases-loop-place
+decreases-loop-place l = owned l.key l.self.keys

@@ -1,0 +1,18 @@
+use Rattle.std.proofs.Common.{◌≡◌, ◌+◌, ◌<◌, length, get_or, sym, subst, ap, ◌∙◌, arith}
+use Rattle.edge_links.specs.declared.slots.Side.TheVariants.{Key}
+use Rattle.edge_links.specs.Owners.{Owners, ArePlaces, with_owner}
+use Rattle.edge_links.proofs.Placing.{freed_places, spare_fits}
+use Rattle.edge_links.proofs.places.Places.free.Goals as goal
+
+pub overflow_add-self : goal.overflow_add-self
+overflow_add-self c = omega (arith, spare_fits c.self.inside.rings c.self.inside.spare c.self.invariant)
+
+pub invariant_of-self : goal.invariant_of-self
+invariant_of-self c =
+    let there = subst (λ (x : Owners). c.args.place < length x.users) (sym c.self.view_is) c.requires.there in
+    let edge =
+    subst (λ (x : Owners). (get_or x.users c.args.place 0 ≡ c.args.place → ⊥) × (get_or x.users c.args.place 0 ≡ 0 → ⊥))
+    (sym c.self.view_is) c.requires.edge in
+    subst (λ (x : Owners). ArePlaces x (c.self.inside.spare + 1))
+    (sym (c.move_to-2.ensures ∙ ap (λ (x : Owners). with_owner Key x c.args.place 0) c.move_to.ensures))
+    (freed_places c.self.inside.rings c.args.place c.self.inside.spare c.self.invariant there edge.0 edge.1)

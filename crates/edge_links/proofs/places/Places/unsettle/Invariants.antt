@@ -1,0 +1,14 @@
+use Rattle.std.proofs.Common.{◌≡◌, ◌+◌, ◌-◌, length, slice_index}
+use Rattle.edge_links.specs.Owners.{owned}
+use Rattle.edge_links.proofs.Unsettle.{IsUnsettling}
+use Rattle.edge_links.proofs.places.Places.unsettle.Given as goal
+use Rattle.edge_links.specs.Waiting.{waiting_count}
+
+abbrev pub invariant-loop-place : goal.invariant-loop-place
+invariant-loop-place g l = record {
+  unsettling : IsUnsettling l.fn.self l.self (slice_index l.fn.self.names) (g.K.Marks.is_marked l.fn.marks) (g.K.Marks.is_marked l.marks) l.key;
+  names : l.self.names ≡ l.fn.self.names;
+}
+
+abbrev pub decreases-loop-place : goal.decreases-loop-place
+decreases-loop-place g l = waiting_count l.self.waits + (length l.self.users - owned 0 l.self.users)

@@ -1,0 +1,25 @@
+-- Edges, and what is seen of linked edges.
+use Rattle.std.specs.Prelude.{◌≡◌, ◌&&◌, ℕ, ◌+◌, nat_eq, if◌then◌else◌, List, [], ◌∷◌}
+
+-- a user that looked at a key
+pub record Edge : Type 0 where
+  pub user : ℕ
+  pub key : ℕ
+
+abbrev pub edge : ℕ → ℕ → Edge
+edge user key = record { user = user; key = key }
+
+-- how many edges lead from a user to a key
+abbrev pub edge_count : List Edge → ℕ → ℕ → ℕ
+edge_count [] user key = 0
+edge_count (e ∷ es) user key = (if nat_eq e.user user && nat_eq e.key key then 1 else 0) + edge_count es user key
+
+-- two lists have the same edges, in whatever order
+abbrev pub SameEdges : List Edge → List Edge → Type 0
+SameEdges es ds = (user key : ℕ) → edge_count es user key ≡ edge_count ds user key
+
+-- the number of nodes, the edges, whose order says nothing, and for how many more there is room
+pub record Graph : Type 0 where
+  pub nodes : ℕ
+  pub edges : List Edge
+  pub spare : ℕ

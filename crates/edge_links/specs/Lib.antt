@@ -1,0 +1,13 @@
+pub mod Changes
+pub mod Columns
+pub mod Edges
+pub mod Into
+pub mod Laws
+pub mod Linked
+pub mod Owners
+pub mod PlaceReach
+pub mod Reach
+pub mod Rings
+pub mod Shown
+pub mod Times
+pub mod Waiting

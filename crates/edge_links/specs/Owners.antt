@@ -1,0 +1,71 @@
+-- Places by their owners: each is a head, an edge from a user to a key, or free, which is from 0 to 0.
+use Rattle.std.specs.Prelude.{◌≡◌, ◌↔◌, ℕ, ◌-◌, ◌^◌, ◌<◌, List, [], ◌∷◌, ◌++◌, length, Bool, true, false}
+use Rattle.std.specs.Prelude.{slice_index, slice_index_or, slice_set}
+use Rattle.edge_links.specs.declared.slots.Side.{Side}
+use Rattle.edge_links.specs.declared.slots.Side.TheVariants.{User, Key}
+use Rattle.edge_links.specs.Columns.{Columns}
+use Rattle.edge_links.specs.Times.{times}
+
+-- the user and the key of each place, whether it waits, and its name
+pub record Owners : Type 0 where
+  pub users : List ℕ
+  pub keys : List ℕ
+  pub waits : List Bool
+  pub names : List ℕ
+
+abbrev pub no_owners : Owners
+no_owners = record { users = []; keys = []; waits = []; names = [] }
+
+abbrev pub owners : Columns → Owners
+owners c = record { users = c.users.owner; keys = c.keys.owner; waits = c.waits; names = c.names }
+
+abbrev pub owners_of : Side → Owners → List ℕ
+owners_of User s = s.users
+owners_of Key s = s.keys
+
+-- one place with another owner
+abbrev pub with_owner : Side → Owners → ℕ → ℕ → Owners
+with_owner User s p head = record s { users = slice_set s.users p head }
+with_owner Key s p head = record s { keys = slice_set s.keys p head }
+
+-- one place that waits or does not
+abbrev pub with_waits : Owners → ℕ → Bool → Owners
+with_waits s p flag = record s { waits = slice_set s.waits p flag }
+
+-- one more place, a head that owns itself alone
+abbrev pub with_head : Owners → ℕ → ℕ → Owners
+with_head s p name = record {
+  users = s.users ++ p ∷ [];
+  keys = s.keys ++ p ∷ [];
+  waits = s.waits ++ false ∷ [];
+  names = s.names ++ name ∷ [];
+}
+
+-- heads own themselves, and edges belong to heads
+pub record AreEdges (users keys : List ℕ) : Type 0 where
+  pub keys_size : length keys ≡ length users
+  pub zero : slice_index users 0 ≡ 0
+  pub heads : (p : ℕ) → p < length users → (slice_index users p ≡ p) ↔ (slice_index keys p ≡ p)
+  pub free : (p : ℕ) → p < length users → (slice_index users p ≡ 0) ↔ (slice_index keys p ≡ 0)
+  pub within : (p : ℕ) → p < length users → slice_index users p < length users
+  pub key_within : (p : ℕ) → p < length users → slice_index keys p < length users
+  pub top : (p : ℕ) → p < length users → slice_index users (slice_index users p) ≡ slice_index users p
+  pub key_top : (p : ℕ) → p < length users → slice_index users (slice_index keys p) ≡ slice_index keys p
+
+-- a head other than that of the free places
+abbrev pub IsHead : Owners → ℕ → Type 0
+IsHead s x = (x < length s.users) × (slice_index s.users x ≡ x) × (x ≡ 0 → ⊥)
+
+-- a place waits
+abbrev pub Waits : Owners → ℕ → Type 0
+Waits s x = slice_index_or s.waits x false ≡ true
+
+-- how many places a head owns
+abbrev pub owned : ℕ → List ℕ → ℕ
+owned x owners = times x owners
+
+-- the free places are counted, but for the first, and a number counts all places
+pub record ArePlaces (s : Owners) (spare : ℕ) : Type 0 where
+  pub edges : AreEdges s.users s.keys
+  pub counted : spare ≡ owned 0 s.users - 1
+  pub size : length s.users < 2 ^ 64

@@ -1,0 +1,29 @@
+-- Places in rings. Each ring has one head, which owns itself and the others of its ring.
+use Rattle.std.specs.Prelude.{◌≡◌, ℕ, ◌<◌, nat_eq, List, length, slice_index, if◌then◌else◌}
+use Rattle.edge_links.specs.Columns.{Ring}
+use Rattle.edge_links.specs.Times.{times}
+
+abbrev pub put : (ℕ → ℕ) → ℕ → ℕ → ℕ → ℕ
+put f i v k = if nat_eq k i then v else f k
+
+-- the next and the one before lead back, a ring has one owner, and on the way back from a place the
+-- rank falls until the head
+pub record IsRing (n : ℕ) (next prev owner : ℕ → ℕ) : Type 0 where
+  pub next_in : (p : ℕ) → p < n → next p < n
+  pub prev_in : (p : ℕ) → p < n → prev p < n
+  pub back : (p : ℕ) → p < n → prev (next p) ≡ p
+  pub forth : (p : ℕ) → p < n → next (prev p) ≡ p
+  pub own_in : (p : ℕ) → p < n → owner p < n
+  pub own : (p : ℕ) → p < n → owner (next p) ≡ owner p
+  pub top : (p : ℕ) → p < n → owner (owner p) ≡ owner p
+  pub rank : ℕ → ℕ
+  pub falls : (p : ℕ) → p < n → (owner p ≡ p → ⊥) → rank (prev p) < rank p
+
+pub record AreRings (r : Ring) : Type 0 where
+  pub sizes : (length r.next ≡ length r.owner) × (length r.prev ≡ length r.owner)
+  pub ring : IsRing (length r.owner) (slice_index r.next) (slice_index r.prev) (slice_index r.owner)
+
+-- the places that a head owns, without the head, each once
+pub record AreMembers (owners : List ℕ) (head : ℕ) (places : List ℕ) : Type 0 where
+  pub owned : (p : ℕ) → 0 < times p places → (p < length owners) × (slice_index owners p ≡ head) × (p ≡ head → ⊥)
+  pub once : (p : ℕ) → p < length owners → slice_index owners p ≡ head → (p ≡ head → ⊥) → times p places ≡ 1

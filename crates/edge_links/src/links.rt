@@ -1,0 +1,131 @@
+//! Edges between nodes.
+
+ghost use Rattle.std.specs.Prelude.{◌≡◌, ◌+◌, ◌<◌, ◌≤◌, [], ◌∷◌, length, IfOk, OnOk, OnErr};
+ghost use Rattle.edge_links.specs.Edges.{edge, SameEdges};
+ghost use Rattle.edge_links.specs.Reach.{IsAffected, Forgets, IsCleared};
+ghost use Rattle.edge_links.specs.Into.{AreUsers};
+
+use crate::marks::Marks;
+use crate::places::Places;
+use std::alloc::{AllocError, Global};
+use std::marker::Model;
+use units_io::List;
+
+/// Nodes, in a list.
+pub type Nodes = List<usize>;
+
+/// Edges, each from a user to a key. Nodes are numbered from 0.
+#[derive(Drop)]
+pub struct Links {
+    places: Places,
+
+    // the place of each node, whose name is the node
+    nodes: Vec<usize>,
+}
+
+impl Model for Links {
+    ghost use Rattle.edge_links.specs.Edges.{Graph};
+    ghost use Rattle.edge_links.specs.Shown.{shown, AreLinks};
+
+    ghost Value = { Graph };
+
+    ghost view = { λ l. shown l.places l.nodes.items };
+
+    ghost invariant = { λ l. AreLinks l.places l.nodes.items };
+}
+
+impl Links {
+    /// No node and no edge. It takes no memory.
+    pub fn new(alloc: Global) -> Links
+        ensures { result ≡ record { nodes = 0; edges = []; spare = 0 } }
+    {
+        Links {
+            places: Places::new(alloc),
+            nodes: Vec::new(alloc),
+        }
+    }
+
+    /// A new node, whose name is the number of nodes before. A refusal changes nothing.
+    pub fn add_node(&mut self, _alloc: Global) -> Result<usize, AllocError>
+        ensures ok { IfOk result (λ node. (node ≡ self.old.nodes)
+            × (self.new ≡ record self.old { nodes = self.old.nodes + 1 })) }
+        ensures err { OnErr result (self.new ≡ self.old) }
+    {
+        self.places.begin()?;
+        let node = self.nodes.len();
+        self.nodes.reserve(1)?;
+        let place = self.places.add_head(node)?;
+        self.nodes.push_reserved(place);
+        Ok(node)
+    }
+
+    /// Makes room for at least `n` further edges. A refusal leaves the nodes and the edges.
+    pub fn reserve_edges(&mut self, _alloc: Global, n: usize) -> Result<(), AllocError>
+        ensures room { OnOk result (n ≤ self.new.spare) }
+        ensures no_less { self.old.spare ≤ self.new.spare }
+        ensures rest { (self.new.nodes ≡ self.old.nodes) × (self.new.edges ≡ self.old.edges) }
+    {
+        while self.spare() < n {
+            self.add_free()?;
+        }
+        Ok(())
+    }
+
+    /// How many edges can be added before more room is needed.
+    pub fn spare(&self) -> usize
+        ensures { result ≡ self.now.spare }
+    {
+        self.places.spare()
+    }
+
+    /// Adds an edge. It takes no memory.
+    pub fn link(&mut self, user: usize, key: usize)
+        requires there { (user < self.old.nodes) × (key < self.old.nodes) }
+        requires room { 0 < self.old.spare }
+        ensures edges { SameEdges self.new.edges (edge user key ∷ self.old.edges) }
+        ensures spare { self.new.spare + 1 ≡ self.old.spare }
+        ensures nodes { self.new.nodes ≡ self.old.nodes }
+    {
+        let user = self.nodes[user];
+        let key = self.nodes[key];
+        self.places.fill(user, key);
+    }
+
+    /// Clears a key and every node from which it is reached, and removes the edges of which these
+    /// are the users. It takes no memory, and its cost is that of the edges that it removes.
+    pub fn unsettle<K: Marks>(&mut self, key: usize, marks: &mut K)
+        requires { key < self.old.nodes }
+        ensures edges { Forgets key self.old.edges self.new.edges }
+        ensures spare { self.new.spare + length self.new.edges ≡ self.old.spare + length self.old.edges }
+        ensures nodes { self.new.nodes ≡ self.old.nodes }
+        ensures marks { IsCleared (IsAffected self.old.edges key) (K.is_marked marks.old) (K.is_marked marks.new) }
+    {
+        let place = self.nodes[key];
+        self.places.unsettle(place, marks);
+    }
+
+    /// The users of the edges to a key, each as often as there are such edges, in no stated order.
+    pub fn edges_into(&self, alloc: Global, key: usize) -> Result<Nodes, AllocError>
+        requires { key < self.now.nodes }
+        ensures { IfOk result (AreUsers self.now.edges key) }
+    {
+        let places = self.places.edges_into(alloc, self.nodes[key])?;
+        let mut users = List::new(alloc);
+        for &place in &places {
+            let user = self.places.user_of(place);
+            users.push(alloc, self.places.name(user))?;
+        }
+        Ok(users)
+    }
+
+    // One more free place. A refusal changes nothing.
+    fn add_free(&mut self) -> Result<(), AllocError>
+        ensures ok { OnOk result (self.new ≡ record self.old { spare = self.old.spare + 1 }) }
+        ensures err { OnErr result (self.new ≡ self.old) }
+    {
+        self.places.begin()?;
+        let place = self.places.add_head(0)?;
+        self.places.add_free(place);
+        Ok(())
+    }
+}

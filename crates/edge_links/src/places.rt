@@ -1,0 +1,162 @@
+//! Places: heads, edges, and free ones.
+
+ghost use Rattle.std.specs.Prelude.{◌≡◌, ℕ, ◌+◌, ◌-◌, ◌<◌, length};
+ghost use Rattle.std.specs.Prelude.{slice_index, MatchOption, IfOk, OnOk, OnErr};
+ghost use Rattle.edge_links.specs.Changes.{IsBegun, IsFilled, with_both};
+ghost use Rattle.edge_links.specs.Owners.{AreEdges, no_owners, owned, with_head};
+ghost use Rattle.edge_links.specs.Rings.{AreMembers};
+
+use crate::rings::Rings;
+use crate::slots::Side;
+use std::alloc::{AllocError, Global};
+use std::marker::Model;
+
+// Each place is a head, an edge from one head to another, or free. An edge stands in two rings,
+// that of its user and that of its key, and a free place in the two rings of place 0.
+#[derive(Drop)]
+pub(crate) struct Places {
+    pub(crate) rings: Rings,
+    spare: usize,
+}
+
+impl Model for Places {
+    ghost use Rattle.edge_links.specs.Owners.{Owners, ArePlaces};
+
+    ghost Value = { Owners };
+
+    ghost view = { λ p. p.rings };
+
+    ghost invariant = { λ p. ArePlaces p.rings p.spare };
+}
+
+impl Places {
+    // No place.
+    pub(crate) fn new(alloc: Global) -> Places
+        ensures { result ≡ no_owners }
+    {
+        Places {
+            rings: Rings::new(alloc),
+            spare: 0,
+        }
+    }
+
+    // Sees that place 0 is there, to which the free places belong. A refusal changes nothing.
+    pub(crate) fn begin(&mut self) -> Result<(), AllocError>
+        ensures some { OnOk result (0 < length self.new.users) }
+        ensures begun { IsBegun self.old self.new }
+    {
+        if self.rings.len() == 0 {
+            self.rings.add_head(0)?;
+        }
+        Ok(())
+    }
+
+    // How many free places there are.
+    pub(crate) fn spare(&self) -> usize
+        ensures { result ≡ owned 0 self.now.users - 1 }
+    {
+        self.spare
+    }
+
+    // One more place, a head that owns itself alone. A refusal changes nothing.
+    pub(crate) fn add_head(&mut self, name: usize) -> Result<usize, AllocError>
+        ensures was { AreEdges self.old.users self.old.keys }
+        ensures ok { IfOk result (λ p. (p ≡ length self.old.users) × (self.new ≡ with_head self.old p name)) }
+        ensures err { OnErr result (self.new ≡ self.old) }
+    {
+        self.rings.add_head(name)
+    }
+
+    // Makes a head that owns itself alone a free place. It takes no memory.
+    pub(crate) fn add_free(&mut self, place: usize)
+        requires there { (place < length self.old.users) × (place ≡ 0 → ⊥) }
+        requires alone { (p : ℕ) → p < length self.old.users
+            → (slice_index self.old.users p ≡ place → p ≡ place) × (slice_index self.old.keys p ≡ place → p ≡ place) }
+        requires head { slice_index self.old.users place ≡ place }
+        ensures { self.new ≡ with_both self.old place 0 0 }
+    {
+        self.rings.join(Side::User, place, 0);
+        self.rings.join(Side::Key, place, 0);
+        self.spare += 1;
+    }
+
+    // Makes a free place an edge. It takes no memory.
+    pub(crate) fn fill(&mut self, user: usize, key: usize)
+        requires there { (user < length self.old.users) × (key < length self.old.users) }
+        requires some { (user ≡ 0 → ⊥) × (key ≡ 0 → ⊥) }
+        requires heads { (slice_index self.old.users user ≡ user) × (slice_index self.old.users key ≡ key) }
+        requires room { 1 < owned 0 self.old.users }
+        ensures edges { AreEdges self.old.users self.old.keys }
+        ensures filled { IsFilled self.old user key self.new }
+        ensures spare { owned 0 self.new.users + 1 ≡ owned 0 self.old.users }
+    {
+        if let Some(place) = self.rings.first(Side::User, 0) {
+            self.rings.move_to(Side::User, place, user);
+            self.rings.move_to(Side::Key, place, key);
+            self.spare -= 1;
+        }
+    }
+
+    // Takes an edge out, which leaves a free place. It takes no memory.
+    pub(crate) fn free(&mut self, place: usize)
+        requires there { place < length self.old.users }
+        requires edge { (slice_index self.old.users place ≡ place → ⊥) × (slice_index self.old.users place ≡ 0 → ⊥) }
+        ensures { self.new ≡ with_both self.old place 0 0 }
+    {
+        self.rings.move_to(Side::User, place, 0);
+        self.rings.move_to(Side::Key, place, 0);
+        self.spare += 1;
+    }
+
+    // The name of a place.
+    pub(crate) fn name(&self, place: usize) -> usize
+        requires { place < length self.now.users }
+        ensures { result ≡ slice_index self.now.names place }
+    {
+        self.rings.name(place)
+    }
+
+    // The user of an edge.
+    pub(crate) fn user_of(&self, place: usize) -> usize
+        requires { place < length self.now.users }
+        ensures { (result ≡ slice_index self.now.users place) × (result < length self.now.users)
+            × (slice_index self.now.users result ≡ result) }
+    {
+        self.rings.owner(Side::User, place)
+    }
+
+    // The edges to a key, each once.
+    pub(crate) fn edges_into(&self, alloc: Global, key: usize) -> Result<Vec<usize>, AllocError>
+        requires there { key < length self.now.users }
+        requires head { slice_index self.now.users key ≡ key }
+        ensures edges { AreEdges self.now.users self.now.keys }
+        ensures members { IfOk result (λ places. AreMembers self.now.keys key places.items) }
+    {
+        self.rings.members(alloc, Side::Key, key)
+    }
+
+    // A place of a user, other than its own.
+    pub(crate) fn first_of(&self, user: usize) -> Option<usize>
+        requires there { user < length self.now.users }
+        requires head { slice_index self.now.users user ≡ user }
+        ensures edges { AreEdges self.now.users self.now.keys }
+        ensures first { MatchOption result
+            ((p : ℕ) → p < length self.now.users → slice_index self.now.users p ≡ user → p ≡ user)
+            (λ p. (p < length self.now.users) × (slice_index self.now.users p ≡ user) × (p ≡ user → ⊥)) }
+    {
+        self.rings.first(Side::User, user)
+    }
+
+    // A place of a key, other than its own.
+    pub(crate) fn first_into(&self, key: usize) -> Option<usize>
+        requires there { key < length self.now.users }
+        requires head { slice_index self.now.users key ≡ key }
+        ensures edges { AreEdges self.now.users self.now.keys }
+        ensures first { MatchOption result
+            ((p : ℕ) → p < length self.now.users → slice_index self.now.keys p ≡ key → p ≡ key)
+            (λ p. (p < length self.now.users) × (slice_index self.now.keys p ≡ key) × (p ≡ key → ⊥)
+            × (slice_index self.now.users p ≡ p → ⊥)) }
+    {
+        self.rings.first(Side::Key, key)
+    }
+}

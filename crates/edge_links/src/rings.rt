@@ -1,0 +1,157 @@
+//! Places in rings, by index.
+
+ghost use Rattle.std.specs.Prelude.{◌≡◌, ℕ, ◌+◌, ◌^◌, ◌<◌, length};
+ghost use Rattle.std.specs.Prelude.{slice_index, MatchOption, IfOk, OnErr};
+ghost use Rattle.edge_links.specs.Owners.{no_owners, owners_of, with_owner, with_head};
+ghost use Rattle.edge_links.specs.Rings.{AreMembers};
+
+use crate::slots::{Seat, Side, Slots};
+use std::alloc::{AllocError, Global};
+use std::marker::Model;
+
+// Places, each owned by the head of its ring on either side. A head owns itself. Those that wait
+// are a stack.
+#[derive(Drop)]
+pub(crate) struct Rings {
+    pub(crate) slots: Slots,
+    pub(crate) last_waiting: Option<usize>,
+}
+
+impl Model for Rings {
+    ghost use Rattle.edge_links.specs.Owners.{Owners, owners};
+    ghost use Rattle.edge_links.specs.Linked.{AreLinked};
+
+    ghost Value = { Owners };
+
+    ghost view = { λ r. owners r.slots };
+
+    ghost invariant = { λ r. AreLinked r.slots r.last_waiting };
+}
+
+impl Rings {
+    // No place.
+    pub(crate) fn new(alloc: Global) -> Rings
+        ensures { result ≡ no_owners }
+    {
+        Rings {
+            slots: Slots::new(alloc),
+            last_waiting: None,
+        }
+    }
+
+    // How many places there are.
+    pub(crate) fn len(&self) -> usize
+        ensures { result ≡ length self.now.users }
+    {
+        self.slots.len()
+    }
+
+    // One more place, a head that owns itself alone. A refusal changes nothing.
+    pub(crate) fn add_head(&mut self, name: usize) -> Result<usize, AllocError>
+        ensures ok { IfOk result (λ place. (place ≡ length self.old.users) × (place + 1 < 2 ^ 64)
+            × (self.new ≡ with_head self.old place name)) }
+        ensures err { OnErr result (self.new ≡ self.old) }
+    {
+        self.slots.push(name)
+    }
+
+    // A place that the head owns, and not the head.
+    pub(crate) fn first(&self, side: Side, head: usize) -> Option<usize>
+        requires there { head < length (owners_of side self.now) }
+        requires head { slice_index (owners_of side self.now) head ≡ head }
+        ensures { MatchOption result
+            ((p : ℕ) → p < length (owners_of side self.now) → slice_index (owners_of side self.now) p ≡ head → p ≡ head)
+            (λ p. (p < length (owners_of side self.now)) × (slice_index (owners_of side self.now) p ≡ head)
+            × (p ≡ head → ⊥)) }
+    {
+        let place = self.slots.seat(side, head).next;
+        if place == head { None } else { Some(place) }
+    }
+
+    // The head that owns a place.
+    pub(crate) fn owner(&self, side: Side, place: usize) -> usize
+        requires { place < length (owners_of side self.now) }
+        ensures { result ≡ slice_index (owners_of side self.now) place }
+    {
+        self.slots.seat(side, place).owner
+    }
+
+    // The name of a place.
+    pub(crate) fn name(&self, place: usize) -> usize
+        requires { place < length self.now.users }
+        ensures { result ≡ slice_index self.now.names place }
+    {
+        self.slots.name(place)
+    }
+
+    // Gives a place another owner. It takes no memory.
+    pub(crate) fn move_to(&mut self, side: Side, place: usize, head: usize)
+        requires there { (place < length (owners_of side self.old)) × (head < length (owners_of side self.old)) }
+        requires place { slice_index (owners_of side self.old) place ≡ place → ⊥ }
+        requires head { slice_index (owners_of side self.old) head ≡ head }
+        ensures { self.new ≡ with_owner side self.old place head }
+    {
+        self.leave(side, place);
+        self.join(side, place, head);
+    }
+
+    // Takes a place out of its ring, which leaves it alone as its own head.
+    fn leave(&mut self, side: Side, place: usize)
+        requires there { place < length (owners_of side self.old) }
+        requires place { slice_index (owners_of side self.old) place ≡ place → ⊥ }
+        ensures owner { self.new ≡ with_owner side self.old place place }
+        ensures alone { (p : ℕ) → p < length (owners_of side self.new)
+            → slice_index (owners_of side self.new) p ≡ place → p ≡ place }
+    {
+        let seat = self.slots.seat(side, place);
+        self.slots.set_next(side, seat.prev, seat.next);
+        self.slots.set_prev(side, seat.next, seat.prev);
+        let alone = Seat {
+            next: place,
+            prev: place,
+            owner: place,
+        };
+        self.slots.set_seat(side, place, alone);
+    }
+
+    // Gives a head that owns itself alone to another head. It takes no memory.
+    pub(crate) fn join(&mut self, side: Side, place: usize, head: usize)
+        requires there { (place < length (owners_of side self.old)) × (head < length (owners_of side self.old)) }
+        requires other { place ≡ head → ⊥ }
+        requires alone { (p : ℕ) → p < length (owners_of side self.old)
+            → slice_index (owners_of side self.old) p ≡ place → p ≡ place }
+        requires place { slice_index (owners_of side self.old) place ≡ place }
+        requires head { slice_index (owners_of side self.old) head ≡ head }
+        ensures { self.new ≡ with_owner side self.old place head }
+    {
+        let first = self.slots.seat(side, head).next;
+        let behind_head = Seat {
+            next: first,
+            prev: head,
+            owner: head,
+        };
+        self.slots.set_seat(side, place, behind_head);
+        self.slots.set_prev(side, first, place);
+        self.slots.set_next(side, head, place);
+    }
+
+    // The places that the head owns, without the head, each once.
+    pub(crate) fn members(
+        &self,
+        alloc: Global,
+        side: Side,
+        head: usize,
+    ) -> Result<Vec<usize>, AllocError>
+        requires there { head < length (owners_of side self.now) }
+        requires head { slice_index (owners_of side self.now) head ≡ head }
+        ensures { IfOk result (λ places. AreMembers (owners_of side self.now) head places.items) }
+    {
+        let mut places = Vec::new(alloc);
+        let mut place = self.slots.seat(side, head).prev;
+        while place != head {
+            places.push(place)?;
+            place = self.slots.seat(side, place).prev;
+        }
+        Ok(places)
+    }
+}

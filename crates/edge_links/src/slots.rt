@@ -1,0 +1,168 @@
+//! The lowest layer: one vector, with what stands at each place.
+
+ghost use Rattle.std.specs.Prelude.{◌≡◌, ◌+◌, ◌^◌, ◌<◌, length, slice_index, slice_index_or, IfOk, OnErr, false, None};
+ghost use Rattle.edge_links.specs.Columns.{no_columns, ring_of};
+ghost use Rattle.edge_links.specs.Columns.{with_behind, with_next, with_prev, with_seat, with_slot, with_waits};
+
+use std::alloc::{AllocError, Global};
+use std::marker::Model;
+
+// The two rings of a place: that of its user, and that of its key.
+#[derive(Clone, Copy, Drop)]
+pub(crate) enum Side {
+    User,
+    Key,
+}
+
+// A place in a ring: the places beside it, and the head that owns it.
+#[derive(Clone, Copy, Drop)]
+pub(crate) struct Seat {
+    pub(crate) next: usize,
+    pub(crate) prev: usize,
+    pub(crate) owner: usize,
+}
+
+// What stands at a place. A place that waits leads to the one that waited before it.
+#[derive(Drop)]
+struct Slot {
+    user: Seat,
+    key: Seat,
+    waits: bool,
+    behind: Option<usize>,
+    name: usize,
+}
+
+// What stands at each place.
+#[derive(Drop)]
+pub(crate) struct Slots {
+    slots: Vec<Slot>,
+}
+
+impl Model for Slots {
+    ghost use Rattle.edge_links.specs.Columns.{Columns, columns};
+
+    ghost Value = { Columns };
+
+    ghost view = { λ s. columns s.slots.items };
+}
+
+impl Slots {
+    // No place.
+    pub(crate) fn new(alloc: Global) -> Slots
+        ensures { result ≡ no_columns }
+    {
+        Slots {
+            slots: Vec::new(alloc),
+        }
+    }
+
+    // How many places there are.
+    pub(crate) fn len(&self) -> usize
+        ensures { result ≡ length self.now.names }
+    {
+        self.slots.len()
+    }
+
+    // One more place, alone in both rings. A refusal changes nothing.
+    pub(crate) fn push(&mut self, name: usize) -> Result<usize, AllocError>
+        ensures ok { IfOk result (λ place. (place ≡ length self.old.names) × (place + 1 < 2 ^ 64)
+            × (self.new ≡ with_slot self.old place name)) }
+        ensures err { OnErr result (self.new ≡ self.old) }
+    {
+        let place = self.slots.len();
+        let alone = Seat {
+            next: place,
+            prev: place,
+            owner: place,
+        };
+        self.slots.push(Slot {
+            user: alone,
+            key: alone,
+            waits: false,
+            behind: None,
+            name,
+        })?;
+        Ok(place)
+    }
+
+    // Where a place sits in its ring.
+    pub(crate) fn seat(&self, side: Side, place: usize) -> Seat
+        requires { place < length self.now.names }
+        ensures next { result.next ≡ slice_index (ring_of side self.now).next place }
+        ensures prev { result.prev ≡ slice_index (ring_of side self.now).prev place }
+        ensures owner { result.owner ≡ slice_index (ring_of side self.now).owner place }
+    {
+        match side {
+            Side::User => self.slots[place].user,
+            Side::Key => self.slots[place].key,
+        }
+    }
+
+    // The name of a place.
+    pub(crate) fn name(&self, place: usize) -> usize
+        requires { place < length self.now.names }
+        ensures { result ≡ slice_index self.now.names place }
+    {
+        self.slots[place].name
+    }
+
+    // Whether a place waits.
+    pub(crate) fn waits(&self, place: usize) -> bool
+        requires { place < length self.now.names }
+        ensures { result ≡ slice_index_or self.now.waits place false }
+    {
+        self.slots[place].waits
+    }
+
+    // The place that waited before this one.
+    pub(crate) fn behind(&self, place: usize) -> Option<usize>
+        requires { place < length self.now.names }
+        ensures { result ≡ slice_index_or self.now.behind place None }
+    {
+        self.slots[place].behind
+    }
+
+    pub(crate) fn set_next(&mut self, side: Side, place: usize, next: usize)
+        requires { place < length self.old.names }
+        ensures { self.new ≡ with_next side self.old place next }
+    {
+        match side {
+            Side::User => self.slots[place].user.next = next,
+            Side::Key => self.slots[place].key.next = next,
+        }
+    }
+
+    pub(crate) fn set_prev(&mut self, side: Side, place: usize, prev: usize)
+        requires { place < length self.old.names }
+        ensures { self.new ≡ with_prev side self.old place prev }
+    {
+        match side {
+            Side::User => self.slots[place].user.prev = prev,
+            Side::Key => self.slots[place].key.prev = prev,
+        }
+    }
+
+    pub(crate) fn set_seat(&mut self, side: Side, place: usize, seat: Seat)
+        requires { place < length self.old.names }
+        ensures { self.new ≡ with_seat side self.old place seat }
+    {
+        match side {
+            Side::User => self.slots[place].user = seat,
+            Side::Key => self.slots[place].key = seat,
+        }
+    }
+
+    pub(crate) fn set_waits(&mut self, place: usize, waits: bool)
+        requires { place < length self.old.names }
+        ensures { self.new ≡ with_waits self.old place waits }
+    {
+        self.slots[place].waits = waits;
+    }
+
+    pub(crate) fn set_behind(&mut self, place: usize, behind: Option<usize>)
+        requires { place < length self.old.names }
+        ensures { self.new ≡ with_behind self.old place behind }
+    {
+        self.slots[place].behind = behind;
+    }
+}

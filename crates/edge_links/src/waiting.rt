@@ -1,0 +1,49 @@
+//! Places that wait, in a stack threaded through them.
+
+ghost use Rattle.std.specs.Prelude.{◌≡◌, ℕ, ◌+◌, ◌<◌, ◌≤◌, length};
+ghost use Rattle.std.specs.Prelude.{slice_index_or, MatchOption, true, false, ◌⊎◌, ◌↔◌};
+ghost use Rattle.edge_links.specs.Owners.{Waits, with_waits};
+ghost use Rattle.edge_links.specs.Waiting.{waiting_count};
+
+use crate::rings::Rings;
+
+impl Rings {
+    // Lets a place wait, unless it does.
+    pub(crate) fn wait(&mut self, place: usize)
+        requires { place < length self.old.users }
+        ensures rest { self.new ≡ record self.old { waits = self.new.waits } }
+        ensures waits { (x : ℕ) → Waits self.new x ↔ (Waits self.old x ⊎ (x ≡ place)) }
+        ensures one { waiting_count self.new.waits ≤ waiting_count self.old.waits + 1 }
+    {
+        if !self.slots.waits(place) {
+            self.push_waiting(place);
+        }
+    }
+
+    // Lets a place wait that does not.
+    fn push_waiting(&mut self, place: usize)
+        requires there { place < length self.old.users }
+        requires new { slice_index_or self.old.waits place false ≡ false }
+        ensures { self.new ≡ with_waits self.old place true }
+    {
+        self.slots.set_behind(place, self.last_waiting);
+        self.slots.set_waits(place, true);
+        self.last_waiting = Some(place);
+    }
+
+    // One that waits, which waits no more.
+    pub(crate) fn pop_waiting(&mut self) -> Option<usize>
+        ensures { MatchOption result
+            (((x : ℕ) → slice_index_or self.old.waits x false ≡ false) × (self.new ≡ self.old))
+            (λ x. (x < length self.old.users) × Waits self.old x × (self.new ≡ with_waits self.old x false)) }
+    {
+        match self.last_waiting {
+            None => None,
+            Some(place) => {
+                self.last_waiting = self.slots.behind(place);
+                self.slots.set_waits(place, false);
+                Some(place)
+            }
+        }
+    }
+}
