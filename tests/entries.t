@@ -439,3 +439,10 @@ The built-in definitions.
   77: !unitlist hms | list of 3 | hr;min;sec
   78: !unitlist ftin | list of 2 | ft;in
   68 lines, 0 refused
+
+A file of a million lines, and one line of a million continuations.
+
+  $ yes 'm !' | head -n 1000000 | entry_calls | tail -n 1
+  1000000 lines, 0 refused
+  $ { printf 'm '; yes '\' | head -n 1000000; echo '!'; } | entry_calls | tail -n 1
+  1 lines, 0 refused
