@@ -1,0 +1,47 @@
+use Rattle.std.proofs.Common.{◌+◌, ◌*◌, option_map}
+use Rattle.std.specs.Option.{option_copied}
+use Rattle.expr_tree.specs.Trees.{syntax}
+use Rattle.tree_eval.specs.Answers.{amount_in}
+use Rattle.tree_eval.specs.Expansion.{expand, expand_if}
+use Rattle.tree_eval.specs.Operands.{chain, operands_of}
+use Rattle.tree_eval.proofs.Chains.{IsRunning}
+use Rattle.tree_eval.proofs.Weight.{weight, weight_callable, weight_given, weight_told}
+use Rattle.tree_eval.proofs.+eval.Given as goal
+
+abbrev pub decreases-scope::tree_worth : goal.decreases-scope::tree_worth
+decreases-scope::tree_worth g l = 4 * weight (expand (g.E.Env.means l.env.now) (syntax l.tree.now)) + 2
+
+abbrev pub decreases-scope::Scope::worth : goal.decreases-scope::Scope::worth
+decreases-scope::Scope::worth g l = 4 * weight (expand (g.E.Env.means l.self.now.env.now) (syntax l.tree.now)) + 1
+
+abbrev pub decreases-scope::Scope::operated : goal.decreases-scope::Scope::operated
+decreases-scope::Scope::operated g l =
+    4 * (weight_told (g.E.Env.callee l.self.now.env.now) l.meaning
+    + weight (expand (g.E.Env.means l.self.now.env.now) (syntax l.operand.now))) + 3
+
+abbrev pub decreases-scope::Scope::chain : goal.decreases-scope::Scope::chain
+decreases-scope::Scope::chain g l = 4 * weight (chain (g.E.Env.means l.self.now.env.now) (operands_of l.operands))
+
+abbrev pub decreases-function::take : goal.decreases-function::take
+decreases-function::take g l = 4 * weight_callable (g.E.Env.callee l.env.now l.id) + 2
+
+abbrev pub decreases-function::apply_function : goal.decreases-function::apply_function
+decreases-function::apply_function g l = 4 * weight_callable (g.E.Env.callee l.env.now l.id) + 1
+
+abbrev pub decreases-function::unapply_function : goal.decreases-function::unapply_function
+decreases-function::unapply_function g l = 4 * weight_callable (g.E.Env.callee l.env.now l.id) + 1
+
+abbrev pub decreases-function::apply_table : goal.decreases-function::apply_table
+decreases-function::apply_table g l = 4 * weight_callable (g.E.Env.callee l.env.now l.id) + 1
+
+abbrev pub decreases-function::unapply_table : goal.decreases-function::unapply_table
+decreases-function::unapply_table g l = 4 * weight_callable (g.E.Env.callee l.env.now l.id) + 1
+
+abbrev pub decreases-function::check_end : goal.decreases-function::check_end
+decreases-function::check_end g l =
+    4 * weight_given (expand_if (g.E.Env.means l.env.now) (option_map syntax l.end.unit.now)) + 3
+
+abbrev pub invariant-scope::Scope::chain-loop-i : goal.invariant-scope::Scope::chain-loop-i
+invariant-scope::Scope::chain-loop-i g l =
+    IsRunning (g.E.Env.means l.self.env.now) (g.E.Env.words l.self.env.now l.self.holder) l.fn.place (operands_of l.operands)
+    (option_copied l.self.arg) l.i (amount_in l.held) l.place

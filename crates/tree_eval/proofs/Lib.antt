@@ -1,0 +1,11 @@
+pub mod Arms
+pub mod Binding
+pub mod Calls
+pub mod Chains
+pub mod Listed
+pub mod Places
+pub mod Same
+pub mod StepFaults
+pub mod Targets
+pub mod Weight
+pub mod Words

@@ -1,0 +1,43 @@
+-- How large an expansion is.
+use Rattle.std.proofs.Common.{ℕ, suc, ◌+◌}
+use Rattle.tree_eval.specs.declared.meaning.Meaning.{Meaning as Told}
+use Rattle.tree_eval.specs.declared.meaning.Meaning.TheVariants as told
+use Rattle.tree_eval.specs.Expanded.{Expanded, Number, Bar, Argument, Primitive, Dimensionless, Named, Prefixed, Uncalled, Applied, Unapplied, Root, Group, Negated, Power, Chain}
+use Rattle.tree_eval.specs.Expanded.{Links, NoLink, Link, Callable, Function, Alias, Table, Given, Absent, Present}
+
+abbrev mutual
+  pub weight : Expanded → ℕ
+  weight (Number x) = 1
+  weight (Bar x y) = 1
+  weight Argument = 1
+  weight (Primitive name) = 1
+  weight Dimensionless = 1
+  weight (Named x) = suc (weight x)
+  weight (Prefixed x y) = suc (weight x + weight y)
+  weight (Uncalled f) = suc (weight_callable f)
+  weight (Applied f x) = suc (weight_callable f + weight x)
+  weight (Unapplied f x) = suc (weight_callable f + weight x)
+  weight (Root kind x) = suc (weight x)
+  weight (Group x) = suc (weight x)
+  weight (Negated x) = suc (weight x)
+  weight (Power x y) = suc (weight x + weight y)
+  weight (Chain x links) = suc (weight x + weight_links links)
+
+  pub weight_links : Links → ℕ
+  weight_links NoLink = 0
+  weight_links (Link step x links) = weight x + weight_links links
+
+  pub weight_callable : Callable → ℕ
+  weight_callable (Function name rank in_unit out_unit domain range forward inverse) =
+      suc (weight_given in_unit + weight_given out_unit + weight forward + weight_given inverse)
+  weight_callable (Alias name rank target) = suc (weight_callable target)
+  weight_callable (Table name rank unit points) = suc (weight unit)
+
+  pub weight_given : Given → ℕ
+  weight_given Absent = 0
+  weight_given (Present x) = weight x
+
+-- of the function that is told, and 0 of a name
+abbrev pub weight_told : (ℕ → Callable) → Told → ℕ
+weight_told callee (told.Function id) = weight_callable (callee id)
+weight_told callee _ = 0

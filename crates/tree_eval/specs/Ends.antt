@@ -1,0 +1,21 @@
+-- The two ends of a function.
+use Rattle.std.specs.Prelude.{◌≡◌, ℕ, List, Option, Result}
+use Rattle.def_entry.specs.declared.entry.Span.{Span}
+use Rattle.expr_tree.specs.declared.tree.Tree.{Tree}
+use Rattle.quantity.specs.Amount.{Amount}
+use Rattle.tree_eval.specs.declared.end.End.{End}
+use Rattle.tree_eval.specs.declared.holder.Part.{Part}
+use Rattle.tree_eval.specs.declared.refusal.Refusal.{Refusal}
+use Rattle.tree_eval.specs.declared.fault.ValueFault.{ValueFault}
+use Rattle.tree_eval.specs.Refusals.{named}
+use Rattle.tree_eval.specs.Steps.{Worth}
+use Rattle.tree_eval.specs.Tests.{tested}
+
+-- an end with this unit, which is this part of its function, this span, and these refusals
+abbrev pub IsEnd : End → Part → Option Tree → Option Span → Refusal → Refusal → Type 0
+IsEnd end part unit span wrong outside =
+    (end.part ≡ part) × (end.unit.now ≡ unit) × (end.span.now ≡ span) × (end.wrong ≡ wrong) × (end.outside ≡ outside)
+
+-- a quantity at this end of the function of this name, by what the unit is worth
+abbrev pub end_tested : List ℕ → Result (Option Amount) ValueFault → End → Amount → Worth
+end_tested name unit end = tested (named end.wrong name) (named end.outside name) unit end.span.now

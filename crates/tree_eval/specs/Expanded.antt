@@ -1,0 +1,64 @@
+-- Expressions in which each word is replaced by what it stands for. No name of a unit is left.
+use Rattle.std.specs.Prelude.{ℕ, List, Option}
+use Rattle.def_entry.specs.declared.entry.Span.{Span}
+use Rattle.expr_tree.specs.declared.operator.RootKind.{RootKind}
+use Rattle.frac128.specs.Decimals.{Decimal}
+use Rattle.piecewise.specs.Lines.{Point}
+use Rattle.tree_eval.specs.declared.step.Step.{Step}
+
+mutual
+  pub data Expanded : Type 0 where
+    -- a numeral, and one over another
+    Number : Decimal → Expanded
+    Bar : Decimal → Decimal → Expanded
+    -- what the function is applied to whose expression this is
+    Argument : Expanded
+    -- a unit that no other unit defines, and one that counts as 1
+    Primitive : List ℕ → Expanded
+    Dimensionless : Expanded
+    -- the tree of a name, and those of a prefix and a unit
+    Named : Expanded → Expanded
+    Prefixed : Expanded → Expanded → Expanded
+    -- a function without an argument, at an argument, and its inverse at a value
+    Uncalled : Callable → Expanded
+    Applied : Callable → Expanded → Expanded
+    Unapplied : Callable → Expanded → Expanded
+    Root : RootKind → Expanded → Expanded
+    Group : Expanded → Expanded
+    Negated : Expanded → Expanded
+    Power : Expanded → Expanded → Expanded
+    -- a first member, and the further ones with their steps
+    Chain : Expanded → Links → Expanded
+
+  pub data Links : Type 0 where
+    NoLink : Links
+    Link : Step → Expanded → Links → Links
+
+  -- a function, with the name and the rank of its key
+  pub data Callable : Type 0 where
+    Function : (name : List ℕ) → (rank : ℕ)
+        → (in_unit out_unit : Given) → (domain range : Option Span)
+        → (forward : Expanded) → (inverse : Given) → Callable
+    Alias : (name : List ℕ) → (rank : ℕ) → (target : Callable) → Callable
+    Table : (name : List ℕ) → (rank : ℕ) → (unit : Expanded) → (points : List Point) → Callable
+
+  -- an expression that may be left out
+  pub data Given : Type 0 where
+    Absent : Given
+    Present : Expanded → Given
+
+-- what a word stands for: a name, a prefix and a unit, or a function
+pub data Meaning : Type 0 where
+  One : Expanded → Meaning
+  Two : Expanded → Expanded → Meaning
+  Callee : Callable → Meaning
+
+abbrev pub name_of : Callable → List ℕ
+name_of (Function name rank in_unit out_unit domain range forward inverse) = name
+name_of (Alias name rank target) = name
+name_of (Table name rank unit points) = name
+
+abbrev pub rank_of : Callable → ℕ
+rank_of (Function name rank in_unit out_unit domain range forward inverse) = rank
+rank_of (Alias name rank target) = rank
+rank_of (Table name rank unit points) = rank

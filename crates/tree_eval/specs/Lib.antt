@@ -1,0 +1,16 @@
+pub mod Answers
+pub mod Directions
+pub mod Ends
+pub mod Entries
+pub mod Environment
+pub mod Expanded
+pub mod Expansion
+pub mod Faults
+pub mod Laws
+pub mod Operands
+pub mod Outcomes
+pub mod Refusals
+pub mod Steps
+pub mod Tests
+pub mod Told
+pub mod Value

@@ -1,0 +1,48 @@
+-- The members of a juxtaposition, a product or a sum, in one form.
+use Rattle.std.specs.Prelude.{List, [], ◌∷◌, ◌++◌, map}
+use Rattle.expr_tree.specs.declared.operator.Scale.{Scale}
+use Rattle.expr_tree.specs.declared.operator.Sign.{Sign}
+use Rattle.expr_tree.specs.declared.word_list.WordUse.{WordUse}
+use Rattle.expr_tree.specs.Syntax.{Syntax}
+use Rattle.expr_tree.specs.Trees.{factors_of, syntax, terms_of, trees_of}
+use Rattle.expr_tree.specs.Words.{words_in}
+use Rattle.tree_eval.specs.declared.operands.Operand.{Operand}
+use Rattle.tree_eval.specs.declared.operands.Operands.{Operands}
+use Rattle.tree_eval.specs.declared.operands.Operands.TheVariants.{Juxtaposed, Product, Sum}
+use Rattle.tree_eval.specs.declared.step.Step.{Step}
+use Rattle.tree_eval.specs.declared.step.Step.TheVariants.{Multiply}
+use Rattle.tree_eval.specs.Expanded.{Dimensionless, Chain, Expanded, Link, Links, Meaning, NoLink}
+use Rattle.tree_eval.specs.Expansion.{expand, scaling, signing}
+
+-- a member and its step
+abbrev pub operand : Operand → Step × Syntax
+operand o = (o.step, syntax o.tree.now)
+
+abbrev pub by_side : Syntax → Step × Syntax
+by_side e = (Multiply, e)
+
+abbrev pub scaled : Scale × Syntax → Step × Syntax
+scaled f = (scaling f.0, f.1)
+
+abbrev pub signed : Sign × Syntax → Step × Syntax
+signed t = (signing t.0, t.1)
+
+abbrev pub operands_of : Operands → List (Step × Syntax)
+operands_of (Juxtaposed trees) = map by_side (trees_of trees.now)
+operands_of (Product factors) = map scaled (factors_of factors.now)
+operands_of (Sum terms) = map signed (terms_of terms.now)
+
+-- the words of all members
+abbrev pub words_of : List (Step × Syntax) → List WordUse
+words_of [] = []
+words_of (o ∷ os) = words_in o.1 ++ words_of os
+
+-- the expansion of further members, and of all of them
+module _ (means : WordUse → Meaning) where
+  abbrev pub links : List (Step × Syntax) → Links
+  links [] = NoLink
+  links (o ∷ os) = Link o.0 (expand means o.1) (links os)
+
+  abbrev pub chain : List (Step × Syntax) → Expanded
+  chain [] = Dimensionless
+  chain (o ∷ os) = Chain (expand means o.1) (links os)

@@ -1,0 +1,24 @@
+-- The outcomes of names.
+use Rattle.std.specs.Prelude.{None, Ok, Err}
+use Rattle.tree_eval.specs.declared.outcome.Outcome.{Outcome}
+use Rattle.tree_eval.specs.declared.outcome.Outcome.TheVariants as outcome
+use Rattle.tree_eval.specs.Expanded.{Meaning, One, Two, Callee, Prefixed}
+use Rattle.tree_eval.specs.Steps.{Worth, one}
+use Rattle.tree_eval.specs.Value.{value}
+
+-- a value or a fault, as it is kept
+abbrev pub kept : Worth → Outcome
+kept (Ok q) = outcome.Value q
+kept (Err fault) = outcome.Fault fault
+
+-- the outcome of what a name stands for
+abbrev pub outcome_of : Meaning → Outcome
+outcome_of (One x) = kept (value x None)
+outcome_of (Two x y) = kept (value (Prefixed x y) None)
+outcome_of (Callee f) = outcome.Callable
+
+-- the value or the fault of an outcome that is not callable
+abbrev pub worth_in : Outcome → Worth
+worth_in (outcome.Value q) = Ok q
+worth_in (outcome.Fault fault) = Err fault
+worth_in outcome.Callable = Ok one

@@ -1,0 +1,71 @@
+-- Steps of an evaluation, each of which may have a fault.
+use Rattle.std.specs.Prelude.{pos, Result, Ok, Err}
+use Rattle.std.specs.FinMap as map_of
+use Rattle.units_io.specs.Outcomes.{◌>>=◌}
+use Rattle.expr_tree.specs.declared.operator.RootKind.{RootKind}
+use Rattle.expr_tree.specs.Syntax.{degree}
+use Rattle.frac128.specs.declared.fault.FracFault.{FracFault}
+use Rattle.frac128.specs.Decimals.{Decimal, value_of}
+use Rattle.frac128.specs.Fraction.{Fraction, negated, whole}
+use Rattle.frac128.specs.Steps.{over, ratio}
+use Rattle.quantity.specs.Amount.{Amount}
+use Rattle.quantity.specs.Powers.{power_of}
+use Rattle.quantity.specs.Products.{product_of, quotient_of}
+use Rattle.quantity.specs.Sums.{difference_of, sum_of}
+use Rattle.quantity.specs.declared.fault.QuantityFault.{QuantityFault}
+use Rattle.tree_eval.specs.declared.fault.ValueFault.{ValueFault}
+use Rattle.tree_eval.specs.declared.fault.ValueFault.TheVariants.{Number}
+use Rattle.tree_eval.specs.declared.step.Step.{Step}
+use Rattle.tree_eval.specs.Faults.{fault_of}
+use Rattle.tree_eval.specs.declared.step.Step.TheVariants.{Multiply, Divide, Add, Subtract}
+
+abbrev pub Worth : Type 0
+Worth = Result Amount ValueFault
+
+-- a number without exponents
+abbrev pub plain_number : Fraction → Amount
+plain_number x = record { value = x; exponents = map_of.empty }
+
+abbrev pub one : Amount
+one = plain_number (whole (pos 1))
+
+-- what a step on fractions gives
+abbrev pub fraction : Result Fraction FracFault → Result Fraction ValueFault
+fraction (Ok x) = Ok x
+fraction (Err fault) = Err (Number fault)
+
+-- the same, as a number without exponents
+abbrev pub number : Result Fraction FracFault → Worth
+number (Ok x) = Ok (plain_number x)
+number (Err fault) = Err (Number fault)
+
+-- what a step on quantities gives
+abbrev pub amount : Result Amount QuantityFault → Worth
+amount (Ok x) = Ok x
+amount (Err fault) = Err (fault_of fault)
+
+-- the quotient of two numerals
+abbrev pub numeral_quotient : Decimal → Decimal → Result Fraction FracFault
+numeral_quotient x y = do
+  p ← value_of x
+  q ← value_of y
+  over p q
+
+-- the step to one more member
+abbrev pub step_of : Step → Amount → Amount → Result Amount QuantityFault
+step_of Multiply = product_of
+step_of Divide = quotient_of
+step_of Add = sum_of
+step_of Subtract = difference_of
+
+abbrev pub joined : Step → Amount → Amount → Worth
+joined step x y = amount (step_of step x y)
+
+-- a root: the power with 1 over its degree as exponent
+abbrev pub root : RootKind → Amount → Worth
+root kind x = do
+  exponent ← number (ratio (pos 1) (pos (degree kind)))
+  amount (power_of x exponent)
+
+abbrev pub opposite : Amount → Amount
+opposite x = record x { value = negated x.value }

@@ -1,0 +1,40 @@
+-- What a word is worth by what is told of it, and how its worth is kept.
+use Rattle.std.specs.Prelude.{◌≡◌, ◌≢◌, ℕ, Bool, IsTrue, Result, Ok, Err, ⊤}
+use Rattle.quantity.specs.Amount.{Amount}
+use Rattle.quantity.specs.Products.{product_of}
+use Rattle.tree_eval.specs.declared.fault.EvalFault.{EvalFault}
+use Rattle.tree_eval.specs.declared.fault.EvalFault.TheVariants as answer
+use Rattle.tree_eval.specs.declared.fault.ValueFault.TheVariants.{NeedsArgument}
+use Rattle.tree_eval.specs.declared.meaning.Meaning.{Meaning}
+use Rattle.tree_eval.specs.declared.meaning.Meaning.TheVariants.{One, Two, Function}
+use Rattle.tree_eval.specs.declared.outcome.Outcome.{Outcome}
+use Rattle.tree_eval.specs.declared.outcome.Outcome.TheVariants as outcome
+use Rattle.tree_eval.specs.Expanded.{Callable, name_of}
+use Rattle.tree_eval.specs.Outcomes.{worth_in}
+use Rattle.units_io.specs.Outcomes.{◌>>=◌}
+use Rattle.tree_eval.specs.Steps.{Worth, amount}
+
+-- a prefix times a unit
+abbrev pub both : Worth → Worth → Worth
+both prefix unit = do
+  p ← prefix
+  u ← unit
+  amount (product_of p u)
+
+abbrev pub told_worth : (ℕ → Callable) → Meaning → Worth
+told_worth callee (One o) = worth_in o.now
+told_worth callee (Two p u) = both (worth_in p.now) (worth_in u.now)
+told_worth callee (Function id) = Err (NeedsArgument (name_of (callee id)))
+
+-- no outcome is that of a function, and the number is that of one
+abbrev pub IsUsable : (ℕ → Bool) → Meaning → Type 0
+IsUsable has (One o) = o.now ≢ outcome.Callable
+IsUsable has (Two p u) = (p.now ≢ outcome.Callable) × (u.now ≢ outcome.Callable)
+IsUsable has (Function id) = IsTrue (has id)
+
+-- what an evaluation answers is kept; only want of memory is not
+abbrev pub IsKept : {E : Type 0} → Result Outcome E → Result Amount EvalFault → Type 0
+IsKept (Err _) worth = ⊤
+IsKept (Ok o) (Ok q) = o ≡ outcome.Value q
+IsKept (Ok o) (Err (answer.Value fault)) = o ≡ outcome.Fault fault
+IsKept (Ok o) (Err answer.OutOfMemory) = ⊥

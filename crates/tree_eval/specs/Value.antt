@@ -1,0 +1,129 @@
+-- The value of an expanded expression, or the first fault from left to right.
+use Rattle.std.specs.Prelude.{ℕ, pos, nat_lt, List, Option, Some, None, Result, Ok, Err, if◌then◌else◌}
+use Rattle.std.specs.FinMap as map_of
+use Rattle.frac128.specs.Decimals.{value_of}
+use Rattle.frac128.specs.Fraction.{Fraction, whole}
+use Rattle.frac128.specs.Steps.{over}
+use Rattle.piecewise.specs.declared.fault.TableFault.{TableFault}
+use Rattle.piecewise.specs.declared.fault.TableFault.TheVariants as table
+use Rattle.piecewise.specs.Tables.{x_at, y_at}
+use Rattle.quantity.specs.Amount.{Amount, conform, is_number}
+use Rattle.quantity.specs.Powers.{power_of}
+use Rattle.quantity.specs.Products.{product_of}
+use Rattle.tree_eval.specs.declared.fault.ValueFault.{ValueFault}
+use Rattle.tree_eval.specs.declared.fault.ValueFault.TheVariants as fault
+use Rattle.tree_eval.specs.Expanded.{Expanded, Number, Bar, Argument, Primitive, Dimensionless, Named, Prefixed}
+use Rattle.tree_eval.specs.Expanded.{Uncalled, Applied, Unapplied, Root, Group, Negated, Power, Chain}
+use Rattle.tree_eval.specs.Expanded.{Links, NoLink, Link, Callable, Function, Alias, Table, Given, Absent, Present, name_of}
+use Rattle.units_io.specs.Outcomes.{◌>>=◌}
+use Rattle.tree_eval.specs.Steps.{Worth, amount, joined, number, numeral_quotient, one, opposite, plain_number, root}
+use Rattle.tree_eval.specs.Tests.{tested}
+
+-- one of a primitive
+abbrev pub primitive : List ℕ → Amount
+primitive name = record { value = whole (pos 1); exponents = map_of.insert map_of.empty name (whole (pos 1)) }
+
+-- the argument; where none is given, 1
+abbrev pub argument : Option Amount → Amount
+argument (Some a) = a
+argument None = one
+
+-- the greatest rank of a function that is called
+abbrev pub most_rank : ℕ
+most_rank = 16
+
+-- a call of this rank and this name, where it is not too deep
+abbrev pub shallow : ℕ → List ℕ → Worth → Worth
+shallow rank name call = if nat_lt most_rank rank then Err (fault.CallsTooDeep name) else call
+
+-- what a table of this name gives
+abbrev pub looked_up : List ℕ → Result Fraction TableFault → Worth
+looked_up name (Ok x) = Ok (plain_number x)
+looked_up name (Err table.OutsideTable) = Err (fault.OutsideTable name)
+looked_up name (Err (table.Number f)) = Err (fault.Number f)
+
+-- a table of this name wants a number
+abbrev pub as_number : List ℕ → Amount → Worth
+as_number name x = if is_number x then Ok x else Err (fault.WrongArgument name)
+
+-- what conforms to the unit of a table, as a number of it
+abbrev pub in_unit_of : List ℕ → Amount → Amount → Worth
+in_unit_of name unit x =
+    if conform x.exponents unit.exponents then number (over x.value unit.value) else Err (fault.WrongArgument name)
+
+abbrev mutual
+  -- a: what the expression's function is applied to
+  pub value : Expanded → Option Amount → Worth
+  value (Number x) a = number (value_of x)
+  value (Bar x y) a = number (numeral_quotient x y)
+  value Argument a = Ok (argument a)
+  value (Primitive name) a = Ok (primitive name)
+  value Dimensionless a = Ok one
+  value (Named x) a = value x None
+  value (Prefixed x y) a = do
+    p ← value x None
+    u ← value y None
+    amount (product_of p u)
+  value (Uncalled f) a = Err (fault.NeedsArgument (name_of f))
+  value (Applied f x) a = do
+    b ← value x a
+    applied f b
+  value (Unapplied f x) a = do
+    b ← value x a
+    unapplied f b
+  value (Root kind x) a = do
+    v ← value x a
+    root kind v
+  value (Group x) a = value x a
+  value (Negated x) a = do
+    v ← value x a
+    Ok (opposite v)
+  value (Power x y) a = do
+    base ← value x a
+    exponent ← value y a
+    amount (power_of base exponent)
+  value (Chain x links) a = do
+    v ← value x a
+    chained v links a
+
+  -- a running value with the further members
+  pub chained : Amount → Links → Option Amount → Worth
+  chained v NoLink a = Ok v
+  chained v (Link step x links) a = do
+    w ← value x a
+    next ← joined step v w
+    chained next links a
+
+  -- a function at an argument
+  pub applied : Callable → Amount → Worth
+  applied (Function name rank in_unit out_unit domain range forward inverse) a = shallow rank name (do
+    _ ← tested (fault.WrongArgument name) (fault.NotInDomain name) (unit_value in_unit) domain a
+    result ← value forward (Some a)
+    tested (fault.WrongResult name) (fault.NotInRange name) (unit_value out_unit) range result)
+  applied (Alias name rank target) a = shallow rank name (applied target a)
+  applied (Table name rank unit points) a = shallow rank name (do
+    x ← as_number name a
+    u ← value unit None
+    y ← looked_up name (y_at points x.value)
+    amount (product_of y u))
+
+  -- the inverse of a function at a value
+  pub unapplied : Callable → Amount → Worth
+  unapplied (Function name rank in_unit out_unit domain range forward Absent) b =
+      shallow rank name (Err (fault.NoInverse name))
+  unapplied (Function name rank in_unit out_unit domain range forward (Present inverse)) b = shallow rank name (do
+    _ ← tested (fault.WrongArgument name) (fault.NotInRange name) (unit_value out_unit) range b
+    result ← value inverse (Some b)
+    tested (fault.WrongResult name) (fault.NotInDomain name) (unit_value in_unit) domain result)
+  unapplied (Alias name rank target) b = shallow rank name (unapplied target b)
+  unapplied (Table name rank unit points) b = shallow rank name (do
+    u ← value unit None
+    y ← in_unit_of name u b
+    looked_up name (x_at points y.value))
+
+  -- the value of a unit that may be left out
+  pub unit_value : Given → Result (Option Amount) ValueFault
+  unit_value Absent = Ok None
+  unit_value (Present x) = do
+    u ← value x None
+    Ok (Some u)

@@ -1,0 +1,161 @@
+//! The two ends of a function: what its argument and its result have to be.
+
+ghost use Rattle.std.specs.Prelude.{◌≡◌};
+ghost use Rattle.std.specs.Option.{option_copied};
+ghost use Rattle.tree_eval.specs.Answers.{Answers, Gives};
+ghost use Rattle.tree_eval.specs.Ends.{IsEnd};
+ghost use Rattle.tree_eval.specs.Refusals.{named};
+ghost use Rattle.tree_eval.specs.Tests as spec;
+
+use crate::fault::EvalFault;
+use crate::holder::Part;
+use crate::refusal::Refusal;
+use def_entry::{Bound, FunctionDef, Span};
+use expr_tree::Tree;
+use frac128::Frac;
+use quantity::Quantity;
+use std::alloc::Global;
+
+/// One end of a function: what a quantity has to be there, and how the function refuses it.
+#[derive(Clone, Copy)]
+pub(crate) struct End<'f> {
+    /// Which tree of the function its unit is.
+    pub(crate) part: Part,
+    /// The unit that the quantity has to conform to.
+    pub(crate) unit: &'f Option<Tree>,
+    /// Where its number in the unit has to be.
+    span: &'f Option<Span>,
+    // The refusal of one that does not conform, and of one whose number is outside.
+    wrong: Refusal,
+    outside: Refusal,
+}
+
+impl<'f> End<'f> {
+    // Where a call takes its argument.
+    pub(crate) fn argument(f: &'f FunctionDef) -> End<'f>
+        ensures { IsEnd result Part.InUnit f.now.in_unit f.now.domain Refusal.WrongArgument Refusal.NotInDomain }
+    {
+        End {
+            part: Part::InUnit,
+            unit: &f.in_unit,
+            span: &f.domain,
+            wrong: Refusal::WrongArgument,
+            outside: Refusal::NotInDomain,
+        }
+    }
+
+    // Where a call gives its result.
+    pub(crate) fn result(f: &'f FunctionDef) -> End<'f>
+        ensures { IsEnd result Part.OutUnit f.now.out_unit f.now.range Refusal.WrongResult Refusal.NotInRange }
+    {
+        End {
+            part: Part::OutUnit,
+            unit: &f.out_unit,
+            span: &f.range,
+            wrong: Refusal::WrongResult,
+            outside: Refusal::NotInRange,
+        }
+    }
+
+    // Where an inverse takes its value.
+    pub(crate) fn value(f: &'f FunctionDef) -> End<'f>
+        ensures { IsEnd result Part.OutUnit f.now.out_unit f.now.range Refusal.WrongArgument Refusal.NotInRange }
+    {
+        End {
+            wrong: Refusal::WrongArgument,
+            ..End::result(f)
+        }
+    }
+
+    // Where an inverse gives its result.
+    pub(crate) fn inverse(f: &'f FunctionDef) -> End<'f>
+        ensures { IsEnd result Part.InUnit f.now.in_unit f.now.domain Refusal.WrongResult Refusal.NotInDomain }
+    {
+        End {
+            wrong: Refusal::WrongResult,
+            ..End::argument(f)
+        }
+    }
+
+    // That a quantity conforms to the unit, by its value, or is a number where only a span stands.
+    pub(crate) fn check_unit(
+        &self,
+        alloc: Global,
+        name: &[u8],
+        unit: Option<&Quantity>,
+        q: &Quantity,
+    ) -> Result<(), EvalFault>
+        ensures { Gives (λ _. q.now) result (spec.conforming (named self.now.wrong name.now)
+            (option_copied unit.entry) self.now.span.now q.now) }
+    {
+        let conforms = match unit {
+            Some(unit) => q.conforms(unit),
+            None => self.span.is_none() || q.is_number(),
+        };
+        if conforms {
+            Ok(())
+        } else {
+            Err(self.wrong.by(alloc, name))
+        }
+    }
+
+    // That its number in the unit is in the span, where one stands.
+    pub(crate) fn check_span(
+        &self,
+        alloc: Global,
+        name: &[u8],
+        unit: Option<&Quantity>,
+        q: &Quantity,
+    ) -> Result<(), EvalFault>
+        ensures { Gives (λ _. q.now) result (spec.inside (named self.now.outside name.now)
+            (option_copied unit.entry) self.now.span.now q.now) }
+    {
+        let Some(span) = self.span else {
+            return Ok(());
+        };
+        if is_within(span, &number_in(unit, q)?) {
+            Ok(())
+        } else {
+            Err(self.outside.by(alloc, name))
+        }
+    }
+}
+
+// The number of a quantity in the unit, or its own where no unit stands.
+fn number_in(unit: Option<&Quantity>, q: &Quantity) -> Result<Frac, EvalFault>
+    ensures { Answers result (spec.number_in (option_copied unit.entry) q.now) }
+{
+    match unit {
+        Some(unit) => Ok(q.value().div(&unit.value())?),
+        None => Ok(q.value()),
+    }
+}
+
+// Whether the number is in the span.
+fn is_within(span: &Span, x: &Frac) -> bool
+    ensures { result ≡ spec.is_within span.now x.now }
+{
+    is_above(&span.low, x) && is_below(&span.high, x)
+}
+
+// Whether the number is above the bound.
+fn is_above(bound: &Option<Bound>, x: &Frac) -> bool
+    ensures { result ≡ spec.is_above bound.now x.now }
+{
+    match bound {
+        None => true,
+        Some(bound) if bound.closed => bound.at.cmp(x).is_le(),
+        Some(bound) => bound.at.cmp(x).is_lt(),
+    }
+}
+
+// Whether the number is below the bound.
+fn is_below(bound: &Option<Bound>, x: &Frac) -> bool
+    ensures { result ≡ spec.is_below bound.now x.now }
+{
+    match bound {
+        None => true,
+        Some(bound) if bound.closed => x.cmp(&bound.at).is_le(),
+        Some(bound) => x.cmp(&bound.at).is_lt(),
+    }
+}

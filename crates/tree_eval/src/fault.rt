@@ -1,0 +1,113 @@
+//! Why an expression has no value.
+
+ghost use Rattle.std.specs.Prelude.{◌≡◌, IfOk};
+
+use frac128::FracFault;
+use quantity::{Quantity, QuantityFault};
+use std::alloc::{AllocError, Global};
+use units_io::Text;
+
+/// Why an expression has no value. The text is the name of the function.
+#[derive(Drop)]
+pub enum ValueFault {
+    /// A step on numbers has no answer.
+    Number(FracFault),
+    /// A sum or difference of two quantities with different exponents: both of them.
+    NotConformable(Quantity, Quantity),
+    /// The exponent of a power has exponents of its own.
+    ExponentNotNumber,
+    /// An exponent is out of range.
+    ExponentRange,
+    /// The number of a function's argument is outside its domain.
+    NotInDomain(Text),
+    /// The number of a function's result is outside its range.
+    NotInRange(Text),
+    /// The argument does not conform to the function.
+    WrongArgument(Text),
+    /// The result does not conform to the function.
+    WrongResult(Text),
+    /// The function has no inverse.
+    NoInverse(Text),
+    /// No segment of the table holds the number.
+    OutsideTable(Text),
+    /// The function stands without an argument.
+    NeedsArgument(Text),
+    /// The rank of the function is above 16.
+    CallsTooDeep(Text),
+}
+
+/// Why an evaluation has no answer.
+#[derive(Drop)]
+pub enum EvalFault {
+    /// The expression has no value.
+    Value(ValueFault),
+    /// Want of memory.
+    OutOfMemory,
+}
+
+impl ValueFault {
+    /// An equal fault. The only error is want of memory.
+    pub fn copy(&self, alloc: Global) -> Result<ValueFault, AllocError>
+        ensures { IfOk result (λ fault. fault ≡ self.now) }
+    {
+        match self {
+            ValueFault::Number(fault) => Ok(ValueFault::Number(*fault)),
+            ValueFault::NotConformable(x, y) => {
+                let x = x.copy(alloc)?;
+                let y = y.copy(alloc)?;
+                Ok(ValueFault::NotConformable(x, y))
+            }
+            ValueFault::ExponentNotNumber => Ok(ValueFault::ExponentNotNumber),
+            ValueFault::ExponentRange => Ok(ValueFault::ExponentRange),
+            ValueFault::NotInDomain(name) => Ok(ValueFault::NotInDomain(name.copy(alloc)?)),
+            ValueFault::NotInRange(name) => Ok(ValueFault::NotInRange(name.copy(alloc)?)),
+            ValueFault::WrongArgument(name) => Ok(ValueFault::WrongArgument(name.copy(alloc)?)),
+            ValueFault::WrongResult(name) => Ok(ValueFault::WrongResult(name.copy(alloc)?)),
+            ValueFault::NoInverse(name) => Ok(ValueFault::NoInverse(name.copy(alloc)?)),
+            ValueFault::OutsideTable(name) => Ok(ValueFault::OutsideTable(name.copy(alloc)?)),
+            ValueFault::NeedsArgument(name) => Ok(ValueFault::NeedsArgument(name.copy(alloc)?)),
+            ValueFault::CallsTooDeep(name) => Ok(ValueFault::CallsTooDeep(name.copy(alloc)?)),
+        }
+    }
+}
+
+impl From<AllocError> for EvalFault {
+    ghost use Rattle.std.specs.Prelude.{◌≡◌};
+    ghost use Rattle.tree_eval.specs.declared.fault.EvalFault.TheVariants.{OutOfMemory};
+
+    ghost from_gives = { λ _ fault. fault ≡ OutOfMemory };
+
+    fn from(_error: AllocError) -> EvalFault {
+        EvalFault::OutOfMemory
+    }
+}
+
+impl From<FracFault> for EvalFault {
+    ghost use Rattle.std.specs.Prelude.{◌≡◌};
+    ghost use Rattle.tree_eval.specs.declared.fault.EvalFault.TheVariants.{Value};
+    ghost use Rattle.tree_eval.specs.declared.fault.ValueFault.TheVariants.{Number};
+
+    ghost from_gives = { λ number fault. fault ≡ Value (Number number) };
+
+    fn from(fault: FracFault) -> EvalFault {
+        EvalFault::Value(ValueFault::Number(fault))
+    }
+}
+
+impl From<QuantityFault> for EvalFault {
+    ghost use Rattle.tree_eval.specs.Refusals.{IsFaultOf};
+
+    ghost from_gives = { λ step fault. IsFaultOf step fault };
+
+    fn from(fault: QuantityFault) -> EvalFault {
+        match fault {
+            QuantityFault::Number(fault) => EvalFault::Value(ValueFault::Number(fault)),
+            QuantityFault::NotConformable(x, y) => EvalFault::Value(ValueFault::NotConformable(
+                x, y,
+            )),
+            QuantityFault::ExponentNotNumber => EvalFault::Value(ValueFault::ExponentNotNumber),
+            QuantityFault::ExponentRange => EvalFault::Value(ValueFault::ExponentRange),
+            QuantityFault::OutOfMemory => EvalFault::OutOfMemory,
+        }
+    }
+}

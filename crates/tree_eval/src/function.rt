@@ -1,0 +1,220 @@
+//! Functions, aliases and tables, both ways.
+
+ghost use Rattle.std.specs.Prelude.{◌≡◌, ◌<◌, IsTrue, Some, length, option_map, slice_get};
+ghost use Rattle.def_entry.specs.Entries as entry;
+ghost use Rattle.def_entry.specs.Views.{function_view, table_view};
+ghost use Rattle.expr_tree.specs.declared.word_list.WordUse.{WordUse};
+ghost use Rattle.expr_tree.specs.Trees.{syntax};
+ghost use Rattle.tree_eval.specs.Answers.{Answers, Gives};
+ghost use Rattle.tree_eval.specs.Directions.{IsCalled, taken};
+ghost use Rattle.tree_eval.specs.Ends.{end_tested};
+ghost use Rattle.tree_eval.specs.Entries.{words_if};
+ghost use Rattle.tree_eval.specs.Expanded as expanded;
+ghost use Rattle.tree_eval.specs.Expansion.{expand_if};
+ghost use Rattle.tree_eval.specs.Value as spec;
+
+use crate::direction::Direction;
+use crate::end::End;
+use crate::env::Env;
+use crate::fault::EvalFault;
+use crate::held::{Held, lent};
+use crate::holder::{Holder, Part};
+use crate::meaning::Meaning;
+use crate::refusal::Refusal;
+use crate::scope::tree_worth;
+use crate::step::Step;
+use crate::table::looked_up;
+use def_entry::{FunctionDef, TableDef, What};
+use quantity::Quantity;
+use std::alloc::Global;
+
+// The greatest rank of a function that is called.
+const MOST_RANK: u32 = 16;
+
+/// The value of a function, an alias or a table at an argument, or its first fault.
+pub fn apply<E: Env>(
+    alloc: Global,
+    env: &E,
+    id: usize,
+    arg: &Quantity,
+) -> Result<Quantity, EvalFault>
+    requires { IsTrue (E.has env.now id) }
+    ensures { Answers result (spec.applied (E.callee env.now id) arg.now) }
+{
+    take(alloc, env, Direction::Forward, id, arg)
+}
+
+/// The inverse of a function, an alias or a table at a value, or its first fault.
+pub fn unapply<E: Env>(
+    alloc: Global,
+    env: &E,
+    id: usize,
+    value: &Quantity,
+) -> Result<Quantity, EvalFault>
+    requires { IsTrue (E.has env.now id) }
+    ensures { Answers result (spec.unapplied (E.callee env.now id) value.now) }
+{
+    take(alloc, env, Direction::Inverse, id, value)
+}
+
+// A function, an alias or a table, taken in this direction.
+#[cycle(eval)]
+pub(crate) fn take<E: Env>(
+    alloc: Global,
+    env: &E,
+    direction: Direction,
+    id: usize,
+    at: &Quantity,
+) -> Result<Quantity, EvalFault>
+    requires { IsTrue (E.has env.now id) }
+    ensures { Answers result (taken direction (E.callee env.now id) at.now) }
+{
+    if env.rank(id) > MOST_RANK {
+        return Err(Refusal::CallsTooDeep.by(alloc, env.function_name(id)));
+    }
+    match &env.function(id).what {
+        What::Function(f) => match direction {
+            Direction::Forward => apply_function(alloc, env, id, f, at),
+            Direction::Inverse => unapply_function(alloc, env, id, f, at),
+        },
+        What::Alias(_) => take(alloc, env, direction, target_of(env, id), at),
+        What::Table(table) => match direction {
+            Direction::Forward => apply_table(alloc, env, id, table, at),
+            Direction::Inverse => unapply_table(alloc, env, id, table, at),
+        },
+        _ => unreachable!(),
+    }
+}
+
+// The steps of a call.
+#[cycle(eval)]
+fn apply_function<E: Env>(
+    alloc: Global,
+    env: &E,
+    id: usize,
+    f: &FunctionDef,
+    arg: &Quantity,
+) -> Result<Quantity, EvalFault>
+    requires has { IsTrue (E.has env.now id) }
+    requires is { IsCalled (E.words env.now) (E.means env.now) id (E.callee env.now id)
+        (entry.Function (function_view f.now)) }
+    ensures { Answers result (spec.applied (E.callee env.now id) arg.now) }
+{
+    check_end(alloc, env, id, End::argument(f), arg)?;
+    let holder = Holder::Of(id, Part::Forward);
+    let result = tree_worth(alloc, env, holder, &f.forward, Some(arg))?;
+    check_end(alloc, env, id, End::result(f), result.get())?;
+    Ok(result.own(alloc)?)
+}
+
+// The steps of an inverse.
+#[cycle(eval)]
+fn unapply_function<E: Env>(
+    alloc: Global,
+    env: &E,
+    id: usize,
+    f: &FunctionDef,
+    value: &Quantity,
+) -> Result<Quantity, EvalFault>
+    requires has { IsTrue (E.has env.now id) }
+    requires is { IsCalled (E.words env.now) (E.means env.now) id (E.callee env.now id)
+        (entry.Function (function_view f.now)) }
+    ensures { Answers result (spec.unapplied (E.callee env.now id) value.now) }
+{
+    let Some(inverse) = &f.inverse else {
+        return Err(Refusal::NoInverse.by(alloc, env.function_name(id)));
+    };
+    check_end(alloc, env, id, End::value(f), value)?;
+    let holder = Holder::Of(id, Part::Inverse);
+    let result = tree_worth(alloc, env, holder, inverse, Some(value))?;
+    check_end(alloc, env, id, End::inverse(f), result.get())?;
+    Ok(result.own(alloc)?)
+}
+
+// That a quantity fits one end of a function.
+#[cycle(eval)]
+fn check_end<E: Env>(
+    alloc: Global,
+    env: &E,
+    id: usize,
+    end: End<'_>,
+    q: &Quantity,
+) -> Result<(), EvalFault>
+    requires has { IsTrue (E.has env.now id) }
+    requires words { E.words env.now (Holder.Of id end.part) ≡ words_if (option_map syntax end.unit.now) }
+    ensures { Gives (λ _. q.now) result (end_tested (expanded.name_of (E.callee env.now id))
+        (spec.unit_value (expand_if (E.means env.now) (option_map syntax end.entry.unit.now))) end.entry q.now) }
+{
+    let holder = Holder::Of(id, end.part);
+    let unit = match end.unit {
+        Some(unit) => Some(tree_worth(alloc, env, holder, unit, None)?),
+        None => None,
+    };
+    let name = env.function_name(id);
+    end.check_unit(alloc, name, lent(&unit), q)?;
+    end.check_span(alloc, name, lent(&unit), q)
+}
+
+// The steps of a table.
+#[cycle(eval)]
+fn apply_table<E: Env>(
+    alloc: Global,
+    env: &E,
+    id: usize,
+    table: &TableDef,
+    arg: &Quantity,
+) -> Result<Quantity, EvalFault>
+    requires has { IsTrue (E.has env.now id) }
+    requires is { IsCalled (E.words env.now) (E.means env.now) id (E.callee env.now id)
+        (entry.Table (table_view table.now)) }
+    ensures { Answers result (spec.applied (E.callee env.now id) arg.now) }
+{
+    let name = env.function_name(id);
+    if !arg.is_number() {
+        return Err(Refusal::WrongArgument.by(alloc, name));
+    }
+    let holder = Holder::Of(id, Part::TableUnit);
+    let unit = tree_worth(alloc, env, holder, &table.unit, None)?;
+    let y = looked_up(alloc, name, table.points.at(&arg.value()))?;
+    Step::Multiply.join(alloc, Held::Own(y), unit.get())
+}
+
+// The steps of the inverse of a table.
+#[cycle(eval)]
+fn unapply_table<E: Env>(
+    alloc: Global,
+    env: &E,
+    id: usize,
+    table: &TableDef,
+    value: &Quantity,
+) -> Result<Quantity, EvalFault>
+    requires has { IsTrue (E.has env.now id) }
+    requires is { IsCalled (E.words env.now) (E.means env.now) id (E.callee env.now id)
+        (entry.Table (table_view table.now)) }
+    ensures { Answers result (spec.unapplied (E.callee env.now id) value.now) }
+{
+    let name = env.function_name(id);
+    let holder = Holder::Of(id, Part::TableUnit);
+    let unit = tree_worth(alloc, env, holder, &table.unit, None)?;
+    if !value.conforms(unit.get()) {
+        return Err(Refusal::WrongArgument.by(alloc, name));
+    }
+    let y = value.value().div(&unit.get().value())?;
+    looked_up(alloc, name, table.points.back(&y))
+}
+
+// The number of the function that an alias stands for.
+fn target_of<E: Env>(env: &E, id: usize) -> usize
+    requires has { IsTrue (E.has env.now id) }
+    requires some { 0 < length (E.words env.now (Holder.Of id Part.Forward)) }
+    requires word { (u : WordUse) → slice_get (E.words env.now (Holder.Of id Part.Forward)) 0 ≡ Some u
+        → (f : expanded.Callable) × (E.means env.now u ≡ expanded.Callee f) }
+    ensures has { IsTrue (E.has env.now result) }
+    ensures target { (u : WordUse) → slice_get (E.words env.now (Holder.Of id Part.Forward)) 0 ≡ Some u
+        → E.means env.now u ≡ expanded.Callee (E.callee env.now result) }
+{
+    match env.meaning(Holder::Of(id, Part::Forward), 0) {
+        Meaning::Function(target) => target,
+        _ => unreachable!(),
+    }
+}

@@ -1,0 +1,33 @@
+//! Evaluation of expressions and functions over an environment that lends the outcomes of names.
+#![tactic(auto)]
+
+mod direction;
+mod end;
+mod env;
+mod fault;
+mod function;
+mod held;
+mod holder;
+mod laws;
+mod meaning;
+mod numeral;
+mod operands;
+mod outcome;
+mod power;
+mod reduction;
+mod refusal;
+mod scope;
+mod step;
+mod table;
+mod word;
+
+pub use env::Env;
+pub use fault::{EvalFault, ValueFault};
+pub use function::{apply, unapply};
+pub use holder::{Holder, Part};
+pub use laws::{expansion_law, kept_law, meaning_law};
+pub use meaning::Meaning;
+pub use outcome::Outcome;
+pub use reduction::reduce;
+pub use scope::eval;
+pub use step::Step;

@@ -1,0 +1,54 @@
+//! The outcome of one name.
+
+ghost use Rattle.std.specs.Prelude.{◌≡◌, ◌+◌, IfOk};
+ghost use Rattle.def_entry.specs.Views.{what_view};
+ghost use Rattle.tree_eval.specs.Entries.{meaning_of};
+ghost use Rattle.tree_eval.specs.Environment.{HasTarget, HoldsWords};
+ghost use Rattle.tree_eval.specs.Outcomes.{outcome_of};
+ghost use Rattle.tree_eval.specs.Told.{IsKept};
+
+use crate::env::Env;
+use crate::fault::EvalFault;
+use crate::holder::{Holder, Part};
+use crate::outcome::Outcome;
+use crate::scope::eval;
+use def_entry::{Entry, What};
+use quantity::Quantity;
+use std::alloc::{AllocError, Global};
+use std::sync::ledger::Ledger;
+use units_io::Steps;
+
+/// The outcome of the name with this number and this entry, in one step.
+pub fn reduce<E: Env, L: Ledger>(
+    alloc: Global,
+    env: &E,
+    id: usize,
+    name: &[u8],
+    entry: &Entry,
+    steps: &mut Steps<L>,
+) -> Result<Outcome, AllocError>
+    requires words { HoldsWords (E.words env.now) id (what_view entry.now.what) }
+    requires target { HasTarget (E.means env.now) (what_view entry.now.what) }
+    ensures outcome { IfOk result (λ outcome. outcome
+        ≡ outcome_of (meaning_of (E.means env.now) name.now (what_view entry.now.what))) }
+    ensures steps { steps.new ≡ steps.old + 1 }
+{
+    steps.tick();
+    match &entry.what {
+        What::Primitive => Ok(Outcome::Value(Quantity::one(alloc, name)?)),
+        What::Dimensionless | What::ListOf(_) => Ok(Outcome::Value(Quantity::unity(alloc))),
+        What::Body(tree) => kept(eval(alloc, env, Holder::Of(id, Part::Body), tree, None)),
+        What::Function(_) | What::Alias(_) | What::Table(_) => Ok(Outcome::Callable),
+    }
+}
+
+// A value or a fault as it is kept.
+fn kept(worth: Result<Quantity, EvalFault>) -> Result<Outcome, AllocError>
+    ensures { IsKept result worth }
+{
+    match worth {
+        Ok(q) => Ok(Outcome::Value(q)),
+        Err(EvalFault::Value(fault)) => Ok(Outcome::Fault(fault)),
+        Err(EvalFault::OutOfMemory) => Err(AllocError),
+    }
+}

@@ -1,0 +1,48 @@
+//! Why a function refuses.
+
+ghost use Rattle.std.specs.Prelude.{◌≡◌};
+ghost use Rattle.tree_eval.specs.Refusals as spec;
+
+use crate::fault::{EvalFault, ValueFault};
+use std::alloc::Global;
+use units_io::Text;
+
+/// Why a function refuses an argument or a result, or cannot be called.
+#[derive(Clone, Copy)]
+pub(crate) enum Refusal {
+    NotInDomain,
+    NotInRange,
+    WrongArgument,
+    WrongResult,
+    NoInverse,
+    OutsideTable,
+    NeedsArgument,
+    CallsTooDeep,
+}
+
+impl Refusal {
+    // The fault with the name of the function, or want of memory.
+    pub(crate) fn by(self, alloc: Global, name: &[u8]) -> EvalFault
+        ensures { spec.IsFault result (spec.named self name.now) }
+    {
+        match Text::from_bytes(alloc, name) {
+            Ok(name) => EvalFault::Value(self.named(name)),
+            Err(_) => EvalFault::OutOfMemory,
+        }
+    }
+
+    fn named(self, name: Text) -> ValueFault
+        ensures { result ≡ spec.named self name }
+    {
+        match self {
+            Refusal::NotInDomain => ValueFault::NotInDomain(name),
+            Refusal::NotInRange => ValueFault::NotInRange(name),
+            Refusal::WrongArgument => ValueFault::WrongArgument(name),
+            Refusal::WrongResult => ValueFault::WrongResult(name),
+            Refusal::NoInverse => ValueFault::NoInverse(name),
+            Refusal::OutsideTable => ValueFault::OutsideTable(name),
+            Refusal::NeedsArgument => ValueFault::NeedsArgument(name),
+            Refusal::CallsTooDeep => ValueFault::CallsTooDeep(name),
+        }
+    }
+}

@@ -1,0 +1,73 @@
+//! How a running value takes one more member.
+
+ghost use Rattle.std.specs.Prelude.{◌≡◌};
+ghost use Rattle.quantity.specs.Answers.{IsAnswer};
+ghost use Rattle.tree_eval.specs.Answers.{Answers, amount_in};
+ghost use Rattle.tree_eval.specs.Expansion.{scaling, signing};
+ghost use Rattle.tree_eval.specs.Steps as spec;
+
+use crate::fault::EvalFault;
+use crate::held::Held;
+use expr_tree::{Scale, Sign};
+use quantity::{Quantity, QuantityFault};
+use std::alloc::Global;
+
+/// How a running value takes one more member.
+#[derive(Clone, Copy)]
+pub enum Step {
+    Multiply,
+    Divide,
+    Add,
+    Subtract,
+}
+
+impl Step {
+    // The step to a member of a product.
+    pub(crate) fn of_scale(scale: Scale) -> Step
+        ensures { result ≡ scaling scale }
+    {
+        match scale {
+            Scale::Multiply => Step::Multiply,
+            Scale::Divide => Step::Divide,
+        }
+    }
+
+    // The step to a member of a sum.
+    pub(crate) fn of_sign(sign: Sign) -> Step
+        ensures { result ≡ signing sign }
+    {
+        match sign {
+            Sign::Plus => Step::Add,
+            Sign::Minus => Step::Subtract,
+        }
+    }
+
+    // The running value with one more member. The result takes its names over.
+    pub(crate) fn join(
+        self,
+        alloc: Global,
+        left: Held<'_>,
+        right: &Quantity,
+    ) -> Result<Quantity, EvalFault>
+        ensures { Answers result (spec.joined self (amount_in left.entry) right.now) }
+    {
+        let left = left.own(alloc)?;
+        Ok(self.join_owned(alloc, left, right)?)
+    }
+
+    fn join_owned(
+        self,
+        alloc: Global,
+        left: Quantity,
+        right: &Quantity,
+    ) -> Result<Quantity, QuantityFault>
+        ensures { IsAnswer result (spec.step_of self left right.now) }
+    {
+        match self {
+            Step::Multiply => left.times(alloc, right),
+            Step::Divide => left.over(alloc, right),
+            Step::Add => left.plus(alloc, right),
+            Step::Subtract => left.minus(alloc, right),
+        }
+    }
+}

@@ -1,0 +1,44 @@
+//! Words, by what the environment tells of them.
+
+ghost use Rattle.std.specs.Prelude.{◌≢◌};
+ghost use Rattle.tree_eval.specs.Answers as answer;
+ghost use Rattle.tree_eval.specs.Outcomes.{worth_in};
+ghost use Rattle.tree_eval.specs.Told as spec;
+
+use crate::env::Env;
+use crate::fault::EvalFault;
+use crate::held::Held;
+use crate::meaning::Meaning;
+use crate::outcome::{Outcome, quantity_of};
+use crate::refusal::Refusal;
+use crate::step::Step;
+use quantity::Quantity;
+use std::alloc::Global;
+
+// What a word alone is worth: a name, a prefix times a unit, or the fault of a function that has no
+// argument.
+pub(crate) fn word_worth<'a, E: Env>(
+    alloc: Global,
+    env: &'a E,
+    meaning: Meaning<'a>,
+) -> Result<Held<'a>, EvalFault>
+    requires { spec.IsUsable (E.has env.now) meaning }
+    ensures { answer.Gives answer.amount_in result (spec.told_worth (E.callee env.now) meaning.entry) }
+{
+    match meaning {
+        Meaning::One(outcome) => Ok(Held::Lent(quantity_of(alloc, outcome)?)),
+        Meaning::Two(prefix, unit) => Ok(Held::Own(both(alloc, prefix, unit)?)),
+        Meaning::Function(id) => Err(Refusal::NeedsArgument.by(alloc, env.function_name(id))),
+    }
+}
+
+// A prefix times a unit.
+fn both(alloc: Global, prefix: &Outcome, unit: &Outcome) -> Result<Quantity, EvalFault>
+    requires prefix { prefix.now ≢ Outcome.Callable }
+    requires unit { unit.now ≢ Outcome.Callable }
+    ensures { answer.Answers result (spec.both (worth_in prefix.now) (worth_in unit.now)) }
+{
+    let prefix = quantity_of(alloc, prefix)?;
+    let unit = quantity_of(alloc, unit)?;
+    Step::Multiply.join(alloc, Held::Lent(prefix), unit)
+}
