@@ -26,9 +26,9 @@ abbrev pub what_view : MadeWhat → What
 what_view made.Primitive = Primitive
 what_view made.Dimensionless = Dimensionless
 what_view (made.Body tree) = Body (syntax tree)
-what_view (made.Function f) = Function (function_view f)
+what_view (made.Function f) = Function (function_view f.value)
 what_view (made.Alias target) = Alias target
-what_view (made.Table t) = Table (table_view t)
+what_view (made.Table t) = Table (table_view t.value)
 what_view (made.ListOf parts) = ListOf (trees_of parts)
 
 abbrev pub entry_view : MadeEntry → Entry

@@ -28,9 +28,15 @@ impl What {
             What::Primitive => Ok(What::Primitive),
             What::Dimensionless => Ok(What::Dimensionless),
             What::Body(tree) => Ok(What::Body(tree.copy(alloc)?)),
-            What::Function(function) => Ok(What::Function(function.copy(alloc)?)),
+            What::Function(function) => {
+                let function = function.copy(alloc)?;
+                Ok(What::Function(Box::new(alloc, function)?))
+            }
             What::Alias(target) => Ok(What::Alias(target.copy(alloc)?)),
-            What::Table(table) => Ok(What::Table(table.copy(alloc)?)),
+            What::Table(table) => {
+                let table = table.copy(alloc)?;
+                Ok(What::Table(Box::new(alloc, table)?))
+            }
             What::ListOf(parts) => Ok(What::ListOf(parts.copy(alloc)?)),
         }
     }

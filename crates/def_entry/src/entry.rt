@@ -24,11 +24,11 @@ pub enum What {
     /// An expression, for a unit or a prefix.
     Body(Tree),
     /// A function.
-    Function(FunctionDef),
+    Function(Box<FunctionDef>),
     /// The function of another name.
     Alias(Text),
     /// A function by a table of points.
-    Table(TableDef),
+    Table(Box<TableDef>),
     /// Units into which a quantity is split, in order.
     ListOf(Trees),
 }

@@ -27,14 +27,15 @@ pub(crate) fn function_of(
     let (in_unit, out_unit) = unit_trees(alloc, form.options.units)?;
     let forward = tree_of(alloc, form.forward, Some(parameter))?;
     let inverse = inverse_tree(alloc, name, form.inverse)?;
-    Ok(What::Function(FunctionDef {
+    let function = FunctionDef {
         in_unit,
         out_unit,
         domain: form.options.domain,
         range: form.options.range,
         forward,
         inverse,
-    }))
+    };
+    Ok(What::Function(Box::new(alloc, function)?))
 }
 
 // The in unit and the out unit, where that option stands.

@@ -142,7 +142,7 @@ fn table_of(alloc: Global, text: &[u8], behind: &[u8]) -> Result<What, EntryFaul
     let unit = wanted(text)?;
     let points = table_points(alloc, behind)?;
     let unit = tree_of(alloc, unit, None)?;
-    Ok(What::Table(TableDef { unit, points }))
+    Ok(What::Table(Box::new(alloc, TableDef { unit, points })?))
 }
 
 // A list, whose parts `;` parts.

@@ -18,7 +18,6 @@ pub mod Spelled
 pub mod Stands
 pub mod Steps
 pub mod Stops
-pub mod Tables
 pub mod Told
 pub mod Views
 pub mod Whole

@@ -2,6 +2,7 @@
 use Rattle.std.proofs.Common.{◌≡◌, ℕ, List, sym, ap, ◌∙◌, Global, Box}
 use Rattle.frac128.specs.Decimals.{Decimal}
 use Rattle.expr_tree.specs.declared.operator.RootKind.{RootKind}
+use Rattle.expr_tree.specs.declared.tree.Quotient.{Quotient}
 use Rattle.expr_tree.specs.declared.tree.Tree.{Tree}
 use Rattle.expr_tree.specs.declared.tree.Tree.TheVariants as made
 use Rattle.expr_tree.specs.declared.tree.Tree.TheOpen as one
@@ -17,8 +18,8 @@ use Rattle.expr_tree.specs.Trees.{syntax, level, members, factors, terms, trees_
 pub of_number : (n : Decimal) → syntax (made.Number n) ≡ tree.Number n
 of_number n = ap syntax (sym (made.rolls-Number n)) ∙ fold-roll-Tree Syntax Factors Terms Members level (λ fs. factors fs.items.items) (λ ts. terms ts.items.items) (λ es. members es.items.items) (one.Number n)
 
-pub of_bar : (n d : Decimal) → syntax (made.Bar n d) ≡ tree.Bar n d
-of_bar n d = ap syntax (sym (made.rolls-Bar n d)) ∙ fold-roll-Tree Syntax Factors Terms Members level (λ fs. factors fs.items.items) (λ ts. terms ts.items.items) (λ es. members es.items.items) (one.Bar n d)
+pub of_bar : (q : Box Quotient Global) → syntax (made.Bar q) ≡ tree.Bar q.value.top q.value.bottom
+of_bar q = ap syntax (sym (made.rolls-Bar q)) ∙ fold-roll-Tree Syntax Factors Terms Members level (λ fs. factors fs.items.items) (λ ts. terms ts.items.items) (λ es. members es.items.items) (one.Bar q)
 
 pub of_word : (w : List ℕ) → syntax (made.Word w) ≡ tree.Word w
 of_word w = ap syntax (sym (made.rolls-Word w)) ∙ fold-roll-Tree Syntax Factors Terms Members level (λ fs. factors fs.items.items) (λ ts. terms ts.items.items) (λ es. members es.items.items) (one.Word w)

@@ -29,7 +29,7 @@ terms (t ∷ ts) = Term t.0 t.1 (terms ts)
 -- what a tree says, when what its parts say stands in their places
 abbrev pub level : one.Tree-F Syntax Factors Terms Members → Syntax
 level (one.Number x) = Number x
-level (one.Bar x y) = Bar x y
+level (one.Bar q) = Bar q.value.top q.value.bottom
 level (one.Word w) = Word w
 level one.Argument = Argument
 level (one.Call w e) = Call w e.value

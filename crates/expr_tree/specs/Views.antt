@@ -4,6 +4,7 @@ use Rattle.std.specs.Global.{Box}
 use Rattle.frac128.specs.Decimals.{Decimal}
 use Rattle.expr_tree.specs.declared.operator.RootKind.{RootKind}
 use Rattle.expr_tree.specs.declared.tree.Factors.{Factors}
+use Rattle.expr_tree.specs.declared.tree.Quotient.{Quotient}
 use Rattle.expr_tree.specs.declared.tree.Terms.{Terms}
 use Rattle.expr_tree.specs.declared.tree.Tree.{Tree}
 use Rattle.expr_tree.specs.declared.tree.Tree.TheVariants.{Number, Bar, Word, Argument, Call, Inverse, Root, Group, Negate, Power, Juxtaposed, Product, Sum}
@@ -14,7 +15,7 @@ use Rattle.expr_tree.specs.Trees.{syntax, members, factors, terms, trees_of, fac
 -- law: what a tree of each kind says, by what its parts say
 pub record ViewLaw : Type 0 where
   pub number : (x : Decimal) → syntax (Number x) ≡ tree.Number x
-  pub bar : (x y : Decimal) → syntax (Bar x y) ≡ tree.Bar x y
+  pub bar : (q : Box Quotient) → syntax (Bar q) ≡ tree.Bar q.value.top q.value.bottom
   pub word : (w : List ℕ) → syntax (Word w) ≡ tree.Word w
   pub argument : syntax Argument ≡ tree.Argument
   pub call : (w : List ℕ) (e : Box Tree) → syntax (Call w e) ≡ tree.Call w (syntax e.value)

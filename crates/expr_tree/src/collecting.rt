@@ -25,7 +25,7 @@ fn put_words(alloc: Global, words: &mut Words, tree: &Tree) -> Result<(), AllocE
     ensures { IfOk result (λ _. words.new ≡ words.old ++ words_in (syntax tree.now)) }
 {
     match tree {
-        Tree::Number(_) | Tree::Bar(_, _) | Tree::Argument => Ok(()),
+        Tree::Number(_) | Tree::Bar(_) | Tree::Argument => Ok(()),
         Tree::Word(word) => put_word(alloc, words, word, WordKind::Plain),
         Tree::Call(word, operand) => {
             put_word(alloc, words, word, WordKind::Call)?;

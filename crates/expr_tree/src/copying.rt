@@ -15,7 +15,7 @@ impl Tree {
     {
         match self {
             Tree::Number(x) => Ok(Tree::Number(*x)),
-            Tree::Bar(x, y) => Ok(Tree::Bar(*x, *y)),
+            Tree::Bar(quotient) => Ok(Tree::Bar(Box::new(alloc, **quotient)?)),
             Tree::Word(word) => Ok(Tree::Word(word.copy(alloc)?)),
             Tree::Argument => Ok(Tree::Argument),
             Tree::Call(word, operand) => {

@@ -11,7 +11,7 @@ ghost use Rattle.expr_tree.specs.Tokens.{Tilde};
 ghost use Rattle.expr_tree.specs.Trees.{syntax};
 
 use crate::ahead::{denominator_at, has_caret, has_operand, scale_at, sign_at};
-use crate::making::{call_tree, inverse_tree, power_tree, signed_tree, word_tree};
+use crate::making::{bar_tree, call_tree, inverse_tree, power_tree, signed_tree, word_tree};
 use crate::operator::{Scale, Sign};
 use crate::token::Token;
 use crate::tree::{Factors, Terms, Tree, Trees};
@@ -188,7 +188,7 @@ fn atom_at(
 {
     match tokens[at] {
         Token::Numeral(n) => match denominator_at(tokens, at + 1) {
-            Some(denominator) => Ok((Tree::Bar(n, denominator), at + 3)),
+            Some(denominator) => Ok((bar_tree(alloc, n, denominator)?, at + 3)),
             None => Ok((Tree::Number(n), at + 1)),
         },
         Token::Word(word) => Ok((word_tree(alloc, word, binder)?, at + 1)),

@@ -29,5 +29,5 @@ pub use laws::{
 pub use name::{is_name, is_refused};
 pub use operator::{RootKind, Scale, Sign};
 pub use parse::parse_expr;
-pub use tree::{Factors, Terms, Tree, Trees};
+pub use tree::{Factors, Quotient, Terms, Tree, Trees};
 pub use word_list::{WordKind, WordUse, Words};

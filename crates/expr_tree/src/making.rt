@@ -7,9 +7,17 @@ ghost use Rattle.expr_tree.specs.Syntax as tree;
 ghost use Rattle.expr_tree.specs.Trees.{syntax};
 
 use crate::operator::Sign;
-use crate::tree::{Tree, Trees};
+use crate::tree::{Quotient, Tree, Trees};
+use frac128::Numeral;
 use std::alloc::{AllocError, Global};
 use units_io::Text;
+
+// A numeral over another.
+pub(crate) fn bar_tree(alloc: Global, top: Numeral, bottom: Numeral) -> Result<Tree, AllocError>
+    ensures { IfOk result (λ e. syntax e ≡ tree.Bar top bottom) }
+{
+    Ok(Tree::Bar(Box::new(alloc, Quotient { top, bottom })?))
+}
 
 // Whether the word is the binder.
 fn is_binder(binder: Option<&[u8]>, word: &[u8]) -> bool

@@ -1,6 +1,6 @@
 //! Names, and the words of expressions.
 
-ghost use Rattle.std.specs.Prelude.{◌≡◌, map};
+ghost use Rattle.std.specs.Prelude.{◌≡◌};
 ghost use Rattle.std.specs.List.{list_all};
 ghost use Rattle.expr_tree.specs.Names.{ends_in_count as ends_in_count_of, has_index as has_index_in, has_power as has_power_of, is_among};
 ghost use Rattle.expr_tree.specs.Names.{is_count as is_count_byte, is_index_byte as is_index};
@@ -45,20 +45,29 @@ fn ends_in_count(bytes: &[u8]) -> bool
     !bytes.is_empty() && is_count(bytes[bytes.len() - 1]) && !has_index(bytes)
 }
 
-// The words that mean something of their own.
-const KEYWORDS: [&[u8]; 3] = [b"per", b"sqrt", b"cuberoot"];
-
-// The functions that are refused.
-const REFUSED_NAMES: [&[u8]; 16] = [
-    b"sin", b"cos", b"tan", b"asin", b"acos", b"atan", b"sinh", b"cosh", b"tanh", b"asinh",
-    b"acosh", b"atanh", b"ln", b"log", b"log2", b"exp",
-];
-
 /// Whether the bytes are the name of a function that is refused.
 pub fn is_refused(bytes: &[u8]) -> bool
     ensures { result ≡ is_refused_name bytes.now }
 {
-    is_one_of(&REFUSED_NAMES, bytes)
+    matches!(
+        bytes,
+        b"sin"
+            | b"cos"
+            | b"tan"
+            | b"asin"
+            | b"acos"
+            | b"atan"
+            | b"sinh"
+            | b"cosh"
+            | b"tanh"
+            | b"asinh"
+            | b"acosh"
+            | b"atanh"
+            | b"ln"
+            | b"log"
+            | b"log2"
+            | b"exp"
+    )
 }
 
 // Whether the bytes are a name, followed by one digit from 2 to 9.
@@ -79,20 +88,7 @@ fn is_power_byte(byte: u8) -> bool
 fn is_keyword(bytes: &[u8]) -> bool
     ensures { result ≡ is_among keywords bytes.now }
 {
-    is_one_of(&KEYWORDS, bytes)
-}
-
-// Whether the bytes are one of the words.
-#[tactic(auto, using(crate::proofs::Tables::tables))]
-fn is_one_of(words: &[&[u8]], bytes: &[u8]) -> bool
-    ensures { result ≡ is_among (map (λ word. word.now) words.now) bytes.now }
-{
-    for word in words {
-        if bytes == *word {
-            return true;
-        }
-    }
-    false
+    matches!(bytes, b"per" | b"sqrt") || bytes == b"cuberoot".as_slice()
 }
 
 // Whether a word may hold the byte.

@@ -9,6 +9,9 @@ use frac128::Numeral;
 use std::alloc::{AllocError, Global};
 use units_io::Text;
 
+// The room of a list at its first member: most lists have two.
+const USUAL_MEMBERS: usize = 2;
+
 /// What an expression says.
 #[cycle(tree)]
 #[derive(Drop)]
@@ -16,7 +19,7 @@ pub enum Tree {
     /// A numeral.
     Number(Numeral),
     /// A numeral over another.
-    Bar(Numeral, Numeral),
+    Bar(Box<Quotient>),
     /// A word.
     Word(Text),
     /// What the function is applied to whose definition the expression is.
@@ -39,6 +42,15 @@ pub enum Tree {
     Product(Factors),
     /// The members of a sum, from left to right.
     Sum(Terms),
+}
+
+/// Two numerals, one over the other.
+#[derive(Clone, Copy, Drop)]
+pub struct Quotient {
+    /// The one before the bar.
+    pub top: Numeral,
+    /// The one behind the bar.
+    pub bottom: Numeral,
 }
 
 /// A list of trees, in order.
@@ -77,6 +89,9 @@ impl Trees {
         ensures ok { OnOk result (trees_of self.new ≡ trees_of self.old ++ syntax item ∷ []) }
         ensures err { OnErr result (trees_of self.new ≡ trees_of self.old) }
     {
+        if self.items.is_empty() {
+            self.items.reserve_exact(USUAL_MEMBERS)?;
+        }
         self.items.push(item)?;
         Ok(())
     }
@@ -118,6 +133,9 @@ impl Factors {
         ensures ok { OnOk result (factors_of self.new ≡ factors_of self.old ++ factor item ∷ []) }
         ensures err { OnErr result (factors_of self.new ≡ factors_of self.old) }
     {
+        if self.items.is_empty() {
+            self.items.reserve_exact(USUAL_MEMBERS)?;
+        }
         self.items.push(item)?;
         Ok(())
     }
@@ -159,6 +177,9 @@ impl Terms {
         ensures ok { OnOk result (terms_of self.new ≡ terms_of self.old ++ term item ∷ []) }
         ensures err { OnErr result (terms_of self.new ≡ terms_of self.old) }
     {
+        if self.items.is_empty() {
+            self.items.reserve_exact(USUAL_MEMBERS)?;
+        }
         self.items.push(item)?;
         Ok(())
     }

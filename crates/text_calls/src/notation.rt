@@ -17,11 +17,11 @@ pub(crate) fn put_tree(alloc: Global, out: &mut Vec<u8>, tree: &Tree) -> Result<
 {
     match tree {
         Tree::Number(x) => put_numeral(alloc, out, x),
-        Tree::Bar(x, y) => {
+        Tree::Bar(quotient) => {
             out.extend_from_slice(b"(bar ")?;
-            put_numeral(alloc, out, x)?;
+            put_numeral(alloc, out, &quotient.top)?;
             out.extend_from_slice(b" ")?;
-            put_numeral(alloc, out, y)?;
+            put_numeral(alloc, out, &quotient.bottom)?;
             out.extend_from_slice(b")")
         }
         Tree::Word(word) => put_word(out, word.as_bytes()),

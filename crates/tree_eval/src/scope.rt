@@ -91,7 +91,7 @@ impl<'a, E: Env> Scope<'a, E> {
         view_law();
         match tree {
             Tree::Number(x) => Ok(Held::Own(numeral(self.alloc, x)?)),
-            Tree::Bar(x, y) => Ok(Held::Own(bar(self.alloc, x, y)?)),
+            Tree::Bar(quotient) => Ok(Held::Own(bar(self.alloc, &quotient.top, &quotient.bottom)?)),
             Tree::Argument => match self.arg {
                 Some(arg) => Ok(Held::Lent(arg)),
                 None => Ok(Held::Own(Quantity::unity(self.alloc))),

@@ -51,9 +51,9 @@ scope::Scope::worth-operated-requires g t c κs within =
     let told = c.next_meaning-meaning.ensures.told (word_of Forward c.in-Call.field-0)
     (first_stands (g.E.Env.words c.args.self.now.env.now c.args.self.now.holder) c.args.place.now (word_of Forward c.in-Call.field-0) (words_in (syntax c.in-Call.operand.value))
     (use_stands (g.E.Env.means c.args.self.now.env.now) (g.E.Env.words c.args.self.now.env.now c.args.self.now.holder) c.args.place.now (syntax c.args.tree.now) Forward c.in-Call.field-0 (syntax c.in-Call.operand.value) (ap syntax c.in-Call.is ∙ c.view_law.ensures.call c.in-Call.field-0 c.in-Call.operand) c.requires)) in
-    let is = (ap syntax c.in-Call.is ∙ (c.view_law.ensures.call c.in-Call.field-0 c.in-Call.operand ∙ ap (λ y. tree.Call c.in-Call.field-0 (syntax y)) (sym c.deref.ensures))) in
-    let lighter = operand_lighter (g.E.Env.means c.args.self.now.env.now) (g.E.Env.words c.args.self.now.env.now c.args.self.now.holder) c.args.place.now (syntax c.args.tree.now) Forward c.in-Call.field-0 (syntax c.deref.result.now) is (g.E.Env.has c.args.self.now.env.now) (g.E.Env.callee c.args.self.now.env.now) c.next_meaning-meaning.result told in
-    let stand = operand_stands (g.E.Env.means c.args.self.now.env.now) (g.E.Env.words c.args.self.now.env.now c.args.self.now.holder) c.args.place.now (syntax c.args.tree.now) Forward c.in-Call.field-0 (syntax c.deref.result.now) is c.next_meaning-meaning.new.place c.next_meaning-meaning.ensures.place c.requires in
+    let is = (ap syntax c.in-Call.is ∙ (c.view_law.ensures.call c.in-Call.field-0 c.in-Call.operand ∙ ap (λ y. tree.Call c.in-Call.field-0 (syntax y)) (sym c.deref-in-Call.ensures))) in
+    let lighter = operand_lighter (g.E.Env.means c.args.self.now.env.now) (g.E.Env.words c.args.self.now.env.now c.args.self.now.holder) c.args.place.now (syntax c.args.tree.now) Forward c.in-Call.field-0 (syntax c.deref-in-Call.result.now) is (g.E.Env.has c.args.self.now.env.now) (g.E.Env.callee c.args.self.now.env.now) c.next_meaning-meaning.result told in
+    let stand = operand_stands (g.E.Env.means c.args.self.now.env.now) (g.E.Env.words c.args.self.now.env.now c.args.self.now.holder) c.args.place.now (syntax c.args.tree.now) Forward c.in-Call.field-0 (syntax c.deref-in-Call.result.now) is c.next_meaning-meaning.new.place c.next_meaning-meaning.ensures.place c.requires in
     let can = usable (g.E.Env.has c.args.self.now.env.now) (g.E.Env.callee c.args.self.now.env.now) ((g.E.Env.means c.args.self.now.env.now) (word_of Forward c.in-Call.field-0)) c.next_meaning-meaning.result told in
     search (rules, arith)
 
@@ -63,7 +63,7 @@ scope::Scope::worth-returns-in-Call-clause-worth g t c =
     (first_stands (g.E.Env.words c.args.self.now.env.now c.args.self.now.holder) c.args.place.now (word_of Forward c.in-Call.field-0) (words_in (syntax c.in-Call.operand.value))
     (use_stands (g.E.Env.means c.args.self.now.env.now) (g.E.Env.words c.args.self.now.env.now c.args.self.now.holder) c.args.place.now (syntax c.args.tree.now) Forward c.in-Call.field-0 (syntax c.in-Call.operand.value) (ap syntax c.in-Call.is ∙ c.view_law.ensures.call c.in-Call.field-0 c.in-Call.operand) c.requires)) in
     subst (λ y. Gives amount_in c.operated.result (value y (option_copied c.args.self.now.arg)))
-    (sym (use_expands (g.E.Env.means c.args.self.now.env.now) (g.E.Env.words c.args.self.now.env.now c.args.self.now.holder) c.args.place.now (syntax c.args.tree.now) Forward c.in-Call.field-0 (syntax c.deref.result.now) (ap syntax c.in-Call.is ∙ (c.view_law.ensures.call c.in-Call.field-0 c.in-Call.operand ∙ ap (λ y. tree.Call c.in-Call.field-0 (syntax y)) (sym c.deref.ensures)))))
+    (sym (use_expands (g.E.Env.means c.args.self.now.env.now) (g.E.Env.words c.args.self.now.env.now c.args.self.now.holder) c.args.place.now (syntax c.args.tree.now) Forward c.in-Call.field-0 (syntax c.deref-in-Call.result.now) (ap syntax c.in-Call.is ∙ (c.view_law.ensures.call c.in-Call.field-0 c.in-Call.operand ∙ ap (λ y. tree.Call c.in-Call.field-0 (syntax y)) (sym c.deref-in-Call.ensures)))))
     (c.operated.ensures.worth ((g.E.Env.means c.args.self.now.env.now) (word_of Forward c.in-Call.field-0)) told)
 
 pub scope::Scope::worth-next_meaning-meaning-requires-in-Inverse : goal.scope::Scope::worth-next_meaning-meaning-requires-in-Inverse

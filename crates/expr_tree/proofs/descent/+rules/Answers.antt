@@ -15,7 +15,7 @@ use Rattle.expr_tree.proofs.Stands.{stands_as, begun, rooted, barred, head_wante
 use Rattle.expr_tree.proofs.Steps.{one_member, members_begun, next_member, all_members}
 use Rattle.expr_tree.proofs.Steps.{one_factor, factors_begun, next_factor, all_factors, factor_wants}
 use Rattle.expr_tree.proofs.Steps.{one_term, terms_begun, next_term, all_terms, term_wants}
-use Rattle.expr_tree.proofs.Views.{of_number, of_bar, of_root, of_group, of_juxtaposed, of_product, of_sum}
+use Rattle.expr_tree.proofs.Views.{of_number, of_root, of_group, of_juxtaposed, of_product, of_sum}
 use Rattle.expr_tree.proofs.descent.+rules.Goals as goal
 
 -- what a power returns, as an exponent
@@ -38,11 +38,11 @@ atom_at-closed_sum_at-requires-in-Root t c =
     let r = rooted c.args.tokens.now c.args.at c.args.opened c.in-Root.kind _ (begun c.args.tokens.now c.args.at c.requires.begun) c.in-Root.is c.requires.fit in
     (omega (arith, r.within), (omega (arith, c.requires.deep), r.fit))
 
-pub atom_at-returns-in-Some : goal.atom_at-returns-in-Some
-atom_at-returns-in-Some t c =
+pub atom_at-returns-in_ok-bar_tree-in-Some : goal.atom_at-returns-in_ok-bar_tree-in-Some
+atom_at-returns-in_ok-bar_tree-in-Some t c =
     let l = begun c.args.tokens.now c.args.at c.requires.begun in
     let r = barred c.args.tokens.now c.args.at c.in-Numeral.n c.in-Some.denominator l (stands_as c.args.tokens.now c.args.at _ _ l c.in-Numeral.is) c.in-Some.ensures in
-    (bar_front (option_copied c.args.binder) c.args.opened c.in-Numeral.n c.in-Some.denominator _ _ _ r.is c.requires.fit (of_bar c.in-Numeral.n c.in-Some.denominator), omega arith, r.within)
+    (bar_front (option_copied c.args.binder) c.args.opened c.in-Numeral.n c.in-Some.denominator _ _ _ r.is c.requires.fit c.in_ok-bar_tree-in-Some.ensures, omega arith, r.within)
 
 pub atom_at-returns-in-None : goal.atom_at-returns-in-None
 atom_at-returns-in-None t c =
