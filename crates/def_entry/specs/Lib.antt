@@ -20,4 +20,5 @@ pub mod Reading
 pub mod SameKeys
 pub mod Seen
 pub mod Steps
+pub mod Tables
 pub mod Views
