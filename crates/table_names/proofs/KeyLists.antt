@@ -1,0 +1,45 @@
+-- Keys among others.
+use Rattle.std.proofs.Common.{◌≡◌, ◌⊎◌, true, false, List, [], ◌∷◌, ◌++◌, Contains, refl, sym, ◌∙◌, ap, inl, inr}
+use Rattle.std.specs.Cmp.{IsEquivalence, both_ways}
+use Rattle.std.proofs.lemmas.Bool.{false_from_ne_true, or_cases, or_from}
+use Rattle.std.proofs.lemmas.List.Folds.{list_any-append}
+use Rattle.std.proofs.lemmas.Map.Views.{Contains-from_any, list_any-from_Contains}
+use Rattle.def_entry.specs.declared.key.Key.{Key}
+use Rattle.def_entry.specs.SameKeys.{is_among, is_same}
+use Rattle.def_entry.proofs.SameKeys.{same_keys}
+
+pub one_key : (a b : Key) → is_same a b ≡ true → a ≡ b
+one_key a b e = (same_keys a b).0 e
+
+pub same_itself : (a : Key) → is_same a a ≡ true
+same_itself a = (same_keys a a).1 refl
+
+turned : (a b : Key) → is_same a b ≡ true → is_same b a ≡ true
+turned a b e = (same_keys b a).1 (sym (one_key a b e))
+
+pub same_laws : IsEquivalence is_same
+same_laws = record {
+  refl = same_itself;
+  symm = λ a b. both_ways (is_same a b) (is_same b a) (turned a b) (turned b a);
+  congr = λ a b c e. ap (λ (k : Key). is_same k c) (one_key a b e);
+}
+
+pub among_member : (keys : List Key) (k : Key) → Contains keys k → is_among keys k ≡ true
+among_member keys k i = list_any-from_Contains same_laws k keys i
+
+pub member_among : (keys : List Key) (k : Key) → is_among keys k ≡ true → Contains keys k
+member_among keys k e = Contains-from_any one_key k keys e
+
+-- a key is on a path that is longer by one key exactly where it was on it before or is that one
+pub on_longer : (path : List Key) (n k : Key) → is_among (path ++ n ∷ []) k ≡ true → (is_among path k ≡ true) ⊎ (k ≡ n)
+on_longer path n k e =
+    elim (or_cases _ _ (sym (list_any-append (is_same k) path (n ∷ [])) ∙ e)) [
+      | inl q ↦ inl q
+      | inr q ↦ elim (or_cases (is_same k n) false q) [ inl r ↦ inr (one_key k n r) | inr r ↦ absurd (cc r) ]
+    ]
+
+pub off_longer : (path : List Key) (n k : Key) → is_among path k ≡ false → (k ≡ n → ⊥) → is_among (path ++ n ∷ []) k ≡ false
+off_longer path n k off other =
+    list_any-append (is_same k) path (n ∷ [])
+    ∙ or_from (is_among path k) _ off
+    (or_from (is_same k n) false (false_from_ne_true (is_same k n) (λ e. other (one_key k n e))) refl)

@@ -1,0 +1,11 @@
+mod Affecting
+mod Closing
+mod Ending
+mod KeyLists
+mod Kept
+mod Lookups
+mod Meanings
+mod Members
+mod OneFault
+mod Paths
+mod Reaching

@@ -1,0 +1,23 @@
+-- What lookup says of targets and of looked-at keys, at a word of a table.
+use Rattle.std.proofs.Common.{◌≡◌, true, Contains}
+use Rattle.expr_tree.specs.declared.word_list.WordUse.{WordUse}
+use Rattle.def_entry.specs.declared.key.Key.{Key}
+use Rattle.def_entry.specs.Tables.{Table, is_present}
+use Rattle.name_lookup.proofs.Plans.{same_answers, targets_are_present}
+use Rattle.table_names.specs.Leads.{word_lookup, looked_keys, targets}
+
+module _ (table : Table) (u : WordUse) where
+  -- a target has an entry
+  pub target_present : (n : Key) → Contains (targets table u) n → is_present table n ≡ true
+  target_present n i = (targets_are_present (is_present table) u.kind u.text n i).1
+
+  -- a target is a looked-at key
+  pub target_looked : (n : Key) → Contains (targets table u) n → Contains (looked_keys table u) n
+  target_looked n i = (targets_are_present (is_present table) u.kind u.text n i).0
+
+-- tables that agree on the looked-at keys give the word the same
+pub same_lookup :
+    (before after : Table) (u : WordUse)
+    → ((k : Key) → Contains (looked_keys before u) k → is_present before k ≡ is_present after k)
+    → word_lookup before u ≡ word_lookup after u
+same_lookup before after u h = same_answers (is_present before) (is_present after) u.kind u.text h

@@ -1,0 +1,148 @@
+-- Paths, and words that are closed behind them.
+use Rattle.std.proofs.Common.{◌≡◌, ◌≢◌, ℕ, zero, suc, ◌+◌, ◌-◌, ◌≤◌, true, false}
+use Rattle.std.proofs.Common.{List, [], ◌∷◌, ◌++◌, length, Contains, Option, Some, None, is_some}
+use Rattle.std.proofs.Common.{refl, sym, ◌∙◌, subst, inl, inr, arith, length-append}
+use Rattle.std.specs.List.{IsDistinct}
+use Rattle.std.proofs.lemmas.Bool.{cases_Bool, cond-false}
+use Rattle.std.proofs.lemmas.Map.Keys.{IsDistinct-push}
+use Rattle.std.proofs.lemmas.Map.Steps.{length-le_from_keys}
+use Rattle.expr_tree.specs.declared.word_list.WordUse.{WordUse}
+use Rattle.expr_tree.specs.Names.{is_refused}
+use Rattle.def_entry.specs.declared.key.Key.{Key}
+use Rattle.def_entry.specs.Entries.{Entry}
+use Rattle.def_entry.specs.SameKeys.{is_among, is_same}
+use Rattle.def_entry.specs.Tables.{Table, entry_at, is_present}
+use Rattle.table_names.specs.Closed.{AreClosed, IsClosed, LeadsInto}
+use Rattle.table_names.specs.FaultLaws.{IsPath, PathLaw}
+use Rattle.table_names.specs.Faults.{fault_within, first, target_fault, targets_fault, word_fault}
+use Rattle.table_names.specs.Leads.{Reaches, WordsLeadTo, WordsReach, at_once, further, targets}
+use Rattle.table_names.specs.Words.{entry_words, key_words}
+use Rattle.table_names.proofs.Ending.{AreEnding, EndsWithin, no_loop, words_end}
+use Rattle.table_names.proofs.KeyLists.{off_longer, on_longer, same_laws}
+use Rattle.table_names.proofs.Lookups.{target_present}
+use Rattle.table_names.proofs.Members.{none_first}
+
+nothing_twice : IsDistinct is_same []
+unfolding IsDistinct
+nothing_twice = tt
+
+no_words : (o : Option Entry) → is_some o ≡ false → entry_words o ≡ []
+no_words None e = refl
+no_words (Some x) e = cc
+
+module _ (table : Table) where
+  pub empty : IsPath table []
+  empty = record { distinct = nothing_twice; present = λ k e. cc }
+
+  pub longer :
+      (path : List Key) (n : Key) → IsPath table path → is_among path n ≡ false → is_present table n ≡ true
+      → IsPath table (path ++ n ∷ [])
+  longer path n is off there = record {
+    distinct = IsDistinct-push same_laws path n is.distinct off;
+    present = λ k e. elim (on_longer path n k e) [
+      | inl q ↦ is.present k q
+      | inr q ↦ subst (λ (x : Key). is_present table x ≡ true) (sym q) there
+    ];
+  }
+
+  pub short : (path : List Key) → IsPath table path → length path ≤ length table
+  short path is = length-le_from_keys same_laws path table is.distinct is.present
+
+  -- nothing that words reach is on the path
+  abbrev IsClear : List Key → List WordUse → Type 0
+  IsClear path words = (m : Key) → WordsReach table words m → is_among path m ≡ false
+
+  clear_below :
+      (j : ℕ) (path : List Key) (words : List WordUse) (m : Key)
+      → EndsWithin table j m → IsClear path words → WordsLeadTo table words m → IsClear (path ++ m ∷ []) (key_words table m)
+  clear_below j path words m ends clear l q r =
+      off_longer path m q (clear q (further l r)) (λ e. no_loop table j m ends (subst (λ (x : Key). Reaches table m x) e r))
+
+  -- no fault at words whose ways end off the path, where none is met in the entries of their targets
+  words_pass :
+      (j k : ℕ) (path : List Key) (words : List WordUse)
+      → AreEnding table j words → IsPath table path → IsClear path words
+      → ((m : Key) → EndsWithin table j m → IsPath table (path ++ m ∷ []) → IsClear (path ++ m ∷ []) (key_words table m)
+      → fault_within table k (path ++ m ∷ []) m ≡ None)
+      → first (word_fault table (fault_within table k) path) words ≡ None
+  words_pass j k path words ends is clear deeper =
+      none_first (word_fault table (fault_within table k) path) words (λ u i.
+      let h : LeadsInto table (EndsWithin table j) u = ends u i in
+      cond-false (is_refused u.text) _ _ h.accepted
+      ∙ targets_pass u (targets table u) h.known (λ m t.
+      let off : is_among path m ≡ false = clear m (at_once (u, i, t)) in
+      cond-false (is_among path m) _ _ off
+      ∙ deeper m (h.into m t) (longer path m is off (target_present table u m t))
+      (clear_below j path words m (h.into m t) clear (u, i, t))))
+    where
+      targets_pass :
+          (u : WordUse) (ns : List Key) → ns ≢ []
+          → ((m : Key) → Contains ns m → target_fault table (fault_within table k) path m ≡ None)
+          → targets_fault table (fault_within table k) path u ns ≡ None
+      targets_pass u [] some h = absurd (some refl)
+      targets_pass u (n ∷ ns) some h = none_first (target_fault table (fault_within table k) path) (n ∷ ns) h
+
+  key_passes :
+      (j k : ℕ) (path : List Key) (n : Key)
+      → EndsWithin table j n → IsPath table path → IsClear path (key_words table n)
+      → length path + k ≡ length table + 1 → fault_within table k path n ≡ None
+  key_passes zero k path n ends is clear room = absurd ends
+  key_passes (suc j) zero path n ends is clear room = absurd (let l : length path ≤ length table = short path is in omega arith)
+  key_passes (suc j) (suc k) path n ends is clear room =
+      words_pass j k path (key_words table n) ends is clear (λ m e p c.
+      key_passes j k (path ++ m ∷ []) m e p c (omega (arith, length-append path (m ∷ []))))
+
+  -- words whose ways end off a path have no fault behind it
+  pub no_fault :
+      (j : ℕ) (path : List Key) (words : List WordUse)
+      → AreEnding table j words → IsPath table path → ((m : Key) → WordsReach table words m → is_among path m ≡ false)
+      → first (word_fault table (fault_within table (length table - length path)) path) words ≡ None
+  no_fault j path words ends is clear =
+      let l : length path ≤ length table = short path is in
+      words_pass j (length table - length path) path words ends is clear (λ m e p c.
+      key_passes j (length table - length path) (path ++ m ∷ []) m e p c (omega (arith, length-append path (m ∷ []))))
+
+  -- closed words are those whose ways end; as many keys as the table has are depth enough
+  pub closed_ending : (words : List WordUse) → AreClosed table words → AreEnding table (length table) words
+  closed_ending words e =
+      let z : length table - 0 ≡ length table = omega arith in
+      words_end table (length table) [] words (subst (λ k. first (word_fault table (fault_within table k) []) words ≡ None) z e)
+
+  pub ending_closed : (j : ℕ) (words : List WordUse) → AreEnding table j words → AreClosed table words
+  ending_closed j words ends = no_fault j [] words ends empty (λ m r. refl)
+
+  -- so is a key exactly where its words are
+  pub key_words_closed : (n : Key) → IsClosed table n → AreClosed table (key_words table n)
+  key_words_closed n e =
+      ending_closed (length table - 1) (key_words table n) (words_end table (length table - 1) (n ∷ []) (key_words table n) e)
+
+  alone_clear : (j : ℕ) (n : Key) → EndsWithin table j n → IsClear (n ∷ []) (key_words table n)
+  alone_clear j n ends m r =
+      off_longer [] n m refl (λ e. no_loop table j n ends (subst (λ (x : Key). Reaches table n x) e r))
+
+  pub words_closed_key : (n : Key) → AreClosed table (key_words table n) → IsClosed table n
+  words_closed_key n e =
+      elim (cases_Bool (is_present table n)) [
+        | inl there ↦ no_fault (length table) (n ∷ []) (key_words table n) (closed_ending (key_words table n) e)
+            (longer [] n empty refl there) (alone_clear (suc (length table)) n (closed_ending (key_words table n) e))
+        | inr absent ↦
+            let none : key_words table n ≡ [] = no_words (entry_at table n) absent in
+            subst (λ ws. first (word_fault table (fault_within table (length table - 1)) (n ∷ [])) ws ≡ None) (sym none) refl
+      ]
+
+  pub closed_key_ending : (n : Key) → IsClosed table n → EndsWithin table (suc (length table)) n
+  closed_key_ending n e = closed_ending (key_words table n) (key_words_closed n e)
+
+  -- a key that has an entry ends within the number of keys
+  pub present_key_ending : (n : Key) → is_present table n ≡ true → IsClosed table n → EndsWithin table (length table) n
+  present_key_ending n there e =
+      let l : 1 ≤ length table = short (n ∷ []) (longer [] n empty refl there) in
+      let z : suc (length table - 1) ≡ length table = omega (arith, l) in
+      subst (λ k. EndsWithin table k n) z (words_end table (length table - 1) (n ∷ []) (key_words table n) e)
+
+  pub ending_key_closed : (j : ℕ) (n : Key) → EndsWithin table j n → IsClosed table n
+  ending_key_closed zero n ends = absurd ends
+  ending_key_closed (suc j) n ends = words_closed_key n (ending_closed j (key_words table n) ends)
+
+pub path_law : PathLaw
+path_law = record { empty = empty; longer = longer; short = short }

@@ -1,0 +1,5 @@
+use Rattle.table_names.proofs.Affecting as laws
+use Rattle.table_names.proofs.laws.affected_law.Goals as goal
+
+pub returns : goal.returns
+returns c = laws.affected_law

@@ -1,0 +1,5 @@
+use Rattle.table_names.proofs.Closing as laws
+use Rattle.table_names.proofs.laws.closed_law.Goals as goal
+
+pub returns : goal.returns
+returns c = laws.closed_law

@@ -1,0 +1,5 @@
+use Rattle.table_names.proofs.Reaching as laws
+use Rattle.table_names.proofs.laws.reach_law.Goals as goal
+
+pub returns : goal.returns
+returns c = laws.reach_law

@@ -1,0 +1,5 @@
+use Rattle.table_names.proofs.Kept as laws
+use Rattle.table_names.proofs.laws.unaffected_law.Goals as goal
+
+pub returns : goal.returns
+returns c = laws.unaffected_law

@@ -1,0 +1,39 @@
+-- What words lead to, what they look at, and what they reach.
+use Rattle.std.specs.Prelude.{List, Contains}
+use Rattle.expr_tree.specs.declared.word_list.WordUse.{WordUse}
+use Rattle.def_entry.specs.declared.key.Key.{Key}
+use Rattle.def_entry.specs.Tables.{Table, is_present}
+use Rattle.name_lookup.specs.declared.found.Found.{Found}
+use Rattle.name_lookup.specs.Order.{plan}
+use Rattle.name_lookup.specs.Plans.{run}
+use Rattle.table_names.specs.Words.{key_words}
+
+-- the lookup of a word in a table
+abbrev pub word_lookup : Table → WordUse → Found
+word_lookup table u = run (is_present table) (plan u.kind u.text)
+
+-- the keys that a word stands for
+abbrev pub targets : Table → WordUse → List Key
+targets table u = (word_lookup table u).targets
+
+-- the keys that are looked at on the way, absent ones too
+abbrev pub looked_keys : Table → WordUse → List Key
+looked_keys table u = (word_lookup table u).looked
+
+-- one of the words leads to the key
+abbrev pub WordsLeadTo : Table → List WordUse → Key → Type 0
+WordsLeadTo table words n = (u : WordUse) × Contains words u × Contains (targets table u) n
+
+-- words reach the keys that they lead to, and what the words of those keys reach
+pub data WordsReach (table : Table) : List WordUse → Key → Type 0 where
+  at_once : {words : List WordUse} {n : Key} → WordsLeadTo table words n → WordsReach table words n
+  further : {words : List WordUse} {n m : Key} → WordsLeadTo table words n → WordsReach table (key_words table n) m
+      → WordsReach table words m
+
+-- the one key reaches the other, by one step or more
+abbrev pub Reaches : Table → Key → Key → Type 0
+Reaches table n m = WordsReach table (key_words table n) m
+
+-- a word of the one key looks at the other
+abbrev pub LooksAt : Table → Key → Key → Type 0
+LooksAt table n k = (u : WordUse) × Contains (key_words table n) u × Contains (looked_keys table u) k

@@ -1,0 +1,11 @@
+pub mod Affected
+pub mod Closed
+pub mod ClosedLaws
+pub mod Edits
+pub mod Examples
+pub mod FaultLaws
+pub mod Faults
+pub mod Leads
+pub mod Meanings
+pub mod Reach
+pub mod Words
