@@ -1,11 +1,11 @@
-mod Affecting
-mod Closing
-mod Ending
-mod KeyLists
-mod Kept
-mod Lookups
-mod Meanings
-mod Members
-mod OneFault
-mod Paths
-mod Reaching
+pub mod Affecting
+pub mod Closing
+pub mod Ending
+pub mod KeyLists
+pub mod Kept
+pub mod Lookups
+pub mod Meanings
+pub mod Members
+pub mod OneFault
+pub mod Paths
+pub mod Reaching
