@@ -3,9 +3,12 @@ pub mod Closing
 pub mod Ending
 pub mod KeyLists
 pub mod Kept
+pub mod LineKinds
 pub mod Lookups
+pub mod MeaningKinds
 pub mod Meanings
 pub mod Members
 pub mod OneFault
 pub mod Paths
 pub mod Reaching
+pub mod TargetKinds

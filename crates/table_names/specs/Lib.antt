@@ -5,6 +5,7 @@ pub mod Edits
 pub mod Examples
 pub mod FaultLaws
 pub mod Faults
+pub mod Kinds
 pub mod Leads
 pub mod Meanings
 pub mod Reach

@@ -5,6 +5,7 @@ ghost use Rattle.table_names.specs.ClosedLaws.{ClosedLaw};
 ghost use Rattle.table_names.specs.Edits.{UnaffectedLaw};
 ghost use Rattle.table_names.specs.Examples.{ExamplesLaw};
 ghost use Rattle.table_names.specs.FaultLaws.{FaultLaw, PathLaw};
+ghost use Rattle.table_names.specs.Kinds.{KindLaw};
 ghost use Rattle.table_names.specs.Meanings.{ClosedMeaningLaw};
 ghost use Rattle.table_names.specs.Reach.{ReachLaw};
 
@@ -27,6 +28,11 @@ pub fn closed_law()
 /// What a closed key stands for, whatever depth its definition takes.
 pub fn closed_meaning_law()
     ensures { ClosedMeaningLaw }
+{}
+
+/// What closed keys and words stand for, by the kinds of keys.
+pub fn kind_law()
+    ensures { KindLaw }
 {}
 
 /// The list of what closed words reach.

@@ -1,0 +1,5 @@
+use Rattle.table_names.proofs.MeaningKinds as laws
+use Rattle.table_names.proofs.laws.kind_law.Goals as goal
+
+pub returns : goal.returns
+returns c = laws.kind_law
