@@ -1,0 +1,81 @@
+-- The chain of a cycle, as it is built.
+use Rattle.std.proofs.Common.{◌≡◌, ℕ, Bool, true, false, cond, ◌||◌, List, [], ◌∷◌, ◌++◌, refl, sym, ◌∙◌, ap, subst, inl, inr, nat_eq, append_assoc}
+use Rattle.std.proofs.lemmas.Bool.{eqb-true, eq-eqb, or_cases}
+use Rattle.name_walk.specs.declared.traces.Frame.{Frame}
+use Rattle.name_walk.specs.Faults.{from_name, on}
+use Rattle.name_walk.specs.Traces.{path}
+
+chosen : {A : Type 0} (b e : Bool) (x y : A) → (b || e) ≡ true → cond b x (cond e x y) ≡ x
+chosen true e x y h = refl
+chosen false true x y h = refl
+chosen false false x y h = cc
+
+passed : {A : Type 0} (b e : Bool) (x y : A) → (b || e) ≡ false → cond b x (cond e x y) ≡ y
+passed true e x y h = cc
+passed false true x y h = cc
+passed false false x y h = refl
+
+false_left : (b e : Bool) → (b || e) ≡ false → b ≡ false
+false_left true e h = h
+false_left false e h = refl
+
+false_right : (b e : Bool) → (b || e) ≡ false → e ≡ false
+false_right true e h = cc
+false_right false e h = h
+
+module _ (again last : ℕ) where
+  -- the names that are taken, and what the frames that are left give, are all that is wanted; until the
+  -- name is met, it is still to come
+  pub record IsChaining (all : List ℕ) (names : List ℕ) (is_below : Bool) (rest : List Frame) : Type 0 where
+    pub whole : names ++ cond is_below (path rest last) (from_name again (path rest last)) ≡ all
+    pub ahead : (is_below || on (path rest last) again) ≡ true
+
+  pub chaining_keep : (all names more : List ℕ) (b : Bool) (f : Frame) (rest : List Frame) → IsChaining all names b (f ∷ rest)
+      → (b || nat_eq f.name again) ≡ true → more ≡ names ++ f.name ∷ [] → IsChaining all more (b || nat_eq f.name again) rest
+  chaining_keep all names more b f rest h met e = subst (λ (x : Bool). IsChaining all more x rest) (sym met) (record {
+    whole = ap (λ xs. xs ++ path rest last) e
+        ∙ (append_assoc names (f.name ∷ []) (path rest last)
+        ∙ (ap (λ xs. names ++ xs) (sym (chosen b (nat_eq f.name again) (f.name ∷ path rest last) (from_name again (path rest last)) met))
+        ∙ h.whole));
+    ahead = refl;
+  })
+
+  pub chaining_pass : (all names more : List ℕ) (b : Bool) (f : Frame) (rest : List Frame) → IsChaining all names b (f ∷ rest)
+      → (b || nat_eq f.name again) ≡ false → more ≡ names → IsChaining all more (b || nat_eq f.name again) rest
+  chaining_pass all names more b f rest h unmet e = subst (λ (x : Bool). IsChaining all more x rest) (sym unmet) (record {
+    whole = ap (λ xs. xs ++ from_name again (path rest last)) e
+        ∙ (ap (λ xs. names ++ xs) (sym (passed b (nat_eq f.name again) (f.name ∷ path rest last) (from_name again (path rest last)) unmet))
+        ∙ h.whole);
+    ahead = still_ahead;
+  })
+    where
+      other : nat_eq again f.name ≡ true → ⊥
+      other q =
+          let met : nat_eq f.name again ≡ true = eq-eqb f.name again (sym (eqb-true again f.name q)) in
+          let not : nat_eq f.name again ≡ false = false_right b (nat_eq f.name again) unmet in
+          cc
+
+      still_ahead : on (path rest last) again ≡ true
+      still_ahead = elim (or_cases b (on (path (f ∷ rest) last) again) h.ahead) [
+        | inl q ↦ absurd (let n : b ≡ false = false_left b (nat_eq f.name again) unmet in cc)
+        | inr q ↦ elim (or_cases (nat_eq again f.name) (on (path rest last) again) q) [ inl o ↦ absurd (other o) | inr o ↦ o ]
+      ]
+
+  pub chaining_end : (all names : List ℕ) (b : Bool) → IsChaining all names b [] → names ++ last ∷ [] ≡ all
+  chaining_end all names b h = ap (λ xs. names ++ xs) (sym (chosen b (nat_eq last again) (last ∷ []) [] met)) ∙ h.whole
+    where
+      at_last : (c : Bool) → (b || c) ≡ true → (c ≡ true → nat_eq last again ≡ true) → (b || nat_eq last again) ≡ true
+      at_last c q f = elim (or_cases b c q) [ inl t ↦ ap (λ x. x || nat_eq last again) t | inr t ↦ or_second b (f t) ]
+        where
+          or_second : (x : Bool) → nat_eq last again ≡ true → (x || nat_eq last again) ≡ true
+          or_second true e = refl
+          or_second false e = e
+
+      met : (b || nat_eq last again) ≡ true
+      met = at_last (nat_eq again last || false) h.ahead same
+        where
+          same : (nat_eq again last || false) ≡ true → nat_eq last again ≡ true
+          same q = elim (or_cases (nat_eq again last) false q) [
+            | inl t ↦ eq-eqb last again (sym (eqb-true again last t))
+            | inr t ↦ cc
+          ]

@@ -1,0 +1,261 @@
+-- A visit on its way, and what each of its moves keeps.
+use Rattle.std.proofs.Common.{◌≡◌, ◌⊎◌, ℕ, suc, ◌+◌, ◌-◌, ◌^◌, ◌<◌, ◌≤◌, Bool, true, false, List, [], ◌∷◌, ◌++◌, length, take, drop, set, Some, None, refl, sym, ◌∙◌, ap, subst, inl, inr, arith, nat_eq}
+use Rattle.std.specs.List.{AllByRecursion, IsDistinct, slice_get}
+use Rattle.std.proofs.lemmas.Bool.{cond-true, false_from_ne_true}
+use Rattle.std.proofs.lemmas.List.{take_all, drop_all}
+use Rattle.std.proofs.lemmas.Option.{slice_get_within}
+use Rattle.name_walk.specs.declared.mark.Mark.{Mark}
+use Rattle.name_walk.specs.declared.mark.Mark.TheVariants.{Closed, OnPath, Open}
+use Rattle.name_walk.specs.declared.step.Step.{Step}
+use Rattle.name_walk.specs.declared.step.Step.TheVariants.{Nowhere, To}
+use Rattle.name_walk.specs.declared.traces.Frame.{Frame}
+use Rattle.name_walk.specs.Closed.{IsClosed, IsDone, IsSettled, LeadsInto}
+use Rattle.name_walk.specs.Faults.{Cycle, DeadEnd, at_name, fault, fault_within, from_name, on}
+use Rattle.name_walk.specs.Lists.{In}
+use Rattle.name_walk.specs.Nets.{IsNet}
+use Rattle.name_walk.specs.Paths.{IsPath}
+use Rattle.name_walk.specs.Steps.{Graph, LeadsTo, Reaches, at_once, steps}
+use Rattle.name_walk.specs.Traces.{Trace, path}
+use Rattle.name_walk.specs.Visits.{AreOrdering, IsBelow, IsFaultless}
+use Rattle.name_walk.proofs.Closed.{any_depth, into_map, name_closed, onward}
+use Rattle.name_walk.proofs.Faults.{empty_path, name_is, path_push}
+use Rattle.name_walk.proofs.Links.{AreDone, AreLinked, are_done_more, head, head_more, frame, last_path, linked_more, linked_pop, linked_push, linked_reach, name_In, path_more}
+use Rattle.name_walk.proofs.Lists.{In-last, In-left, In-on, all_append, all_at, all_front, all_map, distinct_front, distinct_last, get_In, on-In, or_none, take_at}
+use Rattle.name_walk.proofs.Marks.{AreMarked, marked_pop, marked_push, other_mark}
+use Rattle.name_walk.proofs.Ordering.{either_new, ordering_close, ordering_enter}
+use Rattle.name_walk.proofs.Pending.{enter_pending, fault_pending, leave_pending, pass_pending, pending}
+use Rattle.name_walk.proofs.Settled.{done_closed}
+
+-- the place of each frame can be passed
+abbrev pub HaveRoom : List Frame → Type 0
+HaveRoom fs = AllByRecursion (λ (f : Frame). f.place + 1 < 2 ^ 64) fs
+
+-- the frames, and the place of the name that is being gone through
+pub record IsOnWay (g : Graph) (s : List Bool) (start : ℕ) (ms : List Mark) (os : List ℕ) (fs : List Frame) (name place : ℕ) : Type 0 where
+  pub answer : pending g [] fs name place ≡ fault g [] (To start ∷ [])
+  pub is_path : IsPath g (path fs name)
+  pub begins : head fs name ≡ start
+  pub linked : AreLinked g s os fs name
+  pub passed : AreDone s os (take place (steps g name))
+  pub within : place ≤ length (steps g name)
+  pub on_path : AreMarked OnPath ms (path fs name)
+  pub fresh_path : (n : ℕ) → In n (path fs name) → IsSettled s n → ⊥
+  pub room : HaveRoom fs
+
+-- with the names that it has closed; before is the order as it began
+pub record IsGoing (g : Graph) (s : List Bool) (start : ℕ) (before : List ℕ)
+    (ms : List Mark) (es os : List ℕ) (fs : List Frame) (name place : ℕ) : Type 0 where
+  pub way : IsOnWay g s start ms os fs name place
+  pub ordering : AreOrdering g s ms es os
+  pub from : (n : ℕ) → In n os → In n before ⊎ IsBelow g start n
+  pub kept : (n : ℕ) → In n before → In n os
+
+module _ (g : Graph) (s : List Bool) (net : IsNet g s) (start : ℕ) (before : List ℕ) where
+  -- ---- the start
+  pub begin : (ms : List Mark) (es : List ℕ) → AreOrdering g s ms es before → ((n : ℕ) → slice_get ms n ≡ Some OnPath → ⊥)
+      → slice_get s start ≡ Some false → slice_get ms start ≡ Some Open
+      → IsGoing g s start before (set ms start OnPath) (es ++ start ∷ []) before [] start 0
+  begin ms es h off unsettled is_open =
+      let here : start < length ms = slice_get_within ms start Open is_open in
+      let there : start < length g = subst (λ (k : ℕ). start < k) h.size here in
+      record {
+        way = record {
+          answer = sym (name_is g [] start (empty_path g) refl there) ∙ sym (or_none _);
+          is_path = path_push g [] start (empty_path g) refl there;
+          begins = refl;
+          linked = tt;
+          passed = tt;
+          within = omega arith;
+          on_path = marked_push ms start here OnPath [] (λ n. (λ e. off n e, λ i. absurd i));
+          fresh_path = λ n i. elim i [
+            | inl e ↦ λ t. absurd (let f : slice_get s n ≡ Some false = ap (slice_get s) e ∙ unsettled in cc)
+            | inr e ↦ absurd e
+          ];
+          room = tt;
+        };
+        ordering = ordering_enter g s ms es before start h is_open;
+        from = λ n i. inl i;
+        kept = λ n i. i;
+      }
+
+  module _ (ms : List Mark) (es os : List ℕ) (fs : List Frame) (name place : ℕ) (go : IsGoing g s start before ms es os fs name place) where
+    pub name_there : name < length g
+    name_there = go.way.is_path.there name (In-on (path fs name) name (name_In fs name))
+
+    pub name_marked : slice_get ms name ≡ Some OnPath
+    name_marked = (go.way.on_path name).1 (name_In fs name)
+
+    pub name_below : IsBelow g start name
+    name_below =
+        elim (linked_reach g s os fs name go.way.linked (head fs name) (head_on fs)) [
+          | inl e ↦ inl (sym e ∙ go.way.begins)
+          | inr r ↦ inr (subst (λ (x : ℕ). Reaches g x name) go.way.begins r)
+        ]
+      where
+        head_on : (hs : List Frame) → In (head hs name) (path hs name)
+        head_on [] = inl refl
+        head_on (h ∷ hs) = inl refl
+
+    -- ---- a step to a name that is done is passed
+    pub pass : (m : ℕ) → slice_get (steps g name) place ≡ Some (To m) → IsDone s os m
+        → IsGoing g s start before ms es os fs name (place + 1)
+    pass m e d =
+        let leads : LeadsTo g name m = get_In _ _ _ e in
+        let none : at_name (fault_within g (length g - length (path fs name))) (path fs name) m ≡ None =
+        name_closed g net.range (length g) (path fs name) m (done_closed g s net.settled os go.ordering.closed m d)
+        (net.range name m leads) go.way.is_path
+        (λ q i. elim (linked_reach g s os fs name go.way.linked q i) [
+          | inl f ↦ subst (λ (x : ℕ). Reaches g x m) (sym f) (at_once leads)
+          | inr r ↦ onward r (at_once leads)
+        ]) in
+        let short : place < length (steps g name) = slice_get_within _ _ _ e in
+        record {
+          way = record {
+            answer = sym (pass_pending g [] (path fs name) fs name place (To m) refl e none) ∙ go.way.answer;
+            is_path = go.way.is_path;
+            begins = go.way.begins;
+            linked = go.way.linked;
+            passed = subst (λ (xs : List Step). AreDone s os xs) (sym (take_at (steps g name) place (To m) e))
+                (all_append (LeadsInto (IsDone s os)) (take place (steps g name)) (To m ∷ []) go.way.passed (d, tt));
+            within = omega arith;
+            on_path = go.way.on_path;
+            fresh_path = go.way.fresh_path;
+            room = go.way.room;
+          };
+          ordering = go.ordering;
+          from = go.from;
+          kept = go.kept;
+        }
+
+    -- ---- an open name is gone into
+    pub enter : (m : ℕ) → slice_get (steps g name) place ≡ Some (To m) → slice_get ms m ≡ Some Open → slice_get s m ≡ Some false
+        → place + 1 < 2 ^ 64
+        → IsGoing g s start before (set ms m OnPath) (es ++ m ∷ []) os (fs ++ frame name place ∷ []) m 0
+    enter m e is_open unsettled fits =
+        let leads : LeadsTo g name m = get_In _ _ _ e in
+        let there : m < length g = net.range name m leads in
+        let here : m < length ms = slice_get_within ms m Open is_open in
+        let apart : In m (path fs name) → ⊥ = other_mark OnPath Open ms (path fs name) go.way.on_path (λ q. cc) m is_open in
+        let new : on (path fs name) m ≡ false = false_from_ne_true _ (λ f. apart (on-In (path fs name) m f)) in
+        let p : path (fs ++ frame name place ∷ []) m ≡ path fs name ++ m ∷ [] = path_more fs (frame name place) m in
+        record {
+          way = record {
+            answer = sym (enter_pending g [] (path fs name) fs name place m refl e (name_is g (path fs name) m go.way.is_path new there))
+                ∙ go.way.answer;
+            is_path = subst (λ (q : List ℕ). IsPath g q) (sym p) (path_push g (path fs name) m go.way.is_path new there);
+            begins = head_more fs (frame name place) m ∙ go.way.begins;
+            linked = linked_push g s os fs (frame name place) m go.way.linked e go.way.passed;
+            passed = tt;
+            within = omega arith;
+            on_path = subst (λ (q : List ℕ). AreMarked OnPath (set ms m OnPath) q) (sym p)
+                (marked_push ms m here OnPath (path fs name) go.way.on_path);
+            fresh_path = subst (λ (q : List ℕ). (n : ℕ) → In n q → IsSettled s n → ⊥) (sym p)
+                (either_new {P = λ n. IsSettled s n → ⊥} (path fs name) m go.way.fresh_path (λ t. cc));
+            room = all_append (λ (f : Frame). f.place + 1 < 2 ^ 64) fs (frame name place ∷ []) go.way.room (fits, tt);
+          };
+          ordering = ordering_enter g s ms es os m go.ordering is_open;
+          from = go.from;
+          kept = go.kept;
+        }
+
+    -- ---- a fault is met
+    pub dead_end : (w : ℕ) → slice_get (steps g name) place ≡ Some (Nowhere w) → fault g [] (To start ∷ []) ≡ Some (DeadEnd w (Some name))
+    dead_end w e =
+        sym go.way.answer
+        ∙ fault_pending g [] (path fs name) fs name place (Nowhere w) (DeadEnd w (Some name)) refl e
+        (ap (λ o. Some (DeadEnd w o)) (last_path [] fs name))
+
+    pub is_on : (m : ℕ) → slice_get ms m ≡ Some OnPath → on (path fs name) m ≡ true
+    is_on m marked = In-on (path fs name) m ((go.way.on_path m).0 marked)
+
+    pub cycle : (m : ℕ) → slice_get (steps g name) place ≡ Some (To m) → slice_get ms m ≡ Some OnPath
+        → fault g [] (To start ∷ []) ≡ Some (Cycle (from_name m (path fs name) ++ m ∷ []))
+    cycle m e marked =
+        sym go.way.answer
+        ∙ fault_pending g [] (path fs name) fs name place (To m) (Cycle (from_name m (path fs name) ++ m ∷ [])) refl e
+        (cond-true (on (path fs name) m) _ _ (is_on m marked))
+
+    -- ---- all steps of the name are passed
+    module _ (full : length (steps g name) ≤ place) where
+      all_done : AreDone s os (steps g name)
+      all_done = subst (λ (xs : List Step). AreDone s os xs) (take_all place (steps g name) full) go.way.passed
+
+      name_closes : IsClosed g name
+      name_closes =
+          any_depth g net.range (suc (length g)) name name_there
+          (all_map (LeadsInto (IsDone s os)) (LeadsInto (IsClosed g))
+          (into_map (IsDone s os) (IsClosed g) (done_closed g s net.settled os go.ordering.closed)) (steps g name) all_done)
+
+      pub ordering_after : AreOrdering g s (set ms name Closed) es (os ++ name ∷ [])
+      ordering_after =
+          ordering_close g s ms es os name go.ordering name_marked name_closes (go.way.fresh_path name (name_In fs name))
+          (λ m l. all_at (LeadsInto (IsDone s os)) (steps g name) (To m) all_done l)
+
+      from_after : (n : ℕ) → In n (os ++ name ∷ []) → In n before ⊎ IsBelow g start n
+      from_after = either_new {P = λ n. In n before ⊎ IsBelow g start n} os name go.from (inr name_below)
+
+      kept_after : (n : ℕ) → In n before → In n (os ++ name ∷ [])
+      kept_after n i = In-left os (name ∷ []) n (go.kept n i)
+
+      nothing_left : drop place (steps g name) ≡ []
+      nothing_left = drop_all place (steps g name) full
+
+  -- ---- a name is left for the one above it
+  pub leave : (ms : List Mark) (es os : List ℕ) (fs : List Frame) (f : Frame) (name place : ℕ)
+      → IsGoing g s start before ms es os (fs ++ f ∷ []) name place → length (steps g name) ≤ place
+      → IsGoing g s start before (set ms name Closed) es (os ++ name ∷ []) fs f.name (f.place + 1)
+  leave ms es os fs f name place go full =
+      let pop = linked_pop g s os fs f name go.way.linked in
+      let p : path (fs ++ f ∷ []) name ≡ path fs f.name ++ name ∷ [] = path_more fs f name in
+      let once : IsDistinct nat_eq (path fs f.name ++ name ∷ []) = subst (λ (q : List ℕ). IsDistinct nat_eq q) p go.way.is_path.once in
+      let apart : In name (path fs f.name) → ⊥ = distinct_last (path fs f.name) name once in
+      let here : name < length ms = slice_get_within ms name OnPath (name_marked ms es os (fs ++ f ∷ []) name place go) in
+      let short : f.place < length (steps g f.name) = slice_get_within _ _ _ pop.1 in
+      let up : (n : ℕ) → In n (path fs f.name) → In n (path (fs ++ f ∷ []) name) =
+      λ n i. subst (λ (q : List ℕ). In n q) (sym p) (In-left (path fs f.name) (name ∷ []) n i) in
+      record {
+        way = record {
+          answer = sym (leave_pending g [] fs f name place (nothing_left ms es os (fs ++ f ∷ []) name place go full)) ∙ go.way.answer;
+          is_path = record {
+            once = distinct_front (path fs f.name) (name ∷ []) once;
+            there = λ q e. go.way.is_path.there q (In-on _ q (up q (on-In _ q e)));
+          };
+          begins = sym (head_more fs f name) ∙ go.way.begins;
+          linked = linked_more g s os name fs f.name pop.0;
+          passed = subst (λ (xs : List Step). AreDone s (os ++ name ∷ []) xs) (sym (take_at (steps g f.name) f.place (To name) pop.1))
+              (all_append (LeadsInto (IsDone s (os ++ name ∷ []))) (take f.place (steps g f.name)) (To name ∷ [])
+              (are_done_more s os name _ pop.2) (inr (In-last os name), tt));
+          within = omega arith;
+          on_path = marked_pop ms name here OnPath Closed (path fs f.name)
+              (subst (λ (q : List ℕ). AreMarked OnPath ms q) p go.way.on_path) (λ q. cc) apart;
+          fresh_path = λ n i. go.way.fresh_path n (up n i);
+          room = all_front (λ (f : Frame). f.place + 1 < 2 ^ 64) fs (f ∷ []) go.way.room;
+        };
+        ordering = ordering_after ms es os (fs ++ f ∷ []) name place go full;
+        from = from_after ms es os (fs ++ f ∷ []) name place go full;
+        kept = kept_after ms es os (fs ++ f ∷ []) name place go full;
+      }
+
+  -- ---- the first name is left
+  pub finish : (ms : List Mark) (es os : List ℕ) (name place : ℕ) (old : Trace) → old.order ≡ before
+      → IsGoing g s start before ms es os [] name place → length (steps g name) ≤ place
+      → IsFaultless g s start old (record { marks = set ms name Closed; entered = es; order = os ++ name ∷ []; frames = [] })
+  finish ms es os name place old same go full =
+      let here : name < length ms = slice_get_within ms name OnPath (name_marked ms es os [] name place go) in
+      let off : AreMarked OnPath (set ms name Closed) [] = marked_pop ms name here OnPath Closed [] go.way.on_path (λ q. cc) (λ i. i) in
+      record {
+        none = sym go.way.answer ∙ ap (λ xs. fault g (name ∷ []) xs) (nothing_left ms es os [] name place go full);
+        between = record {
+          ordering = ordering_after ms es os [] name place go full;
+          off_path = λ n e. (off n).0 e;
+          frames = refl;
+        };
+        adds = record {
+          from = λ n i. elim (from_after ms es os [] name place go full n i) [
+            | inl j ↦ inl (subst (λ (xs : List ℕ). In n xs) (sym same) j)
+            | inr b ↦ inr b
+          ];
+          kept = λ n i. kept_after ms es os [] name place go full n (subst (λ (xs : List ℕ). In n xs) same i);
+          put = subst (λ (x : ℕ). In x (os ++ name ∷ [])) go.way.begins (In-last os name);
+        };
+      }

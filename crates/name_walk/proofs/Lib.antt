@@ -1,0 +1,13 @@
+mod Chains
+mod Closed
+mod Faults
+mod Going
+mod Links
+mod Lists
+mod Marks
+mod Moves
+mod Ordering
+mod Passed
+mod Pending
+mod Settled
+mod Weights

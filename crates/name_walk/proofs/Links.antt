@@ -1,0 +1,90 @@
+-- The frames of a path: each stands at the step to the next, and the steps before it are done.
+use Rattle.std.proofs.Common.{◌≡◌, ◌⊎◌, ℕ, Bool, List, [], ◌∷◌, ◌++◌, take, Some, refl, sym, ◌∙◌, ap, subst, inl, inr}
+use Rattle.std.specs.List.{AllByRecursion, slice_get}
+use Rattle.name_walk.specs.declared.step.Step.{Step}
+use Rattle.name_walk.specs.declared.step.Step.TheVariants.{To}
+use Rattle.name_walk.specs.declared.traces.Frame.{Frame}
+use Rattle.name_walk.specs.Closed.{IsDone, LeadsInto}
+use Rattle.name_walk.specs.Lists.{In, last}
+use Rattle.name_walk.specs.Traces.{path}
+use Rattle.name_walk.specs.Steps.{Graph, Reaches, at_once, further, steps}
+use Rattle.name_walk.proofs.Closed.{into_map}
+use Rattle.name_walk.proofs.Lists.{all_map, get_In}
+use Rattle.name_walk.proofs.Settled.{done_more}
+
+-- the outermost name of a path
+abbrev pub head : List Frame → ℕ → ℕ
+head [] name = name
+head (f ∷ fs) name = f.name
+
+abbrev pub frame : ℕ → ℕ → Frame
+frame name place = record { name = name; place = place }
+
+pub path_more : (fs : List Frame) (f : Frame) (m : ℕ) → path (fs ++ f ∷ []) m ≡ path fs f.name ++ m ∷ []
+path_more [] f m = refl
+path_more (h ∷ fs) f m = ap (λ xs. h.name ∷ xs) (path_more fs f m)
+
+pub head_more : (fs : List Frame) (f : Frame) (m : ℕ) → head (fs ++ f ∷ []) m ≡ head fs f.name
+head_more [] f m = refl
+head_more (h ∷ fs) f m = refl
+
+pub last_path : (p : List ℕ) (fs : List Frame) (name : ℕ) → last (p ++ path fs name) ≡ Some name
+last_path [] [] name = refl
+last_path [] (f ∷ []) name = refl
+last_path [] (f ∷ h ∷ fs) name = last_path [] (h ∷ fs) name
+last_path (k ∷ []) [] name = refl
+last_path (k ∷ []) (f ∷ fs) name = last_path [] (f ∷ fs) name
+last_path (k ∷ l ∷ p) fs name = last_path (l ∷ p) fs name
+
+head_In : (fs : List Frame) (name : ℕ) → In (head fs name) (path fs name)
+head_In [] name = inl refl
+head_In (f ∷ fs) name = inl refl
+
+pub name_In : (fs : List Frame) (name : ℕ) → In name (path fs name)
+name_In [] name = inl refl
+name_In (f ∷ fs) name = inr (name_In fs name)
+
+-- each step leads to a name that is done
+abbrev pub AreDone : List Bool → List ℕ → List Step → Type 0
+AreDone s order xs = AllByRecursion (LeadsInto (IsDone s order)) xs
+
+pub are_done_more : (s : List Bool) (order : List ℕ) (n : ℕ) (xs : List Step) → AreDone s order xs → AreDone s (order ++ n ∷ []) xs
+are_done_more s order n xs h =
+    all_map (LeadsInto (IsDone s order)) (LeadsInto (IsDone s (order ++ n ∷ [])))
+    (into_map (IsDone s order) (IsDone s (order ++ n ∷ [])) (done_more s order n)) xs h
+
+module _ (g : Graph) (s : List Bool) where
+  abbrev pub AreLinked : List ℕ → List Frame → ℕ → Type 0
+  AreLinked order [] name = Unit {0}
+  AreLinked order (f ∷ fs) name =
+      (slice_get (steps g f.name) f.place ≡ Some (To (head fs name)))
+      × AreDone s order (take f.place (steps g f.name)) × AreLinked order fs name
+
+  pub linked_push : (order : List ℕ) (fs : List Frame) (f : Frame) (m : ℕ) → AreLinked order fs f.name
+      → slice_get (steps g f.name) f.place ≡ Some (To m) → AreDone s order (take f.place (steps g f.name))
+      → AreLinked order (fs ++ f ∷ []) m
+  linked_push order [] f m l e h = (e, h, tt)
+  linked_push order (h ∷ fs) f m l e d = (l.0 ∙ ap (λ k. Some (To k)) (sym (head_more fs f m)), l.1, linked_push order fs f m l.2 e d)
+
+  pub linked_pop : (order : List ℕ) (fs : List Frame) (f : Frame) (name : ℕ) → AreLinked order (fs ++ f ∷ []) name
+      → AreLinked order fs f.name × (slice_get (steps g f.name) f.place ≡ Some (To name)) × AreDone s order (take f.place (steps g f.name))
+  linked_pop order [] f name l = (tt, l.0, l.1)
+  linked_pop order (h ∷ fs) f name l =
+      let r = linked_pop order fs f name l.2 in ((l.0 ∙ ap (λ k. Some (To k)) (head_more fs f name), l.1, r.0), r.1, r.2)
+
+  pub linked_more : (order : List ℕ) (n : ℕ) (fs : List Frame) (name : ℕ) → AreLinked order fs name → AreLinked (order ++ n ∷ []) fs name
+  linked_more order n [] name l = tt
+  linked_more order n (f ∷ fs) name l = (l.0, are_done_more s order n _ l.1, linked_more order n fs name l.2)
+
+  -- each name of the path leads to the last one
+  pub linked_reach : (order : List ℕ) (fs : List Frame) (name : ℕ) → AreLinked order fs name
+      → (q : ℕ) → In q (path fs name) → (q ≡ name) ⊎ Reaches g q name
+  linked_reach order [] name l q (inl e) = inl e
+  linked_reach order [] name l q (inr i) = absurd i
+  linked_reach order (f ∷ fs) name l q (inr i) = linked_reach order fs name l.2 q i
+  linked_reach order (f ∷ fs) name l q (inl e) =
+      inr (subst (λ (x : ℕ). Reaches g x name) (sym e)
+      (elim (linked_reach order fs name l.2 (head fs name) (head_In fs name)) [
+        | inl d ↦ subst (λ (x : ℕ). Reaches g f.name x) d (at_once (get_In _ _ _ l.0))
+        | inr r ↦ further (get_In _ _ _ l.0) r
+      ]))

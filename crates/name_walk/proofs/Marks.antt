@@ -1,0 +1,101 @@
+-- Marks, and the names that have one.
+use Rattle.std.proofs.Common.{◌≡◌, ◌⊎◌, ◌↔◌, ℕ, zero, suc, ◌<◌, List, [], ◌∷◌, ◌++◌, length, set, Some, refl, sym, ◌∙◌, ap, subst, inl, inr, arith, length-set}
+use Rattle.std.specs.List.{slice_get}
+use Rattle.std.proofs.lemmas.Bool.{cases_eq}
+use Rattle.std.proofs.lemmas.Option.{slice_get_within}
+use Rattle.name_walk.specs.declared.mark.Mark.{Mark}
+use Rattle.name_walk.specs.declared.mark.Mark.TheVariants.{Open}
+use Rattle.name_walk.specs.Lists.{In}
+use Rattle.name_walk.specs.Traces.{AreEntered}
+use Rattle.name_walk.proofs.Lists.{In-last, In-left, In-push}
+
+pub get_set_same : {A : Type 0} (xs : List A) (i : ℕ) (v : A) → i < length xs → slice_get (set xs i v) i ≡ Some v
+get_set_same [] i v h = absurd (omega arith)
+get_set_same (x ∷ xs) zero v h = refl
+get_set_same (x ∷ xs) (suc i) v h = get_set_same xs i v (omega arith)
+
+pub get_set_other : {A : Type 0} (xs : List A) (i j : ℕ) (v : A) → (j ≡ i → ⊥) → slice_get (set xs i v) j ≡ slice_get xs j
+get_set_other [] i j v h = refl
+get_set_other (x ∷ xs) zero zero v h = absurd (h refl)
+get_set_other (x ∷ xs) zero (suc j) v h = refl
+get_set_other (x ∷ xs) (suc i) zero v h = refl
+get_set_other (x ∷ xs) (suc i) (suc j) v h = get_set_other xs i j v (λ e. h (ap suc e))
+
+-- the names with one mark are those of a list
+abbrev pub AreMarked : Mark → List Mark → List ℕ → Type 0
+AreMarked v ms xs = (n : ℕ) → (slice_get ms n ≡ Some v) ↔ In n xs
+
+-- the mark of a name where the names of a list have another one
+pub other_mark : (v w : Mark) (ms : List Mark) (xs : List ℕ) → AreMarked v ms xs → (Some w ≡ Some v → ⊥)
+    → (n : ℕ) → slice_get ms n ≡ Some w → In n xs → ⊥
+other_mark v w ms xs marked ne n e i = ne (sym e ∙ (marked n).1 i)
+
+module _ (ms : List Mark) (n : ℕ) (there : n < length ms) where
+  now_at : (w : Mark) (k : ℕ) → k ≡ n → slice_get (set ms n w) k ≡ Some w
+  now_at w k e = ap (slice_get (set ms n w)) e ∙ get_set_same ms n w there
+
+  -- a name gets the mark
+  pub marked_push : (v : Mark) (xs : List ℕ) → AreMarked v ms xs → AreMarked v (set ms n v) (xs ++ n ∷ [])
+  marked_push v xs marked k =
+      elim (cases_eq k n) [
+        | inl e ↦ (λ h. subst (λ (x : ℕ). In x (xs ++ n ∷ [])) (sym e) (In-last xs n), λ i. now_at v k e)
+        | inr ne ↦ (
+          λ h. In-left xs (n ∷ []) k ((marked k).0 (sym (get_set_other ms n k v ne) ∙ h)),
+          λ i. get_set_other ms n k v ne ∙ (elim (In-push xs n k i) [ inl j ↦ (marked k).1 j | inr e ↦ absurd (ne e) ]),
+        )
+      ]
+
+  -- a name without the mark gets another one
+  pub marked_same : (v w : Mark) (xs : List ℕ) → AreMarked v ms xs → (Some w ≡ Some v → ⊥) → (In n xs → ⊥) → AreMarked v (set ms n w) xs
+  marked_same v w xs marked differ apart k =
+      elim (cases_eq k n) [
+        | inl e ↦ (λ h. absurd (differ (sym (now_at w k e) ∙ h)), λ i. absurd (apart (subst (λ (x : ℕ). In x xs) e i)))
+        | inr ne ↦ (λ h. (marked k).0 (sym (get_set_other ms n k w ne) ∙ h), λ i. get_set_other ms n k w ne ∙ (marked k).1 i)
+      ]
+
+  -- the last name with the mark gets another one
+  pub marked_pop : (v w : Mark) (xs : List ℕ) → AreMarked v ms (xs ++ n ∷ []) → (Some w ≡ Some v → ⊥) → (In n xs → ⊥)
+      → AreMarked v (set ms n w) xs
+  marked_pop v w xs marked differ apart k =
+      elim (cases_eq k n) [
+        | inl e ↦ (λ h. absurd (differ (sym (now_at w k e) ∙ h)), λ i. absurd (apart (subst (λ (x : ℕ). In x xs) e i)))
+        | inr ne ↦ (
+          λ h. elim (In-push xs n k ((marked k).0 (sym (get_set_other ms n k w ne) ∙ h))) [ inl j ↦ j | inr e ↦ absurd (ne e) ],
+          λ i. get_set_other ms n k w ne ∙ (marked k).1 (In-left xs (n ∷ []) k i),
+        )
+      ]
+
+  -- ---- entered names
+  pub entered_again : (v : Mark) (names : List ℕ) → In n names → AreEntered ms names → AreEntered (set ms n v) names
+  entered_again v names i h = record {
+    within = λ k j. subst (λ (x : ℕ). k < x) (sym (length-set ms n v)) (h.within k j);
+    among = λ k l. elim (cases_eq k n) [
+      | inl e ↦ inr (subst (λ (x : ℕ). In x names) (sym e) i)
+      | inr ne ↦ subst (λ o. (o ≡ Some Open) ⊎ In k names) (sym (get_set_other ms n k v ne))
+          (h.among k (subst (λ (x : ℕ). k < x) (length-set ms n v) l))
+    ];
+  }
+
+  pub entered_push : (v : Mark) (names : List ℕ) → AreEntered ms names → AreEntered (set ms n v) (names ++ n ∷ [])
+  entered_push v names h = entered_again v (names ++ n ∷ []) (In-last names n) (record {
+    within = λ k i. elim (In-push names n k i) [ inl j ↦ h.within k j | inr e ↦ subst (λ (x : ℕ). x < length ms) (sym e) there ];
+    among = λ k l. elim (h.among k l) [ inl e ↦ inl e | inr i ↦ inr (In-left names (n ∷ []) k i) ];
+  })
+
+  -- the last of them is open again
+  pub entered_pop : (names : List ℕ) → AreEntered ms (names ++ n ∷ []) → AreEntered (set ms n Open) names
+  entered_pop names h = record {
+    within = λ k i. subst (λ (x : ℕ). k < x) (sym (length-set ms n Open)) (h.within k (In-left names (n ∷ []) k i));
+    among = λ k l. elim (cases_eq k n) [
+      | inl e ↦ inl (now_at Open k e)
+      | inr ne ↦ elim (h.among k (subst (λ (x : ℕ). k < x) (length-set ms n Open) l)) [
+        | inl o ↦ inl (get_set_other ms n k Open ne ∙ o)
+        | inr i ↦ elim (In-push names n k i) [ inl j ↦ inr j | inr e ↦ absurd (ne e) ]
+      ]
+    ];
+  }
+
+-- a name with another mark than open is one of them
+pub entered_in : (v : Mark) → (Some v ≡ Some Open → ⊥) → (ms : List Mark) (names : List ℕ) (n : ℕ) → AreEntered ms names
+    → slice_get ms n ≡ Some v → In n names
+entered_in v differ ms names n h e = elim (h.among n (slice_get_within ms n v e)) [ inl o ↦ absurd (differ (sym e ∙ o)) | inr i ↦ i ]

@@ -1,0 +1,124 @@
+-- The moves of a visit, as they change what the walk leaves behind.
+use Rattle.std.proofs.Common.{◌≡◌, ℕ, ◌+◌, ◌^◌, ◌<◌, ◌≤◌, Bool, true, List, [], ◌∷◌, ◌++◌, length, set, Some, sym, ◌∙◌, ap, subst, inl, inr}
+use Rattle.std.specs.List.{slice_get}
+use Rattle.std.proofs.lemmas.Option.{slice_get_within}
+use Rattle.name_walk.specs.declared.mark.Mark.TheVariants.{Closed, OnPath, Open}
+use Rattle.name_walk.specs.declared.step.Step.TheVariants.{Nowhere, To}
+use Rattle.name_walk.specs.declared.traces.Frame.{Frame}
+use Rattle.name_walk.specs.Faults.{Cycle, DeadEnd, fault, from_name, on}
+use Rattle.name_walk.specs.Nets.{IsNet}
+use Rattle.name_walk.specs.Steps.{Graph, steps}
+use Rattle.name_walk.specs.Traces.{AreEntered, Trace, path, with_closed, with_entered, with_frame}
+use Rattle.name_walk.specs.Visits.{IsBetween, IsFaultless, IsFound}
+use Rattle.name_walk.proofs.Going.{HaveRoom, IsGoing, begin, cycle, dead_end, enter, finish, is_on, leave, name_marked, name_there, ordering_after, pass}
+use Rattle.name_walk.proofs.Links.{frame}
+use Rattle.name_walk.proofs.Lists.{get_In}
+use Rattle.name_walk.proofs.Weights.{enter_less, leave_less, weight}
+
+abbrev pub IsGoingAt : Graph → List Bool → ℕ → List ℕ → Trace → ℕ → ℕ → Type 0
+IsGoingAt g s start before t name place = IsGoing g s start before t.marks t.entered t.order t.frames name place
+
+abbrev pub weight_at : Graph → Trace → ℕ → ℕ → ℕ
+weight_at g t name place = weight g t.marks t.frames name place
+
+module _ {g : Graph} {s : List Bool} (net : IsNet g s) {start : ℕ} where
+  pub begin_at : (t new : Trace) → IsBetween g s t → IsFound s t.marks start Open → new ≡ with_entered t start
+      → IsGoingAt g s start t.order new start 0
+  begin_at t new b fresh e =
+      let going : List Frame → Type 0 =
+      λ fs. IsGoing g s start t.order (set t.marks start OnPath) (t.entered ++ start ∷ []) t.order fs start 0 in
+      subst (λ (x : Trace). IsGoingAt g s start t.order x start 0) (sym e)
+      (subst going (sym b.frames) (begin g s net start t.order t.marks t.entered b.ordering b.off_path fresh.0 fresh.1))
+
+  module _ {before : List ℕ} {t : Trace} {name place : ℕ} (go : IsGoingAt g s start before t name place) where
+    on_path : slice_get t.marks name ≡ Some OnPath
+    on_path = name_marked g s net start before t.marks t.entered t.order t.frames name place go
+
+    pub there_at : (name < length g) × (name < length t.marks)
+    there_at = (
+      name_there g s net start before t.marks t.entered t.order t.frames name place go,
+      slice_get_within t.marks name OnPath on_path,
+    )
+
+    -- a name to which a step leads is there
+    pub next_at : (m : ℕ) → slice_get (steps g name) place ≡ Some (To m) → (m < length g) × (m < length s) × (m < length t.marks)
+    next_at m e =
+        let there : m < length g = net.range name m (get_In _ _ _ e) in (
+          there,
+          subst (λ (k : ℕ). m < k) (sym net.size) there,
+          subst (λ (k : ℕ). m < k) (sym go.ordering.size) there,
+        )
+
+    pub dead_end_at : (w : ℕ) → slice_get (steps g name) place ≡ Some (Nowhere w)
+        → fault g [] (To start ∷ []) ≡ Some (DeadEnd w (Some name))
+    dead_end_at w e = dead_end g s net start before t.marks t.entered t.order t.frames name place go w e
+
+    pub is_on_at : (m : ℕ) (fs : List Frame) → slice_get t.marks m ≡ Some OnPath → fs ≡ t.frames → on (path fs name) m ≡ true
+    is_on_at m fs found e =
+        subst (λ (hs : List Frame). on (path hs name) m ≡ true) (sym e)
+        (is_on g s net start before t.marks t.entered t.order t.frames name place go m found)
+
+    pub cycle_at : (m : ℕ) (fs : List Frame) (names : List ℕ) → slice_get (steps g name) place ≡ Some (To m)
+        → slice_get t.marks m ≡ Some OnPath → fs ≡ t.frames → names ≡ from_name m (path fs name) ++ m ∷ []
+        → fault g [] (To start ∷ []) ≡ Some (Cycle names)
+    cycle_at m fs names e found same chain =
+        cycle g s net start before t.marks t.entered t.order t.frames name place go m e found
+        ∙ ap (λ xs. Some (Cycle xs)) (ap (λ (hs : List Frame). from_name m (path hs name) ++ m ∷ []) (sym same) ∙ sym chain)
+
+    pub pass_at : (m : ℕ) → slice_get (steps g name) place ≡ Some (To m) → IsFound s t.marks m Closed
+        → IsGoingAt g s start before t name (place + 1)
+    pass_at m e found =
+        pass g s net start before t.marks t.entered t.order t.frames name place go m e
+        (elim found [ inl d ↦ inl d | inr d ↦ inr ((go.ordering.marked m).0 d) ])
+
+    pub enter_at : (m : ℕ) (pushed new : Trace) → slice_get (steps g name) place ≡ Some (To m) → IsFound s t.marks m Open
+        → place + 1 < 2 ^ 64 → pushed ≡ with_frame t (frame name place) → new ≡ with_entered pushed m
+        → IsGoingAt g s start before new m 0 × (weight_at g new m 0 < weight_at g t name place)
+    enter_at m pushed new e found fits push entering =
+        let is : new ≡ with_entered (with_frame t (frame name place)) m = entering ∙ ap (λ (x : Trace). with_entered x m) push in (
+          subst (λ (x : Trace). IsGoingAt g s start before x m 0) (sym is)
+              (enter g s net start before t.marks t.entered t.order t.frames name place go m e found.1 found.0 fits),
+          subst (λ (x : Trace). weight_at g x m 0 < weight_at g t name place) (sym is)
+              (enter_less g t.marks t.frames (frame name place) m found.1 (next_at m e).0),
+        )
+
+    module _ (full : length (steps g name) ≤ place) {closed : Trace} (close : closed ≡ with_closed t name) where
+      pub entered_at : (new : Trace) → new ≡ closed → AreEntered new.marks new.entered
+      entered_at new same =
+          subst (λ (x : Trace). AreEntered x.marks x.entered) (sym (same ∙ close))
+          (ordering_after g s net start before t.marks t.entered t.order t.frames name place go full).entered
+
+      pub finish_at : (old new : Trace) → old.order ≡ before → new ≡ closed → closed.frames ≡ [] → IsFaultless g s start old new
+      finish_at old new same popped none =
+          let top : t.frames ≡ [] = sym (ap (λ (x : Trace). x.frames) close) ∙ none in
+          let going : List Frame → Type 0 = λ fs. IsGoing g s start before t.marks t.entered t.order fs name place in
+          let ended : List Frame → Type 0 = λ fs. IsFaultless g s start old (record (with_closed t name) { frames = fs }) in
+          subst (λ (x : Trace). IsFaultless g s start old x) (sym (popped ∙ close))
+          (subst ended (sym top) (finish g s net start before t.marks t.entered t.order name place old same (subst going top go) full))
+
+      module _ (f : Frame) (new : Trace) (pop : closed ≡ with_frame new f) where
+        frames_are : t.frames ≡ new.frames ++ f ∷ []
+        frames_are = ap (λ (x : Trace). x.frames) (sym close ∙ pop)
+
+        new_is : record (with_closed t name) { frames = new.frames } ≡ new
+        new_is = ap (λ (x : Trace). record x { frames = new.frames }) (sym close ∙ pop)
+
+        pub leave_at : IsGoingAt g s start before new f.name (f.place + 1)
+        leave_at =
+            let going : List Frame → Type 0 = λ fs. IsGoing g s start before t.marks t.entered t.order fs name place in
+            subst (λ (x : Trace). IsGoingAt g s start before x f.name (f.place + 1)) new_is
+            (leave g s net start before t.marks t.entered t.order new.frames f name place (subst going frames_are go) full)
+
+        pub leave_less_at : weight_at g new f.name (f.place + 1) < weight_at g t name place
+        leave_less_at =
+            let less : List Frame → Type 0 =
+            λ fs. weight g (set t.marks name Closed) new.frames f.name (f.place + 1) < weight g t.marks fs name place in
+            subst (λ (x : Trace). weight_at g x f.name (f.place + 1) < weight_at g t name place) new_is
+            (subst less (sym frames_are) (leave_less g t.marks new.frames f name place on_path go.way.within))
+
+        pub room_at : f.place + 1 < 2 ^ 64
+        room_at = last_room new.frames f (subst HaveRoom frames_are go.way.room)
+          where
+            last_room : (fs : List Frame) (h : Frame) → HaveRoom (fs ++ h ∷ []) → h.place + 1 < 2 ^ 64
+            last_room [] h r = r.0
+            last_room (x ∷ fs) h r = last_room fs h r.1

@@ -1,0 +1,5 @@
+use Rattle.name_walk.proofs.Closed.{closed_law_holds}
+use Rattle.name_walk.proofs.laws.closed_law.Goals as goal
+
+pub returns : goal.returns
+returns c = closed_law_holds

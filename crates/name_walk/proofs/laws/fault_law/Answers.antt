@@ -1,0 +1,5 @@
+use Rattle.name_walk.proofs.Faults.{fault_law_holds}
+use Rattle.name_walk.proofs.laws.fault_law.Goals as goal
+
+pub returns : goal.returns
+returns c = fault_law_holds

@@ -1,0 +1,5 @@
+use Rattle.name_walk.proofs.Settled.{settled_law_holds}
+use Rattle.name_walk.proofs.laws.settled_law.Goals as goal
+
+pub returns : goal.returns
+returns c = settled_law_holds

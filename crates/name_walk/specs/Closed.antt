@@ -1,0 +1,34 @@
+-- Closed names, and settled ones.
+use Rattle.std.specs.Prelude.{◌≡◌, ◌⊎◌, ℕ, zero, suc, Bool, true, List, length, Some, slice_get}
+use Rattle.std.specs.List.{AllByRecursion}
+use Rattle.name_walk.specs.declared.step.Step.{Step}
+use Rattle.name_walk.specs.declared.step.Step.TheVariants.{Nowhere, To}
+use Rattle.name_walk.specs.Lists.{In}
+use Rattle.name_walk.specs.Steps.{Graph, LeadsTo, steps}
+
+-- a step leads to a name of which this holds
+abbrev pub LeadsInto : (ℕ → Type 0) → Step → Type 0
+LeadsInto Holds (Nowhere w) = ⊥
+LeadsInto Holds (To n) = Holds n
+
+-- each way down from a name comes to an end, within so many names, and not nowhere
+abbrev pub EndsWithin : Graph → ℕ → ℕ → Type 0
+EndsWithin g zero n = ⊥
+EndsWithin g (suc k) n = AllByRecursion (LeadsInto (EndsWithin g k)) (steps g n)
+
+-- a closed name: no way goes through more names than there are
+abbrev pub IsClosed : Graph → ℕ → Type 0
+IsClosed g n = EndsWithin g (length g) n
+
+-- a name is marked as settled
+abbrev pub IsSettled : List Bool → ℕ → Type 0
+IsSettled settled n = slice_get settled n ≡ Some true
+
+-- each settled name is closed, and what it leads to is settled
+abbrev pub AreSettled : Graph → List Bool → Type 0
+AreSettled g settled =
+    (n : ℕ) → IsSettled settled n → IsClosed g n × ((m : ℕ) → LeadsTo g n m → IsSettled settled m)
+
+-- settled, or one of these names
+abbrev pub IsDone : List Bool → List ℕ → ℕ → Type 0
+IsDone settled names n = IsSettled settled n ⊎ In n names

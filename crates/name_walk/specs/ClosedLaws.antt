@@ -1,0 +1,20 @@
+-- What holds of closed names.
+use Rattle.std.specs.Prelude.{◌≡◌, ◌↔◌, ◌<◌, ℕ, suc, List, [], ◌∷◌, length, None}
+use Rattle.name_walk.specs.declared.step.Step.TheVariants.{To}
+use Rattle.name_walk.specs.Closed.{EndsWithin, IsClosed}
+use Rattle.name_walk.specs.Faults.{fault}
+use Rattle.name_walk.specs.Lists.{In}
+use Rattle.name_walk.specs.Paths.{IsPath}
+use Rattle.name_walk.specs.Steps.{Graph, InRange, Reaches}
+
+-- law: a name is closed exactly where it has no fault. How many names its ways may go through does not
+-- matter. What it reaches is closed, and it does not reach itself. It has no fault behind any path that
+-- leads to it.
+pub record ClosedLaw : Type 0 where
+  pub faultless : (g : Graph) → InRange g → (n : ℕ) → n < length g → IsClosed g n ↔ (fault g [] (To n ∷ []) ≡ None)
+  pub any_depth : (g : Graph) → InRange g → (k n : ℕ) → n < length g → EndsWithin g k n → IsClosed g n
+  pub deeper : (g : Graph) (k n : ℕ) → EndsWithin g k n → EndsWithin g (suc k) n
+  pub below : (g : Graph) (k n m : ℕ) → EndsWithin g k n → Reaches g n m → EndsWithin g k m
+  pub no_cycle : (g : Graph) (k n : ℕ) → EndsWithin g k n → Reaches g n n → ⊥
+  pub any_path : (g : Graph) → InRange g → (k n : ℕ) → n < length g → EndsWithin g k n
+      → (p : List ℕ) → IsPath g p → ((q : ℕ) → In q p → Reaches g q n) → fault g p (To n ∷ []) ≡ None

@@ -1,0 +1,19 @@
+-- What the first fault is, whatever room its definition takes.
+use Rattle.std.specs.Prelude.{◌≡◌, ℕ, List, Option}
+use Rattle.name_walk.specs.declared.step.Step.{Step}
+use Rattle.name_walk.specs.Faults.{NameFault, at_step, fault}
+use Rattle.name_walk.specs.Lists.{first}
+use Rattle.name_walk.specs.Paths.{IsPath}
+use Rattle.name_walk.specs.Steps.{AreKnown, Graph, InRange, steps}
+
+-- a fault of steps behind paths that is the first of their faults, in order, and of a name that of its
+-- steps behind the path with the name
+abbrev pub IsFault : Graph → (List ℕ → List Step → Option NameFault) → Type 0
+IsFault g f = (p : List ℕ) (xs : List Step) → IsPath g p → AreKnown g xs
+    → f p xs ≡ first (at_step (λ longer n. f longer (steps g n)) p) xs
+
+-- law: the fault of steps is this, and nothing else is
+pub record FaultLaw : Type 0 where
+  pub is : (g : Graph) → InRange g → IsFault g (fault g)
+  pub one : (g : Graph) → InRange g → (f : List ℕ → List Step → Option NameFault) → IsFault g f
+      → (p : List ℕ) (xs : List Step) → IsPath g p → AreKnown g xs → f p xs ≡ fault g p xs

@@ -1,0 +1,13 @@
+pub mod Closed
+pub mod ClosedLaws
+pub mod FaultLaws
+pub mod Faults
+pub mod Lists
+pub mod Nets
+pub mod NewlyClosed
+pub mod Paths
+pub mod SettledLaws
+pub mod Steps
+pub mod Traces
+pub mod Visits
+pub mod Walks

@@ -1,0 +1,25 @@
+-- The names that a query newly closes.
+use Rattle.std.specs.Prelude.{◌≡◌, ◌⊎◌, ◌↔◌, ℕ, Bool, List, [], ◌∷◌, ◌++◌, nat_eq}
+use Rattle.std.specs.List.{IsDistinct}
+use Rattle.name_walk.specs.declared.step.Step.{Step}
+use Rattle.name_walk.specs.declared.step.Step.TheVariants.{To}
+use Rattle.name_walk.specs.Closed.{IsClosed, IsDone, IsSettled}
+use Rattle.name_walk.specs.Lists.{In}
+use Rattle.name_walk.specs.Steps.{Graph, LeadsTo, Reaches}
+
+-- a name of a query, or reached by one
+abbrev pub IsReached : Graph → List Step → ℕ → Type 0
+IsReached g query n = (r : ℕ) × In (To r) query × ((n ≡ r) ⊎ Reaches g r n)
+
+-- what each name leads to is settled or stands before it
+abbrev pub AreOrdered : Graph → List Bool → List ℕ → List ℕ → Type 0
+AreOrdered g settled before [] = Unit {0}
+AreOrdered g settled before (n ∷ ns) =
+    ((m : ℕ) → LeadsTo g n m → IsDone settled before m) × AreOrdered g settled (before ++ n ∷ []) ns
+
+-- the names that the query reaches and that are not settled, each once, targets before users; all are closed
+pub record AreNewlyClosed (g : Graph) (settled : List Bool) (query : List Step) (names : List ℕ) : Type 0 where
+  pub closed : (n : ℕ) → In n names → IsClosed g n
+  pub exactly : (n : ℕ) → In n names ↔ (IsReached g query n × (IsSettled settled n → ⊥))
+  pub once : IsDistinct nat_eq names
+  pub ordered : AreOrdered g settled [] names

@@ -1,0 +1,17 @@
+-- Paths of names.
+use Rattle.std.specs.Prelude.{◌≡◌, ◌<◌, ◌≤◌, ℕ, true, false, List, [], ◌∷◌, ◌++◌, length, nat_eq}
+use Rattle.std.specs.List.{IsDistinct}
+use Rattle.name_walk.specs.Faults.{on}
+use Rattle.name_walk.specs.Steps.{Graph}
+
+-- names of the graph, all different
+pub record IsPath (g : Graph) (p : List ℕ) : Type 0 where
+  pub once : IsDistinct nat_eq p
+  pub there : (n : ℕ) → on p n ≡ true → n < length g
+
+-- law: the empty path is one, a path goes on by each name that is not on it, and no path is longer
+-- than the graph has names
+pub record PathLaw : Type 0 where
+  pub empty : (g : Graph) → IsPath g []
+  pub longer : (g : Graph) (p : List ℕ) (n : ℕ) → IsPath g p → on p n ≡ false → n < length g → IsPath g (p ++ n ∷ [])
+  pub short : (g : Graph) (p : List ℕ) → IsPath g p → length p ≤ length g

@@ -1,0 +1,21 @@
+-- What holds of settled names.
+use Rattle.std.specs.Prelude.{◌≡◌, ◌↔◌, ◌≤◌, ℕ, Bool, List, length}
+use Rattle.name_walk.specs.declared.step.Step.{Step}
+use Rattle.name_walk.specs.Closed.{AreSettled, IsDone, IsSettled}
+use Rattle.name_walk.specs.NewlyClosed.{AreNewlyClosed, IsReached}
+use Rattle.name_walk.specs.Steps.{Graph, Reaches, steps}
+
+-- law: what a settled name reaches is settled. All that a query reaches is settled or among the names
+-- that it newly closes, and settled names with these are settled names again. More names, and other steps
+-- of names that are not settled, do not matter.
+pub record SettledLaw : Type 0 where
+  pub below : (g : Graph) (settled : List Bool) → AreSettled g settled
+      → (n m : ℕ) → IsSettled settled n → Reaches g n m → IsSettled settled m
+  pub asked : (g : Graph) (settled : List Bool) (query : List Step) (names : List ℕ)
+      → AreNewlyClosed g settled query names → (n : ℕ) → IsReached g query n → IsDone settled names n
+  pub grown : (g : Graph) (old new : List Bool) (query : List Step) (names : List ℕ)
+      → AreSettled g old → AreNewlyClosed g old query names
+      → ((n : ℕ) → IsSettled new n ↔ IsDone old names n) → AreSettled g new
+  pub elsewhere : (g h : Graph) (old new : List Bool) → AreSettled g old → length g ≤ length h
+      → ((n : ℕ) → IsSettled new n ↔ IsSettled old n) → ((n : ℕ) → IsSettled old n → steps h n ≡ steps g n)
+      → AreSettled h new

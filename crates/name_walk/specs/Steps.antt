@@ -1,0 +1,35 @@
+-- Names by number, and what each leads to.
+use Rattle.std.specs.Prelude.{◌<◌, ℕ, List, [], length, Option, Some, None, slice_get, Vec}
+use Rattle.std.specs.declared.alloc.Global.{Global}
+use Rattle.name_walk.specs.declared.step.Step.{Step}
+use Rattle.name_walk.specs.declared.step.Step.TheVariants.{To}
+use Rattle.name_walk.specs.Lists.{In}
+
+-- the steps of each name
+abbrev pub Graph : Type 0
+Graph = List (Vec Step Global)
+
+abbrev pub items_of : Option (Vec Step Global) → List Step
+items_of None = []
+items_of (Some v) = v.items
+
+-- the steps of one name, none where no name has the number
+abbrev pub steps : Graph → ℕ → List Step
+steps g n = items_of (slice_get g n)
+
+-- one name leads to another by a step
+abbrev pub LeadsTo : Graph → ℕ → ℕ → Type 0
+LeadsTo g n m = In (To m) (steps g n)
+
+-- by one step or more
+pub data Reaches (g : Graph) : ℕ → ℕ → Type 0 where
+  at_once : {n m : ℕ} → LeadsTo g n m → Reaches g n m
+  further : {n x m : ℕ} → LeadsTo g n x → Reaches g x m → Reaches g n m
+
+-- steps that lead to no other names than those of the graph
+abbrev pub AreKnown : Graph → List Step → Type 0
+AreKnown g xs = (m : ℕ) → In (To m) xs → m < length g
+
+-- so are all steps of the graph
+abbrev pub InRange : Graph → Type 0
+InRange g = (n : ℕ) → AreKnown g (steps g n)

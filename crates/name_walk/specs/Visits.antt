@@ -1,0 +1,58 @@
+-- What a walk knows when it is between two steps of a query.
+use Rattle.std.specs.Prelude.{◌≡◌, ◌⊎◌, ◌↔◌, ℕ, Bool, false, List, [], ◌∷◌, length, Option, Some, None, MatchOption, nat_eq, slice_get}
+use Rattle.std.specs.List.{IsDistinct}
+use Rattle.name_walk.specs.declared.fault.Fault.{Fault}
+use Rattle.name_walk.specs.declared.mark.Mark.{Mark}
+use Rattle.name_walk.specs.declared.mark.Mark.TheVariants.{Closed, OnPath, Open}
+use Rattle.name_walk.specs.declared.step.Step.TheVariants.{To}
+use Rattle.name_walk.specs.Closed.{IsClosed, IsSettled}
+use Rattle.name_walk.specs.Faults.{fault}
+use Rattle.name_walk.specs.Lists.{In}
+use Rattle.name_walk.specs.NewlyClosed.{AreOrdered}
+use Rattle.name_walk.specs.Steps.{Graph, Reaches}
+use Rattle.name_walk.specs.Traces.{AreEntered, Trace}
+use Rattle.name_walk.specs.Walks.{fault_view}
+
+-- what is found of a name: a settled one is as a closed one
+abbrev pub IsFound : List Bool → List Mark → ℕ → Mark → Type 0
+IsFound settled marks n Closed = IsSettled settled n ⊎ (slice_get marks n ≡ Some Closed)
+IsFound settled marks n OnPath = slice_get marks n ≡ Some OnPath
+IsFound settled marks n Open = (slice_get settled n ≡ Some false) × (slice_get marks n ≡ Some Open)
+
+-- the names that were closed are those that are marked so: closed indeed, none of them settled before,
+-- each once, targets before users
+pub record AreOrdering (g : Graph) (settled : List Bool) (marks : List Mark) (names order : List ℕ) : Type 0 where
+  pub size : length marks ≡ length g
+  pub marked : (n : ℕ) → (slice_get marks n ≡ Some Closed) ↔ In n order
+  pub closed : (n : ℕ) → In n order → IsClosed g n
+  pub fresh : (n : ℕ) → In n order → IsSettled settled n → ⊥
+  pub once : IsDistinct nat_eq order
+  pub ordered : AreOrdered g settled [] order
+  pub entered : AreEntered marks names
+
+-- and no name is on a path
+pub record IsBetween (g : Graph) (settled : List Bool) (t : Trace) : Type 0 where
+  pub ordering : AreOrdering g settled t.marks t.entered t.order
+  pub off_path : (n : ℕ) → slice_get t.marks n ≡ Some OnPath → ⊥
+  pub frames : t.frames ≡ []
+
+-- a name, or one that it reaches
+abbrev pub IsBelow : Graph → ℕ → ℕ → Type 0
+IsBelow g start n = (n ≡ start) ⊎ Reaches g start n
+
+-- a name was closed with some of what it reaches
+pub record AddsBelow (g : Graph) (start : ℕ) (old new : List ℕ) : Type 0 where
+  pub from : (n : ℕ) → In n new → In n old ⊎ IsBelow g start n
+  pub kept : (n : ℕ) → In n old → In n new
+  pub put : In start new
+
+-- a visit without a fault closes the name, one with a fault gives it
+pub record IsFaultless (g : Graph) (settled : List Bool) (start : ℕ) (old new : Trace) : Type 0 where
+  pub none : fault g [] (To start ∷ []) ≡ None
+  pub between : IsBetween g settled new
+  pub adds : AddsBelow g start old.order new.order
+
+abbrev pub IsVisited : Graph → List Bool → ℕ → Trace → Trace → Option Fault → Type 0
+IsVisited g settled start old new result =
+    MatchOption result (IsFaultless g settled start old new)
+    (λ f. fault g [] (To start ∷ []) ≡ Some (fault_view f))

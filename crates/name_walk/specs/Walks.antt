@@ -1,0 +1,25 @@
+-- What a walk answers.
+use Rattle.std.specs.Prelude.{◌≡◌, ℕ, Bool, List, [], Option, Some, None, MatchOption}
+use Rattle.name_walk.specs.declared.fault.Fault.{Fault}
+use Rattle.name_walk.specs.declared.fault.Fault.TheVariants as made
+use Rattle.name_walk.specs.declared.step.Step.{Step}
+use Rattle.name_walk.specs.Faults.{Cycle, DeadEnd, NameFault, fault}
+use Rattle.name_walk.specs.NewlyClosed.{AreNewlyClosed}
+use Rattle.name_walk.specs.Steps.{Graph}
+
+-- how many names a walker knows, and the order of its last walk
+pub record Walk : Type 0 where
+  pub names : ℕ
+  pub order : List ℕ
+
+-- the fault that the program gives
+abbrev pub fault_view : Fault → NameFault
+fault_view (made.DeadEnd w holder) = DeadEnd w holder
+fault_view (made.Cycle names) = Cycle names.items
+
+-- the first fault of the query, or where it has none, the order of the names that it newly closes
+abbrev pub IsWalked : Graph → List Bool → List Step → List ℕ → Option Fault → Type 0
+IsWalked g settled query order result =
+    MatchOption result
+    ((fault g [] query ≡ None) × AreNewlyClosed g settled query order)
+    (λ f. fault g [] query ≡ Some (fault_view f))

@@ -1,0 +1,32 @@
+//! The chain of a cycle.
+
+ghost use Rattle.std.specs.Prelude.{◌≡◌, true, ◌∷◌, [], ◌++◌, IfOk};
+ghost use Rattle.name_walk.specs.Faults.{from_name, on};
+ghost use Rattle.name_walk.specs.Traces.{path};
+
+use crate::traces::Frame;
+use std::alloc::{AllocError, Global};
+
+// The names on the path from the place of one down, and that name again. The path is that of the
+// frames, and then `last`.
+pub(crate) fn chain(
+    alloc: Global,
+    frames: &[Frame],
+    last: usize,
+    again: usize,
+) -> Result<Vec<usize>, AllocError>
+    requires { on (path frames.now last) again ≡ true }
+    ensures { IfOk result (λ names. names.items ≡ from_name again (path frames.now last) ++ again ∷ []) }
+{
+    let mut names = Vec::new(alloc);
+    let mut is_below = false;
+    for frame in frames {
+        is_below |= frame.name == again;
+        if is_below {
+            names.push(frame.name)?;
+        }
+    }
+    names.push(last)?;
+    names.push(again)?;
+    Ok(names)
+}

@@ -1,0 +1,26 @@
+//! Names by number.
+
+ghost use Rattle.std.specs.Prelude.{◌≡◌, ◌<◌, length, slice_get};
+ghost use Rattle.std.specs.Option.{option_copied};
+ghost use Rattle.name_walk.specs.Steps.{steps};
+
+use crate::step::Step;
+
+/// Names by number, as their owner keeps them.
+#[derive(Clone, Copy)]
+pub struct Net<'a> {
+    /// The steps of each name, those of its words in order.
+    pub steps: &'a [Vec<Step>],
+    /// Whether each name is settled: closed, and known to its owner as closed.
+    pub settled: &'a [bool],
+}
+
+impl<'a> Net<'a> {
+    // The step at a place of a name, none where all are passed.
+    pub(crate) fn step(&self, name: usize, place: usize) -> Option<Step>
+        requires { name < length self.now.steps.now }
+        ensures { result ≡ slice_get (steps self.now.steps.now name) place }
+    {
+        self.steps[name].get(place).copied()
+    }
+}

@@ -1,0 +1,141 @@
+//! What a walk leaves behind as it goes.
+
+ghost use Rattle.std.specs.Prelude.{◌≡◌, ◌<◌, ◌∷◌, [], ◌++◌, length, slice_get, Some, MatchOption, OnOk, OnErr};
+ghost use Rattle.name_walk.specs.Traces.{AreEntered, no_traces, with_name, with_entered, with_closed, with_frame};
+ghost use Rattle.name_walk.specs.Traces.{IsCleared, without_order};
+
+use crate::mark::Mark;
+use std::alloc::{AllocError, Global};
+use std::marker::Model;
+
+// A name on the path, and the place of the step by which the path goes on.
+#[derive(Clone, Copy, Drop)]
+pub(crate) struct Frame {
+    pub(crate) name: usize,
+    pub(crate) place: usize,
+}
+
+// The mark of each name; the names that have one other than open, which are to be cleaned; those
+// that were closed, in order; and the path above the name that is being gone through.
+#[derive(Drop)]
+pub(crate) struct Traces {
+    marks: Vec<Mark>,
+    entered: Vec<usize>,
+    order: Vec<usize>,
+    frames: Vec<Frame>,
+}
+
+impl Model for Traces {
+    ghost use Rattle.name_walk.specs.Traces.{Trace};
+
+    ghost Value = { Trace };
+
+    ghost view = { λ t. record {
+      marks = t.marks.items;
+      entered = t.entered.items;
+      order = t.order.items;
+      frames = t.frames.items;
+    } };
+}
+
+impl Traces {
+    // No name.
+    pub(crate) fn new(alloc: Global) -> Traces
+        ensures { result ≡ no_traces }
+    {
+        Traces {
+            marks: Vec::new(alloc),
+            entered: Vec::new(alloc),
+            order: Vec::new(alloc),
+            frames: Vec::new(alloc),
+        }
+    }
+
+    // One more name, which is open. A refusal changes nothing.
+    pub(crate) fn add_name(&mut self) -> Result<(), AllocError>
+        ensures ok { OnOk result (self.new ≡ with_name self.old) }
+        ensures err { OnErr result (self.new ≡ self.old) }
+    {
+        self.marks.push(Mark::Open)?;
+        Ok(())
+    }
+
+    // The mark of a name.
+    pub(crate) fn mark(&self, name: usize) -> Mark
+        requires { name < length self.now.marks }
+        ensures { slice_get self.now.marks name ≡ Some result }
+    {
+        self.marks[name]
+    }
+
+    // The names that were closed, in order.
+    pub(crate) fn order(&self) -> &[usize]
+        ensures { result.now ≡ self.now.order }
+    {
+        &self.order
+    }
+
+    // The path above the name that is being gone through, the outermost first.
+    pub(crate) fn frames(&self) -> &[Frame]
+        ensures { result.now ≡ self.now.frames }
+    {
+        &self.frames
+    }
+
+    // Puts a name on the path. A refusal changes nothing.
+    pub(crate) fn enter(&mut self, name: usize) -> Result<(), AllocError>
+        requires { name < length self.old.marks }
+        ensures ok { OnOk result (self.new ≡ with_entered self.old name) }
+        ensures err { OnErr result (self.new ≡ self.old) }
+    {
+        self.entered.push(name)?;
+        self.marks[name] = Mark::OnPath;
+        Ok(())
+    }
+
+    // Closes a name. A refusal changes nothing.
+    pub(crate) fn close(&mut self, name: usize) -> Result<(), AllocError>
+        requires { name < length self.old.marks }
+        ensures ok { OnOk result (self.new ≡ with_closed self.old name) }
+        ensures err { OnErr result (self.new ≡ self.old) }
+    {
+        self.order.push(name)?;
+        self.marks[name] = Mark::Closed;
+        Ok(())
+    }
+
+    // Goes one down. A refusal changes nothing.
+    pub(crate) fn push(&mut self, frame: Frame) -> Result<(), AllocError>
+        ensures ok { OnOk result (self.new ≡ with_frame self.old frame) }
+        ensures err { OnErr result (self.new ≡ self.old) }
+    {
+        self.frames.push(frame)?;
+        Ok(())
+    }
+
+    // Goes one up, none at the top.
+    pub(crate) fn pop(&mut self) -> Option<Frame>
+        ensures { MatchOption result ((self.new ≡ self.old) × (self.old.frames ≡ []))
+            (λ frame. self.old ≡ with_frame self.new frame) }
+    {
+        self.frames.pop()
+    }
+
+    // Forgets the order of the walk before.
+    pub(crate) fn forget_order(&mut self)
+        ensures { self.new ≡ without_order self.old }
+    {
+        self.order.clear();
+    }
+
+    // Takes the marks away, at the cost of the names that have one, and the path.
+    pub(crate) fn clean(&mut self)
+        requires { AreEntered self.old.marks self.old.entered }
+        ensures { IsCleared self.old self.new }
+    {
+        while let Some(name) = self.entered.pop() {
+            self.marks[name] = Mark::Open;
+        }
+        self.frames.clear();
+    }
+}

@@ -1,0 +1,75 @@
+//! One name and all that it reaches.
+
+ghost use Rattle.std.specs.Prelude.{◌≡◌, ◌<◌, length, IfOk};
+ghost use Rattle.name_walk.specs.Nets.{IsNet};
+ghost use Rattle.name_walk.specs.Traces.{AreEntered};
+ghost use Rattle.name_walk.specs.Visits.{IsBetween, IsFound, IsVisited};
+ghost use Rattle.name_walk.specs.declared.mark.Mark.TheVariants.{Open};
+
+use crate::chain::chain;
+use crate::fault::Fault;
+use crate::mark::Mark;
+use crate::net::Net;
+use crate::step::Step;
+use crate::traces::{Frame, Traces};
+use std::alloc::{AllocError, Global};
+
+// The mark of a name, closed where it is settled.
+pub(crate) fn mark_of(net: &Net, traces: &Traces, name: usize) -> Mark
+    requires settled { name < length net.now.settled.now }
+    requires marked { name < length traces.now.marks }
+    ensures { IsFound net.now.settled.now traces.now.marks name result }
+{
+    if net.settled[name] {
+        return Mark::Closed;
+    }
+    traces.mark(name)
+}
+
+// Goes through an open name and all that it reaches, and closes them, targets before users. Each
+// turn of the loop passes a step, goes down one name or up one, and searches nothing.
+pub(crate) fn visit(
+    alloc: Global,
+    net: &Net,
+    start: usize,
+    traces: &mut Traces,
+) -> Result<Option<Fault>, AllocError>
+    requires net { IsNet net.now.steps.now net.now.settled.now }
+    requires between { IsBetween net.now.steps.now net.now.settled.now traces.old }
+    requires fresh { IsFound net.now.settled.now traces.old.marks start Open }
+    ensures entered { AreEntered traces.new.marks traces.new.entered }
+    ensures size { length traces.new.marks ≡ length traces.old.marks }
+    ensures visited { IfOk result (IsVisited net.now.steps.now net.now.settled.now start traces.old traces.new) }
+{
+    traces.enter(start)?;
+    let mut name = start;
+    let mut place = 0;
+    loop {
+        let Some(step) = net.step(name, place) else {
+            traces.close(name)?;
+            let Some(frame) = traces.pop() else {
+                return Ok(None);
+            };
+            name = frame.name;
+            place = frame.place + 1;
+            continue;
+        };
+        let next = match step {
+            Step::Nowhere(word) => return Ok(Some(Fault::DeadEnd(word, Some(name)))),
+            Step::To(next) => next,
+        };
+        match mark_of(net, traces, next) {
+            Mark::Closed => place += 1,
+            Mark::OnPath => {
+                let names = chain(alloc, traces.frames(), name, next)?;
+                return Ok(Some(Fault::Cycle(names)));
+            }
+            Mark::Open => {
+                traces.push(Frame { name, place })?;
+                traces.enter(next)?;
+                name = next;
+                place = 0;
+            }
+        }
+    }
+}

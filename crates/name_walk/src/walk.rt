@@ -1,0 +1,118 @@
+//! The walk of a query.
+
+ghost use Rattle.std.specs.Prelude.{◌≡◌, ◌+◌, [], length, IfOk, OnOk, OnErr};
+ghost use Rattle.name_walk.specs.Nets.{IsNet};
+ghost use Rattle.name_walk.specs.Steps.{AreKnown};
+ghost use Rattle.name_walk.specs.Traces.{AreEntered};
+ghost use Rattle.name_walk.specs.Visits.{IsBetween};
+ghost use Rattle.name_walk.specs.Walks.{IsWalked};
+
+use crate::fault::Fault;
+use crate::mark::Mark;
+use crate::net::Net;
+use crate::step::Step;
+use crate::traces::Traces;
+use crate::visit::{mark_of, visit};
+use std::alloc::{AllocError, Global};
+use std::marker::Model;
+
+/// Walks over names, and keeps its memory from one query to the next.
+#[derive(Drop)]
+pub struct Walker {
+    traces: Traces,
+}
+
+impl Model for Walker {
+    ghost use Rattle.std.specs.Prelude.{length};
+    ghost use Rattle.name_walk.specs.Walks.{Walk};
+    ghost use Rattle.name_walk.specs.Traces.{IsIdle};
+
+    ghost Value = { Walk };
+
+    ghost view = { λ w. record { names = length w.traces.marks; order = w.traces.order } };
+
+    ghost invariant = { λ w. IsIdle w.traces };
+}
+
+impl Walker {
+    /// A walker over no names. It takes no memory.
+    pub fn new(alloc: Global) -> Walker
+        ensures { result ≡ record { names = 0; order = [] } }
+    {
+        Walker {
+            traces: Traces::new(alloc),
+        }
+    }
+
+    /// One more name, whose number is the number of names before. A refusal changes nothing.
+    pub fn add_name(&mut self) -> Result<(), AllocError>
+        ensures ok { OnOk result (self.new ≡ record self.old { names = self.old.names + 1 }) }
+        ensures err { OnErr result (self.new ≡ self.old) }
+    {
+        self.traces.add_name()
+    }
+
+    /// The names that the last walk newly closed, targets before users. After a name fault or want
+    /// of memory it says nothing.
+    pub fn order(&self) -> &[usize]
+        ensures { result.now ≡ self.now.order }
+    {
+        self.traces.order()
+    }
+
+    /// Walks over all that the steps of a query reach, in order: gives the first name fault, or else
+    /// `order` is the names that the query newly closes, those that it reaches and that were not
+    /// settled. The query is the steps of words, or the one step to a name.
+    ///
+    /// Its cost is that of the steps of the names that it goes through, each once; settled names are
+    /// passed. After each ending it is ready for the next query.
+    pub fn walk(
+        &mut self,
+        alloc: Global,
+        net: &Net,
+        query: &[Step],
+    ) -> Result<Option<Fault>, AllocError>
+        requires net { IsNet net.now.steps.now net.now.settled.now }
+        requires names { self.old.names ≡ length net.now.steps.now }
+        requires query { AreKnown net.now.steps.now query.now }
+        ensures names { self.new.names ≡ self.old.names }
+        ensures walked { IfOk result
+            (IsWalked net.now.steps.now net.now.settled.now query.now self.new.order) }
+    {
+        self.traces.forget_order();
+        let result = visit_each(alloc, net, query, &mut self.traces);
+        self.traces.clean();
+        result
+    }
+}
+
+// Goes through the steps of a query, in order.
+fn visit_each(
+    alloc: Global,
+    net: &Net,
+    query: &[Step],
+    traces: &mut Traces,
+) -> Result<Option<Fault>, AllocError>
+    requires net { IsNet net.now.steps.now net.now.settled.now }
+    requires query { AreKnown net.now.steps.now query.now }
+    requires between { IsBetween net.now.steps.now net.now.settled.now traces.old }
+    requires nothing { traces.old.order ≡ [] }
+    ensures entered { AreEntered traces.new.marks traces.new.entered }
+    ensures size { length traces.new.marks ≡ length traces.old.marks }
+    ensures visited { IfOk result
+        (IsWalked net.now.steps.now net.now.settled.now query.now traces.new.order) }
+{
+    for &step in query {
+        let start = match step {
+            Step::Nowhere(word) => return Ok(Some(Fault::DeadEnd(word, None))),
+            Step::To(start) => start,
+        };
+        let Mark::Open = mark_of(net, traces, start) else {
+            continue;
+        };
+        if let Some(fault) = visit(alloc, net, start, traces)? {
+            return Ok(Some(fault));
+        }
+    }
+    Ok(None)
+}
