@@ -1,10 +1,12 @@
 -- What lookup says of targets and of looked-at keys, at a word of a table.
-use Rattle.std.proofs.Common.{◌≡◌, true, Contains}
+use Rattle.std.proofs.Common.{sym, ◌≡◌, true, Contains}
+use Rattle.std.proofs.lemmas.Map.Made.{is_some-lookup}
 use Rattle.expr_tree.specs.declared.word_list.WordUse.{WordUse}
 use Rattle.def_entry.specs.declared.key.Key.{Key}
-use Rattle.def_entry.specs.Tables.{Table, is_present}
+use Rattle.def_entry.specs.SameKeys.{is_among, is_same}
+use Rattle.def_entry.specs.Tables.{Table, is_present, keys_of}
 use Rattle.name_lookup.proofs.Plans.{same_answers, targets_are_present}
-use Rattle.table_names.specs.Leads.{word_lookup, looked_keys, targets}
+use Rattle.table_names.specs.Leads.{LookupLaw, looked_keys, targets, word_lookup}
 
 module _ (table : Table) (u : WordUse) where
   -- a target has an entry
@@ -21,3 +23,7 @@ pub same_lookup :
     → ((k : Key) → Contains (looked_keys before u) k → is_present before k ≡ is_present after k)
     → word_lookup before u ≡ word_lookup after u
 same_lookup before after u h = same_answers (is_present before) (is_present after) u.kind u.text h
+
+pub lookup_law : LookupLaw
+lookup_law table u =
+    same_answers (is_among (keys_of table)) (is_present table) u.kind u.text (λ k i. sym (is_some-lookup (is_same k) table))

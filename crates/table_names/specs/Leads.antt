@@ -1,8 +1,9 @@
 -- What words lead to, what they look at, and what they reach.
-use Rattle.std.specs.Prelude.{List, Contains}
+use Rattle.std.specs.Prelude.{◌≡◌, List, Contains}
 use Rattle.expr_tree.specs.declared.word_list.WordUse.{WordUse}
 use Rattle.def_entry.specs.declared.key.Key.{Key}
-use Rattle.def_entry.specs.Tables.{Table, is_present}
+use Rattle.def_entry.specs.SameKeys.{is_among}
+use Rattle.def_entry.specs.Tables.{Table, is_present, keys_of}
 use Rattle.name_lookup.specs.declared.found.Found.{Found}
 use Rattle.name_lookup.specs.Order.{plan}
 use Rattle.name_lookup.specs.Plans.{run}
@@ -11,6 +12,10 @@ use Rattle.table_names.specs.Words.{key_words}
 -- the lookup of a word in a table
 abbrev pub word_lookup : Table → WordUse → Found
 word_lookup table u = run (is_present table) (plan u.kind u.text)
+
+-- law: the keys of the entries of a table, as lookup asks for keys, give the same
+abbrev pub LookupLaw : Type 0
+LookupLaw = (table : Table) (u : WordUse) → run (is_among (keys_of table)) (plan u.kind u.text) ≡ word_lookup table u
 
 -- the keys that a word stands for
 abbrev pub targets : Table → WordUse → List Key

@@ -6,8 +6,14 @@ ghost use Rattle.table_names.specs.Edits.{UnaffectedLaw};
 ghost use Rattle.table_names.specs.Examples.{ExamplesLaw};
 ghost use Rattle.table_names.specs.FaultLaws.{FaultLaw, PathLaw};
 ghost use Rattle.table_names.specs.Kinds.{KindLaw};
+ghost use Rattle.table_names.specs.Leads.{LookupLaw};
 ghost use Rattle.table_names.specs.Meanings.{ClosedMeaningLaw};
 ghost use Rattle.table_names.specs.Reach.{ReachLaw};
+
+/// What a word leads to in a table is what `resolve` finds among the keys of its entries.
+pub fn lookup_law()
+    ensures { LookupLaw }
+{}
 
 /// The name fault of words is the first that going through them meets, and nothing else is, whatever
 /// room its definition takes.
