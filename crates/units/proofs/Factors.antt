@@ -6,11 +6,11 @@ use Rattle.frac128.specs.Divisors.{gcd, gcd_within}
 use Rattle.frac128.specs.Steps.{reduced, ratio}
 use Rattle.frac128.specs.declared.fault.FracFault.{FracFault}
 use Rattle.units.specs.declared.first.value.Scaling.{Scaling}
-use Rattle.deck.specs.FirstFile.{Definition}
-use Rattle.deck.specs.FirstEntries.{GivesValue}
-use Rattle.deck.specs.declared.first_file.deck.FirstEntry.{FirstEntry}
-use Rattle.deck.specs.declared.first_file.deck.FirstEntry.TheVariants.{Primitive, Scaled}
-use Rattle.deck.specs.FirstValues.{one, multiple, outcome_of, height_of}
+use Rattle.first_deck.specs.FirstFile.{Definition}
+use Rattle.first_deck.specs.FirstEntries.{GivesValue}
+use Rattle.first_deck.specs.declared.first_file.deck.FirstEntry.{FirstEntry}
+use Rattle.first_deck.specs.declared.first_file.deck.FirstEntry.TheVariants.{Primitive, Scaled}
+use Rattle.first_deck.specs.FirstValues.{one, multiple, outcome_of, height_of}
 use Rattle.units.specs.Factors.{scaled_by, scaling_in}
 
 -- the last factor is the first to be multiplied

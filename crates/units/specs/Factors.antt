@@ -2,10 +2,10 @@
 use Rattle.std.specs.Prelude.{◌∷◌, [], List, Option, Some, None, Result}
 use Rattle.frac128.specs.Fraction.{Fraction}
 use Rattle.frac128.specs.declared.fault.FracFault.{FracFault}
-use Rattle.deck.specs.FirstValues.{multiple}
+use Rattle.first_deck.specs.FirstValues.{multiple}
 use Rattle.units.specs.declared.first.value.Scaling.{Scaling}
-use Rattle.deck.specs.declared.first_file.deck.FirstEntry.{FirstEntry}
-use Rattle.deck.specs.declared.first_file.deck.FirstEntry.TheVariants.{Primitive, Scaled}
+use Rattle.first_deck.specs.declared.first_file.deck.FirstEntry.{FirstEntry}
+use Rattle.first_deck.specs.declared.first_file.deck.FirstEntry.TheVariants.{Primitive, Scaled}
 
 -- the factor and the earlier name of an entry that has them
 abbrev pub scaling_in : FirstEntry → Option Scaling

@@ -4,8 +4,8 @@ use Rattle.frac128.specs.Fraction.{Fraction}
 use Rattle.frac128.specs.Steps.{over}
 use Rattle.frac128.specs.declared.fault.FracFault.{FracFault}
 use Rattle.frac128.specs.Faults.{fault_text}
-use Rattle.deck.specs.FirstFile.{Definition}
-use Rattle.deck.specs.FirstValues.{outcome_of}
+use Rattle.first_deck.specs.FirstFile.{Definition}
+use Rattle.first_deck.specs.FirstValues.{outcome_of}
 use Rattle.digits_print.specs.Styles.{number_text}
 use Rattle.digits_print.specs.declared.style.Style.{Style}
 pub use Rattle.units.specs.declared.first.reply.Reply.{Reply}

@@ -2,7 +2,7 @@
 use Rattle.std.specs.Prelude.{◌&&◌, ◌∷◌, [], ℕ, List, Bool, Option, Some, None, is_some, if◌then◌else◌}
 use Rattle.std.specs.List.{list_any}
 use Rattle.command_line.specs.declared.fields.CommandLine.{CommandLine}
-use Rattle.deck.specs.FirstNames.{is_first_name}
+use Rattle.first_deck.specs.FirstNames.{is_first_name}
 use Rattle.units.specs.Style.{style_of}
 use Rattle.digits_print.specs.declared.style.Style.{Style}
 

@@ -4,7 +4,7 @@ use Rattle.units_io.specs.FileMap.{FileMap, file_of, longest_file}
 use Rattle.command_line.specs.Taken.{are_taken}
 use Rattle.command_line.specs.Fields.{command_line_of}
 use Rattle.command_line.specs.Usage.{usage_text}
-use Rattle.deck.specs.FirstFile.{Definition, first_file}
+use Rattle.first_deck.specs.FirstFile.{Definition, first_file}
 use Rattle.units.specs.Request.{Request, request_of}
 use Rattle.units.specs.Reply.{Reply, reply_of, line_of}
 use Rattle.units.specs.declared.status.Status.{Status}

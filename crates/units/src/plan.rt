@@ -15,7 +15,7 @@ use crate::first::reply::{Reply, first_reply};
 use crate::first::request::{FirstRequest, first_request};
 use crate::status::Status;
 use command_line::{WordsFault, read_words, usage_text};
-use deck::{Deck, FirstFault};
+use first_deck::{Deck, FirstFault};
 use std::alloc::{AllocError, Global};
 use std::marker::Model;
 use units_io::{Files, Text};

@@ -1,13 +1,13 @@
 //! The reply to two names of a first file.
 ghost use Rattle.std.specs.Prelude.{◌≡◌, ◌++◌, IfOk, OnOk};
 ghost use Rattle.frac128.specs.Faults.{fault_text};
-ghost use Rattle.deck.specs.FirstValues.{outcome_of};
+ghost use Rattle.first_deck.specs.FirstValues.{outcome_of};
 ghost use Rattle.digits_print.specs.Styles.{IsStyle, number_text};
 ghost use Rattle.units.specs.Reply.{line_of, refusal, unknown_text, linear, reply_to, reply_of};
 
 use super::value::value_of;
-use deck::Deck;
 use digits_print::{Style, print_number};
+use first_deck::Deck;
 use frac128::{Frac, FracFault};
 use std::alloc::{AllocError, Global};
 use units_io::Text;

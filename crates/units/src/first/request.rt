@@ -5,8 +5,8 @@ ghost use Rattle.units.specs.Request.{request_of, has_other_option as has_other_
 
 use crate::style::style_of;
 use command_line::CommandLine;
-use deck::is_first_name;
 use digits_print::Style;
+use first_deck::is_first_name;
 
 /// A file, the two names between which it converts, and how the numbers are printed.
 #[derive(Clone, Copy)]

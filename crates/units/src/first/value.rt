@@ -1,9 +1,9 @@
 //! The value of a name of a first file.
 ghost use Rattle.std.specs.Prelude.{◌≡◌, IfOk, Ok, option_map};
-ghost use Rattle.deck.specs.FirstValues.{outcome_of, one};
+ghost use Rattle.first_deck.specs.FirstValues.{outcome_of, one};
 ghost use Rattle.units.specs.Factors.{scaled_by, scaling_in};
 
-use deck::{Deck, FirstEntry};
+use first_deck::{Deck, FirstEntry};
 use frac128::{Frac, FracFault};
 use std::alloc::{AllocError, Global};
 

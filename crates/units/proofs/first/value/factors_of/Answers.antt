@@ -1,5 +1,5 @@
 use Rattle.std.proofs.Common.{◌∙◌, ap, sym, option_map}
-use Rattle.deck.specs.FirstValues.{outcome_of}
+use Rattle.first_deck.specs.FirstValues.{outcome_of}
 use Rattle.units.specs.Factors.{scaled_by}
 use Rattle.units.proofs.Factors.{scaled_by-deeper, scaling-gives}
 use Rattle.units.proofs.first.value.factors_of.Goals as goal

@@ -1,5 +1,5 @@
 use Rattle.std.proofs.Common.{◌≡◌, option_map}
-use Rattle.deck.specs.FirstValues.{outcome_of, height_of}
+use Rattle.first_deck.specs.FirstValues.{outcome_of, height_of}
 use Rattle.units.specs.Factors.{scaled_by}
 use Rattle.units.proofs.first.value.factors_of.Given as goal
 

@@ -1,6 +1,6 @@
 use Rattle.std.proofs.Common.{◌≡◌, ◌∙◌, Ok, Err, ap, sym}
 use Rattle.std.proofs.lemmas.Result.{err_from_is_err_and}
-use Rattle.deck.specs.FirstValues.{one}
+use Rattle.first_deck.specs.FirstValues.{one}
 use Rattle.units.specs.Factors.{scaled_by}
 use Rattle.units.proofs.Factors.{scaled_by-push, scaled_by-fault, ratio-one}
 use Rattle.units.proofs.first.value.product_of.Goals as goal

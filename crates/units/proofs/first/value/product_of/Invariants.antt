@@ -1,6 +1,6 @@
 use Rattle.std.proofs.Common.{◌≡◌, Ok, length}
 use Rattle.units.specs.Factors.{scaled_by}
-use Rattle.deck.specs.FirstValues.{one}
+use Rattle.first_deck.specs.FirstValues.{one}
 use Rattle.units.proofs.first.value.product_of.Given as goal
 
 abbrev pub invariant-loop-factor : goal.invariant-loop-factor
