@@ -1,0 +1,116 @@
+-- What lines define, by the numbers of keys.
+use Rattle.std.proofs.Common.{◌≡◌, ◌++◌, ◌∷◌, ◌+◌, [], ℕ, List, map, take, drop, refl, sym, ap, subst, ◌∙◌, Option, Some, None, option_map, slice_get}
+use Rattle.std.specs.Option.{option_and_then}
+use Rattle.std.proofs.lemmas.List.{drop-map, map-append, take-map}
+use Rattle.std.proofs.lemmas.Option.{slice_get-map}
+use Rattle.def_entry.specs.Entries.{Entry}
+use Rattle.def_entry.specs.Seen.{seen_entry}
+use Rattle.def_entry.specs.Views.{entry_view}
+use Rattle.def_entry.specs.declared.entry.Entry.{Entry as MadeEntry}
+use Rattle.def_entry.specs.declared.key.Key.{Key}
+use Rattle.deck_lines.specs.Kept.{IsDefined, keyed_definition, seen_definition}
+use Rattle.deck_lines.specs.Names.{IsExtended, Names, key_at, with_key}
+use Rattle.deck_lines.specs.Readings.{entry_in}
+use Rattle.deck_lines.specs.Stores.{definition_at}
+use Rattle.deck_lines.specs.declared.key_number.KeyNumber.{KeyNumber}
+use Rattle.deck_lines.specs.declared.line.DeckLine.{DeckLine}
+use Rattle.deck_lines.specs.declared.store.definitions.Definition.{Definition}
+use Rattle.deck_lines.proofs.Keys.{extended}
+
+module _ (names more : Names) (extended : IsExtended names more) where
+  grown_one : (d : Option Definition) (said : Option (Key × Entry)) → option_map (seen_definition names) d ≡ option_map keyed_definition said → option_map (seen_definition more) d ≡ option_map keyed_definition said
+  grown_one None None e = refl
+  grown_one None (Some said) e = absurd (cc)
+  grown_one (Some d) None e = absurd (cc)
+  grown_one (Some d) (Some said) e =
+      let same : seen_definition names d ≡ keyed_definition said = cc in
+      let at : key_at names d.key ≡ Some said.0 = ap (λ (p : Option Key × Entry). p.0) same in
+      ap (λ k. Some (k, entry_view d.entry)) (extended d.key said.0 at) ∙ ap (λ (p : Option Key × Entry). Some (Some said.0, p.1)) same
+
+  -- lines define the same where more keys have numbers
+  pub grown : (ds : List (Option Definition)) (said : List (Option (Key × Entry))) → IsDefined names ds said → IsDefined more ds said
+  grown [] [] e = refl
+  grown [] (s ∷ said) e = absurd (cc)
+  grown (d ∷ ds) [] e = absurd (cc)
+  grown (d ∷ ds) (s ∷ said) e =
+      let head : option_map (seen_definition names) d ≡ option_map keyed_definition s = cc in
+      let tail : IsDefined names ds said = cc in
+      ap (λ t. t ∷ map (option_map (seen_definition more)) ds) (grown_one d s head) ∙ ap (λ t. option_map keyed_definition s ∷ t) (grown ds said tail)
+
+  -- and one line more what it defines
+  pub defined_put : (ds : List (Option Definition)) (said : List (Option (Key × Entry))) (d : Option Definition) (s : Option (Key × Entry)) →
+      option_map (seen_definition more) d ≡ option_map keyed_definition s → IsDefined names ds said → IsDefined more (ds ++ d ∷ []) (said ++ s ∷ [])
+  defined_put ds said d s e are =
+      map-append (option_map (seen_definition more)) ds (d ∷ [])
+      ∙ ap (λ t. t ++ option_map (seen_definition more) d ∷ []) (grown ds said are)
+      ∙ ap (λ o. map (option_map keyed_definition) said ++ o ∷ []) e
+      ∙ sym (map-append (option_map keyed_definition) said (s ∷ []))
+
+-- a definition by the number of its key
+pub key_put : (names more : Names) (k : Key) (entry : MadeEntry) (n : KeyNumber) (made : Option (Key × MadeEntry)) (ds after : List (Option Definition)) (said : List (Option (Key × Entry))) →
+    made ≡ Some (k, entry) → more ≡ with_key names k → key_at more n ≡ Some k → after ≡ ds ++ Some (record { key = n; entry = entry }) ∷ [] →
+    IsDefined names ds said → IsDefined more after (said ++ option_map seen_entry made ∷ [])
+key_put names more k entry n made ds after said is grows at put are =
+    let wider : IsExtended names more = subst (IsExtended names) (sym grows) (extended names (Some (k, entry_view entry))) in
+    ap (map (option_map (seen_definition more))) put
+    ∙ defined_put names more wider ds said (Some (record { key = n; entry = entry })) (Some (seen_entry (k, entry))) (ap (λ key. Some (key, entry_view entry)) at) are
+    ∙ ap (λ o. map (option_map keyed_definition) (said ++ option_map seen_entry o ∷ [])) (sym is)
+
+-- the first lines alone
+pub defined_take : (names : Names) (ds : List (Option Definition)) (said : List (Option (Key × Entry))) (n : ℕ) → IsDefined names ds said → IsDefined names (take n ds) (take n said)
+defined_take names ds said n are =
+    sym (take-map (option_map (seen_definition names)) n ds) ∙ ap (take n) are ∙ take-map (option_map keyed_definition) n said
+
+-- the lines behind them
+pub defined_drop : (names : Names) (ds : List (Option Definition)) (said : List (Option (Key × Entry))) (n : ℕ) → IsDefined names ds said → IsDefined names (drop n ds) (drop n said)
+defined_drop names ds said n are =
+    sym (drop-map (option_map (seen_definition names)) n ds) ∙ ap (drop n) are ∙ drop-map (option_map keyed_definition) n said
+
+-- one list of lines behind another
+pub defined_append : (names : Names) (ds more : List (Option Definition)) (said behind : List (Option (Key × Entry))) → IsDefined names ds said → IsDefined names more behind → IsDefined names (ds ++ more) (said ++ behind)
+defined_append names ds more said behind are too =
+    map-append (option_map (seen_definition names)) ds more
+    ∙ ap (λ t. t ++ map (option_map (seen_definition names)) more) are
+    ∙ ap (λ t. map (option_map keyed_definition) said ++ t) too
+    ∙ sym (map-append (option_map keyed_definition) said behind)
+
+-- other lines in the place of some
+pub defined_exchange : (names : Names) (ds put : List (Option Definition)) (said by : List (Option (Key × Entry))) (at cut : ℕ) → IsDefined names ds said → IsDefined names put by →
+    IsDefined names (take at ds ++ (put ++ drop (at + cut) ds)) (take at said ++ (by ++ drop (at + cut) said))
+defined_exchange names ds put said by at cut are too =
+    defined_append names (take at ds) (put ++ drop (at + cut) ds) (take at said) (by ++ drop (at + cut) said)
+    (defined_take names ds said at are)
+    (defined_append names put (drop (at + cut) ds) by (drop (at + cut) said) too (defined_drop names ds said (at + cut) are))
+
+module _ (names : Names) (ds : List (Option Definition)) (lines : List DeckLine) (place : ℕ) (are : IsDefined names ds (map entry_in lines)) where
+  pub there : option_map (option_map (seen_definition names)) (slice_get ds place) ≡ option_map (option_map keyed_definition) (option_map entry_in (slice_get lines place))
+  there =
+      sym (slice_get-map (option_map (seen_definition names)) ds place)
+      ∙ ap (λ t. slice_get t place) are
+      ∙ slice_get-map (option_map keyed_definition) (map entry_in lines) place
+      ∙ ap (option_map (option_map keyed_definition)) (slice_get-map entry_in lines place)
+
+  -- what the line at a place defines
+  pub defined_at : (d : Option Definition) → slice_get ds place ≡ Some d → option_map (seen_definition names) d ≡ option_map keyed_definition (definition_at lines place)
+  defined_at d at = by (slice_get lines place) (sym (ap (option_map (option_map (seen_definition names))) at) ∙ there)
+    where
+      by : (o : Option DeckLine) → Some (option_map (seen_definition names) d) ≡ option_map (option_map keyed_definition) (option_map entry_in o) → option_map (seen_definition names) d ≡ option_map keyed_definition (option_and_then entry_in o)
+      by None e = absurd (cc)
+      by (Some line) e = cc
+
+  -- and where there is no line
+  pub undefined_at : slice_get ds place ≡ None → definition_at lines place ≡ None
+  undefined_at at = by (slice_get lines place) (sym (ap (option_map (option_map (seen_definition names))) at) ∙ there)
+    where
+      by : (o : Option DeckLine) → None ≡ option_map (option_map keyed_definition) (option_map entry_in o) → option_and_then entry_in o ≡ None
+      by None e = refl
+      by (Some line) e = absurd (cc)
+
+-- the parts of a definition with its key
+pub keyed_entry : (d : Option (Key × Entry)) → option_map (λ (p : Option Key × Entry). p.1) (option_map keyed_definition d) ≡ option_map (λ (p : Key × Entry). p.1) d
+keyed_entry None = refl
+keyed_entry (Some d) = refl
+
+pub keyed_key : (d : Option (Key × Entry)) → option_map (λ (p : Option Key × Entry). p.0) (option_map keyed_definition d) ≡ option_map (λ (p : Key × Entry). Some p.0) d
+keyed_key None = refl
+keyed_key (Some d) = refl

@@ -1,0 +1,85 @@
+-- Keys and their numbers.
+use Rattle.std.proofs.Common.{◌≡◌, ℕ, List, refl, sym, ap, subst, ◌∙◌, inl, inr, ◌⊎◌, Option, Some, None, option_map, slice_get}
+use Rattle.def_entry.specs.Entries.{Entry}
+use Rattle.def_entry.specs.Keys.{key}
+use Rattle.def_entry.specs.declared.key.Key.{Key}
+use Rattle.def_entry.specs.declared.key.Kind.{Kind}
+use Rattle.def_entry.specs.declared.key.Kind.TheVariants as kind
+use Rattle.deck_lines.specs.Names.{IsExtended, IsOneToOne, Names, names_of, with_key, with_name, with_names}
+use Rattle.deck_lines.specs.Stores.{with_definition}
+use Rattle.deck_lines.specs.declared.key_number.KeyNumber.{KeyNumber}
+use Rattle.deck_lines.proofs.Numbering.{IsDistinct, distinct_put, kept_at}
+
+-- the names of a kind, where those of one kind are replaced
+kinds : (names : Names) (a b : Kind) (these : List (List ℕ)) → ((a ≡ b) × (names_of (with_names names a these) b ≡ these)) ⊎ (names_of (with_names names a these) b ≡ names_of names b)
+kinds names kind.Unit kind.Unit these = inl (refl, refl)
+kinds names kind.Unit kind.Prefix these = inr refl
+kinds names kind.Unit kind.Func these = inr refl
+kinds names kind.Unit kind.List these = inr refl
+kinds names kind.Prefix kind.Unit these = inr refl
+kinds names kind.Prefix kind.Prefix these = inl (refl, refl)
+kinds names kind.Prefix kind.Func these = inr refl
+kinds names kind.Prefix kind.List these = inr refl
+kinds names kind.Func kind.Unit these = inr refl
+kinds names kind.Func kind.Prefix these = inr refl
+kinds names kind.Func kind.Func these = inl (refl, refl)
+kinds names kind.Func kind.List these = inr refl
+kinds names kind.List kind.Unit these = inr refl
+kinds names kind.List kind.Prefix these = inr refl
+kinds names kind.List kind.Func these = inr refl
+kinds names kind.List kind.List these = inl (refl, refl)
+
+-- a key that was found among names
+pub found_key : (a : Kind) (o : Option (List ℕ)) (k : Key) → option_map (key a) o ≡ Some k → (a ≡ k.kind) × (o ≡ Some k.name)
+found_key a None k e = absurd (cc)
+found_key a (Some name) k e =
+    let same : key a name ≡ k = cc in
+    (ap (λ (x : Key). x.kind) same, ap (λ (x : Key). Some x.name) same)
+
+-- no key has two numbers where no name of a kind has
+one_each : (names : Names) → ((a : Kind) → IsDistinct (names_of names a)) → IsOneToOne names
+one_each names each m n k p q =
+    let at = found_key m.kind (slice_get (names_of names m.kind) m.number) k p in
+    let too = found_key n.kind (slice_get (names_of names n.kind) n.number) k q in
+    let one = each k.kind m.number n.number k.name
+    (subst (λ a. slice_get (names_of names a) m.number ≡ Some k.name) at.0 at.1)
+    (subst (λ a. slice_get (names_of names a) n.number ≡ Some k.name) too.0 too.1) in
+    λ i. record { kind = (at.0 ∙ sym too.0) i; number = one i }
+
+distinct_each : (names : Names) → IsOneToOne names → (a : Kind) → IsDistinct (names_of names a)
+distinct_each names one a i j x p q =
+    ap (λ (n : KeyNumber). n.number)
+    (one (record { kind = a; number = i }) (record { kind = a; number = j }) (key a x) (ap (option_map (key a)) p) (ap (option_map (key a)) q))
+
+-- no key has two numbers where one more has one
+pub one_to_one : (names : Names) (d : Option (Key × Entry)) → IsOneToOne names → IsOneToOne (with_definition names d)
+one_to_one names None one = one
+one_to_one names (Some d) one = one_each (with_key names d.0) each
+  where
+    k : Key
+    k = d.0
+
+    each : (a : Kind) → IsDistinct (names_of (with_key names k) a)
+    each a = elim (kinds names k.kind a (with_name k.name (names_of names k.kind))) [
+      | inl h ↦ subst IsDistinct (sym h.1) (distinct_put k.name (names_of names k.kind) (distinct_each names one k.kind))
+      | inr h ↦ subst IsDistinct (sym h) (distinct_each names one a)
+    ]
+
+-- keys keep their numbers where one more has one
+pub extended : (names : Names) (d : Option (Key × Entry)) → IsExtended names (with_definition names d)
+extended names None n k e = e
+extended names (Some d) n k e = ap (option_map (key n.kind)) stays ∙ sym (ap (option_map (key n.kind)) at) ∙ e
+  where
+    at : slice_get (names_of names n.kind) n.number ≡ Some k.name
+    at = (found_key n.kind (slice_get (names_of names n.kind) n.number) k e).1
+
+    put : Key
+    put = d.0
+
+    stays : slice_get (names_of (with_key names put) n.kind) n.number ≡ Some k.name
+    stays = elim (kinds names put.kind n.kind (with_name put.name (names_of names put.kind))) [
+      | inl h ↦
+          ap (λ these. slice_get these n.number) h.1
+          ∙ kept_at put.name (names_of names put.kind) n.number k.name (subst (λ a. slice_get (names_of names a) n.number ≡ Some k.name) (sym h.0) at)
+      | inr h ↦ ap (λ these. slice_get these n.number) h ∙ at
+    ]

@@ -1,0 +1,11 @@
+mod Closing
+mod Defining
+mod Drafting
+mod Exchanging
+mod Keeping
+mod Keys
+mod Loading
+mod Numbering
+mod Replacing
+mod Storing
+mod Turning

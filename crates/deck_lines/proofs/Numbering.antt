@@ -1,0 +1,132 @@
+-- Names and their numbers.
+use Rattle.std.proofs.Common.{◌≡◌, ◌++◌, ◌∷◌, ◌+◌, ◌||◌, [], ℕ, zero, suc, List, Bool, true, false, true≢false, not, cond, length, map, refl, sym, ap, subst, ◌∙◌, inl, inr, ◌⊎◌, arith, Option, Some, None, option_map, slice_get, get_or}
+use Rattle.std.specs.Prelude.{MatchOption, is_some}
+use Rattle.std.specs.List.{list_any, position, position_or_len}
+use Rattle.std.specs.Str.{bytes_eq}
+use Rattle.std.specs.Cmp.Lexicographic.{bytes_decides}
+use Rattle.std.proofs.lemmas.List.{map-append}
+use Rattle.std.proofs.lemmas.List.Quantifiers.{position-Some}
+use Rattle.std.proofs.lemmas.Option.{slice_get-get_or, slice_get-map}
+use Rattle.indexmap.specs.IndexSet.{insert_key}
+use Rattle.deck_lines.specs.Names.{with_name}
+
+-- names that are told to be equal are one
+pub same_name : (a b : List ℕ) → bytes_eq a b ≡ true → a ≡ b
+same_name a b h = (bytes_decides a b).0 h
+
+pub some_one : {A : Type 0} (x y : A) → Some x ≡ Some y → x ≡ y
+some_one x y e = cc
+
+module _ {K : Type 0} (items : K → List ℕ) (name : List ℕ) where
+  -- a name is among those that keys hold
+  pub any_seen : (ks : List K) → list_any (bytes_eq name) (map items ks) ≡ list_any (λ k. bytes_eq name (items k)) ks
+  any_seen [] = refl
+  any_seen (k ∷ ks) = ap (λ b. bytes_eq name (items k) || b) (any_seen ks)
+
+  -- and where
+  pub place_seen : (ks : List K) → position_or_len (bytes_eq name) (map items ks) ≡ position_or_len (λ k. bytes_eq name (items k)) ks
+  place_seen [] = refl
+  place_seen (k ∷ ks) = ap (λ n. cond (not (bytes_eq name (items k))) (1 + n) 0) (place_seen ks)
+
+-- the names that keys hold, where one key more was put
+pub put_seen : {K : Type 0} (items : K → List ℕ) (k : K) (ks : List K) →
+    map items (insert_key (λ a b. bytes_eq (items a) (items b)) ks k) ≡ with_name (items k) (map items ks)
+put_seen items k ks =
+    by (list_any (λ a. bytes_eq (items k) (items a)) ks)
+    ∙ ap (λ b. cond b (map items ks) (map items ks ++ items k ∷ [])) (sym (any_seen items (items k) ks))
+  where
+    by : (b : Bool) → map items (cond b ks (ks ++ k ∷ [])) ≡ cond b (map items ks) (map items ks ++ items k ∷ [])
+    by true = refl
+    by false = map-append items ks (k ∷ [])
+
+-- the name at a place that was found
+pub name_found : {K : Type 0} (items : K → List ℕ) (name : List ℕ) (ks : List K) (i : ℕ) →
+    position (λ k. bytes_eq name (items k)) ks ≡ Some i → slice_get (map items ks) i ≡ Some name
+name_found items name [] i e = absurd (cc)
+name_found items name (k ∷ ks) i e =
+    let at = position-Some (λ a. bytes_eq name (items a)) (k ∷ ks) i k e in
+    slice_get-map items (k ∷ ks) i ∙ ap (option_map items) (slice_get-get_or (k ∷ ks) i k at.0)
+    ∙ ap Some (sym (same_name name (items (get_or (k ∷ ks) i k)) at.1))
+
+-- what a look-up of a name tells
+pub number_seen : {K : Type 0} (items : K → List ℕ) (name : List ℕ) (ks : List K) (r : Option ℕ) (names : List (List ℕ)) → map items ks ≡ names →
+    r ≡ position (λ k. bytes_eq name (items k)) ks → is_some r ≡ list_any (λ k. bytes_eq name (items k)) ks →
+    MatchOption r (list_any (bytes_eq name) names ≡ false) (λ n. slice_get names n ≡ Some name)
+number_seen items name ks None names e at found = ap (list_any (bytes_eq name)) (sym e) ∙ any_seen items name ks ∙ sym found
+number_seen items name ks (Some n) names e at found = ap (λ l. slice_get l n) (sym e) ∙ name_found items name ks n (sym at)
+
+abbrev At : List ℕ → List ℕ → List (List ℕ) → Bool → Type 0
+At name x xs b =
+    slice_get (cond (b || list_any (bytes_eq name) xs) (x ∷ xs) (x ∷ xs ++ name ∷ []))
+    (cond (not b) (1 + position_or_len (bytes_eq name) xs) 0) ≡ Some name
+
+-- a name has the number at which it is put
+pub put_at : (name : List ℕ) (names : List (List ℕ)) → slice_get (with_name name names) (position_or_len (bytes_eq name) names) ≡ Some name
+put_at name [] = refl
+put_at name (x ∷ xs) = by (bytes_eq name x) refl (put_at name xs)
+  where
+    behind : (c : Bool) (ys : List (List ℕ)) (n : ℕ) → slice_get (cond c (x ∷ xs) (x ∷ ys)) (suc n) ≡ slice_get (cond c xs ys) n
+    behind true ys n = refl
+    behind false ys n = refl
+
+    next : (n : ℕ) → 1 + n ≡ suc n
+    next n = omega arith
+
+    by : (b : Bool) → bytes_eq name x ≡ b → slice_get (with_name name xs) (position_or_len (bytes_eq name) xs) ≡ Some name → At name x xs (bytes_eq name x)
+    by true e rest = subst (At name x xs) (sym e) (ap Some (sym (same_name name x e)))
+    by false e rest =
+        subst (At name x xs) (sym e)
+        (ap (slice_get (cond (list_any (bytes_eq name) xs) (x ∷ xs) (x ∷ xs ++ name ∷ []))) (next (position_or_len (bytes_eq name) xs))
+        ∙ behind (list_any (bytes_eq name) xs) (xs ++ name ∷ []) (position_or_len (bytes_eq name) xs)
+        ∙ rest)
+
+-- a name that stands somewhere is among them
+pub found_is_any : (name : List ℕ) (names : List (List ℕ)) (i : ℕ) → slice_get names i ≡ Some name → list_any (bytes_eq name) names ≡ true
+found_is_any name [] i e = absurd (cc)
+found_is_any name (x ∷ xs) zero e =
+    let same : name ≡ x = sym (some_one x name e) in
+    ap (λ b. b || list_any (bytes_eq name) xs) ((bytes_decides name x).1 same)
+found_is_any name (x ∷ xs) (suc i) e = ap (λ b. bytes_eq name x || b) (found_is_any name xs i e) ∙ either (bytes_eq name x)
+  where
+    either : (b : Bool) → (b || true) ≡ true
+    either true = refl
+    either false = refl
+
+-- names keep their numbers where one more is put
+pub kept_at : (name : List ℕ) (names : List (List ℕ)) (i : ℕ) (x : List ℕ) → slice_get names i ≡ Some x → slice_get (with_name name names) i ≡ Some x
+kept_at name names i x e = by (list_any (bytes_eq name) names)
+  where
+    front : (xs : List (List ℕ)) (n : ℕ) → slice_get xs n ≡ Some x → slice_get (xs ++ name ∷ []) n ≡ Some x
+    front [] n p = absurd (cc)
+    front (y ∷ ys) zero p = p
+    front (y ∷ ys) (suc n) p = front ys n p
+
+    by : (b : Bool) → slice_get (cond b names (names ++ name ∷ [])) i ≡ Some x
+    by true = e
+    by false = front names i e
+
+-- no name stands at two places
+abbrev pub IsDistinct : List (List ℕ) → Type 0
+IsDistinct names = (i j : ℕ) (x : List ℕ) → slice_get names i ≡ Some x → slice_get names j ≡ Some x → i ≡ j
+
+-- what stands at a place with a name more: one of the others, or it
+behind_all : (xs : List (List ℕ)) (y : List ℕ) (i : ℕ) (x : List ℕ) → slice_get (xs ++ y ∷ []) i ≡ Some x → (slice_get xs i ≡ Some x) ⊎ ((i ≡ length xs) × (y ≡ x))
+behind_all [] y zero x e = inr (refl, some_one y x e)
+behind_all [] y (suc i) x e = absurd (cc)
+behind_all (z ∷ xs) y zero x e = inl e
+behind_all (z ∷ xs) y (suc i) x e = elim (behind_all xs y i x e) [ inl h ↦ inl h | inr h ↦ inr (ap suc h.0, h.1) ]
+
+-- nor where one more is put
+pub distinct_put : (name : List ℕ) (names : List (List ℕ)) → IsDistinct names → IsDistinct (with_name name names)
+distinct_put name names once = by (list_any (bytes_eq name) names) refl
+  where
+    new : list_any (bytes_eq name) names ≡ false → (i : ℕ) (x : List ℕ) → slice_get names i ≡ Some x → name ≡ x → ⊥
+    new none i x at same =
+        true≢false (sym (found_is_any name names i (at ∙ ap Some (sym same))) ∙ none)
+
+    by : (b : Bool) → list_any (bytes_eq name) names ≡ b → IsDistinct (cond b names (names ++ name ∷ []))
+    by true e = once
+    by false e = λ i j x p q. elim (behind_all names name i x p) [
+      | inl a ↦ elim (behind_all names name j x q) [ inl b ↦ once i j x a b | inr b ↦ absurd (new e i x a b.1) ]
+      | inr a ↦ elim (behind_all names name j x q) [ inl b ↦ absurd (new e j x b a.1) | inr b ↦ a.0 ∙ sym b.0 ]
+    ]

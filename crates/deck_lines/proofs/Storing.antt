@@ -1,0 +1,110 @@
+-- Lines with what they define.
+use Rattle.std.proofs.Common.{◌≡◌, ◌++◌, ◌∷◌, ◌+◌, [], ℕ, List, map, take, drop, true, sym, ap, subst, ◌∙◌, Option, Some, None, option_map, slice_get, length}
+use Rattle.std.specs.Option.{option_and_then}
+use Rattle.std.proofs.lemmas.List.{drop-map, length-map, map-append, take-map}
+use Rattle.def_entry.specs.Entries.{Entry}
+use Rattle.def_entry.specs.Seen.{seen_entry}
+use Rattle.def_entry.specs.declared.entry.Entry.{Entry as MadeEntry}
+use Rattle.def_entry.specs.declared.key.Key.{Key}
+use Rattle.deck_lines.specs.Kept.{AreDefined, IsDefined, IsKept, keyed_definition, seen_definition}
+use Rattle.deck_lines.specs.Names.{IsOneToOne, Names, is_numbered, key_at, names_of}
+use Rattle.deck_lines.specs.NumberedKeys.{names_in}
+use Rattle.deck_lines.specs.Numbering.{IsNumbering}
+use Rattle.deck_lines.specs.Readings.{entry_in}
+use Rattle.deck_lines.specs.Stores.{Store, with_definition}
+use Rattle.deck_lines.specs.declared.key_number.KeyNumber.{KeyNumber}
+use Rattle.deck_lines.specs.declared.line.DeckLine.{DeckLine}
+use Rattle.deck_lines.specs.declared.store.definitions.Definition.{Definition}
+use Rattle.deck_lines.specs.declared.store.definitions.Definitions.{Definitions}
+use Rattle.deck_lines.proofs.Defining.{there}
+use Rattle.deck_lines.proofs.Keys.{found_key, one_to_one}
+use Rattle.deck_lines.proofs.Numbering.{found_is_any, some_one}
+
+-- what was defined is defined where room was made
+pub defined_same : (d room : Definitions) (said : List (Option (Key × Entry))) → room.of_lines.items ≡ d.of_lines.items → names_in room.keys ≡ names_in d.keys → AreDefined d said → AreDefined room said
+defined_same d room said items names are =
+    subst (λ n. IsDefined n room.of_lines.items said) (sym names)
+    (subst (λ ds. IsDefined (names_in d.keys) ds said) (sym items) are)
+
+module _ (lines : List DeckLine) (d : Definitions) (kept : IsKept lines d) where
+  -- one line more
+  pub kept_push : (line : DeckLine) (room new : Definitions) (made : Option (Key × MadeEntry)) (after : List DeckLine) →
+      room.of_lines.items ≡ d.of_lines.items → names_in room.keys ≡ names_in d.keys → option_map seen_entry made ≡ entry_in line → after ≡ lines ++ line ∷ [] →
+      ((said : List (Option (Key × Entry))) → AreDefined room said → AreDefined new (said ++ option_map seen_entry made ∷ [])) →
+      names_in new.keys ≡ with_definition (names_in room.keys) (option_map seen_entry made) → IsKept after new
+  kept_push line room new made after items names is e put grows = record {
+    defined =
+        subst (AreDefined new)
+        (ap (λ o. map entry_in lines ++ o ∷ []) is ∙ sym (map-append entry_in lines (line ∷ [])) ∙ ap (map entry_in) (sym e))
+        (put (map entry_in lines) (defined_same d room (map entry_in lines) items names kept.defined));
+    unique = subst IsOneToOne (sym grows) (one_to_one (names_in room.keys) (option_map seen_entry made) (subst IsOneToOne (sym names) kept.unique));
+  }
+
+  -- the first lines alone
+  pub kept_take : (n : ℕ) (new : Definitions) (after : List DeckLine) → after ≡ take n lines →
+      ((said : List (Option (Key × Entry))) → AreDefined d said → AreDefined new (take n said)) → names_in new.keys ≡ names_in d.keys → IsKept after new
+  kept_take n new after e put same = record {
+    defined = subst (AreDefined new) (take-map entry_in n lines ∙ ap (map entry_in) (sym e)) (put (map entry_in lines) kept.defined);
+    unique = subst IsOneToOne (sym same) kept.unique;
+  }
+
+  -- without the line at a place
+  pub kept_without : (place : ℕ) (new : Definitions) (after : List DeckLine) → after ≡ take place lines ++ drop (place + 1) lines →
+      ((said : List (Option (Key × Entry))) → AreDefined d said → AreDefined new (take place said ++ drop (place + 1) said)) → names_in new.keys ≡ names_in d.keys → IsKept after new
+  kept_without place new after e put same = record {
+    defined =
+        subst (AreDefined new)
+        (ap (λ t. t ++ drop (place + 1) (map entry_in lines)) (take-map entry_in place lines)
+        ∙ ap (λ t. map entry_in (take place lines) ++ t) (drop-map entry_in (place + 1) lines)
+        ∙ sym (map-append entry_in (take place lines) (drop (place + 1) lines))
+        ∙ ap (map entry_in) (sym e))
+        (put (map entry_in lines) kept.defined);
+    unique = subst IsOneToOne (sym same) kept.unique;
+  }
+
+-- as many definitions as lines
+pub defined_long : (names : Names) (ds : List (Option Definition)) (lines : List DeckLine) → IsDefined names ds (map entry_in lines) → length ds ≡ length lines
+defined_long names ds lines are =
+    sym (length-map ds (option_map (seen_definition names))) ∙ ap length are ∙ length-map (map entry_in lines) (option_map keyed_definition) ∙ length-map lines entry_in
+
+-- other lines in the place of some
+pub kept_exchange : (lines put : List DeckLine) (d room new : Definitions) (kept : IsKept lines d) (ds : List (Option Definition)) (at cut : ℕ) (after : List DeckLine) →
+    room.of_lines.items ≡ d.of_lines.items → names_in room.keys ≡ names_in d.keys → IsDefined (names_in d.keys) ds (map entry_in put) → after ≡ take at lines ++ (put ++ drop (at + cut) lines) →
+    ((said by : List (Option (Key × Entry))) → AreDefined room said → IsDefined (names_in room.keys) ds by → AreDefined new (take at said ++ (by ++ drop (at + cut) said))) →
+    names_in new.keys ≡ names_in room.keys → IsKept after new
+kept_exchange lines put d room new kept ds at cut after items names read e swap same = record {
+  defined =
+      subst (AreDefined new)
+      (ap (λ t. t ++ (map entry_in put ++ drop (at + cut) (map entry_in lines))) (take-map entry_in at lines)
+      ∙ ap (λ t. map entry_in (take at lines) ++ (map entry_in put ++ t)) (drop-map entry_in (at + cut) lines)
+      ∙ ap (λ t. map entry_in (take at lines) ++ t) (sym (map-append entry_in put (drop (at + cut) lines)))
+      ∙ sym (map-append entry_in (take at lines) (put ++ drop (at + cut) lines))
+      ∙ ap (map entry_in) (sym e))
+      (swap (map entry_in lines) (map entry_in put) (defined_same d room (map entry_in lines) items names kept.defined)
+      (subst (λ n. IsDefined n ds (map entry_in put)) (sym names) read));
+  unique = subst IsOneToOne (sym (same ∙ names)) kept.unique;
+}
+
+-- a key with a number is numbered
+numbered : (names : Names) (n : KeyNumber) (k : Key) → key_at names n ≡ Some k → is_numbered names k ≡ true
+numbered names n k e =
+    let at = found_key n.kind (slice_get (names_of names n.kind) n.number) k e in
+    found_is_any k.name (names_of names k.kind) n.number (subst (λ a. slice_get (names_of names a) n.number ≡ Some k.name) at.0 at.1)
+
+-- the key that a line defines is
+numbered_at : (names : Names) (o : Option (Option Definition)) (l : Option DeckLine) (d : Key × Entry) →
+    option_map (option_map (seen_definition names)) o ≡ option_map (option_map keyed_definition) (option_map entry_in l) → option_and_then entry_in l ≡ Some d → is_numbered names d.0 ≡ true
+numbered_at names o None d e is = absurd (cc)
+numbered_at names None (Some line) d e is = absurd (cc)
+numbered_at names (Some x) (Some line) d e is = by x (some_one (option_map (seen_definition names) x) (option_map keyed_definition (entry_in line)) e ∙ ap (option_map keyed_definition) is)
+  where
+    by : (y : Option Definition) → option_map (seen_definition names) y ≡ Some (keyed_definition d) → is_numbered names d.0 ≡ true
+    by None p = absurd (cc)
+    by (Some y) p = numbered names y.key d.0 (ap (λ (q : Option Key × Entry). q.0) (some_one (seen_definition names y) (keyed_definition d) p))
+
+-- the numbers of keys beside lines
+pub numbering_of : (lines : List DeckLine) (d : Definitions) (s : Store) → IsKept lines d → record { lines = lines; names = names_in d.keys } ≡ s → IsNumbering s
+numbering_of lines d s kept e = subst IsNumbering e (record {
+  each = λ place made is. numbered_at (names_in d.keys) (slice_get d.of_lines.items place) (slice_get lines place) made (there (names_in d.keys) d.of_lines.items lines place kept.defined) is;
+  unique = kept.unique;
+})

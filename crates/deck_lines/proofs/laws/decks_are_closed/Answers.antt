@@ -1,0 +1,5 @@
+use Rattle.deck_lines.proofs.Closing.{deck_closed}
+use Rattle.deck_lines.proofs.laws.decks_are_closed.Goals as goal
+
+pub returns : goal.returns
+returns c = deck_closed

@@ -1,0 +1,10 @@
+use Rattle.std.proofs.Common.{ap, ◌∙◌, [], refl, map, option_map}
+use Rattle.deck_lines.specs.Kept.{seen_definition}
+use Rattle.deck_lines.specs.NumberedKeys.{names_in}
+use Rattle.deck_lines.proofs.Defining.{defined_exchange}
+use Rattle.deck_lines.proofs.store.definitions.Definitions.remove.Goals as goal
+
+pub returns-clause-lines : goal.returns-clause-lines
+returns-clause-lines c = λ said are.
+    ap (map (option_map (seen_definition (names_in c.args.self.now.keys)))) c.remove_at.ensures.rest
+    ∙ defined_exchange (names_in c.args.self.now.keys) c.args.self.now.of_lines.items [] said [] c.args.place 1 are refl

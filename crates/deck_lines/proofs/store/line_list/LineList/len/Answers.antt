@@ -1,0 +1,8 @@
+use Rattle.std.proofs.Common.{length, sym, ap, ◌∙◌}
+use Rattle.deck_lines.proofs.Keeping.{marks_len}
+use Rattle.deck_lines.proofs.store.line_list.LineList.len.Goals as goal
+
+pub returns : goal.returns
+returns c =
+    c.len.ensures ∙ sym (marks_len c.self.inside.lines c.self.inside.marks.items c.self.invariant.marked)
+    ∙ ap length c.self.view_is

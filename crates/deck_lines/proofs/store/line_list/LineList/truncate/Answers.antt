@@ -1,0 +1,37 @@
+use Rattle.std.proofs.Common.{◌≡◌, List, ap, sym, ◌∙◌, arith, drop, take, length}
+use Rattle.def_lines.specs.declared.line.Line.{Line}
+use Rattle.deck_lines.specs.Limits.{bytes_in}
+use Rattle.deck_lines.specs.Marks.{with_marks}
+use Rattle.deck_lines.proofs.Exchanging.{all_of}
+use Rattle.deck_lines.proofs.Keeping.{bytes_behind, marks_len, marks_take, within_took}
+use Rattle.deck_lines.proofs.store.line_list.LineList.truncate.Goals as goal
+
+pub returns-then-len : goal.returns-then-len
+returns-then-len c =
+    let long : length c.args.self.now ≡ length c.self.inside.lines =
+    ap length (sym c.self.view_is) ∙ marks_len c.self.inside.lines c.self.inside.marks.items c.self.invariant.marked in
+    sym (all_of c.args.len c.args.self.now (omega (arith, long, c.len.ensures, c.if-len.true)))
+
+pub texts_len-requires : goal.texts_len-requires
+texts_len-requires c =
+    let some : bytes_in c.split_at.result.1.now ≡ bytes_in (drop c.args.len c.self.inside.lines) =
+    ap bytes_in (c.split_at.ensures.back ∙ ap (drop c.args.len) c.as_slice.ensures) in
+    omega (arith, some, bytes_behind c.self.inside.lines c.self.inside.marks.items c.self.inside.bytes c.self.invariant c.args.len, c.self.invariant.small)
+
+pub overflow_sub-self : goal.overflow_sub-self
+overflow_sub-self c =
+    let some : c.texts_len.result ≡ bytes_in (drop c.args.len c.self.inside.lines) =
+    c.texts_len.ensures ∙ ap bytes_in (c.split_at.ensures.back ∙ ap (drop c.args.len) c.as_slice.ensures) in
+    omega (arith, some, bytes_behind c.self.inside.lines c.self.inside.marks.items c.self.inside.bytes c.self.invariant c.args.len)
+
+pub invariant_of-self : goal.invariant_of-self
+invariant_of-self c =
+    within_took c.self.inside.lines c.self.inside.marks.items c.self.inside.bytes c.self.invariant c.args.len c.texts_len.result _ _
+    (c.texts_len.ensures ∙ ap bytes_in (c.split_at.ensures.back ∙ ap (drop c.args.len) c.as_slice.ensures)) c.truncate.ensures c.truncate-2.ensures.items
+
+pub returns : goal.returns
+returns c =
+    ap (λ (lines : List Line). with_marks lines c.truncate-2.new.self.items) c.truncate.ensures
+    ∙ ap (with_marks (take c.args.len c.self.inside.lines)) c.truncate-2.ensures.items
+    ∙ marks_take c.args.len c.self.inside.lines c.self.inside.marks.items
+    ∙ ap (take c.args.len) c.self.view_is

@@ -1,0 +1,113 @@
+-- The deck of a file, where it is told what each include gives.
+use Rattle.std.specs.Prelude.{◌++◌, ℕ, List, [], ◌∷◌, Bool, false, not, if◌then◌else◌, codes, map, reverse, filter}
+use Rattle.std.specs.Fmt.{decimal}
+use Rattle.def_lines.specs.declared.line.Line.{Line}
+use Rattle.def_lines.specs.Lines.{logical_lines}
+use Rattle.def_lines.specs.Words.{is_empty}
+use Rattle.deck_lines.specs.Blocks.{end_text, same_ending}
+use Rattle.deck_lines.specs.Marks.{marked_line, plain_line}
+use Rattle.deck_lines.specs.Readings.{Reading, Stands, Defines, Includes, Faulty, reading_of}
+use Rattle.deck_lines.specs.declared.line.DeckLine.{DeckLine}
+use Rattle.deck_lines.specs.declared.line.Ending.{Ending}
+use Rattle.deck_lines.specs.declared.line.Block.{Block}
+use Rattle.deck_lines.specs.declared.line.Role.{Role}
+use Rattle.deck_lines.specs.declared.line.Role.TheVariants.{Opens, Closes, Inside}
+
+-- the lines and the notices of a file or of a part of it, in order
+pub record Excerpt : Type 0 where
+  pub lines : List DeckLine
+  pub notices : List (List ℕ)
+
+-- what an include gives: the deck of a file that is read, or what is told of one that is not
+pub data Included : Type 0 where
+  Read : Excerpt → Included
+  NotRead : List ℕ → Included
+
+-- a part of a file, and another behind it
+abbrev pub in_turn : Excerpt → Excerpt → Excerpt
+in_turn first second =
+    record { lines = first.lines ++ second.lines; notices = first.notices ++ second.notices }
+
+-- a notice: its file, the number of its line, and what is told of that line
+abbrev pub notice : List ℕ → ℕ → List ℕ → List ℕ
+notice file number text = file ++ codes ":" ++ decimal number ++ codes ": " ++ text
+
+-- a line that has effect
+abbrev pub line_without_notice : Line → Excerpt
+line_without_notice line = record { lines = plain_line line.number line.text ∷ []; notices = [] }
+
+-- a line that stays without effect, and its notice
+abbrev pub line_with_notice : List ℕ → Line → List ℕ → Excerpt
+line_with_notice file line text =
+    record { lines = marked_line line.number line.text ∷ []; notices = notice file line.number text ∷ [] }
+
+-- an include line, and behind it the deck of the file that is read
+abbrev pub include_excerpt : List ℕ → Line → Included → Excerpt
+include_excerpt file line (Read excerpt) = in_turn (line_without_notice line) excerpt
+include_excerpt file line (NotRead text) = line_with_notice file line text
+
+-- this end line closes the innermost of the open blocks, which stands first
+abbrev pub closes_innermost : Ending → List Block → Bool
+closes_innermost ending [] = false
+closes_innermost ending (block ∷ blocks) = same_ending ending block.ending
+
+-- a line that opens a block, closes one or stands inside of those that are open; an end line that
+-- does not close the innermost one gives a notice
+abbrev pub role_excerpt : List ℕ → List Block → Line → Role → Excerpt
+role_excerpt file blocks line (Closes ending) =
+    if closes_innermost ending blocks then line_without_notice line else line_with_notice file line (codes "stray end")
+role_excerpt file blocks line (Opens ending) = line_without_notice line
+role_excerpt file blocks line Inside = line_without_notice line
+
+-- what one line of a file gives where these blocks of the file are open, by what the line means
+abbrev pub line_excerpt : (List ℕ → Included) → List ℕ → List Block → Line → Reading → Excerpt
+line_excerpt included file blocks line (Stands role) = role_excerpt file blocks line role
+line_excerpt included file blocks line (Defines entry) = line_without_notice line
+line_excerpt included file blocks line (Includes name) = include_excerpt file line (included name)
+line_excerpt included file blocks line (Faulty text) = line_with_notice file line text
+
+-- all blocks but the innermost
+abbrev pub outer_blocks : List Block → List Block
+outer_blocks [] = []
+outer_blocks (block ∷ blocks) = blocks
+
+-- the open blocks of a file behind a line of this number and role
+abbrev pub blocks_behind_role : List Block → ℕ → Role → List Block
+blocks_behind_role blocks number (Opens ending) = record { ending = ending; number = number } ∷ blocks
+blocks_behind_role blocks number (Closes ending) = if closes_innermost ending blocks then outer_blocks blocks else blocks
+blocks_behind_role blocks number Inside = blocks
+
+-- the open blocks of a file behind a line; those of an included file are closed at its end
+abbrev pub blocks_behind_line : List Block → Line → Reading → List Block
+blocks_behind_line blocks line (Stands role) = blocks_behind_role blocks line.number role
+blocks_behind_line blocks line _ = blocks
+
+-- the end line that a block lacks, with the number of the line that opened it
+abbrev pub missing_end : Block → DeckLine
+missing_end block = plain_line block.number (end_text block.ending)
+
+-- the notice of a block that lacks its end line, at the line that opened it
+abbrev pub unclosed_notice : List ℕ → Block → List ℕ
+unclosed_notice file block = notice file block.number (codes "unclosed block")
+
+-- the end of a file: the missing end lines, the innermost first, and their notices in the order of
+-- the lines that opened the blocks
+abbrev pub file_end : List ℕ → List Block → Excerpt
+file_end file blocks =
+    record { lines = map missing_end blocks; notices = map (unclosed_notice file) (reverse blocks) }
+
+-- the rest of a file, where these blocks of it are open, the innermost first
+unfoldable pub rest_excerpt : (List ℕ → Included) → List ℕ → List Block → List Line → Excerpt
+rest_excerpt included file blocks [] = file_end file blocks
+rest_excerpt included file blocks (line ∷ lines) =
+    in_turn (line_excerpt included file blocks line (reading_of line.text))
+    (rest_excerpt included file (blocks_behind_line blocks line (reading_of line.text)) lines)
+
+-- the line is not blank
+abbrev pub is_shown : Line → Bool
+is_shown line = not (is_empty line.text)
+
+-- the deck of a file of this name and these bytes: its logical lines other than blank ones, each
+-- with what it gives
+abbrev pub file_excerpt : (List ℕ → Included) → List ℕ → List ℕ → Excerpt
+file_excerpt included file bytes = rest_excerpt included file [] (filter is_shown (logical_lines bytes))

@@ -1,0 +1,15 @@
+-- Parts of lists exchanged.
+use Rattle.std.specs.Prelude.{◌≡◌, ◌≤◌, ◌+◌, ◌++◌, ℕ, List, [], take, drop, vec_capacity}
+use Rattle.deck_lines.specs.declared.store.marked.ExchangeRoom.{ExchangeRoom}
+
+-- other items in the place of some, from a place on
+abbrev pub IsExchanged : {A : Type 0} → ℕ → ℕ → List A → List A → List A → Type 0
+IsExchanged at cut put old new = new ≡ take at old ++ (put ++ drop (at + cut) old)
+
+-- the vectors are empty, and an exchange of so many lines for so many others needs no more
+pub record HasRoom (put cut : ℕ) (room : ExchangeRoom) : Type 0 where
+  pub put_lines : (room.put_lines.items ≡ []) × (put ≤ vec_capacity room.put_lines)
+  pub put_marks : (room.put_marks.items ≡ []) × (put ≤ vec_capacity room.put_marks)
+  pub gone_lines : (room.gone_lines.items ≡ []) × (cut ≤ vec_capacity room.gone_lines)
+  pub gone_marks : (room.gone_marks.items ≡ []) × (cut ≤ vec_capacity room.gone_marks)
+  pub gone : (room.gone.items ≡ []) × (cut ≤ vec_capacity room.gone)

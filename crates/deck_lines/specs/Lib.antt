@@ -1,0 +1,17 @@
+pub mod Blocks
+pub mod Closed
+pub mod Excerpts
+pub mod Exchanges
+pub mod Includes
+pub mod Kept
+pub mod Limits
+pub mod Loads
+pub mod Marks
+pub mod Names
+pub mod NumberedKeys
+pub mod NumberedNames
+pub mod Numbering
+pub mod Readings
+pub mod Stores
+pub mod Views
+pub mod Within

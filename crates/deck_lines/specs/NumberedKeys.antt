@@ -1,0 +1,21 @@
+-- What contracts see of the sets of names, kind by kind.
+use Rattle.std.specs.Prelude.{ℕ}
+use Rattle.def_entry.specs.declared.key.Kind.{Kind}
+use Rattle.def_entry.specs.declared.key.Kind.TheVariants as kind
+use Rattle.deck_lines.specs.Names.{Names}
+use Rattle.deck_lines.specs.declared.store.key_numbers.KeyNumbers.{KeyNumbers}
+
+abbrev pub names_in : KeyNumbers → Names
+names_in keys = record {
+  units = keys.units.names;
+  prefixes = keys.prefixes.names;
+  functions = keys.functions.names;
+  lists = keys.lists.names;
+}
+
+-- how many more names of a kind need no memory
+abbrev pub spare_of : KeyNumbers → Kind → ℕ
+spare_of keys kind.Unit = keys.units.spare
+spare_of keys kind.Prefix = keys.prefixes.spare
+spare_of keys kind.Func = keys.functions.spare
+spare_of keys kind.List = keys.lists.spare

@@ -1,0 +1,128 @@
+//! What a load has read so far.
+
+ghost use Rattle.std.specs.Prelude.{◌≡◌, ◌++◌, ◌∷◌, [], OnOk, OnErr, option_map};
+ghost use Rattle.def_entry.specs.Seen.{seen_entry};
+ghost use Rattle.deck_lines.specs.Excerpts.{line_with_notice, line_without_notice, notice};
+ghost use Rattle.deck_lines.specs.Loads.{IsLoad, ReadsNone};
+ghost use Rattle.deck_lines.specs.Marks.{plain_line};
+ghost use Rattle.deck_lines.specs.Readings.{entry_in};
+ghost use Rattle.deck_lines.specs.Stores.{no_lines};
+
+use crate::store::LineStore;
+use def_entry::{Entry, Key};
+use def_lines::Line;
+use std::alloc::{AllocError, AllocFailed, Global};
+use units_io::{Text, Texts};
+
+/// Notices, in order.
+pub type Notices = Texts;
+
+/// Why a load ends early.
+#[derive(Clone, Copy, Debug, PartialEq, Eq)]
+pub enum LoadFault {
+    /// The lines pass a limit.
+    DeckFull,
+    /// An included file could not be read.
+    ReadFailed,
+    OutOfMemory,
+}
+
+impl From<AllocError> for LoadFault {
+    ghost use Rattle.std.specs.Prelude.{◌≡◌};
+    ghost use Rattle.deck_lines.specs.declared.draft.LoadFault.TheVariants.{OutOfMemory};
+
+    ghost from_gives = { λ _ e. e ≡ OutOfMemory };
+
+    fn from(_: AllocError) -> Self {
+        LoadFault::OutOfMemory
+    }
+}
+
+impl<T: Drop> From<AllocFailed<T>> for LoadFault {
+    ghost use Rattle.std.specs.Prelude.{◌≡◌};
+    ghost use Rattle.deck_lines.specs.declared.draft.LoadFault.TheVariants.{OutOfMemory};
+
+    ghost from_gives = { λ _ e. e ≡ OutOfMemory };
+
+    fn from(_: AllocFailed<T>) -> Self {
+        LoadFault::OutOfMemory
+    }
+}
+
+/// The lines and the notices that a load has read so far, behind those that stood before.
+#[derive(Drop)]
+pub struct Draft {
+    pub store: LineStore,
+    pub notices: Notices,
+}
+
+impl Draft {
+    /// No line and no notice.
+    pub fn new(alloc: Global) -> Draft
+        ensures { result ≡ record { store = no_lines; notices = [] } }
+    {
+        Draft {
+            store: LineStore::new(alloc),
+            notices: Notices::new(alloc),
+        }
+    }
+
+    /// Puts a line that has effect at the end, with what it defines.
+    pub(crate) fn push_line(
+        &mut self,
+        alloc: Global,
+        line: Line,
+        definition: Option<(Key, Entry)>,
+    ) -> Result<(), LoadFault>
+        requires { option_map seen_entry definition ≡ entry_in (plain_line line.number line.text) }
+        ensures told { IsLoad self.old (line_without_notice line) result self.new }
+        ensures err { OnErr result (self.new.store ≡ self.old.store) }
+        ensures read { ReadsNone result }
+    {
+        if !self.store.has_room(line.text.as_bytes().len()) {
+            return Err(LoadFault::DeckFull);
+        }
+        self.store.push(alloc, line, false, definition)?;
+        Ok(())
+    }
+
+    /// Puts a line of this file at the end, which stays without effect, and its notice.
+    #[tactic(auto, unfolding(crate::specs::Readings::entry_in))]
+    pub(crate) fn refuse_line(
+        &mut self,
+        alloc: Global,
+        file: &[u8],
+        line: Line,
+        text: &[u8],
+    ) -> Result<(), LoadFault>
+        ensures told { IsLoad self.old (line_with_notice file.now line text.now) result self.new }
+        ensures err { OnErr result (self.new.store ≡ self.old.store) }
+        ensures read { ReadsNone result }
+    {
+        if !self.store.has_room(line.text.as_bytes().len()) {
+            return Err(LoadFault::DeckFull);
+        }
+        self.push_notice(alloc, file, line.number, text)?;
+        self.store.push(alloc, line, true, None)?;
+        Ok(())
+    }
+
+    /// Puts a notice at the end.
+    pub(crate) fn push_notice(
+        &mut self,
+        alloc: Global,
+        file: &[u8],
+        number: u32,
+        text: &[u8],
+    ) -> Result<(), AllocError>
+        ensures ok { OnOk result (self.new.notices ≡ self.old.notices ++ notice file.now number text.now ∷ []) }
+        ensures store { self.new.store ≡ self.old.store }
+    {
+        let mut words = Vec::from_slice(alloc, file)?;
+        words.extend_from_slice(b":")?;
+        words.extend_from_slice(number.to_string(alloc)?.as_bytes())?;
+        words.extend_from_slice(b": ")?;
+        words.extend_from_slice(text)?;
+        self.notices.push(alloc, Text::from(words))
+    }
+}

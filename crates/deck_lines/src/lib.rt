@@ -1,0 +1,18 @@
+//! The lines of a deck: those of a definition file with its includes, each with its mark and what it defines, and the notices.
+#![tactic(auto)]
+
+mod draft;
+mod key_number;
+mod laws;
+mod line;
+mod load;
+mod reading;
+mod store;
+
+pub use draft::{Draft, LoadFault, Notices};
+pub use key_number::KeyNumber;
+pub use laws::decks_are_closed;
+pub use line::{Block, DeckLine, DeckLines, Ending, MarkedLines, Role};
+pub use load::load_text;
+pub use reading::{Reading, read_line};
+pub use store::{LineStore, MOST_BYTES, MOST_LINES, PutDefinitions};

@@ -1,0 +1,128 @@
+//! The blocks of a file.
+
+ghost use Rattle.std.specs.Prelude.{◌≡◌, ◌++◌, [], None, map, option_map, reverse, OnOk, OnErr};
+ghost use Rattle.deck_lines.specs.Blocks.{end_text, same_ending as same_end};
+ghost use Rattle.deck_lines.specs.Excerpts.{blocks_behind_role, closes_innermost as closes_inner, file_end, missing_end, role_excerpt, unclosed_notice};
+ghost use Rattle.deck_lines.specs.Loads.{Extends, IsLoad, ReadsNone};
+ghost use Rattle.deck_lines.specs.Marks.{plain_line};
+ghost use Rattle.deck_lines.specs.Readings.{entry_in};
+
+use crate::draft::{Draft, LoadFault};
+use crate::line::{Block, Ending, Role};
+use def_lines::Line;
+use std::alloc::{AllocError, Global};
+use units_io::Text;
+
+/// A line that opens a block, closes one or stands inside of those that are open, the innermost last.
+pub(crate) fn push_role_line(
+    alloc: Global,
+    draft: &mut Draft,
+    name: &[u8],
+    blocks: &mut Vec<Block>,
+    line: Line,
+    role: Role,
+) -> Result<(), LoadFault>
+    requires { entry_in (plain_line line.number line.text) ≡ None }
+    ensures told { IsLoad draft.old (role_excerpt name.now (reverse blocks.old.items) line role) result draft.new }
+    ensures blocks { OnOk result (reverse blocks.new.items ≡ blocks_behind_role (reverse blocks.old.items) line.number role) }
+    ensures err { OnErr result (draft.new.store ≡ draft.old.store) }
+    ensures read { ReadsNone result }
+{
+    match role {
+        Role::Opens(ending) => {
+            let number = line.number;
+            blocks.push(Block { ending, number })?;
+            draft.push_line(alloc, line, None)
+        }
+        Role::Closes(ending) => {
+            if !closes_innermost(blocks.as_slice(), ending) {
+                return draft.refuse_line(alloc, name, line, b"stray end");
+            }
+            let _ = blocks.pop();
+            draft.push_line(alloc, line, None)
+        }
+        Role::Inside => draft.push_line(alloc, line, None),
+    }
+}
+
+// Whether this end line closes the innermost block.
+fn closes_innermost(blocks: &[Block], ending: Ending) -> bool
+    ensures { result ≡ closes_inner ending (reverse blocks.now) }
+{
+    match blocks.last() {
+        Some(block) => same_ending(ending, block.ending),
+        None => false,
+    }
+}
+
+// Whether two ends are one.
+fn same_ending(ending: Ending, other: Ending) -> bool
+    ensures { result ≡ same_end ending other }
+{
+    matches!(
+        (ending, other),
+        (Ending::ByLocale, Ending::ByLocale)
+            | (Ending::ByVar, Ending::ByVar)
+            | (Ending::ByUtf8, Ending::ByUtf8)
+    )
+}
+
+/// The end of a file in which these blocks are open, the innermost last.
+pub(crate) fn push_file_end(
+    alloc: Global,
+    draft: &mut Draft,
+    name: &[u8],
+    blocks: Vec<Block>,
+) -> Result<(), LoadFault>
+    ensures told { IsLoad draft.old (file_end name.now (reverse blocks.items)) result draft.new }
+    ensures extends { Extends draft.old.store draft.new.store }
+    ensures read { ReadsNone result }
+{
+    push_unclosed_notices(alloc, draft, name, blocks.as_slice())?;
+    push_missing_ends(alloc, draft, blocks)
+}
+
+// The notices of the blocks that are not closed.
+fn push_unclosed_notices(
+    alloc: Global,
+    draft: &mut Draft,
+    name: &[u8],
+    blocks: &[Block],
+) -> Result<(), AllocError>
+    ensures ok { OnOk result (draft.new.notices ≡ draft.old.notices ++ map (unclosed_notice name.now) blocks.now) }
+    ensures store { draft.new.store ≡ draft.old.store }
+{
+    for block in blocks {
+        draft.push_notice(alloc, name, block.number, b"unclosed block")?;
+    }
+    Ok(())
+}
+
+// The end lines of the blocks that are not closed, the innermost first.
+fn push_missing_ends(
+    alloc: Global,
+    draft: &mut Draft,
+    mut blocks: Vec<Block>,
+) -> Result<(), LoadFault>
+    ensures told { IsLoad draft.old (record { lines = map missing_end (reverse blocks.items); notices = [] }) result draft.new }
+    ensures extends { Extends draft.old.store draft.new.store }
+    ensures read { ReadsNone result }
+{
+    while let Some(block) = blocks.pop() {
+        let number = block.number;
+        let text = Text::from_bytes(alloc, end_line_text(block.ending))?;
+        draft.push_line(alloc, Line { number, text }, None)?;
+    }
+    Ok(())
+}
+
+// The end line of a block.
+fn end_line_text(ending: Ending) -> &'static [u8]
+    ensures { result.now ≡ end_text ending }
+{
+    match ending {
+        Ending::ByLocale => b"!endlocale".as_slice(),
+        Ending::ByVar => b"!endvar".as_slice(),
+        Ending::ByUtf8 => b"!endutf8".as_slice(),
+    }
+}

@@ -1,0 +1,172 @@
+//! A file, line after line, with the files that it includes.
+
+ghost use Rattle.std.specs.Prelude.{◌≡◌, ◌++◌, [], ◌≤◌, None, Some, length, reverse, OnOk, OnErr};
+ghost use Rattle.units_io.specs.FileMap.{FileMap, longest_file};
+ghost use Rattle.def_lines.specs.Kinds.{kind_of};
+ghost use Rattle.deck_lines.specs.Blocks.{role_of};
+ghost use Rattle.deck_lines.specs.Closed.{IsClosed};
+ghost use Rattle.deck_lines.specs.Excerpts.{blocks_behind_line, include_excerpt, line_excerpt, line_with_notice};
+ghost use Rattle.deck_lines.specs.Includes.{deck_above, deck_of, included_below, included_by};
+ghost use Rattle.deck_lines.specs.Loads.{Extends, HasReadCause, IsLoad, Leads, ReadsNone, endings};
+ghost use Rattle.deck_lines.specs.Marks.{plain_line};
+ghost use Rattle.deck_lines.specs.Readings.{entry_in, reading_of};
+ghost use Rattle.deck_lines.specs.declared.line.Role.TheVariants.{Inside};
+
+use crate::draft::{Draft, LoadFault};
+use crate::line::Block;
+use crate::load::blocks::{push_file_end, push_role_line};
+use crate::load::names::name_beside;
+use crate::reading::{Reading, read_line};
+use def_lines::{Cursor, Line};
+use std::alloc::Global;
+use units_io::{FetchFault, Files, Text};
+
+/// How deep files are included below the first one.
+const MOST_DEPTH: u8 = 16;
+
+/// Puts the deck of a file of this name and these bytes behind what a draft holds: its logical lines
+/// other than blank ones, behind each include line the deck of the included file, and the missing end
+/// lines of blocks at the end of each file. `DeckFull` where all these lines pass a limit, `ReadFailed`
+/// only where the files' count of failed fetches rose. After a fault some of the lines may stand behind
+/// those before. It takes the memory of the texts of the files that stand one in another, and of the lines.
+#[tactic(auto, unfolding(crate::specs::Includes::deck_of))]
+pub fn load_text<F: Files>(
+    alloc: Global,
+    files: &mut F,
+    draft: &mut Draft,
+    name: &[u8],
+    bytes: &[u8],
+) -> Result<(), LoadFault>
+    requires { length bytes.now ≤ longest_file }
+    ensures told { (m : FileMap) → F.files files.old ≡ Some m → IsLoad draft.old (deck_of m name.now bytes.now) result draft.new }
+    ensures extends { Extends draft.old.store draft.new.store }
+    ensures closed { OnOk result (IsClosed draft.old.store.lines → IsClosed draft.new.store.lines) }
+    ensures kept { F.files files.new ≡ F.files files.old }
+    ensures stores { F.store_faults files.new ≡ F.store_faults files.old }
+    ensures cause { HasReadCause (F.faults files.old) (F.faults files.new) result }
+{
+    load_file(alloc, files, draft, name, bytes, MOST_DEPTH)
+}
+
+// The deck of a file of this name and these bytes, where so many files may stand one in another below it.
+#[cycle(load)]
+fn load_file<F: Files>(
+    alloc: Global,
+    files: &mut F,
+    draft: &mut Draft,
+    name: &[u8],
+    bytes: &[u8],
+    depth: u8,
+) -> Result<(), LoadFault>
+    requires { length bytes.now ≤ longest_file }
+    ensures told { (m : FileMap) → F.files files.old ≡ Some m → IsLoad draft.old (deck_above m depth name.now bytes.now) result draft.new }
+    ensures leads { Leads [] [] draft.old.store draft.new.store result }
+    ensures kept { F.files files.new ≡ F.files files.old }
+    ensures stores { F.store_faults files.new ≡ F.store_faults files.old }
+    ensures cause { HasReadCause (F.faults files.old) (F.faults files.new) result }
+{
+    let mut blocks: Vec<Block> = Vec::new(alloc);
+    let mut lines = Cursor::new(bytes);
+    while let Some(line) = lines.take(alloc)? {
+        if line.text().is_empty() {
+            continue;
+        }
+        let line = line.into_line(alloc)?;
+        load_line(alloc, files, draft, name, depth, &mut blocks, line)?;
+    }
+    push_file_end(alloc, draft, name, blocks)
+}
+
+// The next line of a file in which these blocks are open.
+#[cycle(load)]
+fn load_line<F: Files>(
+    alloc: Global,
+    files: &mut F,
+    draft: &mut Draft,
+    name: &[u8],
+    depth: u8,
+    blocks: &mut Vec<Block>,
+    line: Line,
+) -> Result<(), LoadFault>
+    ensures told { (m : FileMap) → F.files files.old ≡ Some m
+        → IsLoad draft.old (line_excerpt (included_by m depth name.now) name.now (reverse blocks.old.items) line (reading_of line.text)) result draft.new }
+    ensures blocks { OnOk result (reverse blocks.new.items ≡ blocks_behind_line (reverse blocks.old.items) line (reading_of line.text)) }
+    ensures leads { Leads (endings (reverse blocks.old.items)) (endings (blocks_behind_line (reverse blocks.old.items) line (reading_of line.text))) draft.old.store draft.new.store result }
+    ensures kept { F.files files.new ≡ F.files files.old }
+    ensures stores { F.store_faults files.new ≡ F.store_faults files.old }
+    ensures cause { HasReadCause (F.faults files.old) (F.faults files.new) result }
+{
+    match read_line(alloc, line.text.as_bytes())? {
+        Reading::Stands(role) => push_role_line(alloc, draft, name, blocks, line, role),
+        Reading::Defines(key, entry) => draft.push_line(alloc, line, Some((key, entry))),
+        Reading::Includes(word) => {
+            let file = name_beside(alloc, name, word)?;
+            load_include(alloc, files, draft, name, depth, line, file)
+        }
+        Reading::Faulty(text) => draft.refuse_line(alloc, name, line, text.as_bytes()),
+    }
+}
+
+// An include line, and the deck of the file of this name behind it, where so many files may stand one in
+// another, this one included. It is fetched only where its line has room.
+#[cycle(load)]
+fn load_include<F: Files>(
+    alloc: Global,
+    files: &mut F,
+    draft: &mut Draft,
+    name: &[u8],
+    depth: u8,
+    line: Line,
+    file: Text,
+) -> Result<(), LoadFault>
+    requires role { role_of (kind_of line.text) ≡ Inside }
+    requires entry { entry_in (plain_line line.number line.text) ≡ None }
+    ensures told { (m : FileMap) → F.files files.old ≡ Some m → IsLoad draft.old (include_excerpt name.now line (included_below m depth file)) result draft.new }
+    ensures leads { Leads [] [] draft.old.store draft.new.store result }
+    ensures kept { F.files files.new ≡ F.files files.old }
+    ensures stores { F.store_faults files.new ≡ F.store_faults files.old }
+    ensures cause { HasReadCause (F.faults files.old) (F.faults files.new) result }
+{
+    let file = file.as_bytes();
+    if depth == 0 {
+        return refuse_include(alloc, draft, name, line, b"include too deep: ", file);
+    }
+    if !draft.store.has_room(line.text.as_bytes().len()) {
+        return Err(LoadFault::DeckFull);
+    }
+    match files.fetch(alloc, file) {
+        Ok(text) => {
+            draft.push_line(alloc, line, None)?;
+            load_file(alloc, files, draft, file, text.as_bytes(), depth - 1)
+        }
+        Err(FetchFault::Absent) => refuse_include(alloc, draft, name, line, b"no file: ", file),
+        Err(FetchFault::TooLong) => refuse_include(
+            alloc,
+            draft,
+            name,
+            line,
+            b"file too long: ",
+            file,
+        ),
+        Err(FetchFault::Failed) => Err(LoadFault::ReadFailed),
+        Err(FetchFault::OutOfMemory) => Err(LoadFault::OutOfMemory),
+    }
+}
+
+// An include line whose file is not read, and a notice that ends with the name of that file.
+fn refuse_include(
+    alloc: Global,
+    draft: &mut Draft,
+    name: &[u8],
+    line: Line,
+    text: &[u8],
+    file: &[u8],
+) -> Result<(), LoadFault>
+    ensures told { IsLoad draft.old (line_with_notice name.now line (text.now ++ file.now)) result draft.new }
+    ensures err { OnErr result (draft.new.store ≡ draft.old.store) }
+    ensures read { ReadsNone result }
+{
+    let mut told = Vec::from_slice(alloc, text)?;
+    told.extend_from_slice(file)?;
+    draft.refuse_line(alloc, name, line, told.as_slice())
+}

@@ -1,0 +1,104 @@
+//! Keys with numbers.
+
+ghost use Rattle.std.specs.Prelude.{◌≡◌, ◌<◌, Some, false, length, slice_get, OnOk, MatchOption};
+ghost use Rattle.std.specs.Option.{option_copied};
+ghost use Rattle.def_entry.specs.Keys.{key};
+ghost use Rattle.deck_lines.specs.Names.{is_numbered, key_at, names_of, no_names, with_key};
+ghost use Rattle.deck_lines.specs.NumberedKeys.{names_in, spare_of};
+
+use super::name_set::NameSet;
+use crate::key_number::KeyNumber;
+use def_entry::{Key, Kind};
+use std::alloc::{AllocError, Global};
+
+/// Keys with numbers, kind by kind.
+#[derive(Drop)]
+pub struct KeyNumbers {
+    pub units: NameSet,
+    pub prefixes: NameSet,
+    pub functions: NameSet,
+    pub lists: NameSet,
+}
+
+impl KeyNumbers {
+    /// No key has a number.
+    pub fn new(alloc: Global) -> KeyNumbers
+        ensures { names_in result ≡ no_names }
+    {
+        KeyNumbers {
+            units: NameSet::new(alloc),
+            prefixes: NameSet::new(alloc),
+            functions: NameSet::new(alloc),
+            lists: NameSet::new(alloc),
+        }
+    }
+
+    /// The number of a key.
+    pub fn number_of(&self, kind: Kind, name: &[u8]) -> Option<KeyNumber>
+        ensures { MatchOption result
+            (is_numbered (names_in self.now) (key kind name.now) ≡ false)
+            (λ n. key_at (names_in self.now) n ≡ Some (key kind name.now)) }
+    {
+        match self.of_kind(kind).number_of(name) {
+            Some(number) => Some(KeyNumber { kind, number }),
+            None => None,
+        }
+    }
+
+    /// The name of the key that has this number.
+    pub fn name(&self, n: KeyNumber) -> Option<&[u8]>
+        ensures { option_copied result ≡ slice_get (names_of (names_in self.now) n.kind) n.number }
+    {
+        self.of_kind(n.kind).name(n.number)
+    }
+
+    /// How many keys of this kind have a number.
+    pub fn count(&self, kind: Kind) -> usize
+        ensures { result ≡ length (names_of (names_in self.now) kind) }
+    {
+        self.of_kind(kind).len()
+    }
+
+    /// Makes room for one more key of this kind.
+    pub fn reserve_one(&mut self, kind: Kind) -> Result<(), AllocError>
+        ensures names { names_in self.new ≡ names_in self.old }
+        ensures ok { OnOk result (0 < spare_of self.new kind) }
+    {
+        match kind {
+            Kind::Unit => self.units.reserve_one(),
+            Kind::Prefix => self.prefixes.reserve_one(),
+            Kind::Func => self.functions.reserve_one(),
+            Kind::List => self.lists.reserve_one(),
+        }
+    }
+
+    /// Gives a key the next number of its kind, unless it has one, and answers its number. It takes
+    /// no memory.
+    pub fn put(&mut self, key: Key) -> KeyNumber
+        requires { 0 < spare_of self.old key.kind }
+        ensures names { names_in self.new ≡ with_key (names_in self.old) key }
+        ensures number { key_at (names_in self.new) result ≡ Some key }
+    {
+        let kind = key.kind;
+        let name = key.name.into_bytes();
+        let number = match kind {
+            Kind::Unit => self.units.put(name),
+            Kind::Prefix => self.prefixes.put(name),
+            Kind::Func => self.functions.put(name),
+            Kind::List => self.lists.put(name),
+        };
+        KeyNumber { kind, number }
+    }
+
+    // The names of a kind.
+    fn of_kind(&self, kind: Kind) -> &NameSet
+        ensures { result.now.names ≡ names_of (names_in self.now) kind }
+    {
+        match kind {
+            Kind::Unit => &self.units,
+            Kind::Prefix => &self.prefixes,
+            Kind::Func => &self.functions,
+            Kind::List => &self.lists,
+        }
+    }
+}

@@ -1,0 +1,171 @@
+//! Lines with their marks, within the limits of a deck.
+
+ghost use Rattle.std.specs.Prelude.{◌≡◌, ◌++◌, ◌∷◌, ◌+◌, ◌<◌, ◌≤◌, [], false, not, length, map, take, drop, IfOk, IfErr, OnOk, OnErr};
+ghost use Rattle.deck_lines.specs.Limits.{bytes_in, most_bytes, pass_limit, text_len};
+ghost use Rattle.deck_lines.specs.Marks.{unmarked, with_mark, with_marks};
+ghost use Rattle.deck_lines.specs.Exchanges.{IsExchanged};
+ghost use Rattle.deck_lines.specs.declared.line.DeckLine.{DeckLine as Marked};
+
+use super::lists;
+use super::marked::exchange_in_list;
+use crate::line::{DeckLine, DeckLines, MarkedLines};
+use def_lines::{Line, Lines};
+use std::alloc::{AllocError, AllocFailed, Global};
+use std::marker::Model;
+
+/// How many lines a deck holds.
+pub const MOST_LINES: usize = 100_000;
+
+/// How many bytes the texts of the lines of a deck have.
+pub const MOST_BYTES: usize = 67_108_864;
+
+/// Lines and their marks, side by side, within the limits of a deck.
+#[derive(Drop)]
+pub struct LineList {
+    lines: Lines,
+    marks: Vec<bool>,
+    bytes: usize,
+}
+
+impl Model for LineList {
+    ghost use Rattle.std.specs.Prelude.{List};
+    ghost use Rattle.deck_lines.specs.declared.line.DeckLine.{DeckLine};
+    ghost use Rattle.deck_lines.specs.Marks.{with_marks};
+    ghost use Rattle.deck_lines.specs.Within.{IsWithin};
+
+    ghost Value = { List DeckLine };
+
+    ghost view = { λ l. with_marks l.lines l.marks.items };
+
+    ghost invariant = { λ l. IsWithin l.lines l.marks.items l.bytes };
+}
+
+impl LineList {
+    /// No line.
+    pub fn new(alloc: Global) -> LineList
+        ensures { result ≡ [] }
+    {
+        LineList {
+            lines: Lines::new(alloc),
+            marks: Vec::new(alloc),
+            bytes: 0,
+        }
+    }
+
+    /// How many lines there are.
+    pub fn len(&self) -> usize
+        ensures { result ≡ length self.now }
+    {
+        self.lines.len()
+    }
+
+    /// The lines, without their marks.
+    pub fn lines(&self) -> &Lines
+        ensures lines { result.now ≡ map unmarked self.now }
+        ensures within { pass_limit self.now ≡ false }
+    {
+        &self.lines
+    }
+
+    /// The lines and their marks.
+    pub fn marked(&self) -> MarkedLines<'_>
+        ensures lines { with_marks result.lines.now result.marks.now ≡ self.now }
+        ensures each { length result.marks.now ≡ length result.lines.now }
+        ensures within { pass_limit self.now ≡ false }
+    {
+        MarkedLines {
+            lines: self.lines.as_slice(),
+            marks: self.marks.as_slice(),
+        }
+    }
+
+    /// Whether one more line, with a text of this many bytes, is within the limits.
+    pub fn has_room(&self, len: usize) -> bool
+        ensures { (line : Marked) → length line.text ≡ len → pass_limit (self.now ++ line ∷ []) ≡ not result }
+    {
+        self.lines.len() < MOST_LINES && len <= MOST_BYTES - self.bytes
+    }
+
+    /// Puts a line at the end, with its mark. A refusal changes nothing.
+    pub fn push(&mut self, alloc: Global, line: Line, mark: bool) -> Result<(), AllocError>
+        requires { pass_limit (self.old ++ with_mark mark line ∷ []) ≡ false }
+        ensures ok { OnOk result (self.new ≡ self.old ++ with_mark mark line ∷ []) }
+        ensures err { OnErr result (self.new ≡ self.old) }
+    {
+        let len = line.text.as_bytes().len();
+        self.marks.reserve(1)?;
+        self.lines.push(alloc, line)?;
+        lists::put_last(&mut self.marks, mark);
+        self.bytes += len;
+        Ok(())
+    }
+
+    /// Keeps the first lines alone, so many, or all where there are fewer.
+    pub fn truncate(&mut self, len: usize)
+        ensures { self.new ≡ take len self.old }
+    {
+        if self.lines.len() <= len {
+            return;
+        }
+        let (_, dropped) = self.lines.as_slice().split_at(len);
+        self.bytes -= texts_len(dropped);
+        lists::truncate(&mut self.lines, *self.marks.allocator(), len);
+        self.marks.truncate(len);
+    }
+
+    /// Takes the line at a place out.
+    pub fn remove(&mut self, place: usize)
+        requires { place < length self.old }
+        ensures { self.new ≡ take place self.old ++ drop (place + 1) self.old }
+    {
+        let line = lists::remove(&mut self.lines, *self.marks.allocator(), place);
+        let _ = lists::remove_at(&mut self.marks, place);
+        self.bytes -= line.text.as_bytes().len();
+    }
+
+    /// Puts other lines in the place of some, from a place on, and answers those. A refusal hands the
+    /// lines back and changes nothing.
+    pub fn exchange(
+        &mut self,
+        alloc: Global,
+        at: usize,
+        cut: usize,
+        put: DeckLines,
+    ) -> Result<DeckLines, AllocFailed<DeckLines>>
+        requires places { at + cut ≤ length self.old }
+        requires within { pass_limit (take at self.old ++ (put ++ drop (at + cut) self.old)) ≡ false }
+        ensures ok { OnOk result (IsExchanged at cut put self.old self.new) }
+        ensures gone { IfOk result (λ gone. gone ≡ take cut (drop at self.old)) }
+        ensures err { OnErr result (self.new ≡ self.old) }
+        ensures back { IfErr result (λ refused. refused.value ≡ put) }
+    {
+        let len = marked_texts_len(put.as_slice());
+        let gone = exchange_in_list(alloc, &mut self.lines, &mut self.marks, at, cut, put)?;
+        self.bytes = self.bytes + len - marked_texts_len(gone.as_slice());
+        Ok(gone)
+    }
+}
+
+// How many bytes the texts of lines with marks have.
+fn marked_texts_len(lines: &[DeckLine]) -> usize
+    requires { text_len lines.now ≤ most_bytes }
+    ensures { result ≡ text_len lines.now }
+{
+    let mut len = 0;
+    for line in lines {
+        len += line.text.as_bytes().len();
+    }
+    len
+}
+
+// How many bytes the texts of lines have.
+fn texts_len(lines: &[Line]) -> usize
+    requires { bytes_in lines.now ≤ most_bytes }
+    ensures { result ≡ bytes_in lines.now }
+{
+    let mut len = 0;
+    for line in lines {
+        len += line.text.as_bytes().len();
+    }
+    len
+}
