@@ -1,0 +1,116 @@
+-- A line that defines a key, put at the end.
+use Rattle.std.proofs.Common.{◌≡◌, ◌≢◌, ◌++◌, ◌∷◌, ◌<◌, ◌||◌, ◌↔◌, [], ℕ, List, Bool, true, false, true≢false, cond, length, set, refl, sym, ap, subst, ◌∙◌, arith, Some, None, option_map}
+use Rattle.std.proofs.lemmas.Option.{same_Some}
+use Rattle.std.specs.Option.{option_and_then}
+use Rattle.def_entry.specs.declared.key.Key.{Key}
+use Rattle.def_entry.specs.declared.key.Kind.{Kind}
+use Rattle.def_entry.specs.Entries.{Entry}
+use Rattle.def_entry.specs.SameKeys.{is_among, is_same, is_same_kind}
+use Rattle.deck_lines.specs.Closed.{IsClosed}
+use Rattle.deck_lines.specs.Marks.{plain_line}
+use Rattle.deck_lines.specs.Names.{Names, key_at, names_of, with_key}
+use Rattle.deck_lines.specs.Numbering.{IsNumbering}
+use Rattle.deck_lines.specs.Readings.{entry_in}
+use Rattle.deck_lines.specs.Stores.{Store, definition_at, with_definition, with_line as stored_with}
+use Rattle.deck_lines.specs.declared.key_number.KeyNumber.{KeyNumber}
+use Rattle.deck_lines.specs.declared.line.DeckLine.{DeckLine}
+use Rattle.deck.specs.Changes.{IsChange}
+use Rattle.deck.specs.Decks.{Contents}
+use Rattle.deck.specs.Edits.{with_line}
+use Rattle.deck.specs.KindPlaces.{HasSamePlaces}
+use Rattle.deck.specs.LastPlaces.{AreLast, IsIndexed, places_of}
+use Rattle.deck.specs.Tables.{Definitions, Table, definitions, entry_at, place_of, table, table_of}
+use Rattle.deck.specs.declared.places.last_places.LastPlaces.{LastPlaces}
+use Rattle.deck.specs.declared.settings.Settings.{Settings}
+use Rattle.deck.proofs.Changing.{not_defined}
+use Rattle.deck.proofs.Growing.{key_kept, key_new, names_len}
+use Rattle.deck.proofs.Lasting.{kind_at, last_extended, last_more, last_same, number_within}
+use Rattle.deck.proofs.Placing.{at_length, in_place}
+use Rattle.deck.proofs.Pushing.{closed_push, placed_push}
+use Rattle.deck.proofs.Sameness.{same_key}
+
+-- the places of a deck with a line more
+pub indexed_push : (settings : Settings) (store : Store) (x : DeckLine) (k : Key) (e : Entry) (old grown now : LastPlaces) (n : KeyNumber) →
+    entry_in x ≡ Some (k, e) → IsNumbering store → IsIndexed store settings old → ((a : Kind) → HasSamePlaces (places_of old a) (places_of grown a)) →
+    length (names_of store.names k.kind) < length (places_of grown k.kind) → IsNumbering (stored_with store x) →
+    Some (key_at (stored_with store x).names n) ≡ option_map (λ d. Some d.0) (definition_at (stored_with store x).lines (length store.lines)) →
+    ((a : Kind) → places_of now a ≡ cond (is_same_kind a n.kind) (set (places_of grown a) n.number (Some (length store.lines))) (places_of grown a)) →
+    IsIndexed (stored_with store x) settings now
+indexed_push settings store x k e old grown now n defines numbering before same room numbered at put = record {
+  closed = closed_push settings store.lines before.closed x (k, e) defines;
+  places = subst (λ (ds : Definitions). AreLast (with_definition store.names (entry_in x)) ds now) (sym (placed_push settings store.lines before.closed x (k, e) defines))
+      (last_more (with_definition store.names (entry_in x)) numbered.unique ds n k (length store.lines) e grown now key_is within are_last put);
+}
+  where
+    ds : Definitions
+    ds = definitions settings store.lines
+
+    there : definition_at (store.lines ++ x ∷ []) (length store.lines) ≡ Some (k, e)
+    there = ap (option_and_then entry_in) (at_length store.lines x []) ∙ defines
+
+    key_is : key_at (with_definition store.names (entry_in x)) n ≡ Some k
+    key_is = same_Some _ _ (at ∙ ap (option_map (λ d. Some d.0)) there)
+
+    names_are : with_definition store.names (entry_in x) ≡ with_key store.names k
+    names_are = ap (with_definition store.names) defines
+
+    within : n.number < length (places_of grown n.kind)
+    within =
+        let own : k.kind ≡ n.kind = kind_at (with_definition store.names (entry_in x)) n k key_is in
+        let inside : n.number < length (names_of (with_key store.names k) n.kind) = subst (λ (ns : Names). n.number < length (names_of ns n.kind)) names_are (number_within (with_definition store.names (entry_in x)) n k key_is) in
+        let enough : length (names_of store.names n.kind) < length (places_of grown n.kind) = subst (λ a. length (names_of store.names a) < length (places_of grown a)) own room in
+        omega (arith, inside, enough, names_len store.names k n.kind)
+
+    are_last : AreLast (with_definition store.names (entry_in x)) ds grown
+    are_last = subst (λ (ns : Names). AreLast ns ds grown) (sym names_are)
+        (last_extended store.names (with_key store.names k) ds grown (last_same store.names ds old grown before.places same) (key_kept store.names k) undefined)
+      where
+        undefined : (m : KeyNumber) (j : Key) → key_at store.names m ≡ None → key_at (with_key store.names k) m ≡ Some j → place_of ds j ≡ None
+        undefined m j h g =
+            let p = key_new store.names k m j h g in
+            ap (place_of ds) p.1 ∙ ap (option_map (λ d. d.0)) (not_defined store numbering ds (in_place settings store.lines) k p.0)
+
+-- the same of a store that is told
+pub indexed_pushed : (settings : Settings) (store new : Store) (x : DeckLine) (k : Key) (e : Entry) (old grown now : LastPlaces) (n : KeyNumber) (place : ℕ) →
+    new ≡ stored_with store x → place ≡ length store.lines →
+    entry_in x ≡ Some (k, e) → IsNumbering store → IsIndexed store settings old → ((a : Kind) → HasSamePlaces (places_of old a) (places_of grown a)) →
+    length (names_of store.names k.kind) < length (places_of grown k.kind) → IsNumbering new →
+    Some (key_at new.names n) ≡ option_map (λ d. Some d.0) (definition_at new.lines place) →
+    ((a : Kind) → places_of now a ≡ cond (is_same_kind a n.kind) (set (places_of grown a) n.number (Some place)) (places_of grown a)) →
+    IsIndexed new settings now
+indexed_pushed settings store new x k e old grown now n place is at defines numbering before same room numbered number put =
+    subst (λ (s : Store). IsIndexed s settings now) (sym is)
+    (indexed_push settings store x k e old grown now n defines numbering before same room (subst IsNumbering is numbered)
+    (subst (λ (s : Store). Some (key_at s.names n) ≡ option_map (λ d. Some d.0) (definition_at s.lines (length store.lines))) is
+    (subst (λ p. Some (key_at new.names n) ≡ option_map (λ d. Some d.0) (definition_at new.lines p)) at number))
+    (λ a. put a ∙ ap (λ p. cond (is_same_kind a n.kind) (set (places_of grown a) n.number (Some p)) (places_of grown a)) at))
+
+module _ (d : Contents) (closed : IsClosed d.lines) (text : List ℕ) (k : Key) (e : Entry) (defines : entry_in (plain_line 0 text) ≡ Some (k, e)) where
+  -- the table with the line at its front
+  table_push : table (with_line text d) ≡ (k, e) ∷ table d
+  table_push = ap table_of (placed_push d.settings d.lines closed (plain_line 0 text) (k, e) defines)
+
+  after : (j : Key) → entry_at (table (with_line text d)) j ≡ cond (is_same j k) (Some e) (entry_at (table d) j)
+  after j = ap (λ (t : Table). entry_at t j) table_push
+
+  apart : (j : Key) → is_same j k ≡ false → entry_at (table d) j ≡ entry_at (table (with_line text d)) j
+  apart j h = sym (after j ∙ ap (λ b. cond b (Some e) (entry_at (table d) j)) h)
+
+  at_key : (j : Key) → is_same j k ≡ true → entry_at (table (with_line text d)) j ≡ Some e
+  at_key j h = after j ∙ ap (λ b. cond b (Some e) (entry_at (table d) j)) h
+
+  -- the entry is other than before
+  pub changed_one : entry_at (table d) k ≢ Some e → IsChange d (with_line text d) (k ∷ [])
+  changed_one differs = record { changed = λ j. by j (is_same j k) refl; once = (refl, tt) }
+    where
+      by : (j : Key) (b : Bool) → is_same j k ≡ b → (is_among (k ∷ []) j ≡ true → ⊥) ↔ (entry_at (table d) j ≡ entry_at (table (with_line text d)) j)
+      by j true h = (λ never. absurd (never (ap (λ b. b || false) h)), λ same _. differs (ap (entry_at (table d)) (sym (same_key j k h)) ∙ same ∙ at_key j h))
+      by j false h = (λ _. apart j h, λ _ m. true≢false (sym m ∙ ap (λ b. b || false) h))
+
+  -- the entry is as before
+  pub changed_none : entry_at (table d) k ≡ Some e → IsChange d (with_line text d) []
+  changed_none same = record { changed = λ j. (λ _. by j (is_same j k) refl, λ _ m. true≢false (sym m)); once = tt }
+    where
+      by : (j : Key) (b : Bool) → is_same j k ≡ b → entry_at (table d) j ≡ entry_at (table (with_line text d)) j
+      by j true h = ap (entry_at (table d)) (same_key j k h) ∙ same ∙ sym (at_key j h)
+      by j false h = apart j h

@@ -1,0 +1,81 @@
+-- Entries are those that lines give.
+use Rattle.std.proofs.Common.{◌≡◌, ◌⊎◌, inl, inr, ◌∙◌, ℕ, List, Bool, true, false, cond, refl, ap, Option, Some, None, Ok, Err, Result, slice_get}
+use Rattle.std.proofs.lemmas.Option.{same_Some}
+use Rattle.std.proofs.lemmas.Slice.Eq.{bytes_eq-Decides}
+use Rattle.std.specs.Option.{option_and_then}
+use Rattle.def_lines.specs.Kinds.{Kind as LineKind, kind_of}
+use Rattle.def_lines.specs.Kinds as line
+use Rattle.def_entry.specs.declared.fault.EntryFault.{EntryFault}
+use Rattle.def_entry.specs.declared.key.Key.{Key}
+use Rattle.def_entry.specs.Entries.{Entry}
+use Rattle.def_entry.specs.Reading.{SameTextLaw, entry_of}
+use Rattle.deck_lines.specs.Marks.{plain_line}
+use Rattle.deck_lines.specs.Readings.{defined_by, entry_in, of_entry, reading_by, reading_of}
+use Rattle.deck_lines.specs.Stores.{definition_at}
+use Rattle.deck_lines.specs.declared.line.DeckLine.{DeckLine}
+use Rattle.deck.specs.Changes.{is_same_entry}
+
+of_definition : (e : Key × Entry) (r : Result (Key × Entry) EntryFault) → defined_by (of_entry r) ≡ Some e → r ≡ Ok e
+of_definition e (Ok x) h = ap Ok (same_Some x e h)
+of_definition e (Err f) h = cc
+
+-- a line that defines an entry is read so
+reads_by : (text : List ℕ) (e : Key × Entry) (kind : LineKind) → defined_by (reading_by text kind) ≡ Some e → entry_of text ≡ Ok e
+reads_by text e line.Definition h = of_definition e (entry_of text) h
+reads_by text e line.UnitList h = of_definition e (entry_of text) h
+reads_by text e (line.Include n) h = cc
+reads_by text e line.UnknownDirective h = cc
+reads_by text e line.BadDirective h = cc
+reads_by text e (line.Locale l) h = cc
+reads_by text e (line.Var v vs) h = cc
+reads_by text e (line.VarNot v vs) h = cc
+reads_by text e line.Utf8 h = cc
+reads_by text e line.EndLocale h = cc
+reads_by text e line.EndVar h = cc
+reads_by text e line.EndUtf8 h = cc
+reads_by text e line.Blank h = cc
+reads_by text e (line.Set v x) h = cc
+reads_by text e (line.Message t) h = cc
+reads_by text e line.Prompt h = cc
+
+pub reads : (x : DeckLine) (e : Key × Entry) → entry_in x ≡ Some e → entry_of x.text ≡ Ok e
+unfolding entry_in reading_of
+reads x e h = by x.mark h
+  where
+    by : (m : Bool) → cond m None (defined_by (reading_by x.text (kind_of x.text))) ≡ Some e → entry_of x.text ≡ Ok e
+    by true g = cc
+    by false g = reads_by x.text e (kind_of x.text) g
+
+-- a definition is that of a line
+pub read_at : (lines : List DeckLine) (place : ℕ) (e : Key × Entry) → definition_at lines place ≡ Some e → (text : List ℕ) × (entry_of text ≡ Ok e)
+read_at lines place e h = by (slice_get lines place) h
+  where
+    by : (o : Option DeckLine) → option_and_then entry_in o ≡ Some e → (text : List ℕ) × (entry_of text ≡ Ok e)
+    by None g = cc
+    by (Some x) g = (x.text, reads x e g)
+
+-- two entries of a key that lines give are equal where they have one text
+pub same_text : SameTextLaw → (k : Key) (e f : Entry) (s t : List ℕ) → entry_of s ≡ Ok (k, e) → entry_of t ≡ Ok (k, f) → e.text ≡ f.text → e ≡ f
+same_text law k e f s t h g same = (law k s t e f h g).1 same
+
+pub entry_itself : (a : Option Entry) → is_same_entry a a ≡ true
+entry_itself None = refl
+entry_itself (Some f) = (bytes_eq-Decides f.text f.text).1 refl
+
+-- the test by texts tells whether two entries of a key that lines give are equal
+pub same_entry : SameTextLaw → (k : Key) (a b : Option Entry) →
+    ((e : Entry) → a ≡ Some e → (text : List ℕ) × (entry_of text ≡ Ok (k, e))) →
+    ((e : Entry) → b ≡ Some e → (text : List ℕ) × (entry_of text ≡ Ok (k, e))) → is_same_entry a b ≡ true → a ≡ b
+same_entry law k None None h g e = refl
+same_entry law k None (Some f) h g e = cc
+same_entry law k (Some f) None h g e = cc
+same_entry law k (Some e) (Some f) h g s =
+    let p = h e refl in
+    let q = g f refl in
+    ap Some (same_text law k e f p.0 q.0 p.1 q.1 ((bytes_eq-Decides e.text f.text).0 s))
+
+-- a definition or a unit list that gives an entry defines it
+pub defines_by : (text : List ℕ) (e : Key × Entry) (kind : LineKind) → (kind ≡ line.Definition) ⊎ (kind ≡ line.UnitList) → kind_of text ≡ kind → entry_of text ≡ Ok e → entry_in (plain_line 0 text) ≡ Some e
+unfolding entry_in reading_of
+defines_by text e kind (inl d) k h = ap (λ x. defined_by (reading_by text x)) (k ∙ d) ∙ ap (λ r. defined_by (of_entry r)) h
+defines_by text e kind (inr u) k h = ap (λ x. defined_by (reading_by text x)) (k ∙ u) ∙ ap (λ r. defined_by (of_entry r)) h

@@ -1,0 +1,102 @@
+-- Places that are put, added and changed.
+use Rattle.std.proofs.Common.{◌≡◌, ◌++◌, ◌∷◌, ◌+◌, ◌<◌, ◌≤◌, [], ℕ, zero, suc, List, Bool, true, false, cond, length, get_or, take, drop, map, set, refl, sym, ap, ◌∙◌, arith, Option, Some, None, option_map}
+use Rattle.std.specs.Option.{is_some}
+use Rattle.deck.specs.KindPlaces.{HasSamePlaces, place_count, place_in}
+
+-- the place that is put, and the others
+pub in_set_same : (ps : List (Option ℕ)) (n p : ℕ) → n < length ps → place_in (set ps n (Some p)) n ≡ Some p
+in_set_same [] n p h = absurd (omega arith)
+in_set_same (x ∷ ps) zero p h = refl
+in_set_same (x ∷ ps) (suc n) p h = in_set_same ps n p (omega arith)
+
+pub in_set_other : (ps : List (Option ℕ)) (n p m : ℕ) → (m ≡ n → ⊥) → place_in (set ps n (Some p)) m ≡ place_in ps m
+in_set_other [] n p m h = refl
+in_set_other (x ∷ ps) zero p zero h = absurd (h refl)
+in_set_other (x ∷ ps) zero p (suc m) h = refl
+in_set_other (x ∷ ps) (suc n) p zero h = refl
+in_set_other (x ∷ ps) (suc n) p (suc m) h = in_set_other ps n p m (λ e. h (ap suc e))
+
+pub count_set : (ps : List (Option ℕ)) (n p : ℕ) → n < length ps →
+    place_count (set ps n (Some p)) ≡ cond (is_some (place_in ps n)) (place_count ps) (place_count ps + 1)
+count_set [] n p h = absurd (omega arith)
+count_set (None ∷ ps) zero p h = refl
+count_set (Some q ∷ ps) zero p h = refl
+count_set (None ∷ ps) (suc n) p h = count_set ps n p (omega arith)
+count_set (Some q ∷ ps) (suc n) p h = ap (λ c. c + 1) (count_set ps n p (omega arith)) ∙ more (is_some (place_in ps n)) (place_count ps)
+  where
+    more : (b : Bool) (c : ℕ) → cond b c (c + 1) + 1 ≡ cond b (c + 1) ((c + 1) + 1)
+    more true c = refl
+    more false c = refl
+
+pub in_longer : (ps : List (Option ℕ)) (m : ℕ) → place_in (ps ++ None ∷ []) m ≡ place_in ps m
+in_longer [] zero = refl
+in_longer [] (suc m) = refl
+in_longer (x ∷ ps) zero = refl
+in_longer (x ∷ ps) (suc m) = in_longer ps m
+
+pub count_longer : (ps : List (Option ℕ)) → place_count (ps ++ None ∷ []) ≡ place_count ps
+count_longer [] = refl
+count_longer (None ∷ ps) = count_longer ps
+count_longer (Some p ∷ ps) = ap (λ c. c + 1) (count_longer ps)
+
+-- a number without a place more
+pub longer : (old ps qs : List (Option ℕ)) → HasSamePlaces old ps → qs ≡ ps ++ None ∷ [] → HasSamePlaces old qs
+longer old ps qs h e = record {
+  place = λ m. ap (λ t. place_in t m) e ∙ in_longer ps m ∙ h.place m;
+  count = ap place_count e ∙ count_longer ps ∙ h.count;
+}
+
+pub in_mapped : (f : ℕ → ℕ) (ps : List (Option ℕ)) (m : ℕ) → place_in (map (option_map f) ps) m ≡ option_map f (place_in ps m)
+in_mapped f [] m = refl
+in_mapped f (x ∷ ps) zero = refl
+in_mapped f (x ∷ ps) (suc m) = in_mapped f ps m
+
+pub count_mapped : (f : ℕ → ℕ) (ps : List (Option ℕ)) → place_count (map (option_map f) ps) ≡ place_count ps
+count_mapped f [] = refl
+count_mapped f (None ∷ ps) = count_mapped f ps
+count_mapped f (Some p ∷ ps) = ap (λ c. c + 1) (count_mapped f ps)
+
+pub count_within : (ps : List (Option ℕ)) → place_count ps ≤ length ps
+count_within [] = omega arith
+count_within (None ∷ ps) = omega (arith, count_within ps)
+count_within (Some p ∷ ps) = omega (arith, count_within ps)
+
+-- a place that is read
+pub in_index : (ps : List (Option ℕ)) (n : ℕ) (x : Option ℕ) → n < length ps → x ≡ get_or ps n x → place_in ps n ≡ x
+in_index [] n x h e = absurd (omega arith)
+in_index (y ∷ ps) zero x h e = sym e
+in_index (y ∷ ps) (suc n) x h e = in_index ps n x (omega arith) e
+
+-- the front of a list mapped
+pub mapped_step : {A : Type 0} (f : A → A) (xs : List A) (i : ℕ) (x : A) → i < length xs →
+    x ≡ get_or (map f (take i xs) ++ drop i xs) i x →
+    set (map f (take i xs) ++ drop i xs) i (f x) ≡ map f (take (i + 1) xs) ++ drop (i + 1) xs
+mapped_step f [] i x h e = absurd (omega arith)
+mapped_step f (y ∷ xs) zero x h e = ap (λ t. f t ∷ xs) e
+mapped_step f (y ∷ xs) (suc i) x h e =
+    let next : suc (i + 1) ≡ suc i + 1 = omega arith in
+    ap (λ t. f y ∷ t) (mapped_step f xs i x (omega arith) e) ∙ ap (λ j. map f (take j (y ∷ xs)) ++ drop j (y ∷ xs)) next
+
+pub mapped_all : {A : Type 0} (f : A → A) (xs : List A) (i : ℕ) → length xs ≤ i → map f (take i xs) ++ drop i xs ≡ map f xs
+mapped_all f [] zero h = refl
+mapped_all f [] (suc i) h = refl
+mapped_all f (x ∷ xs) zero h = absurd (omega arith)
+mapped_all f (x ∷ xs) (suc i) h = ap (λ t. f x ∷ t) (mapped_all f xs i (omega arith))
+
+-- an element is the same whatever stands for one that is not there
+pub read_same : {A : Type 0} (xs : List A) (i : ℕ) (d : A) → i < length xs → get_or xs i d ≡ get_or xs i (get_or xs i d)
+read_same [] i d h = absurd (omega arith)
+read_same (x ∷ xs) zero d h = refl
+read_same (x ∷ xs) (suc i) d h = read_same xs i d (omega arith)
+
+-- a list that took the place of another one
+pub in_place : {A : Type 0} (n : ℕ) (xs ys : List A) → length xs ≡ length ys → n ≡ length ys → take n (xs ++ drop (length xs) ys) ≡ xs
+in_place zero [] ys h e = refl
+in_place zero (x ∷ xs) ys h e = absurd (omega arith)
+in_place (suc n) [] [] h e = refl
+in_place (suc n) [] (y ∷ ys) h e = absurd (omega arith)
+in_place (suc n) (x ∷ xs) [] h e = absurd (omega arith)
+in_place (suc n) (x ∷ xs) (y ∷ ys) h e = ap (λ t. x ∷ t) (in_place n xs ys (omega arith) (omega arith))
+
+pub same_then : (a b c : List (Option ℕ)) → HasSamePlaces a b → HasSamePlaces b c → HasSamePlaces a c
+same_then a b c h g = record { place = λ m. g.place m ∙ h.place m; count = g.count ∙ h.count }

@@ -1,0 +1,48 @@
+-- The keys that an edit changes.
+use Rattle.std.specs.Prelude.{◌≡◌, ◌↔◌, ◌++◌, Bool, true, false, not, List, [], ◌∷◌, Option, Some, None, if◌then◌else◌, ⊤}
+use Rattle.std.specs.List.{filter}
+use Rattle.std.specs.Str.{bytes_eq}
+use Rattle.def_entry.specs.declared.key.Key.{Key}
+use Rattle.def_entry.specs.Entries.{Entry}
+use Rattle.def_entry.specs.SameKeys.{is_among}
+use Rattle.deck.specs.Decks.{Contents}
+use Rattle.deck.specs.Tables.{Table, entry_at, keys_of, table}
+
+-- a key is not among these exactly where its entry is the same before and after
+abbrev pub AreChanged : Table → Table → List Key → Type 0
+AreChanged before after keys = (k : Key) → (is_among keys k ≡ true → ⊥) ↔ (entry_at before k ≡ entry_at after k)
+
+-- no key stands in the list twice
+abbrev pub AreOnce : List Key → Type 0
+AreOnce [] = ⊤
+AreOnce (k ∷ keys) = (is_among keys k ≡ false) × AreOnce keys
+
+-- the keys whose entries differ between two tables, each once
+pub record IsTableChange (before after : Table) (keys : List Key) : Type 0 where
+  pub changed : AreChanged before after keys
+  pub once : AreOnce keys
+
+-- the keys that an edit changes, each once
+abbrev pub IsChange : Contents → Contents → List Key → Type 0
+IsChange before after keys = IsTableChange (table before) (table after) keys
+
+-- two entries of a key have one text, or both are absent
+abbrev pub is_same_entry : Option Entry → Option Entry → Bool
+is_same_entry None None = true
+is_same_entry (Some e) (Some f) = bytes_eq e.text f.text
+is_same_entry _ _ = false
+
+-- each key of a list once, where it stands last
+abbrev pub each_once : List Key → List Key
+each_once [] = []
+each_once (k ∷ keys) = if is_among keys k then each_once keys else k ∷ each_once keys
+
+-- the keys whose entries have other texts
+abbrev pub changed_keys : Table → Table → List Key
+changed_keys before after =
+    filter (λ k. not (is_same_entry (entry_at before k) (entry_at after k)))
+    (each_once (keys_of before ++ keys_of after))
+
+-- law: these are the keys that an edit changes
+abbrev pub ChangedLaw : Type 0
+ChangedLaw = (before after : Contents) → IsChange before after (changed_keys (table before) (table after))

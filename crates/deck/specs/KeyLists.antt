@@ -1,0 +1,28 @@
+-- The keys of a table, in order.
+use Rattle.std.specs.Prelude.{◌≡◌, ℕ, List, length}
+use Rattle.std.specs.List.{filter}
+use Rattle.std.specs.List.Sorted.{IsStrictlySortedBy}
+use Rattle.def_entry.specs.declared.key.Key.{Key}
+use Rattle.def_entry.specs.declared.key.Kind.{Kind}
+use Rattle.def_entry.specs.KeyOrder.{key_cmp}
+use Rattle.def_entry.specs.SameKeys.{is_among, is_same_kind}
+use Rattle.deck.specs.Changes.{each_once}
+use Rattle.deck.specs.Tables.{Table, is_present, keys_of}
+
+-- all keys that have an entry, in order, each once
+pub record AreKeys (table : Table) (keys : List Key) : Type 0 where
+  pub each : (k : Key) → is_among keys k ≡ is_present table k
+  pub order : IsStrictlySortedBy key_cmp keys
+
+-- those of a kind
+abbrev pub of_kind : Kind → List Key → List Key
+of_kind kind keys = filter (λ key. is_same_kind kind key.kind) keys
+
+-- how many keys of a kind have an entry
+abbrev pub key_count : Table → Kind → ℕ
+key_count table kind = length (of_kind kind (each_once (keys_of table)))
+
+-- a list of all keys, with as many of each kind as there are
+pub record IsWhole (table : Table) (keys : List Key) : Type 0 where
+  pub all : AreKeys table keys
+  pub count : (kind : Kind) → length (of_kind kind keys) ≡ key_count table kind

@@ -1,0 +1,38 @@
+-- The last places of keys, by the numbers of the keys.
+use Rattle.std.specs.Prelude.{◌≡◌, ◌<◌, ℕ, List, length, Option}
+use Rattle.std.specs.Option.{option_and_then}
+use Rattle.def_entry.specs.declared.key.Kind.{Kind}
+use Rattle.def_entry.specs.declared.key.Kind.TheVariants as kind
+use Rattle.deck_lines.specs.Closed.{IsClosed}
+use Rattle.deck_lines.specs.Names.{Names, key_at, names_of}
+use Rattle.deck_lines.specs.Stores.{Store}
+use Rattle.deck_lines.specs.declared.key_number.KeyNumber.{KeyNumber}
+use Rattle.deck.specs.KeyLists.{key_count}
+use Rattle.deck.specs.KindPlaces.{place_count, place_in}
+use Rattle.deck.specs.Tables.{Definitions, definitions, place_of, table_of}
+use Rattle.deck.specs.declared.places.last_places.LastPlaces.{LastPlaces}
+use Rattle.deck.specs.declared.settings.Settings.{Settings}
+
+-- the places of the keys of a kind
+abbrev pub places_of : LastPlaces → Kind → List (Option ℕ)
+places_of last kind.Unit = last.units
+places_of last kind.Prefix = last.prefixes
+places_of last kind.Func = last.functions
+places_of last kind.List = last.lists
+
+abbrev pub place_at : LastPlaces → KeyNumber → Option ℕ
+place_at last n = place_in (places_of last n.kind) n.number
+
+-- there is room for a place of each key that has a number
+abbrev pub HasRoom : Names → LastPlaces → Type 0
+HasRoom names last = (kind : Kind) → length (names_of names kind) < length (places_of last kind)
+
+-- at the number of each key stands the place of the last of its definitions, if there is one
+pub record AreLast (names : Names) (ds : Definitions) (last : LastPlaces) : Type 0 where
+  pub place : (n : KeyNumber) → place_at last n ≡ option_and_then (place_of ds) (key_at names n)
+  pub count : (kind : Kind) → place_count (places_of last kind) ≡ key_count (table_of ds) kind
+
+-- the lines are closed, and these are the last places of their keys
+pub record IsIndexed (store : Store) (settings : Settings) (last : LastPlaces) : Type 0 where
+  pub closed : IsClosed store.lines
+  pub places : AreLast store.names (definitions settings store.lines) last

@@ -1,0 +1,13 @@
+pub mod Active
+pub mod Changes
+pub mod Decks
+pub mod Edits
+pub mod Failing
+pub mod KeyLists
+pub mod KindPlaces
+pub mod LastPlaces
+pub mod Loading
+pub mod Messages
+pub mod Numbers
+pub mod Splices
+pub mod Tables

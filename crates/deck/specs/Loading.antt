@@ -1,0 +1,88 @@
+-- What loading a file gives.
+use Rattle.std.specs.Prelude.{◌≡◌, ◌⊎◌, ◌≤◌, ℕ, List, [], Bool, true, false, Result, Ok, Err, MatchResult, IsErrOf}
+use Rattle.units_io.specs.Faults.{Rose}
+use Rattle.units_io.specs.FileMap.{FileMap, file_of}
+use Rattle.units_io.specs.Fetching.{answer_of}
+use Rattle.units_io.specs.declared.files.FetchFault.{FetchFault}
+use Rattle.units_io.specs.declared.files.FetchFault.TheVariants as fetch
+use Rattle.def_entry.specs.declared.key.Key.{Key}
+use Rattle.deck_lines.specs.Includes.{deck_of, lone_deck_of}
+use Rattle.deck_lines.specs.Limits.{pass_limit}
+use Rattle.deck_lines.specs.declared.line.DeckLine.{DeckLine}
+use Rattle.deck_lines.specs.declared.draft.LoadFault.{LoadFault}
+use Rattle.deck_lines.specs.declared.draft.LoadFault.TheVariants as load
+use Rattle.deck.specs.Decks.{Contents}
+use Rattle.deck.specs.Edits.{with_excerpt, within}
+use Rattle.deck.specs.declared.fault.DeckFault.{DeckFault}
+use Rattle.deck.specs.declared.fault.DeckFault.TheVariants.{BadLine, NoSuchKey, DeckFull, Absent, TooLong, ReadFailed, OutOfMemory}
+use Rattle.deck.specs.declared.settings.Settings.{Settings}
+
+-- why a deck has no first file
+abbrev pub fault_of : FetchFault → DeckFault
+fault_of fetch.Absent = Absent
+fault_of fetch.TooLong = TooLong
+fault_of fetch.Failed = ReadFailed
+fault_of fetch.OutOfMemory = OutOfMemory
+
+-- why the deck of a file has no place in a deck
+abbrev pub fault_of_load : LoadFault → DeckFault
+fault_of_load load.DeckFull = DeckFull
+fault_of_load load.ReadFailed = ReadFailed
+fault_of_load load.OutOfMemory = OutOfMemory
+
+-- with the deck of the file that a fetch answers at the end
+abbrev pub with_answer : FileMap → List ℕ → Result (List ℕ) FetchFault → Contents → Result Contents DeckFault
+with_answer files name (Ok bytes) d = within (with_excerpt (deck_of files name bytes) d)
+with_answer files name (Err fault) d = Err (fault_of fault)
+
+-- with the deck of the file of this name at the end
+abbrev pub after_append : FileMap → List ℕ → Contents → Result Contents DeckFault
+after_append files name d = with_answer files name (answer_of (file_of files name)) d
+
+-- a deck with no line
+abbrev pub empty_deck : Settings → Contents
+empty_deck settings = record { lines = []; settings = settings; notices = [] }
+
+-- the deck of the file of this name
+abbrev pub after_load : FileMap → List ℕ → Settings → Result Contents DeckFault
+after_load files name settings = after_append files name (empty_deck settings)
+
+-- the deck of a text without files
+abbrev pub after_text : List ℕ → List ℕ → Settings → Result Contents DeckFault
+after_text text name settings = within (with_excerpt (lone_deck_of name text) (empty_deck settings))
+
+-- a deck is the one of this outcome, or there is none for the outcome's reason or for want of memory
+abbrev pub IsMade : Result Contents DeckFault → Result Contents DeckFault → Type 0
+IsMade outcome result =
+    MatchResult result (λ d. outcome ≡ Ok d) (λ fault. (fault ≡ OutOfMemory) ⊎ (outcome ≡ Err fault))
+
+-- a fetch failed, or there is no memory
+abbrev pub MayFail : DeckFault → Type 0
+MayFail fault = (fault ≡ OutOfMemory) ⊎ (fault ≡ ReadFailed)
+
+-- what a load or an append answers where there is no deck
+abbrev pub is_load_fault : DeckFault → Bool
+is_load_fault (BadLine fault) = false
+is_load_fault NoSuchKey = false
+is_load_fault _ = true
+
+-- a load gives the deck of this outcome or its reason, or fails
+abbrev pub IsLoaded : Result Contents DeckFault → Result Contents DeckFault → Type 0
+IsLoaded outcome result =
+    MatchResult result (λ d. outcome ≡ Ok d) (λ fault. MayFail fault ⊎ (outcome ≡ Err fault))
+
+-- the lines and the notices of the deck of this outcome were put behind the lines of a deck, if they
+-- are within the limits; or there is its reason, or a failure
+abbrev pub IsRead : {T : Type 0} → Result Contents DeckFault → Contents → List DeckLine → List (List ℕ) → Result T DeckFault → Type 0
+IsRead outcome d lines notices (Ok _) = pass_limit lines ≡ false → outcome ≡ Ok (record d { lines = lines; notices = notices })
+IsRead outcome d lines notices (Err fault) = MayFail fault ⊎ (outcome ≡ Err fault)
+
+-- an edit that reads files gives the deck of this outcome or its reason, or fails
+abbrev pub IsAppended : Result Contents DeckFault → Contents → Result (List Key) DeckFault → Type 0
+IsAppended outcome new result =
+    MatchResult result (λ _. outcome ≡ Ok new) (λ fault. MayFail fault ⊎ (outcome ≡ Err fault))
+
+-- the count of failed fetches has not fallen, and it rose where a read failed
+pub record ReadsWithCause {T : Type 0} (before now : ℕ) (result : Result T DeckFault) : Type 0 where
+  pub later : before ≤ now
+  pub failed : IsErrOf result ReadFailed → Rose before now

@@ -1,0 +1,42 @@
+-- Keys by their numbers, and what differs between two tables of the same lines.
+use Rattle.std.specs.Prelude.{◌≡◌, ◌+◌, ◌++◌, ℕ, List, [], ◌∷◌, Bool, true, not, Option, Some, option_map}
+use Rattle.std.specs.Map.{lookup}
+use Rattle.std.specs.Option.{option_and_then}
+use Rattle.def_entry.specs.declared.key.Key.{Key}
+use Rattle.def_entry.specs.declared.key.Kind.{Kind}
+use Rattle.def_entry.specs.Entries.{Entry}
+use Rattle.def_entry.specs.Keys.{key}
+use Rattle.def_entry.specs.SameKeys.{is_same}
+use Rattle.deck_lines.specs.Stores.{definition_at}
+use Rattle.deck_lines.specs.declared.key_number.KeyNumber.{KeyNumber}
+use Rattle.deck_lines.specs.declared.line.DeckLine.{DeckLine}
+use Rattle.deck.specs.Changes.{is_same_entry}
+use Rattle.deck.specs.LastPlaces.{place_at}
+use Rattle.deck.specs.Tables.{Definitions}
+use Rattle.deck.specs.declared.places.last_places.LastPlaces.{LastPlaces}
+
+-- each of these that is found by its key stands at its place in the lines
+abbrev pub AreInPlace : List DeckLine → Definitions → Type 0
+AreInPlace lines ds =
+    (k : Key) (d : ℕ × Entry) → lookup (is_same k) ds ≡ Some d → definition_at lines d.0 ≡ Some (k, d.1)
+
+-- the entry at a place, if there is one
+abbrev pub entry_there : List DeckLine → Option ℕ → Option Entry
+entry_there lines place = option_and_then (λ p. option_map (λ d. d.1) (definition_at lines p)) place
+
+-- the entries of a key differ, by their texts
+abbrev pub differs : List DeckLine → LastPlaces → LastPlaces → KeyNumber → Bool
+differs lines before after n =
+    not (is_same_entry (entry_there lines (place_at before n)) (entry_there lines (place_at after n)))
+
+-- a key, where a test is passed
+abbrev pub key_if : Bool → Option Key → List Key
+key_if true (Some k) = k ∷ []
+key_if _ _ = []
+
+-- the keys of a kind whose numbers pass a test, of which the first name has this number
+abbrev pub keys_where : (KeyNumber → Bool) → Kind → ℕ → List (List ℕ) → List Key
+keys_where test kind number [] = []
+keys_where test kind number (name ∷ names) =
+    key_if (test (record { kind = kind; number = number })) (Some (key kind name))
+    ++ keys_where test kind (number + 1) names

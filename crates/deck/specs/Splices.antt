@@ -1,0 +1,48 @@
+-- Lines replaced by others, and what undoes that.
+use Rattle.std.specs.Prelude.{◌≡◌, ◌≤◌, ◌+◌, ◌++◌, ℕ, List, length, take, drop, false, Result, Ok, Err}
+use Rattle.std.specs.declared.alloc.AllocError.{AllocError}
+use Rattle.def_entry.specs.declared.key.Key.{Key}
+use Rattle.deck_lines.specs.Closed.{IsClosed}
+use Rattle.deck_lines.specs.Limits.{pass_limit}
+use Rattle.deck_lines.specs.declared.line.DeckLine.{DeckLine}
+use Rattle.deck.specs.Changes.{IsChange}
+use Rattle.deck.specs.Decks.{Contents}
+use Rattle.deck.specs.declared.splice.Splice.{Splice}
+
+-- so many lines from a place on
+abbrev pub lines_from : ℕ → ℕ → List DeckLine → List DeckLine
+lines_from place count lines = take count (drop place lines)
+
+-- the deck with the lines and the settings of a splice
+abbrev pub after_splice : Splice → Contents → Contents
+after_splice s d = record d {
+  lines = take s.at d.lines ++ (s.put ++ drop (s.at + s.cut) d.lines);
+  settings = s.settings;
+}
+
+-- what a deck and a splice have to meet: the places exist, and what comes of it is closed and within
+-- the limits
+pub record CanSplice (s : Splice) (d : Contents) : Type 0 where
+  pub places : s.at + s.cut ≤ length d.lines
+  pub closed : IsClosed (after_splice s d).lines
+  pub within : pass_limit (after_splice s d).lines ≡ false
+
+-- the splice that gives back what another took
+abbrev pub inverse : Splice → Contents → Splice
+inverse s d = record {
+  at = s.at;
+  cut = length s.put;
+  put = lines_from s.at s.cut d.lines;
+  settings = d.settings;
+}
+
+-- a splice gives its deck, the keys that it changes and its inverse; or it is handed back, and the
+-- deck is as it was
+abbrev pub IsSpliced : Splice → Contents → Contents → Result (List Key × Splice) (Splice × AllocError) → Type 0
+IsSpliced s old new (Ok done) = (new ≡ after_splice s old) × IsChange old new done.0 × (done.1 ≡ inverse s old)
+IsSpliced s old new (Err refusal) = (new ≡ old) × (refusal.0 ≡ s)
+
+-- law: the inverse of a splice gives back the deck
+abbrev pub InverseLaw : Type 0
+InverseLaw =
+    (s : Splice) (d : Contents) → s.at + s.cut ≤ length d.lines → after_splice (inverse s d) (after_splice s d) ≡ d

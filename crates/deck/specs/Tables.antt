@@ -1,0 +1,66 @@
+-- The table of a deck.
+use Rattle.std.specs.Prelude.{◌+◌, ◌++◌, ℕ, List, [], ◌∷◌, Bool, if◌then◌else◌, map, reverse, Option, Some, None, option_map}
+use Rattle.std.specs.Option.{is_some}
+use Rattle.std.specs.Map.{lookup}
+use Rattle.def_entry.specs.declared.key.Key.{Key}
+use Rattle.def_entry.specs.Entries.{Entry}
+use Rattle.def_entry.specs.SameKeys.{is_same}
+use Rattle.deck_lines.specs.Readings.{entry_in}
+use Rattle.deck_lines.specs.declared.line.DeckLine.{DeckLine}
+use Rattle.deck.specs.Active.{active_lines}
+use Rattle.deck.specs.Decks.{Contents}
+use Rattle.deck.specs.declared.settings.Settings.{Settings}
+
+-- keys with their entries, the last one first
+abbrev pub Table : Type 0
+Table = List (Key × Entry)
+
+-- the entry of a key: that of its last active line
+abbrev pub entry_at : Table → Key → Option Entry
+entry_at table k = lookup (is_same k) table
+
+-- the key has an entry
+abbrev pub is_present : Table → Key → Bool
+is_present table k = is_some (entry_at table k)
+
+-- the keys of all entries, those of earlier lines too
+abbrev pub keys_of : Table → List Key
+keys_of table = map (λ e. e.0) table
+
+-- keys with the places of the lines that define them and their entries
+abbrev pub Definitions : Type 0
+Definitions = List (Key × (ℕ × Entry))
+
+-- what a line at a place defines, where it is active
+abbrev pub definition_by : ℕ → Bool → Option (Key × Entry) → Definitions
+definition_by place active None = []
+definition_by place active (Some e) = if active then (e.0, (place, e.1)) ∷ [] else []
+
+-- what the active ones of some lines define, of which the first has this place
+abbrev pub definitions_from : ℕ → List Bool → List DeckLine → Definitions
+definitions_from place (active ∷ flags) (line ∷ lines) =
+    definition_by place active (entry_in line) ++ definitions_from (place + 1) flags lines
+definitions_from place _ _ = []
+
+-- what the active ones of all lines define, the last one first
+abbrev pub definitions_by : List Bool → List DeckLine → Definitions
+definitions_by flags lines = reverse (definitions_from 0 flags lines)
+
+-- what the active lines of a deck define, the last one first
+unfoldable pub definitions : Settings → List DeckLine → Definitions
+definitions settings lines = definitions_by (active_lines settings lines) lines
+
+-- the place of the last active line of a key
+abbrev pub place_of : Definitions → Key → Option ℕ
+place_of definitions k = option_map (λ p. p.0) (lookup (is_same k) definitions)
+
+abbrev pub last_place : Settings → List DeckLine → Key → Option ℕ
+last_place settings lines k = place_of (definitions settings lines) k
+
+-- definitions without their places
+abbrev pub table_of : Definitions → Table
+table_of definitions = map (λ p. (p.0, p.1.1)) definitions
+
+-- the table of a deck
+abbrev pub table : Contents → Table
+table d = table_of (definitions d.settings d.lines)

@@ -1,0 +1,131 @@
+//! A deck, with its entries by key.
+
+ghost use Rattle.std.specs.Prelude.{◌≡◌, false, map, option_map, IfOk, OnOk};
+ghost use Rattle.std.specs.Option.{option_copied};
+ghost use Rattle.def_entry.specs.Keys.{key as key_named};
+ghost use Rattle.def_entry.specs.Views.{entry_view};
+ghost use Rattle.deck_lines.specs.Closed.{IsClosed};
+ghost use Rattle.deck_lines.specs.Limits.{pass_limit};
+ghost use Rattle.deck_lines.specs.Marks.{unmarked};
+ghost use Rattle.deck.specs.KeyLists as lists;
+ghost use Rattle.deck.specs.Tables as tables;
+
+mod appending;
+mod define;
+mod defining;
+mod drop_last;
+mod keys;
+mod lines_from;
+mod loading;
+mod snapshot;
+mod switch;
+mod texts;
+
+use crate::places::LastPlaces;
+use crate::settings::Settings;
+use deck_lines::LineStore;
+use def_entry::{Entry, Key, Kind};
+use def_lines::Lines;
+use std::alloc::{AllocError, Global};
+use std::marker::Model;
+use units_io::Texts;
+
+/// Lines with the settings under which they hold.
+#[derive(Drop)]
+pub struct Deck {
+    store: LineStore,
+    last: LastPlaces,
+    settings: Settings,
+    notices: Texts,
+}
+
+impl Model for Deck {
+    ghost use Rattle.deck.specs.Decks.{Contents};
+    ghost use Rattle.deck.specs.LastPlaces.{IsIndexed};
+
+    ghost Value = { Contents };
+
+    ghost view = { λ d. record { lines = d.store.lines; settings = d.settings; notices = d.notices } };
+
+    ghost invariant = { λ d. IsIndexed d.store d.settings d.last };
+}
+
+impl Deck {
+    /// The deck of these lines under these settings.
+    pub(crate) fn from_parts(
+        alloc: Global,
+        store: LineStore,
+        settings: Settings,
+        notices: Texts,
+    ) -> Result<Deck, AllocError>
+        requires { IsClosed store.lines }
+        ensures is { IfOk result (λ d. d ≡ record { lines = store.lines; settings = settings; notices = notices }) }
+        ensures within { OnOk result (pass_limit store.lines ≡ false) }
+    {
+        let last = LastPlaces::under(alloc, &settings, &store)?;
+        Ok(Deck {
+            store,
+            last,
+            settings,
+            notices,
+        })
+    }
+
+    /// The entry of the last active line of a key. It takes no memory.
+    pub fn entry(&self, kind: Kind, name: &[u8]) -> Option<&Entry>
+        ensures { option_map entry_view (option_copied result)
+            ≡ tables.entry_at (tables.table self.now) (key_named kind name.now) }
+    {
+        let Some(place) = self.place_of(kind, name) else {
+            return None;
+        };
+        self.store.entry(place)
+    }
+
+    /// How many keys of this kind have an entry.
+    pub fn key_count(&self, kind: Kind) -> usize
+        ensures { result ≡ lists.key_count (tables.table self.now) kind }
+    {
+        self.last.count(kind)
+    }
+
+    /// The place in `lines`, from 0, of the last active line of a key, or `None` where there is none.
+    pub fn last_place(&self, key: &Key) -> Option<usize>
+        ensures { result ≡ tables.last_place self.now.settings self.now.lines key.now }
+    {
+        self.place_of(key.kind, key.name.as_bytes())
+    }
+
+    /// The lines, without their marks.
+    pub fn lines(&self) -> &Lines
+        ensures is { result.now ≡ map unmarked self.now.lines }
+        ensures closed { IsClosed self.now.lines }
+        ensures within { pass_limit self.now.lines ≡ false }
+    {
+        self.store.lines()
+    }
+
+    /// The notices of the last load or append.
+    pub fn notices(&self) -> &Texts
+        ensures { result.now ≡ self.now.notices }
+    {
+        &self.notices
+    }
+
+    /// The settings.
+    pub fn settings(&self) -> &Settings
+        ensures { result.now ≡ self.now.settings }
+    {
+        &self.settings
+    }
+
+    // The place of the last active line of a key.
+    fn place_of(&self, kind: Kind, name: &[u8]) -> Option<usize>
+        ensures { result ≡ tables.last_place self.now.settings self.now.lines (key_named kind name.now) }
+    {
+        let Some(number) = self.store.number_of(kind, name) else {
+            return None;
+        };
+        self.last.get(number)
+    }
+}

@@ -1,0 +1,44 @@
+//! Lines copied out of a deck.
+
+ghost use Rattle.std.specs.Prelude.{◌≡◌, ◌≤◌, ◌+◌, length, IfOk};
+ghost use Rattle.deck_lines.specs.Marks.{with_marks};
+ghost use Rattle.deck.specs.Splices as splices;
+
+use super::Deck;
+use deck_lines::{DeckLine, DeckLines, MarkedLines};
+use def_lines::Line;
+use std::alloc::{AllocError, Global};
+
+impl Deck {
+    /// So many lines from a place on, with their marks, in memory of their own. The only error is want
+    /// of memory.
+    pub fn lines_from(
+        &self,
+        alloc: Global,
+        at: usize,
+        count: usize,
+    ) -> Result<DeckLines, AllocError>
+        requires { at + count ≤ length self.now.lines }
+        ensures { IfOk result (λ lines. lines ≡ splices.lines_from at count self.now.lines) }
+    {
+        let MarkedLines { lines, marks } = self.store.marked();
+        let end = at + count;
+        copied_lines(alloc, &lines[at..end], &marks[at..end])
+    }
+}
+
+// Lines with their marks, in memory of their own.
+fn copied_lines(alloc: Global, lines: &[Line], marks: &[bool]) -> Result<DeckLines, AllocError>
+    requires { length marks.now ≡ length lines.now }
+    ensures { IfOk result (λ copy. copy ≡ with_marks lines.now marks.now) }
+{
+    let mut copy = DeckLines::new(alloc);
+    for i in 0..lines.len() {
+        let mark = marks[i];
+        let line = &lines[i];
+        let number = line.number;
+        let text = line.text.copy(alloc)?;
+        copy.push(alloc, DeckLine { number, text, mark })?;
+    }
+    Ok(copy)
+}

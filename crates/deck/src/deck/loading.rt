@@ -1,0 +1,77 @@
+//! Decks of files and of texts.
+
+ghost use Rattle.std.specs.Prelude.{◌≡◌, ◌≤◌, [], Some, true, length, IfOk, IfErr, OnOk};
+ghost use Rattle.units_io.specs.FileMap.{FileMap, longest_file};
+ghost use Rattle.deck_lines.specs.Closed.{IsClosed};
+ghost use Rattle.deck_lines.specs.Loads.{Extends};
+ghost use Rattle.deck.specs.Decks.{Contents};
+ghost use Rattle.deck.specs.Loading as loading;
+
+use super::Deck;
+use crate::fault::DeckFault;
+use crate::no_files::NoFiles;
+use crate::settings::Settings;
+use deck_lines::{Draft, load_text};
+use std::alloc::Global;
+use units_io::Files;
+
+impl Deck {
+    /// The deck of a text of at most 16,777,216 bytes, in which each include is of an absent file. The
+    /// name stands in its notices. `DeckFull` where its lines pass a limit; the only other error is want
+    /// of memory.
+    pub fn from_text(
+        alloc: Global,
+        text: &[u8],
+        name: &[u8],
+        settings: Settings,
+    ) -> Result<Deck, DeckFault>
+        requires { length text.now ≤ longest_file }
+        ensures { loading.IsMade (loading.after_text text.now name.now settings) result }
+    {
+        let mut draft = Draft::new(alloc);
+        load_text(alloc, &mut NoFiles::new(), &mut draft, name, text)?;
+        Ok(Deck::from_parts(alloc, draft.store, settings, draft.notices)?)
+    }
+
+    /// The deck of the file of this name, with the files that it includes. `Absent` and `TooLong` as the
+    /// files answer for this name, `ReadFailed` only where their count rose, and `DeckFull` where the
+    /// lines read pass a limit.
+    pub fn load<F: Files>(
+        alloc: Global,
+        files: &mut F,
+        name: &[u8],
+        settings: Settings,
+    ) -> Result<Deck, DeckFault>
+        ensures told { (m : FileMap) → F.files files.old ≡ Some m → loading.IsLoaded (loading.after_load m name.now settings) result }
+        ensures settings { IfOk result (λ d. d.settings ≡ settings) }
+        ensures answers { IfErr result (λ fault. loading.is_load_fault fault ≡ true) }
+        ensures kept { F.files files.new ≡ F.files files.old }
+        ensures stores { F.store_faults files.new ≡ F.store_faults files.old }
+        ensures cause { loading.ReadsWithCause (F.faults files.old) (F.faults files.new) result }
+    {
+        let mut draft = Draft::new(alloc);
+        load_file(alloc, files, &mut draft, name)?;
+        Ok(Deck::from_parts(alloc, draft.store, settings, draft.notices)?)
+    }
+}
+
+// Puts the deck of the file of this name, with the files that it includes, behind what a draft holds.
+pub(crate) fn load_file<F: Files>(
+    alloc: Global,
+    files: &mut F,
+    draft: &mut Draft,
+    name: &[u8],
+) -> Result<(), DeckFault>
+    requires { draft.old.notices ≡ [] }
+    ensures told { (m : FileMap) (d : Contents) → F.files files.old ≡ Some m → d.lines ≡ draft.old.store.lines → loading.IsRead (loading.after_append m name.now d) d draft.new.store.lines draft.new.notices result }
+    ensures extends { Extends draft.old.store draft.new.store }
+    ensures closed { OnOk result (IsClosed draft.old.store.lines → IsClosed draft.new.store.lines) }
+    ensures answers { IfErr result (λ fault. loading.is_load_fault fault ≡ true) }
+    ensures kept { F.files files.new ≡ F.files files.old }
+    ensures stores { F.store_faults files.new ≡ F.store_faults files.old }
+    ensures cause { loading.ReadsWithCause (F.faults files.old) (F.faults files.new) result }
+{
+    let text = files.fetch(alloc, name)?;
+    load_text(alloc, files, draft, name, text.as_bytes())?;
+    Ok(())
+}

@@ -1,0 +1,86 @@
+//! Copies of decks.
+
+ghost use Rattle.std.specs.Prelude.{◌≡◌, IfOk, option_map};
+ghost use Rattle.def_entry.specs.Seen.{seen_entry};
+ghost use Rattle.deck_lines.specs.Stores.{definition_at};
+
+use super::Deck;
+use crate::settings::Settings;
+use deck_lines::{LineStore, MarkedLines};
+use def_entry::{Entry, Key};
+use def_lines::Line;
+use std::alloc::{AllocError, Global};
+use units_io::{Text, Texts};
+
+impl Deck {
+    /// An equal deck in memory of its own. No line is read again: entries are copied. The only error is
+    /// want of memory.
+    pub fn snapshot(&self, alloc: Global) -> Result<Deck, AllocError>
+        ensures { IfOk result (λ copy. copy ≡ self.now) }
+    {
+        let store = copied_store(alloc, &self.store)?;
+        let settings = copied_settings(alloc, &self.settings)?;
+        let notices = copied_texts(alloc, &self.notices)?;
+        Deck::from_parts(alloc, store, settings, notices)
+    }
+}
+
+// The same lines, with their marks and what they define.
+fn copied_store(alloc: Global, store: &LineStore) -> Result<LineStore, AllocError>
+    ensures { IfOk result (λ copy. copy.lines ≡ store.now.lines) }
+{
+    let MarkedLines { lines, marks } = store.marked();
+    let mut copy = LineStore::new(alloc);
+    for place in 0..lines.len() {
+        let mark = marks[place];
+        let line = &lines[place];
+        let number = line.number;
+        let text = line.text.copy(alloc)?;
+        let definition = copied_definition(alloc, store, place)?;
+        copy.push(alloc, Line { number, text }, mark, definition)?;
+    }
+    Ok(copy)
+}
+
+// What the line at a place defines.
+fn copied_definition(
+    alloc: Global,
+    store: &LineStore,
+    place: usize,
+) -> Result<Option<(Key, Entry)>, AllocError>
+    ensures { IfOk result (λ copy. option_map seen_entry copy ≡ definition_at store.now.lines place) }
+{
+    let Some(number) = store.key_number(place) else {
+        return Ok(None);
+    };
+    let Some(name) = store.name(number) else {
+        unreachable!()
+    };
+    let Some(entry) = store.entry(place) else {
+        unreachable!()
+    };
+    let kind = number.kind;
+    let name = Text::from_bytes(alloc, name)?;
+    let entry = entry.copy(alloc)?;
+    Ok(Some((Key { kind, name }, entry)))
+}
+
+// The same settings.
+fn copied_settings(alloc: Global, settings: &Settings) -> Result<Settings, AllocError>
+    ensures { IfOk result (λ copy. copy ≡ settings.now) }
+{
+    let locale = settings.locale.copy(alloc)?;
+    let vars = settings.vars.copy(alloc)?;
+    Ok(Settings { locale, vars })
+}
+
+// The same texts.
+fn copied_texts(alloc: Global, texts: &Texts) -> Result<Texts, AllocError>
+    ensures { IfOk result (λ copy. copy ≡ texts.now) }
+{
+    let mut copy = Texts::new(alloc);
+    for text in texts.as_slice() {
+        copy.push(alloc, text.copy(alloc)?)?;
+    }
+    Ok(copy)
+}

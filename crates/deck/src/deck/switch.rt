@@ -1,0 +1,25 @@
+//! Other settings in force.
+
+ghost use Rattle.std.specs.Prelude.{Ok};
+ghost use Rattle.deck.specs.Edits as edit;
+
+use super::Deck;
+use crate::fault::DeckFault;
+use crate::places::{LastPlaces, changed_keys};
+use crate::settings::Settings;
+use def_entry::Keys;
+use std::alloc::Global;
+
+impl Deck {
+    /// Puts other settings in force, and answers the keys whose entries differ afterwards. The only
+    /// error is want of memory. It takes one pass over the deck.
+    pub fn switch(&mut self, alloc: Global, settings: Settings) -> Result<Keys, DeckFault>
+        ensures { edit.IsEdit (Ok (edit.after_switch settings self.old)) self.old self.new result }
+    {
+        let last = LastPlaces::under(alloc, &settings, &self.store)?;
+        let keys = changed_keys(alloc, &self.store, &self.last, &last)?;
+        self.settings = settings;
+        self.last = last;
+        Ok(keys)
+    }
+}

@@ -1,0 +1,52 @@
+//! What the active lines say.
+
+ghost use Rattle.std.specs.Prelude.{◌≡◌, ◌++◌, ◌∷◌, [], IfOk, OnOk, if◌then◌else◌};
+ghost use Rattle.def_lines.specs.Kinds.{kind_of};
+ghost use Rattle.deck.specs.Messages as spec;
+
+use super::Deck;
+use crate::force::active_flags;
+use def_lines::{LineKind, classify};
+use std::alloc::{AllocError, Global};
+use units_io::{Text, Texts};
+
+impl Deck {
+    /// The texts of the active message lines, in order.
+    pub fn messages(&self, alloc: Global) -> Result<Texts, AllocError>
+        ensures { IfOk result (λ texts. texts ≡ spec.messages self.now) }
+    {
+        let marked = self.store.marked();
+        let flags = active_flags(alloc, marked, &self.settings)?;
+        let lines = marked.lines;
+        let mut texts = Texts::new(alloc);
+        for i in 0..lines.len() {
+            push_message(alloc, &mut texts, flags[i], lines[i].text.as_bytes())?;
+        }
+        Ok(texts)
+    }
+}
+
+// The message of an active line, behind some texts.
+fn push_message(
+    alloc: Global,
+    texts: &mut Texts,
+    active: bool,
+    line: &[u8],
+) -> Result<(), AllocError>
+    ensures { OnOk result (texts.new ≡ texts.old ++ (if active then spec.message_of (kind_of line.now) else [])) }
+{
+    match classify(line) {
+        LineKind::Message(text) => push_where(alloc, texts, active, text),
+        _ => Ok(()),
+    }
+}
+
+// A text behind others, where it is to stand there.
+fn push_where(alloc: Global, texts: &mut Texts, stands: bool, text: &[u8]) -> Result<(), AllocError>
+    ensures { OnOk result (texts.new ≡ texts.old ++ (if stands then text.now ∷ [] else [])) }
+{
+    if !stands {
+        return Ok(());
+    }
+    texts.push(alloc, Text::from_bytes(alloc, text)?)
+}

@@ -1,0 +1,6 @@
+//! The lines in force.
+
+mod flags;
+mod surroundings;
+
+pub use flags::active_flags;

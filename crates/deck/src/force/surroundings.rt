@@ -1,0 +1,147 @@
+//! What is around a line of a deck.
+
+ghost use Rattle.std.specs.Prelude.{◌≡◌, ℕ, [], OnOk, IfNone};
+ghost use Rattle.std.specs.Option.{option_copied};
+ghost use Rattle.units_io.specs.Named.{HasNoName, value_of};
+ghost use Rattle.deck_lines.specs.declared.line.DeckLine.{DeckLine};
+ghost use Rattle.deck.specs.Active as spec;
+
+use def_lines::{LineKind, classify, listed};
+use std::alloc::{AllocError, Global};
+use std::marker::Model;
+use units_io::{Text, Vars};
+
+/// Which blocks around a place hold, how many of them do not, and the variables in force: those of
+/// the settings, and those that lines have put in force.
+#[derive(Drop)]
+pub struct Surroundings<'a> {
+    holds: Vec<bool>,
+    failing: usize,
+    base: &'a Vars,
+    set: Vars,
+}
+
+impl<'a> Model for Surroundings<'a> {
+    ghost use Rattle.std.specs.Prelude.{◌≡◌, ◌++◌, reverse};
+    ghost use Rattle.deck.specs.Active.{Surroundings};
+    ghost use Rattle.deck.specs.Failing.{failing_count};
+
+    ghost Value = { Surroundings };
+
+    ghost view = { λ around. record { holds = reverse around.holds.items; vars = around.base.now ++ around.set } };
+
+    ghost invariant = { λ around. around.failing ≡ failing_count (reverse around.holds.items) };
+}
+
+impl<'a> Surroundings<'a> {
+    /// At the start of a deck, where these variables are in force.
+    pub fn start(alloc: Global, vars: &'a Vars) -> Surroundings<'a>
+        ensures { result ≡ record { holds = []; vars = vars.now } }
+    {
+        Surroundings {
+            holds: Vec::new(alloc),
+            failing: 0,
+            base: vars,
+            set: Vars::new(alloc),
+        }
+    }
+
+    /// Whether a line there is active, which takes the same time in any depth.
+    pub fn is_active(&self, mark: bool) -> bool
+        ensures { (line : DeckLine) → line.mark ≡ mark → result ≡ spec.is_active self.now line }
+    {
+        !mark && self.all_hold()
+    }
+
+    /// Goes behind a line.
+    #[tactic(auto, unfolding(crate::specs::Active::behind_line))]
+    pub fn pass(
+        &mut self,
+        alloc: Global,
+        locale: &[u8],
+        text: &[u8],
+        mark: bool,
+    ) -> Result<(), AllocError>
+        ensures { (number : ℕ) → OnOk result (self.new
+            ≡ spec.behind_line locale.now self.old (record { number = number; text = text.now; mark = mark })) }
+    {
+        if mark {
+            return Ok(());
+        }
+        match classify(text) {
+            LineKind::Locale(name) => self.enter(name == locale),
+            LineKind::Var(name, values) => self.enter(self.is_value_listed(name, values)),
+            LineKind::VarNot(name, values) => self.enter(!self.is_value_listed(name, values)),
+            LineKind::Utf8 => self.enter(true),
+            LineKind::EndLocale | LineKind::EndVar | LineKind::EndUtf8 => {
+                self.leave();
+                Ok(())
+            }
+            LineKind::Set(name, value) => self.set(alloc, name, value),
+            _ => Ok(()),
+        }
+    }
+
+    // Whether all blocks around hold.
+    #[tactic(auto, using(crate::proofs::Failing::all_hold_by))]
+    fn all_hold(&self) -> bool
+        ensures { result ≡ spec.all_hold self.now }
+    {
+        self.failing == 0
+    }
+
+    // Into a block.
+    fn enter(&mut self, holds: bool) -> Result<(), AllocError>
+        ensures { OnOk result (self.new ≡ spec.in_block holds self.old) }
+    {
+        self.holds.push(holds)?;
+        if !holds {
+            self.failing += 1;
+        }
+        Ok(())
+    }
+
+    // Out of the innermost block, if there is one.
+    fn leave(&mut self)
+        ensures { self.new ≡ spec.out_of_block self.old }
+    {
+        if let Some(holds) = self.holds.pop() {
+            if !holds {
+                self.failing -= 1;
+            }
+        }
+    }
+
+    // The value of a variable that is in force.
+    fn value(&self, name: &[u8]) -> Option<&Text>
+        ensures value { option_copied result ≡ value_of self.now.vars name.now }
+        ensures absent { IfNone result (HasNoName self.now.vars name.now) }
+    {
+        match self.base.value(name) {
+            Some(value) => Some(value),
+            None => self.set.value(name),
+        }
+    }
+
+    // Whether the variable is in force and has one of these values.
+    fn is_value_listed(&self, name: &[u8], values: &[u8]) -> bool
+        ensures { result ≡ spec.is_value_listed values.now (value_of self.now.vars name.now) }
+    {
+        match self.value(name) {
+            Some(value) => listed(values, value.as_bytes()),
+            None => false,
+        }
+    }
+
+    // Puts a variable in force where all blocks hold and it is not.
+    fn set(&mut self, alloc: Global, name: &[u8], value: &[u8]) -> Result<(), AllocError>
+        ensures { OnOk result (self.new ≡ spec.with_var name.now value.now self.old) }
+    {
+        if !self.all_hold() || self.value(name).is_some() {
+            return Ok(());
+        }
+        let name = Text::from_bytes(alloc, name)?;
+        let value = Text::from_bytes(alloc, value)?;
+        self.set.push(alloc, (name, value))
+    }
+}

@@ -1,0 +1,18 @@
+//! Laws of decks.
+
+ghost use Rattle.deck.specs.Changes.{ChangedLaw};
+ghost use Rattle.deck.specs.Splices.{InverseLaw};
+
+use def_entry::same_text_law;
+
+/// The inverse of a splice gives back the deck.
+pub fn splices_are_undone()
+    ensures { InverseLaw }
+{}
+
+/// The keys that an edit changes are those whose entries have other texts.
+pub fn changes_are_computed()
+    ensures { ChangedLaw }
+{
+    same_text_law();
+}

@@ -1,0 +1,17 @@
+//! Whole definition files: their lines, what is in force of them, and edits.
+#![tactic(auto)]
+
+mod deck;
+mod fault;
+mod force;
+mod laws;
+mod no_files;
+mod places;
+mod settings;
+mod splice;
+
+pub use deck::Deck;
+pub use fault::DeckFault;
+pub use laws::{changes_are_computed, splices_are_undone};
+pub use settings::Settings;
+pub use splice::Splice;

@@ -1,0 +1,37 @@
+//! No files at all.
+
+use std::alloc::Global;
+use units_io::{FetchFault, Files, StoreFault, Text};
+
+/// Files of which there is none. None can be stored, and each store that fails is counted.
+#[derive(Drop)]
+pub struct NoFiles {
+    store_faults: u64,
+}
+
+impl NoFiles {
+    /// No file, and no fault.
+    pub fn new() -> NoFiles {
+        NoFiles { store_faults: 0 }
+    }
+}
+
+impl Files for NoFiles {
+    ghost use Rattle.std.specs.Prelude.{Some};
+    ghost use Rattle.units_io.specs.FileMap.{no_files};
+
+    ghost files = { λ _. Some no_files };
+
+    ghost faults = { λ _. 0 };
+
+    ghost store_faults = { λ f. f.store_faults };
+
+    fn fetch(&mut self, _alloc: Global, _name: &[u8]) -> Result<Text, FetchFault> {
+        Err(FetchFault::Absent)
+    }
+
+    fn store(&mut self, _alloc: Global, _name: &[u8], _bytes: &[u8]) -> Result<(), StoreFault> {
+        self.store_faults = self.store_faults.saturating_add(1);
+        Err(StoreFault::Failed)
+    }
+}

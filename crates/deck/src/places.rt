@@ -1,0 +1,9 @@
+//! The places of the last active lines of keys.
+
+mod changes;
+mod kind_places;
+mod last_places;
+mod pass;
+
+pub use changes::changed_keys;
+pub use last_places::LastPlaces;

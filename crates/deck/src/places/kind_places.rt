@@ -1,0 +1,102 @@
+//! The places of the keys of one kind.
+
+ghost use Rattle.std.specs.Prelude.{◌≡◌, ◌<◌, [], Some, map, length, set, option_map, OnOk};
+ghost use Rattle.deck.specs.KindPlaces as spec;
+
+use std::alloc::{AllocError, Global};
+use std::marker::Model;
+
+/// The places of the keys of one kind, by the numbers of the keys, and how many places there are.
+#[derive(Drop)]
+pub struct KindPlaces {
+    places: Vec<Option<usize>>,
+    count: usize,
+}
+
+impl Model for KindPlaces {
+    ghost use Rattle.std.specs.Prelude.{◌≡◌, ℕ, List, Option};
+    ghost use Rattle.deck.specs.KindPlaces.{place_count};
+
+    ghost Value = { List (Option ℕ) };
+
+    ghost view = { λ p. p.places.items };
+
+    ghost invariant = { λ p. p.count ≡ place_count p.places.items };
+}
+
+impl KindPlaces {
+    /// No place.
+    pub fn new(alloc: Global) -> KindPlaces
+        ensures { result ≡ [] }
+    {
+        KindPlaces {
+            places: Vec::new(alloc),
+            count: 0,
+        }
+    }
+
+    /// The place of the key of this number.
+    pub fn get(&self, number: usize) -> Option<usize>
+        ensures { result ≡ spec.place_in self.now number }
+    {
+        match self.places.get(number) {
+            Some(place) => *place,
+            None => None,
+        }
+    }
+
+    /// How many keys have a place.
+    pub fn count(&self) -> usize
+        ensures { result ≡ spec.place_count self.now }
+    {
+        self.count
+    }
+
+    /// Makes room for the place of the key of this number. All places stay.
+    pub fn make_room(&mut self, number: usize) -> Result<(), AllocError>
+        ensures same { spec.HasSamePlaces self.old self.new }
+        ensures ok { OnOk result (number < length self.new) }
+    {
+        while self.places.len() <= number {
+            self.places.push(None)?;
+        }
+        Ok(())
+    }
+
+    /// Gives the key of this number a place. It takes no memory.
+    pub fn put(&mut self, number: usize, place: usize)
+        requires { number < length self.old }
+        ensures { self.new ≡ set self.old number (Some place) }
+    {
+        if self.places[number].is_none() {
+            self.count += 1;
+        }
+        self.places[number] = Some(place);
+    }
+
+    /// The places when the line at one of them is gone.
+    pub fn close_gap(&mut self, gap: usize)
+        ensures { self.new ≡ map (option_map (spec.without_gap gap)) self.old }
+    {
+        close_gap(self.places.as_mut_slice(), gap);
+    }
+}
+
+// Makes each place behind the gap one less.
+fn close_gap(places: &mut [Option<usize>], gap: usize)
+    ensures { places.new ≡ map (option_map (spec.without_gap gap)) places.old }
+{
+    for i in 0..places.len() {
+        places[i] = without_gap(places[i], gap);
+    }
+}
+
+// A place, when the line at the gap is gone.
+fn without_gap(place: Option<usize>, gap: usize) -> Option<usize>
+    ensures { result ≡ option_map (spec.without_gap gap) place }
+{
+    match place {
+        Some(place) if gap < place => Some(place - 1),
+        _ => place,
+    }
+}

@@ -1,0 +1,103 @@
+//! The last places of keys.
+
+ghost use Rattle.std.specs.Prelude.{◌≡◌, ◌<◌, [], Some, map, length, set, option_map, OnOk, if◌then◌else◌};
+ghost use Rattle.def_entry.specs.declared.key.Kind.{Kind as KindValue};
+ghost use Rattle.def_entry.specs.SameKeys.{is_same_kind};
+ghost use Rattle.deck.specs.KindPlaces as kind_spec;
+ghost use Rattle.deck.specs.LastPlaces as spec;
+
+use super::kind_places::KindPlaces;
+use deck_lines::KeyNumber;
+use def_entry::Kind;
+use std::alloc::{AllocError, Global};
+
+/// The places of the last active lines of keys, by the numbers of the keys.
+#[derive(Drop)]
+pub struct LastPlaces {
+    pub units: KindPlaces,
+    pub prefixes: KindPlaces,
+    pub functions: KindPlaces,
+    pub lists: KindPlaces,
+}
+
+impl LastPlaces {
+    /// No place.
+    pub fn new(alloc: Global) -> LastPlaces
+        ensures { (kind : KindValue) → spec.places_of result kind ≡ [] }
+    {
+        LastPlaces {
+            units: KindPlaces::new(alloc),
+            prefixes: KindPlaces::new(alloc),
+            functions: KindPlaces::new(alloc),
+            lists: KindPlaces::new(alloc),
+        }
+    }
+
+    /// The place of the key of this number.
+    pub fn get(&self, n: KeyNumber) -> Option<usize>
+        ensures { result ≡ spec.place_at self.now n }
+    {
+        self.of_kind(n.kind).get(n.number)
+    }
+
+    /// How many keys of a kind have a place.
+    pub fn count(&self, kind: Kind) -> usize
+        ensures { result ≡ kind_spec.place_count (spec.places_of self.now kind) }
+    {
+        self.of_kind(kind).count()
+    }
+
+    /// Makes room for the place of the key of this number. All places stay.
+    pub fn make_room(&mut self, kind: Kind, number: usize) -> Result<(), AllocError>
+        ensures same { (k : KindValue) → kind_spec.HasSamePlaces (spec.places_of self.old k) (spec.places_of self.new k) }
+        ensures others { (k : KindValue) → spec.places_of self.new k
+            ≡ (if is_same_kind k kind then spec.places_of self.new k else spec.places_of self.old k) }
+        ensures ok { OnOk result (number < length (spec.places_of self.new kind)) }
+    {
+        match kind {
+            Kind::Unit => self.units.make_room(number),
+            Kind::Prefix => self.prefixes.make_room(number),
+            Kind::Func => self.functions.make_room(number),
+            Kind::List => self.lists.make_room(number),
+        }
+    }
+
+    /// Gives the key of this number a place. It takes no memory.
+    pub fn put(&mut self, n: KeyNumber, place: usize)
+        requires { n.number < length (spec.places_of self.old n.kind) }
+        ensures { (kind : KindValue) → spec.places_of self.new kind
+            ≡ (if is_same_kind kind n.kind
+            then set (spec.places_of self.old kind) n.number (Some place)
+            else spec.places_of self.old kind) }
+    {
+        match n.kind {
+            Kind::Unit => self.units.put(n.number, place),
+            Kind::Prefix => self.prefixes.put(n.number, place),
+            Kind::Func => self.functions.put(n.number, place),
+            Kind::List => self.lists.put(n.number, place),
+        }
+    }
+
+    /// The places when the line at one of them is gone.
+    pub fn close_gap(&mut self, gap: usize)
+        ensures { (kind : KindValue) → spec.places_of self.new kind
+            ≡ map (option_map (kind_spec.without_gap gap)) (spec.places_of self.old kind) }
+    {
+        self.units.close_gap(gap);
+        self.prefixes.close_gap(gap);
+        self.functions.close_gap(gap);
+        self.lists.close_gap(gap);
+    }
+
+    // The places of the keys of a kind.
+    fn of_kind(&self, kind: Kind) -> &KindPlaces
+        ensures { result.now ≡ spec.places_of self.now kind }
+    {
+        match kind {
+            Kind::Unit => &self.units,
+            Kind::Prefix => &self.prefixes,
+            Kind::Func => &self.functions,
+            Kind::List => &self.lists,
+        }
+    }
+}
