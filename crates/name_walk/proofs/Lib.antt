@@ -1,13 +1,13 @@
 mod Chains
-mod Closed
+pub mod Closed
 mod Faults
 mod Going
 mod Links
-mod Lists
-mod Marks
+pub mod Lists
+pub mod Marks
 mod Moves
 mod Ordering
 mod Passed
 mod Pending
-mod Settled
+pub mod Settled
 mod Weights

@@ -1,7 +1,7 @@
 -- The steps of a query that are passed.
-use Rattle.std.proofs.Common.{◌≡◌, ◌⊎◌, ℕ, ◌+◌, ◌-◌, ◌<◌, Bool, List, [], ◌∷◌, ◌++◌, length, take, ◌≤◌, Some, None, refl, sym, ◌∙◌, subst, inl, inr}
+use Rattle.std.proofs.Common.{◌≡◌, ◌⊎◌, ℕ, zero, suc, ◌+◌, ◌-◌, ◌<◌, Bool, List, [], ◌∷◌, ◌++◌, length, take, replicate, ◌≤◌, Some, None, refl, sym, ◌∙◌, ap, subst, inl, inr, arith, length-append}
 use Rattle.std.specs.List.{slice_get}
-use Rattle.std.proofs.lemmas.List.{take_all}
+use Rattle.std.proofs.lemmas.List.{length-replicate, length-take, take_all}
 use Rattle.std.proofs.lemmas.Option.{slice_get_within}
 use Rattle.name_walk.specs.declared.mark.Mark.{Mark}
 use Rattle.name_walk.specs.declared.mark.Mark.TheVariants.{Closed, OnPath, Open}
@@ -13,7 +13,7 @@ use Rattle.name_walk.specs.Lists.{In}
 use Rattle.name_walk.specs.Nets.{IsNet}
 use Rattle.name_walk.specs.NewlyClosed.{AreNewlyClosed, IsReached}
 use Rattle.name_walk.specs.Steps.{Graph}
-use Rattle.name_walk.specs.Traces.{IsIdle, Trace, without_order}
+use Rattle.name_walk.specs.Traces.{IsIdle, Trace, with_names, without_order}
 use Rattle.name_walk.specs.Visits.{AreOrdering, IsBetween, IsFaultless, IsFound}
 use Rattle.name_walk.proofs.Closed.{name_closed}
 use Rattle.name_walk.proofs.Faults.{empty_path}
@@ -28,14 +28,45 @@ pub record ArePassed (g : Graph) (s : List Bool) (query : List Step) (t : Trace)
   pub reached : (n : ℕ) → In n t.order → IsReached g query n
   pub done : (n : ℕ) → In (To n) query → IsDone s t.order n
 
--- an idle walk that forgets its order is between two steps
-pub between_idle : (g : Graph) (s : List Bool) (t new : Trace) → IsIdle t → length t.marks ≡ length g → new ≡ without_order t
-    → IsBetween g s new
-between_idle g s t new idle size e = subst (λ (x : Trace). IsBetween g s x) (sym e) (record {
-  ordering = subst (λ (es : List ℕ). AreOrdering g s t.marks es []) (sym idle.entered) (ordering_start g s t.marks size idle.are_open);
-  off_path = λ n h. let o : slice_get t.marks n ≡ Some Open = idle.are_open n (slice_get_within t.marks n OnPath h) in absurd (cc);
+open_front : (n : ℕ) (marks : List Mark) (k : ℕ) → ((m : ℕ) → m < length marks → slice_get marks m ≡ Some Open)
+    → (m : ℕ) → m < length (take n marks ++ replicate k Open) → slice_get (take n marks ++ replicate k Open) m ≡ Some Open
+open_front zero marks zero h m l = absurd (omega arith)
+open_front zero marks (suc k) h zero l = refl
+open_front zero marks (suc k) h (suc m) l = open_front zero marks k h m (omega arith)
+open_front (suc n) [] zero h m l = absurd (omega arith)
+open_front (suc n) [] (suc k) h zero l = refl
+open_front (suc n) [] (suc k) h (suc m) l = open_front (suc n) [] k h m (omega arith)
+open_front (suc n) (x ∷ marks) k h zero l = h 0 (omega arith)
+open_front (suc n) (x ∷ marks) k h (suc m) l = open_front n marks k (λ q j. h (suc q) (omega arith)) m (omega arith)
+
+cover_length : (n : ℕ) (marks : List Mark) → length (take n marks ++ replicate (n - length marks) Open) ≡ n
+cover_length n marks =
+    let both = length-append (take n marks) (replicate (n - length marks) Open) in
+    let front = length-take n marks in
+    let back = length-replicate (n - length marks) Open in
+    omega arith
+
+-- an idle walk over so many names is idle
+covered_idle : (n : ℕ) (t : Trace) → IsIdle t → IsIdle (with_names n t)
+covered_idle n t idle = record {
+  are_open = open_front n t.marks (n - length t.marks) idle.are_open;
+  entered = idle.entered;
   frames = idle.frames;
-})
+}
+
+-- an idle walk that covers the names and forgets its order is between two steps
+pub between_idle : (g : Graph) (s : List Bool) (t covered new : Trace) → IsIdle t → covered ≡ with_names (length g) t → new ≡ without_order covered
+    → IsBetween g s new
+between_idle g s t covered new idle c e =
+    still_between g s covered new (subst IsIdle (sym c) (covered_idle (length g) t idle))
+    (ap (λ (x : Trace). length x.marks) c ∙ cover_length (length g) t.marks) e
+  where
+    still_between : (g : Graph) (s : List Bool) (t new : Trace) → IsIdle t → length t.marks ≡ length g → new ≡ without_order t → IsBetween g s new
+    still_between g s t new idle size e = subst (λ (x : Trace). IsBetween g s x) (sym e) (record {
+      ordering = subst (λ (es : List ℕ). AreOrdering g s t.marks es []) (sym idle.entered) (ordering_start g s t.marks size idle.are_open);
+      off_path = λ n h. let o : slice_get t.marks n ≡ Some Open = idle.are_open n (slice_get_within t.marks n OnPath h) in absurd (cc);
+      frames = idle.frames;
+    })
 
 pub passed_start : (g : Graph) (s : List Bool) (t : Trace) → IsBetween g s t → t.order ≡ [] → ArePassed g s [] t
 passed_start g s t b e = record {

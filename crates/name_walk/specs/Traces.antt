@@ -1,5 +1,5 @@
 -- What a walk leaves behind as it goes.
-use Rattle.std.specs.Prelude.{◌≡◌, ◌⊎◌, ◌<◌, ℕ, List, [], ◌∷◌, ◌++◌, length, Some, slice_get, slice_set}
+use Rattle.std.specs.Prelude.{◌≡◌, ◌⊎◌, ◌<◌, ◌-◌, ℕ, List, [], ◌∷◌, ◌++◌, length, take, replicate, Some, slice_get, slice_set}
 use Rattle.name_walk.specs.declared.mark.Mark.{Mark}
 use Rattle.name_walk.specs.declared.mark.Mark.TheVariants.{Closed, OnPath, Open}
 use Rattle.name_walk.specs.declared.traces.Frame.{Frame}
@@ -21,9 +21,9 @@ abbrev pub path : List Frame → ℕ → List ℕ
 path [] n = n ∷ []
 path (f ∷ fs) n = f.name ∷ path fs n
 
--- one more name, which is open
-abbrev pub with_name : Trace → Trace
-with_name t = record t { marks = t.marks ++ Open ∷ [] }
+-- so many names, of which new ones are open
+abbrev pub with_names : ℕ → Trace → Trace
+with_names count t = record t { marks = take count t.marks ++ replicate (count - length t.marks) Open }
 
 -- a name is put on the path
 abbrev pub with_entered : Trace → ℕ → Trace

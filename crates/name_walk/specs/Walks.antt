@@ -7,11 +7,6 @@ use Rattle.name_walk.specs.Faults.{Cycle, DeadEnd, NameFault, fault}
 use Rattle.name_walk.specs.NewlyClosed.{AreNewlyClosed}
 use Rattle.name_walk.specs.Steps.{Graph}
 
--- how many names a walker knows, and the order of its last walk
-pub record Walk : Type 0 where
-  pub names : ℕ
-  pub order : List ℕ
-
 -- the fault that the program gives
 abbrev pub fault_view : Fault → NameFault
 fault_view (made.DeadEnd w holder) = DeadEnd w holder

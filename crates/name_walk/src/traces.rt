@@ -1,7 +1,7 @@
 //! What a walk leaves behind as it goes.
 
 ghost use Rattle.std.specs.Prelude.{◌≡◌, ◌<◌, ◌∷◌, [], ◌++◌, length, slice_get, Some, MatchOption, OnOk, OnErr};
-ghost use Rattle.name_walk.specs.Traces.{AreEntered, no_traces, with_name, with_entered, with_closed, with_frame};
+ghost use Rattle.name_walk.specs.Traces.{AreEntered, no_traces, with_names, with_entered, with_closed, with_frame};
 ghost use Rattle.name_walk.specs.Traces.{IsCleared, without_order};
 
 use crate::mark::Mark;
@@ -51,13 +51,12 @@ impl Traces {
         }
     }
 
-    // One more name, which is open. A refusal changes nothing.
-    pub(crate) fn add_name(&mut self) -> Result<(), AllocError>
-        ensures ok { OnOk result (self.new ≡ with_name self.old) }
+    // Marks for so many names, of which new ones are open. A refusal changes nothing.
+    pub(crate) fn cover(&mut self, names: usize) -> Result<(), AllocError>
+        ensures ok { OnOk result (self.new ≡ with_names names self.old) }
         ensures err { OnErr result (self.new ≡ self.old) }
     {
-        self.marks.push(Mark::Open)?;
-        Ok(())
+        self.marks.resize(names, Mark::Open)
     }
 
     // The mark of a name.

@@ -16,46 +16,37 @@ use crate::visit::{mark_of, visit};
 use std::alloc::{AllocError, Global};
 use std::marker::Model;
 
-/// Walks over names, and keeps its memory from one query to the next.
+/// Walks over names, and keeps its memory from one query to the next. Contracts see the order of its last walk.
 #[derive(Drop)]
 pub struct Walker {
     traces: Traces,
 }
 
 impl Model for Walker {
-    ghost use Rattle.std.specs.Prelude.{length};
-    ghost use Rattle.name_walk.specs.Walks.{Walk};
+    ghost use Rattle.std.specs.Prelude.{List, ℕ};
     ghost use Rattle.name_walk.specs.Traces.{IsIdle};
 
-    ghost Value = { Walk };
+    ghost Value = { List ℕ };
 
-    ghost view = { λ w. record { names = length w.traces.marks; order = w.traces.order } };
+    ghost view = { λ w. w.traces.order };
 
     ghost invariant = { λ w. IsIdle w.traces };
 }
 
 impl Walker {
-    /// A walker over no names. It takes no memory.
+    /// A walker that has not walked. It takes no memory.
     pub fn new(alloc: Global) -> Walker
-        ensures { result ≡ record { names = 0; order = [] } }
+        ensures { result ≡ [] }
     {
         Walker {
             traces: Traces::new(alloc),
         }
     }
 
-    /// One more name, whose number is the number of names before. A refusal changes nothing.
-    pub fn add_name(&mut self) -> Result<(), AllocError>
-        ensures ok { OnOk result (self.new ≡ record self.old { names = self.old.names + 1 }) }
-        ensures err { OnErr result (self.new ≡ self.old) }
-    {
-        self.traces.add_name()
-    }
-
     /// The names that the last walk newly closed, targets before users. After a name fault or want
     /// of memory it says nothing.
     pub fn order(&self) -> &[usize]
-        ensures { result.now ≡ self.now.order }
+        ensures { result.now ≡ self.now }
     {
         self.traces.order()
     }
@@ -64,8 +55,8 @@ impl Walker {
     /// `order` is the names that the query newly closes, those that it reaches and that were not
     /// settled. The query is the steps of words, or the one step to a name.
     ///
-    /// Its cost is that of the steps of the names that it goes through, each once; settled names are
-    /// passed. After each ending it is ready for the next query.
+    /// Its cost is that of the names that are new since its last walk, and of the steps of the names that it
+    /// goes through, each once; settled names are passed. After each ending it is ready for the next query.
     pub fn walk(
         &mut self,
         alloc: Global,
@@ -73,12 +64,11 @@ impl Walker {
         query: &[Step],
     ) -> Result<Option<Fault>, AllocError>
         requires net { IsNet net.now.steps.now net.now.settled.now }
-        requires names { self.old.names ≡ length net.now.steps.now }
         requires query { AreKnown net.now.steps.now query.now }
-        ensures names { self.new.names ≡ self.old.names }
         ensures walked { IfOk result
-            (IsWalked net.now.steps.now net.now.settled.now query.now self.new.order) }
+            (IsWalked net.now.steps.now net.now.settled.now query.now self.new) }
     {
+        self.traces.cover(net.steps.len())?;
         self.traces.forget_order();
         let result = visit_each(alloc, net, query, &mut self.traces);
         self.traces.clean();

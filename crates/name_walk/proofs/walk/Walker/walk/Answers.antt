@@ -1,9 +1,7 @@
-use Rattle.std.proofs.Common.{ap, ◌∙◌}
-use Rattle.name_walk.specs.Walks.{Walk}
 use Rattle.name_walk.proofs.Passed.{between_idle}
 use Rattle.name_walk.proofs.walk.Walker.walk.Goals as goal
 
 pub visit_each-result-requires-clause-between : goal.visit_each-result-requires-clause-between
 visit_each-result-requires-clause-between c =
-    between_idle _ _ c.self.inside.traces c.forget_order.new.self c.self.invariant
-    (ap (λ (w : Walk). w.names) c.self.view_is ∙ c.requires.names) c.forget_order.ensures
+    between_idle c.args.net.now.steps.now c.args.net.now.settled.now c.self.inside.traces c.cover.new.self c.forget_order.new.self c.self.invariant
+    c.in_ok-cover.ensures.ok c.forget_order.ensures
