@@ -1,0 +1,6 @@
+pub mod FewTargets
+pub mod NewKeys
+pub mod Paths
+pub mod Ranks
+pub mod Reached
+pub mod SameFault

@@ -1,0 +1,120 @@
+-- The keys of the numbers that a walk newly closes.
+use Rattle.std.proofs.Common.{◌≡◌, ◌⊎◌, ℕ, Bool, true, false, List, [], ◌∷◌, map, Contains, Option}
+use Rattle.std.proofs.Common.{refl, sym, ◌∙◌, ap, subst, inl, inr}
+use Rattle.std.proofs.lemmas.Bool.{both_ways, false_from_ne_true}
+use Rattle.expr_tree.specs.declared.word_list.WordUse.{WordUse}
+use Rattle.def_entry.specs.declared.key.Key.{Key}
+use Rattle.def_entry.specs.SameKeys.{SameKeysLaw}
+use Rattle.def_entry.specs.Tables.{Table}
+use Rattle.name_walk.specs.declared.step.Step.{Step}
+use Rattle.name_walk.specs.declared.step.Step.TheVariants.{To}
+use Rattle.name_walk.specs.Closed.{IsSettled}
+use Rattle.name_walk.specs.Lists.{In}
+use Rattle.name_walk.specs.NewlyClosed.{AreNewlyClosed, IsReached}
+use Rattle.name_walk.specs.Steps.{Graph}
+use Rattle.table_names.specs.declared.fault.NameFault.{NameFault}
+use Rattle.table_names.specs.Closed.{AreClosed, IsClosed}
+use Rattle.table_names.specs.ClosedLaws.{ClosedLaw}
+use Rattle.table_names.specs.Leads.{Reaches, WordsReach}
+use Rattle.table_names.proofs.Members.{member_cases, member_first, member_later, no_member}
+use Rattle.name_numbers.specs.Numbered.{AreNumbered, AreWords, LeadToKnown}
+use Rattle.name_numbers.specs.SettlingLaws.{AreMarks, AreNewKeys, SettlingLaw}
+use Rattle.name_numbers.proofs.Paths.{AllKnown, distinct_keys}
+use Rattle.name_numbers.proofs.Reached.{key_reached, key_way, known_reached, number_below, number_reached}
+
+key_in : (key : ℕ → Key) (ns : List ℕ) (n : ℕ) → In n ns → Contains (map key ns) (key n)
+key_in key [] n i = absurd i
+key_in key (m ∷ ns) n (inl e) = member_first (key n) (key m) (map key ns) (ap key e)
+key_in key (m ∷ ns) n (inr i) = member_later (key n) (key m) (map key ns) (key_in key ns n i)
+
+number_in : (key : ℕ → Key) (ns : List ℕ) (k : Key) → Contains (map key ns) k → (n : ℕ) × (k ≡ key n) × In n ns
+number_in key [] k i = absurd (no_member k i)
+number_in key (m ∷ ns) k i = elim (member_cases k (key m) (map key ns) i) [
+  | inl e ↦ (m, e, inl refl)
+  | inr j ↦ let r : (n : ℕ) × (k ≡ key n) × In n ns = number_in key ns k j in (r.0, r.1, inr r.2)
+]
+
+all_known : (known : ℕ → Bool) (ns : List ℕ) → ((n : ℕ) → In n ns → known n ≡ true) → AllKnown known ns
+all_known known [] h = tt
+all_known known (n ∷ ns) h = (h n (inl refl), all_known known ns (λ m i. h m (inr i)))
+
+module _ (same_keys : SameKeysLaw) (closed_law : ClosedLaw) (table : Table) (key : ℕ → Key)
+    (dead_end : ℕ → Option Key → NameFault) (g : Graph) (known : ℕ → Bool) (marks : List Bool) (settled : Key → Bool)
+    (numbered : AreNumbered table key dead_end g known) (are_marks : AreMarks key known marks settled) where
+  all_reached : (xs : List Step) → LeadToKnown known xs → (n : ℕ) → IsReached g xs n → known n ≡ true
+  all_reached = known_reached table key dead_end g known numbered
+
+  -- a query of which the same is reached by number and by name
+  new_keys :
+      (Asked : Key → Type 0) (xs : List Step) (order : List ℕ) → LeadToKnown known xs → AreNewlyClosed g marks xs order
+      → ((n : ℕ) → IsReached g xs n → Asked (key n))
+      → ((m : Key) → Asked m → (n : ℕ) × (m ≡ key n) × IsReached g xs n)
+      → AreNewKeys settled Asked (map key order)
+  new_keys Asked xs order ks closed to_key to_number = record {
+    exactly = λ m. (asked m, listed m);
+    once = distinct_keys same_keys key known numbered.apart order
+        (all_known known order (λ n i. all_reached xs ks n ((closed.exactly n).0 i).0)) closed.once;
+  }
+    where
+      unsettled : (n : ℕ) → IsReached g xs n → (IsSettled marks n → ⊥) → settled (key n) ≡ false
+      unsettled n r fresh =
+          false_from_ne_true (settled (key n)) (λ e. fresh ((are_marks n (all_reached xs ks n r)).1 e))
+
+      asked : (m : Key) → Contains (map key order) m → Asked m × (settled m ≡ false)
+      asked m i =
+          let n : (n : ℕ) × (m ≡ key n) × In n order = number_in key order m i in
+          let r : IsReached g xs n.0 × (IsSettled marks n.0 → ⊥) = (closed.exactly n.0).0 n.2 in
+          subst (λ (k : Key). Asked k × (settled k ≡ false)) (sym n.1) (to_key n.0 r.0, unsettled n.0 r.0 r.1)
+
+      listed : (m : Key) → Asked m × (settled m ≡ false) → Contains (map key order) m
+      listed m h =
+          let n : (n : ℕ) × (m ≡ key n) × IsReached g xs n = to_number m h.0 in
+          let off : settled (key n.0) ≡ false = ap settled (sym n.1) ∙ h.1 in
+          let fresh : IsSettled marks n.0 → ⊥ =
+          λ s. both_ways (settled (key n.0)) off ((are_marks n.0 (all_reached xs ks n.0 n.2)).0 s) in
+          let i : In n.0 order = (closed.exactly n.0).1 (n.2, fresh) in
+          subst (λ (k : Key). Contains (map key order) k) (sym n.1) (key_in key order n.0 i)
+
+  pub words_settle :
+      (us : List WordUse) (xs : List Step) (order : List ℕ)
+      → AreWords table key dead_end us xs → LeadToKnown known xs → AreClosed table us → AreNewlyClosed g marks xs order
+      → AreNewKeys settled (WordsReach table us) (map key order)
+  words_settle us xs order w ks e closed =
+      new_keys (WordsReach table us) xs order ks closed (key_reached table key dead_end g known numbered us xs w ks)
+      (number_reached table key dead_end g known numbered closed_law us xs w ks e)
+
+  pub key_settles :
+      (n : ℕ) (order : List ℕ) → known n ≡ true → IsClosed table (key n) → AreNewlyClosed g marks (To n ∷ []) order
+      → AreNewKeys settled (λ m. (m ≡ key n) ⊎ Reaches table (key n) m) (map key order)
+  key_settles n order k e closed =
+      new_keys (λ m. (m ≡ key n) ⊎ Reaches table (key n) m) (To n ∷ []) order there closed to_key to_number
+    where
+      one : (m : ℕ) → In (To m) (To n ∷ []) → m ≡ n
+      one m (inl q) = cc
+      one m (inr i) = absurd i
+
+      there : LeadToKnown known (To n ∷ [])
+      there m i = ap known (one m i) ∙ k
+
+      to_key : (m : ℕ) → IsReached g (To n ∷ []) m → (key m ≡ key n) ⊎ Reaches table (key n) (key m)
+      to_key m r =
+          let q : r.0 ≡ n = one r.0 r.1 in
+          elim r.2 [
+            | inl f ↦ inl (ap key (f ∙ q))
+            | inr way ↦
+                let below : Reaches table (key r.0) (key m) =
+                key_way table key dead_end g known numbered r.0 m (there r.0 r.1) way in
+                inr (subst (λ (x : ℕ). Reaches table (key x) (key m)) q below)
+          ]
+
+      to_number :
+          (m : Key) → (m ≡ key n) ⊎ Reaches table (key n) m
+          → (r : ℕ) × (m ≡ key r) × IsReached g (To n ∷ []) r
+      to_number m (inl f) = (n, f, (n, inl refl, inl refl))
+      to_number m (inr r) = number_below table key dead_end g known numbered closed_law n k e m r
+
+pub settling_law : SameKeysLaw → ClosedLaw → SettlingLaw
+settling_law same_keys closed_law = record {
+  words = words_settle same_keys closed_law;
+  key = key_settles same_keys closed_law;
+}

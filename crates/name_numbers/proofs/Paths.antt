@@ -1,0 +1,76 @@
+-- Paths of known numbers, and the same paths of their keys.
+use Rattle.std.proofs.Common.{◌≡◌, ℕ, Bool, true, false, cond, ◌||◌, List, [], ◌∷◌, ◌++◌, map}
+use Rattle.std.proofs.Common.{nat_eq, refl, sym, ◌∙◌, ap, inl, inr}
+use Rattle.std.specs.List.{AllByRecursion, IsDistinct}
+use Rattle.std.specs.Prelude.{option_map}
+use Rattle.std.proofs.lemmas.Bool.{cases_eq, eq-eqb, false_from_ne_true, ne_eqb}
+use Rattle.std.proofs.lemmas.List.{map-append}
+use Rattle.def_entry.specs.declared.key.Key.{Key}
+use Rattle.def_entry.specs.SameKeys.{SameKeysLaw, is_among, is_same}
+use Rattle.name_walk.specs.Faults.{from_name, on}
+use Rattle.name_walk.specs.Lists as walk
+use Rattle.table_names.specs.Faults as names
+use Rattle.table_names.specs.Faults.{chain}
+
+-- all of these numbers are known
+abbrev pub AllKnown : (ℕ → Bool) → List ℕ → Type 0
+AllKnown known p = AllByRecursion (λ n. known n ≡ true) p
+
+pub known_push :
+    (known : ℕ → Bool) (p : List ℕ) (n : ℕ) → AllKnown known p → known n ≡ true → AllKnown known (p ++ n ∷ [])
+known_push known [] n ks k = (k, tt)
+known_push known (m ∷ p) n ks k = (ks.0, known_push known p n ks.1 k)
+
+pub map_push : (key : ℕ → Key) (p : List ℕ) (n : ℕ) → map key (p ++ n ∷ []) ≡ map key p ++ key n ∷ []
+map_push key p n = map-append key p (n ∷ [])
+
+pub same_last : (key : ℕ → Key) (p : List ℕ) → names.last (map key p) ≡ option_map key (walk.last p)
+same_last key [] = refl
+same_last key (n ∷ []) = refl
+same_last key (n ∷ m ∷ p) = same_last key (m ∷ p)
+
+turned : (n m : ℕ) → nat_eq n m ≡ nat_eq m n
+turned n m = elim (cases_eq n m) [
+  | inl e ↦ eq-eqb n m e ∙ sym (eq-eqb m n (sym e))
+  | inr ne ↦ ne_eqb n m ne ∙ sym (ne_eqb m n (λ e. ne (sym e)))
+]
+
+module _ (same_keys : SameKeysLaw) (key : ℕ → Key) (known : ℕ → Bool)
+    (apart : (n m : ℕ) → known n ≡ true → known m ≡ true → key n ≡ key m → n ≡ m) where
+  -- known numbers are equal where their keys are
+  same_test : (n m : ℕ) → known n ≡ true → known m ≡ true → is_same (key n) (key m) ≡ nat_eq n m
+  same_test n m kn km = elim (cases_eq n m) [
+    | inl e ↦ (same_keys (key n) (key m)).1 (ap key e) ∙ sym (eq-eqb n m e)
+    | inr ne ↦ false_from_ne_true _ (λ e. ne (apart n m kn km ((same_keys (key n) (key m)).0 e))) ∙ sym (ne_eqb n m ne)
+  ]
+
+  pub same_on : (p : List ℕ) (n : ℕ) → AllKnown known p → known n ≡ true → is_among (map key p) (key n) ≡ on p n
+  same_on [] n ks k = refl
+  same_on (m ∷ p) n ks k = λ i. same_test n m k ks.0 i || same_on p n ks.1 k i
+
+  pub same_chain :
+      (p : List ℕ) (n : ℕ) → AllKnown known p → known n ≡ true
+      → map key (from_name n p ++ n ∷ []) ≡ chain (key n) (map key p)
+  same_chain [] n ks k = refl
+  same_chain (m ∷ p) n ks k =
+      by (nat_eq m n)
+      ∙ (λ i. cond (sym (same_test n m k ks.0 ∙ turned n m) i) (key m ∷ map key p ++ key n ∷ [])
+      (same_chain p n ks.1 k i))
+    where
+      by : (b : Bool)
+          → map key (cond b (m ∷ p) (from_name n p) ++ n ∷ [])
+          ≡ cond b (key m ∷ map key p ++ key n ∷ []) (map key (from_name n p ++ n ∷ []))
+      by true = ap (λ ks. key m ∷ ks) (map_push key p n)
+      by false = refl
+
+  apart_keys :
+      (n : ℕ) (ns : List ℕ) → known n ≡ true → AllKnown known ns → AllByRecursion (λ m. nat_eq n m ≡ false) ns
+      → AllByRecursion (λ m. is_same (key n) m ≡ false) (map key ns)
+  apart_keys n [] k ks d = tt
+  apart_keys n (m ∷ ns) k ks d = (same_test n m k ks.0 ∙ d.0, apart_keys n ns k ks.1 d.1)
+
+  -- different known numbers have different keys
+  pub distinct_keys : (ns : List ℕ) → AllKnown known ns → IsDistinct nat_eq ns → IsDistinct is_same (map key ns)
+  unfolding IsDistinct
+  distinct_keys [] ks d = tt
+  distinct_keys (n ∷ ns) ks d = (apart_keys n ns ks.0 ks.1 d.0, distinct_keys ns ks.1 d.1)

@@ -1,0 +1,180 @@
+-- What is reached by number, and by name.
+use Rattle.std.proofs.Common.{◌≡◌, ◌⊎◌, ℕ, Bool, true, false, List, [], ◌∷◌, Contains, Option}
+use Rattle.std.proofs.Common.{refl, sym, ◌∙◌, ap, subst, inl, inr}
+use Rattle.expr_tree.specs.declared.word_list.WordUse.{WordUse}
+use Rattle.expr_tree.specs.Names.{is_refused}
+use Rattle.def_entry.specs.declared.key.Key.{Key}
+use Rattle.def_entry.specs.Tables.{Table}
+use Rattle.name_walk.specs.declared.step.Step.{Step}
+use Rattle.name_walk.specs.declared.step.Step.TheVariants.{To}
+use Rattle.name_walk.specs.Lists.{In}
+use Rattle.name_walk.specs.NewlyClosed.{IsReached}
+use Rattle.name_walk.specs.Steps as walk
+use Rattle.name_walk.specs.Steps.{Graph, LeadsTo, steps}
+use Rattle.table_names.specs.declared.fault.NameFault.{NameFault}
+use Rattle.table_names.specs.Closed.{AreClosed, IsClosed, LeadsInto}
+use Rattle.table_names.specs.ClosedLaws.{ClosedLaw}
+use Rattle.table_names.specs.Leads.{Reaches, WordsLeadTo, WordsReach, at_once, further, targets}
+use Rattle.table_names.specs.Words.{key_words}
+use Rattle.table_names.proofs.Members.{member_cases, member_first, member_later, no_member}
+use Rattle.name_numbers.specs.Numbered.{AreNumbered, AreWords, LeadToKnown}
+use Rattle.name_numbers.specs.Numbered.{ForOne, ForRefused, ForTwo, ForUnknown, IsWord}
+
+module _ (table : Table) (key : ℕ → Key) (dead_end : ℕ → Option Key → NameFault) where
+  -- ---- one word, and its two steps
+  abbrev LeadsAlong : Step → Step → ℕ → Type 0
+  LeadsAlong x y n = (To n ≡ x) ⊎ (To n ≡ y)
+
+  target_of_step :
+      (u : WordUse) {x y : Step} → IsWord table key dead_end u x y → (n : ℕ) → LeadsAlong x y n
+      → Contains (targets table u) (key n)
+  target_of_step u (ForRefused t refused e) n l = absurd (elim l [ inl q ↦ cc | inr q ↦ cc ])
+  target_of_step u (ForUnknown t fine none e) n l = absurd (elim l [ inl q ↦ cc | inr q ↦ cc ])
+  target_of_step u (ForOne m fine e) n l =
+      let q : n ≡ m = elim l [ inl q ↦ cc | inr q ↦ cc ] in
+      subst (λ ks. Contains ks (key n)) (sym e) (member_first (key n) (key m) [] (ap key q))
+  target_of_step u (ForTwo m k fine e) n l =
+      subst (λ ks. Contains ks (key n)) (sym e) (elim l [
+        | inl q ↦ let r : n ≡ m = cc in member_first (key n) (key m) (key k ∷ []) (ap key r)
+        | inr q ↦
+            let r : n ≡ k = cc in
+            member_later (key n) (key m) (key k ∷ []) (member_first (key n) (key k) [] (ap key r))
+      ])
+
+  step_to_target :
+      (u : WordUse) {x y : Step} → IsWord table key dead_end u x y → is_refused u.text ≡ false
+      → (k : Key) → Contains (targets table u) k → (n : ℕ) × (k ≡ key n) × LeadsAlong x y n
+  step_to_target u (ForRefused t refused e) fine k i = absurd (let q : true ≡ false = sym refused ∙ fine in cc)
+  step_to_target u (ForUnknown t _ none e) fine k i = absurd (no_member k (subst (λ ks. Contains ks k) none i))
+  step_to_target u (ForOne n _ e) fine k i =
+      elim (member_cases k (key n) [] (subst (λ ks. Contains ks k) e i)) [
+        | inl q ↦ (n, q, inl refl)
+        | inr j ↦ absurd (no_member k j)
+      ]
+  step_to_target u (ForTwo n m _ e) fine k i =
+      elim (member_cases k (key n) (key m ∷ []) (subst (λ ks. Contains ks k) e i)) [
+        | inl q ↦ (n, q, inl refl)
+        | inr j ↦ elim (member_cases k (key m) [] j) [ inl q ↦ (m, q, inr refl) | inr h ↦ absurd (no_member k h) ]
+      ]
+
+  -- ---- words, and their steps
+  lead_of_step :
+      (us : List WordUse) (xs : List Step) → AreWords table key dead_end us xs → (n : ℕ) → In (To n) xs
+      → WordsLeadTo table us (key n)
+  lead_of_step [] [] w n i = absurd i
+  lead_of_step [] (x ∷ xs) w n i = absurd w
+  lead_of_step (u ∷ us) [] w n i = absurd w
+  lead_of_step (u ∷ us) (x ∷ []) w n i = absurd w
+  lead_of_step (u ∷ us) (x ∷ y ∷ xs) w n (inl e) = (u, member_first u u us refl, target_of_step u w.0 n (inl e))
+  lead_of_step (u ∷ us) (x ∷ y ∷ xs) w n (inr (inl e)) = (u, member_first u u us refl, target_of_step u w.0 n (inr e))
+  lead_of_step (u ∷ us) (x ∷ y ∷ xs) w n (inr (inr i)) =
+      let l : WordsLeadTo table us (key n) = lead_of_step us xs w.1 n i in
+      (l.0, member_later l.0 u us l.1, l.2)
+
+  step_of_lead :
+      (us : List WordUse) (xs : List Step) → AreWords table key dead_end us xs
+      → (u : WordUse) → Contains us u → is_refused u.text ≡ false → (k : Key) → Contains (targets table u) k
+      → (n : ℕ) × (k ≡ key n) × In (To n) xs
+  step_of_lead [] xs w u i fine k t = absurd (no_member u i)
+  step_of_lead (v ∷ us) [] w u i fine k t = absurd w
+  step_of_lead (v ∷ us) (x ∷ []) w u i fine k t = absurd w
+  step_of_lead (v ∷ us) (x ∷ y ∷ xs) w u i fine k t = elim (member_cases u v us i) [
+    | inl e ↦
+        let word : IsWord table key dead_end u x y =
+        subst (λ (z : WordUse). IsWord table key dead_end z x y) (sym e) w.0 in
+        let r : (n : ℕ) × (k ≡ key n) × LeadsAlong x y n = step_to_target u word fine k t in
+        (r.0, r.1, elim r.2 [ inl q ↦ inl q | inr q ↦ inr (inl q) ])
+    | inr j ↦
+        let r : (n : ℕ) × (k ≡ key n) × In (To n) xs = step_of_lead us xs w.1 u j fine k t in
+        (r.0, r.1, inr (inr r.2))
+  ]
+
+  module _ (g : Graph) (known : ℕ → Bool) (numbered : AreNumbered table key dead_end g known) where
+    -- ---- known numbers
+    known_below : {n m : ℕ} → walk.Reaches g n m → known n ≡ true → known m ≡ true
+    known_below {n} {m} (walk.at_once l) k = numbered.below n m k l
+    known_below {n} {m} (walk.further {x = x} l r) k = known_below r (numbered.below n x k l)
+
+    pub known_reached : (xs : List Step) → LeadToKnown known xs → (n : ℕ) → IsReached g xs n → known n ≡ true
+    known_reached xs ks n r = elim r.2 [
+      | inl e ↦ subst (λ (m : ℕ). known m ≡ true) (sym e) (ks r.0 r.1)
+      | inr q ↦ known_below q (ks r.0 r.1)
+    ]
+
+    -- ---- from numbers to names
+    key_lead : (n m : ℕ) → known n ≡ true → LeadsTo g n m → WordsLeadTo table (key_words table (key n)) (key m)
+    key_lead n m k l = lead_of_step (key_words table (key n)) (steps g n) (numbered.faithful n k) m l
+
+    way_of_keys : {n m : ℕ} → walk.Reaches g n m → known n ≡ true → Reaches table (key n) (key m)
+    way_of_keys {n} {m} (walk.at_once l) k = at_once (key_lead n m k l)
+    way_of_keys {n} {m} (walk.further {x = x} l r) k =
+        further (key_lead n x k l) (way_of_keys r (numbered.below n x k l))
+
+    pub key_way : (n m : ℕ) → known n ≡ true → walk.Reaches g n m → Reaches table (key n) (key m)
+    key_way n m k r = way_of_keys r k
+
+    pub key_reached :
+        (us : List WordUse) (xs : List Step) → AreWords table key dead_end us xs → LeadToKnown known xs
+        → (n : ℕ) → IsReached g xs n → WordsReach table us (key n)
+    key_reached us xs w ks n r =
+        let l : WordsLeadTo table us (key r.0) = lead_of_step us xs w r.0 r.1 in
+        elim r.2 [
+          | inl e ↦ at_once (subst (λ (m : ℕ). WordsLeadTo table us (key m)) (sym e) l)
+          | inr q ↦ further l (way_of_keys q (ks r.0 r.1))
+        ]
+
+    -- ---- from names to numbers
+    onward : (xs : List Step) (n m : ℕ) → In (To n) xs → IsReached g (steps g n) m → IsReached g xs m
+    onward xs n m i r = (
+      n,
+      i,
+      inr (elim r.2 [
+        | inl e ↦ walk.at_once (subst (λ (x : ℕ). LeadsTo g n x) (sym e) r.1)
+        | inr q ↦ walk.further r.1 q
+      ]),
+    )
+
+    module _ (closed_law : ClosedLaw) where
+      closed_lead :
+          (us : List WordUse) (xs : List Step) → AreWords table key dead_end us xs → AreClosed table us
+          → (k : Key) → WordsLeadTo table us k → (n : ℕ) × (k ≡ key n) × In (To n) xs
+      closed_lead us xs w closed k l =
+          let u : LeadsInto table (IsClosed table) l.0 = (closed_law.words table us).0 closed l.0 l.1 in
+          step_of_lead us xs w l.0 l.1 u.accepted k l.2
+
+      closed_target :
+          (us : List WordUse) → AreClosed table us → (k : Key) → WordsLeadTo table us k
+          → AreClosed table (key_words table k)
+      closed_target us closed k l =
+          let u : LeadsInto table (IsClosed table) l.0 = (closed_law.words table us).0 closed l.0 l.1 in
+          (closed_law.key table k).0 (u.into k l.2)
+
+      reached :
+          {us : List WordUse} {m : Key} → WordsReach table us m → (xs : List Step) → AreWords table key dead_end us xs
+          → LeadToKnown known xs → AreClosed table us → (n : ℕ) × (m ≡ key n) × IsReached g xs n
+      reached {us} {m} (at_once l) xs w ks closed =
+          let s : (n : ℕ) × (m ≡ key n) × In (To n) xs = closed_lead us xs w closed m l in
+          (s.0, s.1, (s.0, s.2, inl refl))
+      reached {us} {m} (further {n = k} l r) xs w ks closed =
+          let s : (n : ℕ) × (k ≡ key n) × In (To n) xs = closed_lead us xs w closed k l in
+          let known_there : known s.0 ≡ true = ks s.0 s.2 in
+          let words : AreWords table key dead_end (key_words table k) (steps g s.0) =
+          subst (λ (q : Key). AreWords table key dead_end (key_words table q) (steps g s.0)) (sym s.1)
+          (numbered.faithful s.0 known_there) in
+          let t : (n : ℕ) × (m ≡ key n) × IsReached g (steps g s.0) n =
+          reached r (steps g s.0) words (λ q i. numbered.below s.0 q known_there i) (closed_target us closed k l) in
+          (t.0, t.1, onward xs s.0 t.0 s.2 t.2)
+
+      pub number_reached :
+          (us : List WordUse) (xs : List Step) → AreWords table key dead_end us xs → LeadToKnown known xs
+          → AreClosed table us → (m : Key) → WordsReach table us m → (n : ℕ) × (m ≡ key n) × IsReached g xs n
+      number_reached us xs w ks closed m r = reached r xs w ks closed
+
+      pub number_below :
+          (n : ℕ) → known n ≡ true → IsClosed table (key n) → (m : Key) → Reaches table (key n) m
+          → (r : ℕ) × (m ≡ key r) × IsReached g (To n ∷ []) r
+      number_below n k closed m r =
+          let words : AreClosed table (key_words table (key n)) = (closed_law.key table (key n)).0 closed in
+          let t : (q : ℕ) × (m ≡ key q) × IsReached g (steps g n) q =
+          reached r (steps g n) (numbered.faithful n k) (λ q i. numbered.below n q k i) words in
+          (t.0, t.1, onward (To n ∷ []) n t.0 (inl refl) t.2)

@@ -1,0 +1,195 @@
+-- The first fault by number is the name fault.
+use Rattle.std.proofs.Common.{◌≡◌, ◌⊎◌, ◌+◌, ◌-◌, ◌<◌, ◌≤◌, ℕ, zero, suc, Bool, true, false, cond}
+use Rattle.std.proofs.Common.{List, [], ◌∷◌, ◌++◌, map, length, Option, Some, None}
+use Rattle.std.proofs.Common.{refl, sym, ◌∙◌, ap, subst, inl, inr, arith, length-append}
+use Rattle.std.specs.Option.{option_or}
+use Rattle.std.specs.Prelude.{option_map}
+use Rattle.std.proofs.lemmas.Bool.{cond-false, cond-true}
+use Rattle.expr_tree.specs.declared.word_list.WordUse.{WordUse}
+use Rattle.expr_tree.specs.Names.{is_refused}
+use Rattle.def_entry.specs.declared.key.Key.{Key}
+use Rattle.def_entry.specs.SameKeys.{SameKeysLaw, is_among}
+use Rattle.def_entry.specs.Tables.{Table}
+use Rattle.name_walk.specs.declared.step.Step.{Step}
+use Rattle.name_walk.specs.declared.step.Step.TheVariants.{Nowhere, To}
+use Rattle.name_walk.specs.FaultLaws.{FaultLaw as WalkFaultLaw}
+use Rattle.name_walk.specs.Faults as walk
+use Rattle.name_walk.specs.Faults.{at_name, at_step, from_name, on}
+use Rattle.name_walk.specs.Lists as lists
+use Rattle.name_walk.specs.Lists.{In}
+use Rattle.name_walk.specs.Paths.{IsPath as IsWalkPath, PathLaw as WalkPathLaw}
+use Rattle.name_walk.specs.Steps.{Graph, InRange, steps}
+use Rattle.table_names.specs.declared.fault.NameFault.{NameFault}
+use Rattle.table_names.specs.declared.fault.NameFault.TheVariants.{Unknown, Refused, Cycle}
+use Rattle.table_names.specs.FaultLaws.{FaultLaw, IsPath, PathLaw}
+use Rattle.table_names.specs.Faults as names
+use Rattle.table_names.specs.Faults.{Deeper, chain, first, target_fault, targets_fault, word_fault}
+use Rattle.table_names.specs.Leads.{targets}
+use Rattle.table_names.specs.Words.{key_words}
+use Rattle.name_numbers.specs.FaultLaws.{NumberedFaultLaw}
+use Rattle.name_numbers.specs.Numbered.{AreNumbered, AreWords, LeadToKnown, named}
+use Rattle.name_numbers.specs.Numbered.{ForOne, ForRefused, ForTwo, ForUnknown, IsWord}
+use Rattle.name_numbers.proofs.Paths.{AllKnown, known_push, map_push, same_chain, same_last, same_on}
+
+or_none : {A : Type 0} (o : Option A) → option_or o None ≡ o
+or_none None = refl
+or_none (Some x) = refl
+
+module _ (same_keys : SameKeysLaw) (table : Table) (key : ℕ → Key) (dead_end : ℕ → Option Key → NameFault)
+    (g : Graph) (known : ℕ → Bool) (numbered : AreNumbered table key dead_end g known) where
+  abbrev by_name : Option walk.NameFault → Option NameFault
+  by_name = option_map (named table key dead_end)
+
+  on_keys : (p : List ℕ) (n : ℕ) → AllKnown known p → known n ≡ true → is_among (map key p) (key n) ≡ on p n
+  on_keys = same_on same_keys key known numbered.apart
+
+  chain_of_keys :
+      (p : List ℕ) (n : ℕ) → AllKnown known p → known n ≡ true
+      → map key (from_name n p ++ n ∷ []) ≡ chain (key n) (map key p)
+  chain_of_keys = same_chain same_keys key known numbered.apart
+
+  -- the second step to a target that has no fault has none
+  twice :
+      (a rest : Option walk.NameFault)
+      → by_name (option_or a (option_or a rest)) ≡ option_or (option_or (by_name a) None) (by_name rest)
+  twice None rest = refl
+  twice (Some x) rest = refl
+
+  both :
+      (a b rest : Option walk.NameFault)
+      → by_name (option_or a (option_or b rest))
+      ≡ option_or (option_or (by_name a) (option_or (by_name b) None)) (by_name rest)
+  both None None rest = refl
+  both None (Some x) rest = refl
+  both (Some x) b rest = refl
+
+  -- ---- behind one path, by what is met deeper
+  module _ (p : List ℕ) (on_path : AllKnown known p) (f : List ℕ → ℕ → Option walk.NameFault) (deeper : Deeper)
+      (same : (n : ℕ) → known n ≡ true → on p n ≡ false
+      → by_name (f (p ++ n ∷ []) n) ≡ deeper (map key p ++ key n ∷ []) (key n)) where
+    same_target : (n : ℕ) → known n ≡ true → by_name (at_name f p n) ≡ target_fault table deeper (map key p) (key n)
+    same_target n k =
+        chosen (on p n) refl
+        ∙ (λ i. cond (sym (on_keys p n on_path k) i) (Some (Cycle (chain_of_keys p n on_path k i)))
+        (deeper (map key p ++ key n ∷ []) (key n)))
+      where
+        chosen :
+            (b : Bool) → on p n ≡ b
+            → by_name (cond b (Some (walk.Cycle (from_name n p ++ n ∷ []))) (f (p ++ n ∷ []) n))
+            ≡ cond b (Some (Cycle (map key (from_name n p ++ n ∷ [])))) (deeper (map key p ++ key n ∷ []) (key n))
+        chosen true e = refl
+        chosen false e = same n k e
+
+    abbrev fault_of_word : WordUse → Option NameFault
+    fault_of_word u = word_fault table deeper (map key p) u
+
+    abbrev fault_of_targets : WordUse → List Key → Option NameFault
+    fault_of_targets u ns = targets_fault table deeper (map key p) u ns
+
+    refused :
+        (u : WordUse) (rest : Option NameFault) → is_refused u.text ≡ true
+        → Some (Refused u.text (names.last (map key p))) ≡ option_or (fault_of_word u) rest
+    refused u rest is = ap (λ o. option_or o rest) (sym (cond-true (is_refused u.text) _ _ is))
+
+    accepted :
+        (u : WordUse) (ns : List Key) (rest : Option NameFault) → is_refused u.text ≡ false → targets table u ≡ ns
+        → option_or (fault_of_targets u ns) rest ≡ option_or (fault_of_word u) rest
+    accepted u ns rest fine e =
+        ap (λ o. option_or o rest) (sym (cond-false (is_refused u.text) _ _ fine ∙ ap (fault_of_targets u) e))
+
+    -- a word that leads nowhere is a fault of the last of the path
+    ended :
+        (t : ℕ) (fault : Option Key → NameFault) → ((holder : Option Key) → dead_end t holder ≡ fault holder)
+        → by_name (at_step f p (Nowhere t)) ≡ Some (fault (names.last (map key p)))
+    ended t fault e = ap Some (e (option_map key (lists.last p)) ∙ ap fault (sym (same_last key p)))
+
+    same_word :
+        (u : WordUse) {x y : Step} → IsWord table key dead_end u x y
+        → ((n : ℕ) → (To n ≡ x) ⊎ (To n ≡ y) → known n ≡ true)
+        → (rest : Option walk.NameFault)
+        → by_name (option_or (at_step f p x) (option_or (at_step f p y) rest))
+        ≡ option_or (fault_of_word u) (by_name rest)
+    same_word u (ForRefused t is e) k rest = ended t (Refused u.text) e ∙ refused u (by_name rest) is
+    same_word u (ForUnknown t fine none e) k rest = ended t (Unknown u.text) e ∙ accepted u [] (by_name rest) fine none
+    same_word u (ForOne n fine e) k rest =
+        twice (at_name f p n) rest
+        ∙ ((λ i. option_or (option_or (same_target n (k n (inl refl)) i) None) (by_name rest))
+        ∙ accepted u (key n ∷ []) (by_name rest) fine e)
+    same_word u (ForTwo n m fine e) k rest =
+        both (at_name f p n) (at_name f p m) rest
+        ∙ ((λ i. option_or (option_or (same_target n (k n (inl refl)) i)
+        (option_or (same_target m (k m (inr refl)) i) None)) (by_name rest))
+        ∙ accepted u (key n ∷ key m ∷ []) (by_name rest) fine e)
+
+    same_words :
+        (us : List WordUse) (xs : List Step) → AreWords table key dead_end us xs → LeadToKnown known xs
+        → by_name (lists.first (at_step f p) xs) ≡ first fault_of_word us
+    same_words [] [] w k = refl
+    same_words [] (x ∷ xs) w k = absurd w
+    same_words (u ∷ us) [] w k = absurd w
+    same_words (u ∷ us) (x ∷ []) w k = absurd w
+    same_words (u ∷ us) (x ∷ y ∷ xs) w k =
+        same_word u w.0 (λ n c. k n (elim c [ inl e ↦ inl e | inr e ↦ inr (inl e) ])) (lists.first (at_step f p) xs)
+        ∙ ap (option_or (fault_of_word u)) (same_words us xs w.1 (λ n i. k n (inr (inr i))))
+
+  -- ---- behind all paths, by how many numbers are not on them
+  module _ (range : InRange g) (walk_fault : WalkFaultLaw) (walk_path : WalkPathLaw) (name_fault : FaultLaw)
+      (name_path : PathLaw) where
+    path_of_keys :
+        (p : List ℕ) (n : ℕ) → IsPath table (map key p) → AllKnown known p → known n ≡ true → on p n ≡ false
+        → IsPath table (map key (p ++ n ∷ []))
+    path_of_keys p n are on_path k off =
+        subst (λ (q : List Key). IsPath table q) (sym (map_push key p n))
+        (name_path.longer table (map key p) (key n) are (on_keys p n on_path k ∙ off) (numbered.present n k))
+
+    by_room :
+        (k : ℕ) (p : List ℕ) (us : List WordUse) (xs : List Step)
+        → AllKnown known p → IsWalkPath g p → IsPath table (map key p)
+        → AreWords table key dead_end us xs → LeadToKnown known xs → length p + k ≡ length g + 1
+        → by_name (walk.fault g p xs) ≡ names.fault table (map key p) us
+    by_room zero p us xs on_path is are w ks room =
+        absurd (let l : length p ≤ length g = walk_path.short g p is in omega arith)
+    by_room (suc k) p us xs on_path is are w ks room =
+        ap by_name (walk_fault.is g range p xs is (λ n i. numbered.within n (ks n i)))
+        ∙ (same_words p on_path (λ longer n. walk.fault g longer (steps g n))
+        (λ longer n. names.fault table longer (key_words table n)) (λ n kn off.
+        by_room k (p ++ n ∷ []) (key_words table (key n)) (steps g n) (known_push known p n on_path kn)
+        (walk_path.longer g p n is off (numbered.within n kn)) (path_of_keys p n are on_path kn off)
+        (numbered.faithful n kn) (λ m l. numbered.below n m kn l) (omega (arith, length-append p (n ∷ [])))
+        ∙ ap (λ q. names.fault table q (key_words table (key n))) (map_push key p n)) us xs w ks
+        ∙ sym (name_fault.is table (map key p) us are))
+
+    same_fault :
+        (p : List ℕ) (us : List WordUse) (xs : List Step)
+        → AllKnown known p → IsWalkPath g p → IsPath table (map key p)
+        → AreWords table key dead_end us xs → LeadToKnown known xs
+        → by_name (walk.fault g p xs) ≡ names.fault table (map key p) us
+    same_fault p us xs on_path is are w ks =
+        let l : length p ≤ length g = walk_path.short g p is in
+        let room : length p + (length g + 1 - length p) ≡ length g + 1 = omega arith in
+        by_room (length g + 1 - length p) p us xs on_path is are w ks room
+
+    pub words_fault :
+        (us : List WordUse) (xs : List Step) → AreWords table key dead_end us xs → LeadToKnown known xs
+        → by_name (walk.fault g [] xs) ≡ names.name_fault table us
+    words_fault us xs w ks = same_fault [] us xs tt (walk_path.empty g) (name_path.empty table) w ks
+
+    pub number_fault : (n : ℕ) → known n ≡ true → by_name (walk.fault g [] (To n ∷ [])) ≡ names.key_fault table (key n)
+    number_fault n k =
+        ap by_name (walk_fault.is g range [] (To n ∷ []) (walk_path.empty g) there ∙ or_none _)
+        ∙ same_fault (n ∷ []) (key_words table (key n)) (steps g n) (k, tt)
+        (walk_path.longer g [] n (walk_path.empty g) refl (numbered.within n k))
+        (path_of_keys [] n (name_path.empty table) tt k refl)
+        (numbered.faithful n k) (λ m l. numbered.below n m k l)
+      where
+        there : (m : ℕ) → In (To m) (To n ∷ []) → m < length g
+        there m (inl e) = let q : m ≡ n = cc in subst (λ (x : ℕ). x < length g) (sym q) (numbered.within n k)
+        there m (inr i) = absurd i
+
+pub numbered_fault_law : SameKeysLaw → WalkFaultLaw → WalkPathLaw → FaultLaw → PathLaw → NumberedFaultLaw
+numbered_fault_law same_keys walk_fault walk_path name_fault name_path = record {
+  words = λ table key dead_end g known numbered range.
+      words_fault same_keys table key dead_end g known numbered range walk_fault walk_path name_fault name_path;
+  key = λ table key dead_end g known numbered range.
+      number_fault same_keys table key dead_end g known numbered range walk_fault walk_path name_fault name_path;
+}

@@ -1,0 +1,5 @@
+pub mod FaultLaws
+pub mod LookupLaws
+pub mod Numbered
+pub mod RankLaws
+pub mod SettlingLaws
