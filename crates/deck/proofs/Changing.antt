@@ -8,6 +8,7 @@ use Rattle.def_entry.specs.declared.key.Kind.TheVariants as kind
 use Rattle.def_entry.specs.Entries.{Entry}
 use Rattle.def_entry.specs.Reading.{SameTextLaw, entry_of}
 use Rattle.def_entry.specs.SameKeys.{is_among, is_same}
+use Rattle.deck_lines.specs.Edited.{Edited, store_after, store_before}
 use Rattle.deck_lines.specs.Names.{is_numbered, key_at}
 use Rattle.deck_lines.specs.Numbering.{IsNumbering}
 use Rattle.deck_lines.specs.Stores.{Store}
@@ -80,23 +81,23 @@ module _ (store : Store) (numbering : IsNumbering store) (ds : Definitions) (pla
   entry_numbered last is_last n k e =
       ap (entry_there store.lines) (is_last.place n ∙ ap (option_and_then (place_of ds)) e) ∙ entry_placed store.lines ds placed k
 
--- the keys whose entries differ between last places in one store
-pub changed_numbers : SameTextLaw → (store : Store) → IsNumbering store → (before after : LastPlaces) (ds es : Definitions) →
-    AreInPlace store.lines ds → AreInPlace store.lines es → AreLast store.names ds before → AreLast store.names es after →
+-- the keys whose entries differ between last places before an edit and last places after it
+pub changed_numbers : SameTextLaw → (edited : Edited) → IsNumbering (store_before edited) → IsNumbering (store_after edited) → (before after : LastPlaces) (ds es : Definitions) →
+    AreInPlace edited.before ds → AreInPlace edited.after es → AreLast edited.names ds before → AreLast edited.names es after →
     IsTableChange (table_of ds) (table_of es)
-    (keys_where (differs store.lines before after) kind.Unit 0 store.names.units ++ (keys_where (differs store.lines before after) kind.Prefix 0 store.names.prefixes
-    ++ (keys_where (differs store.lines before after) kind.Func 0 store.names.functions ++ keys_where (differs store.lines before after) kind.List 0 store.names.lists)))
-changed_numbers law store numbering before after ds es placed put was is_last =
-    subst (IsTableChange (table_of ds) (table_of es)) (sym (all_filter store.names (differs store.lines before after) (differ (table_of ds) (table_of es)) by_number))
-    (changed_among (table_of ds) (table_of es) (all_keys store.names) (once_all store.names numbering.unique) beside (same_by_text law store.lines store.lines ds es placed put))
+    (keys_where (differs edited before after) kind.Unit 0 edited.names.units ++ (keys_where (differs edited before after) kind.Prefix 0 edited.names.prefixes
+    ++ (keys_where (differs edited before after) kind.Func 0 edited.names.functions ++ keys_where (differs edited before after) kind.List 0 edited.names.lists)))
+changed_numbers law edited numbering too before after ds es placed put was is_last =
+    subst (IsTableChange (table_of ds) (table_of es)) (sym (all_filter edited.names (differs edited before after) (differ (table_of ds) (table_of es)) by_number))
+    (changed_among (table_of ds) (table_of es) (all_keys edited.names) (once_all edited.names numbering.unique) beside (same_by_text law edited.before edited.after ds es placed put))
   where
-    by_number : (n : KeyNumber) (k : Key) → key_at store.names n ≡ Some k → differs store.lines before after n ≡ differ (table_of ds) (table_of es) k
+    by_number : (n : KeyNumber) (k : Key) → key_at edited.names n ≡ Some k → differs edited before after n ≡ differ (table_of ds) (table_of es) k
     by_number n k e =
-        ap (λ o. not (is_same_entry o (entry_there store.lines (place_at after n)))) (entry_numbered store numbering ds placed before was n k e)
-        ∙ ap (λ o. not (is_same_entry (entry_at (table_of ds) k) o)) (entry_numbered store numbering es put after is_last n k e)
+        ap (λ o. not (is_same_entry o (entry_there edited.after (place_at after n)))) (entry_numbered (store_before edited) numbering ds placed before was n k e)
+        ∙ ap (λ o. not (is_same_entry (entry_at (table_of ds) k) o)) (entry_numbered (store_after edited) too es put after is_last n k e)
 
-    beside : (k : Key) → is_among (all_keys store.names) k ≡ false → entry_at (table_of ds) k ≡ entry_at (table_of es) k
+    beside : (k : Key) → is_among (all_keys edited.names) k ≡ false → entry_at (table_of ds) k ≡ entry_at (table_of es) k
     beside k e =
-        let unnumbered = sym (among_all store.names k) ∙ e in
-        entry_found ds k ∙ ap (option_map (λ v. v.1)) (not_defined store numbering ds placed k unnumbered)
-        ∙ sym (ap (option_map (λ v. v.1)) (not_defined store numbering es put k unnumbered)) ∙ sym (entry_found es k)
+        let unnumbered = sym (among_all edited.names k) ∙ e in
+        entry_found ds k ∙ ap (option_map (λ v. v.1)) (not_defined (store_before edited) numbering ds placed k unnumbered)
+        ∙ sym (ap (option_map (λ v. v.1)) (not_defined (store_after edited) too es put k unnumbered)) ∙ sym (entry_found es k)

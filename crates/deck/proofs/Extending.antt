@@ -1,5 +1,5 @@
 -- Numbers of keys, with those of more lines.
-use Rattle.std.proofs.Common.{◌≡◌, ◌++◌, ◌∷◌, ◌||◌, [], ℕ, zero, suc, List, Bool, true, false, true≢false, cond, length, take, refl, sym, ap, subst, ◌∙◌, arith, Option, Some, None, option_map, slice_get}
+use Rattle.std.proofs.Common.{◌≡◌, ◌++◌, ◌∷◌, ◌||◌, [], ℕ, zero, suc, List, Bool, true, false, true≢false, cond, length, take, refl, sym, ap, subst, ◌∙◌, Option, Some, None, option_map, slice_get}
 use Rattle.std.proofs.lemmas.Option.{same_Some}
 use Rattle.std.specs.List.{list_any}
 use Rattle.std.specs.Str.{bytes_eq}
@@ -175,7 +175,7 @@ module _ (old new : Names) (each : (a : Kind) → IsMore (names_of old a) (names
       by None q e (Some name) r f = subst (λ j. is_numbered old j ≡ false) (same_Some (key n.kind name) k f) ((each n.kind).fresh n.number name q r)
 
 -- a key without a number has no place
-unplaced : (store : Store) (settings : Settings) (k : Key) → IsNumbering store → is_numbered store.names k ≡ false → place_of (definitions settings store.lines) k ≡ None
+pub unplaced : (store : Store) (settings : Settings) (k : Key) → IsNumbering store → is_numbered store.names k ≡ false → place_of (definitions settings store.lines) k ≡ None
 unplaced store settings k numbering h = by (lookup (is_same k) (definitions settings store.lines)) refl
   where
     by : (o : Option (ℕ × Entry)) → lookup (is_same k) (definitions settings store.lines) ≡ o → option_map (λ p. p.0) o ≡ None

@@ -16,6 +16,7 @@ mod Listing
 mod Marking
 mod Numbered
 mod Numbering
+mod OneKeyList
 mod Placing
 mod Pushing
 mod Sameness

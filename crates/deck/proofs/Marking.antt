@@ -1,5 +1,6 @@
 -- Lines with their marks.
-use Rattle.std.proofs.Common.{◌≡◌, ◌∷◌, ◌++◌, ◌+◌, ◌<◌, [], ℕ, zero, suc, List, length, take, drop, get_or, append_assoc, Bool, false, refl, sym, ap, ◌∙◌, arith}
+use Rattle.std.proofs.Common.{◌≡◌, ◌∷◌, ◌++◌, ◌+◌, ◌<◌, [], ℕ, zero, suc, List, length, take, drop, get_or, append_assoc, Bool, false, refl, sym, ap, ◌∙◌, arith, Some, slice_get}
+use Rattle.std.proofs.lemmas.Option.{same_Some}
 use Rattle.def_lines.specs.declared.line.Line.{Line}
 use Rattle.deck_lines.specs.Marks.{with_mark, with_marks}
 use Rattle.deck_lines.specs.declared.line.DeckLine.{DeckLine}
@@ -48,3 +49,11 @@ marks_at (k ∷ ls) (n ∷ ms) (suc i) l m h g e f =
 pub length-activity : (locale : List ℕ) (around : Surroundings) (xs : List DeckLine) → length (activity locale around xs) ≡ length xs
 length-activity locale around [] = refl
 length-activity locale around (x ∷ xs) = ap suc (length-activity locale (behind_line locale around x) xs)
+
+-- the line at a place, and those behind it
+pub line_at : (lines : List DeckLine) (i : ℕ) (line : DeckLine) → slice_get lines i ≡ Some line → drop i lines ≡ line ∷ drop (i + 1) lines
+line_at [] i line e = absurd (cc)
+line_at (x ∷ lines) zero line e = ap (λ l. l ∷ lines) (same_Some x line e)
+line_at (x ∷ lines) (suc i) line e =
+    let next : suc (i + 1) ≡ suc i + 1 = omega arith in
+    line_at lines i line e ∙ ap (λ j. line ∷ drop j (x ∷ lines)) next

@@ -120,7 +120,7 @@ among_all names k =
     by kind.List = refl
 
 -- a name that is among others has a place
-position : (ns : List (List ℕ)) (name : List ℕ) → list_any (bytes_eq name) ns ≡ true → (j : ℕ) × (slice_get ns j ≡ Some name)
+pub position : (ns : List (List ℕ)) (name : List ℕ) → list_any (bytes_eq name) ns ≡ true → (j : ℕ) × (slice_get ns j ≡ Some name)
 position [] name e = cc
 position (n ∷ ns) name e = by (λ h. position ns name h) (bytes_eq name n) refl e
   where

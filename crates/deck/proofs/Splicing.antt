@@ -1,7 +1,25 @@
 -- What a splice leaves, and its inverse.
-use Rattle.std.proofs.Common.{◌≡◌, ◌++◌, ◌∷◌, ◌+◌, ◌≤◌, [], ℕ, zero, suc, List, length, take, drop, refl, ap, ◌∙◌, arith}
-use Rattle.deck.specs.Splices.{InverseLaw}
+use Rattle.std.proofs.Common.{◌≡◌, ◌++◌, ◌∷◌, ◌+◌, ◌≤◌, [], ℕ, zero, suc, List, Bool, true, false, length, take, drop, refl, sym, ap, subst, ◌∙◌, arith, Some, None, Ok, option_map}
+use Rattle.def_entry.specs.declared.key.Key.{Key}
+use Rattle.def_entry.specs.Keys.{key}
+use Rattle.deck_lines.specs.Closed.{IsClosed}
+use Rattle.deck_lines.specs.Edited.{Edited}
+use Rattle.deck_lines.specs.Names.{IsExtended, Names, is_numbered, key_at, names_of}
+use Rattle.deck_lines.specs.Numbering.{IsNumbering}
+use Rattle.deck_lines.specs.Stores.{Store}
+use Rattle.deck_lines.specs.declared.key_number.KeyNumber.{KeyNumber}
 use Rattle.deck_lines.specs.declared.line.DeckLine.{DeckLine}
+use Rattle.deck.specs.Changes.{IsTableChange}
+use Rattle.deck.specs.Decks.{Contents}
+use Rattle.deck.specs.LastPlaces.{AreLast, IsIndexed}
+use Rattle.deck.specs.Splices.{InverseLaw, IsSpliced, spliced_lines}
+use Rattle.deck.specs.Tables.{definitions, table_of}
+use Rattle.deck.specs.declared.places.last_places.LastPlaces.{LastPlaces}
+use Rattle.deck.specs.declared.settings.Settings.{Settings}
+use Rattle.deck.specs.declared.splice.Splice.{Splice}
+use Rattle.deck.proofs.Extending.{unplaced}
+use Rattle.deck.proofs.Lasting.{last_extended}
+use Rattle.deck.proofs.Numbered.{position}
 
 -- up to a place, and as many as were put there
 front_of : {A : Type 0} (at : ℕ) (xs ys : List A) → at ≤ length xs → take at (take at xs ++ ys) ≡ take at xs
@@ -48,3 +66,57 @@ undone s d h =
     (ap (λ t. t ++ (take s.cut (drop s.at xs) ++ drop (s.at + length s.put) (take s.at xs ++ (s.put ++ drop (s.at + s.cut) xs)))) front
     ∙ ap (λ t. take s.at xs ++ (take s.cut (drop s.at xs) ++ t)) rest
     ∙ parts_of s.at s.cut xs h)
+
+-- a splice of the lines of a store
+abbrev pub as_edited : Splice → List DeckLine → Names → Edited
+as_edited s lines names = record { before = lines; after = spliced_lines s lines; names = names }
+
+-- a key that has a number has one in particular
+number_of : (names : Names) (k : Key) → is_numbered names k ≡ true → (n : KeyNumber) × (key_at names n ≡ Some k)
+number_of names k e =
+    let p = position (names_of names k.kind) k.name e in
+    (record { kind = k.kind; number = p.0 }, ap (option_map (key k.kind)) p.1)
+
+-- last places stay where more keys have numbers
+pub indexed_read : (old new : Store) (settings : Settings) (last : LastPlaces) → IsNumbering old → IsNumbering new → new.lines ≡ old.lines → IsExtended old.names new.names →
+    IsIndexed old settings last → IsIndexed new settings last
+indexed_read old new settings last numbering more lines wider before = record {
+  closed = subst IsClosed (sym lines) before.closed;
+  places = subst (λ ls. AreLast new.names (definitions settings ls) last) (sym lines)
+      (last_extended old.names new.names (definitions settings old.lines) last before.places wider
+      (λ n k none some. unplaced old settings k numbering (fresh n k none some (is_numbered old.names k) refl)));
+}
+  where
+    fresh : (n : KeyNumber) (k : Key) → key_at old.names n ≡ None → key_at new.names n ≡ Some k → (b : Bool) → is_numbered old.names k ≡ b → is_numbered old.names k ≡ false
+    fresh n k none some false e = e
+    fresh n k none some true e =
+        let p = number_of old.names k e in
+        absurd (never (sym none ∙ ap (key_at old.names) (more.unique n p.0 k some (wider p.0 k p.1)) ∙ p.1))
+      where
+        never : None ≡ Some k → ⊥
+        never q = cc
+
+-- last places of the lines that a splice leaves
+pub indexed_spliced : (s : Splice) (d : Contents) (store now : Store) (last : LastPlaces) → store.lines ≡ d.lines → now.lines ≡ spliced_lines s store.lines → now.names ≡ store.names →
+    IsClosed (spliced_lines s d.lines) → AreLast store.names (definitions s.settings (spliced_lines s d.lines)) last → IsIndexed now s.settings last
+indexed_spliced s d store now last same put names closed places =
+    let lines : now.lines ≡ spliced_lines s d.lines = put ∙ ap (spliced_lines s) same in
+    record {
+      closed = subst IsClosed (sym lines) closed;
+      places = subst (λ ls. AreLast now.names (definitions s.settings ls) last) (sym lines) (subst (λ (ns : Names). AreLast ns (definitions s.settings (spliced_lines s d.lines)) last) (sym names) places);
+    }
+
+-- what a splice answers: the deck, the keys that it changes, and its inverse
+pub spliced : (s : Splice) (d : Contents) (settings : Settings) (notices : List (List ℕ)) (lines before now gone : List DeckLine) (count : ℕ) (keys : List Key) →
+    record { lines = lines; settings = settings; notices = notices } ≡ d → before ≡ lines → now ≡ spliced_lines s before → gone ≡ take s.cut (drop s.at before) → count ≡ length s.put →
+    IsTableChange (table_of (definitions settings lines)) (table_of (definitions s.settings (spliced_lines s lines))) keys →
+    IsSpliced s d (record { lines = now; settings = s.settings; notices = notices }) (Ok (keys, record { at = s.at; cut = count; put = gone; settings = settings }))
+spliced s d settings notices lines before now gone count keys view same put went counted changed =
+    let is : now ≡ spliced_lines s lines = put ∙ ap (spliced_lines s) same in
+    let with_lines : List DeckLine → Contents = λ ls. record { lines = ls; settings = s.settings; notices = notices } in
+    let back : ℕ → List DeckLine → Splice = λ n ls. record { at = s.at; cut = n; put = ls; settings = settings } in
+    subst (λ (e : Contents). IsSpliced s e (record { lines = now; settings = s.settings; notices = notices }) (Ok (keys, record { at = s.at; cut = count; put = gone; settings = settings }))) view (
+      ap with_lines is,
+      subst (λ (ls : List DeckLine). IsTableChange (table_of (definitions settings lines)) (table_of (definitions s.settings ls)) keys) (sym is) changed,
+      ap (λ n. back n gone) counted ∙ ap (back (length s.put)) (went ∙ ap (λ (ls : List DeckLine). take s.cut (drop s.at ls)) same),
+    )

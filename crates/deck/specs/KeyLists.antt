@@ -1,5 +1,6 @@
 -- The keys of a table, in order.
 use Rattle.std.specs.Prelude.{◌≡◌, ℕ, List, length}
+use Rattle.std.specs.FinMap as map_of
 use Rattle.std.specs.List.{filter}
 use Rattle.std.specs.List.Sorted.{IsStrictlySortedBy}
 use Rattle.def_entry.specs.declared.key.Key.{Key}
@@ -13,6 +14,14 @@ use Rattle.deck.specs.Tables.{Table, is_present, keys_of}
 pub record AreKeys (table : Table) (keys : List Key) : Type 0 where
   pub each : (k : Key) → is_among keys k ≡ is_present table k
   pub order : IsStrictlySortedBy key_cmp keys
+
+-- the keys of the table, as a finite map has them
+abbrev pub table_keys : Table → List Key
+table_keys table = map_of.keys (map_of.from_entries {R = key_cmp} table)
+
+-- law: there is one such list
+abbrev pub KeyListLaw : Type 0
+KeyListLaw = (table : Table) (keys : List Key) → AreKeys table keys → keys ≡ table_keys table
 
 -- those of a kind
 abbrev pub of_kind : Kind → List Key → List Key

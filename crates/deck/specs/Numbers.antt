@@ -1,4 +1,4 @@
--- Keys by their numbers, and what differs between two tables of the same lines.
+-- Keys by their numbers, and what differs between two tables.
 use Rattle.std.specs.Prelude.{◌≡◌, ◌+◌, ◌++◌, ℕ, List, [], ◌∷◌, Bool, true, not, Option, Some, option_map}
 use Rattle.std.specs.Map.{lookup}
 use Rattle.std.specs.Option.{option_and_then}
@@ -7,6 +7,7 @@ use Rattle.def_entry.specs.declared.key.Kind.{Kind}
 use Rattle.def_entry.specs.Entries.{Entry}
 use Rattle.def_entry.specs.Keys.{key}
 use Rattle.def_entry.specs.SameKeys.{is_same}
+use Rattle.deck_lines.specs.Edited.{Edited}
 use Rattle.deck_lines.specs.Stores.{definition_at}
 use Rattle.deck_lines.specs.declared.key_number.KeyNumber.{KeyNumber}
 use Rattle.deck_lines.specs.declared.line.DeckLine.{DeckLine}
@@ -24,10 +25,10 @@ AreInPlace lines ds =
 abbrev pub entry_there : List DeckLine → Option ℕ → Option Entry
 entry_there lines place = option_and_then (λ p. option_map (λ d. d.1) (definition_at lines p)) place
 
--- the entries of a key differ, by their texts
-abbrev pub differs : List DeckLine → LastPlaces → LastPlaces → KeyNumber → Bool
-differs lines before after n =
-    not (is_same_entry (entry_there lines (place_at before n)) (entry_there lines (place_at after n)))
+-- the entries of a key before an edit and after it differ, by their texts
+abbrev pub differs : Edited → LastPlaces → LastPlaces → KeyNumber → Bool
+differs edited before after n =
+    not (is_same_entry (entry_there edited.before (place_at before n)) (entry_there edited.after (place_at after n)))
 
 -- a key, where a test is passed
 abbrev pub key_if : Bool → Option Key → List Key

@@ -1,9 +1,9 @@
 -- Lines replaced by others, and what undoes that.
-use Rattle.std.specs.Prelude.{◌≡◌, ◌≤◌, ◌+◌, ◌++◌, ℕ, List, length, take, drop, false, Result, Ok, Err}
+use Rattle.std.specs.Prelude.{◌≡◌, ◌≤◌, ◌+◌, ℕ, List, length, take, drop, Result, Ok, Err}
 use Rattle.std.specs.declared.alloc.AllocError.{AllocError}
 use Rattle.def_entry.specs.declared.key.Key.{Key}
-use Rattle.deck_lines.specs.Closed.{IsClosed}
-use Rattle.deck_lines.specs.Limits.{pass_limit}
+use Rattle.deck_lines.specs.Exchangeable.{CanExchange}
+use Rattle.deck_lines.specs.Origins.{exchanged_lines}
 use Rattle.deck_lines.specs.declared.line.DeckLine.{DeckLine}
 use Rattle.deck.specs.Changes.{IsChange}
 use Rattle.deck.specs.Decks.{Contents}
@@ -13,19 +13,18 @@ use Rattle.deck.specs.declared.splice.Splice.{Splice}
 abbrev pub lines_from : ℕ → ℕ → List DeckLine → List DeckLine
 lines_from place count lines = take count (drop place lines)
 
+-- the lines with those of a splice in the place of some
+abbrev pub spliced_lines : Splice → List DeckLine → List DeckLine
+spliced_lines s lines = exchanged_lines s.at s.cut s.put lines
+
 -- the deck with the lines and the settings of a splice
 abbrev pub after_splice : Splice → Contents → Contents
-after_splice s d = record d {
-  lines = take s.at d.lines ++ (s.put ++ drop (s.at + s.cut) d.lines);
-  settings = s.settings;
-}
+after_splice s d = record d { lines = spliced_lines s d.lines; settings = s.settings }
 
 -- what a deck and a splice have to meet: the places exist, and what comes of it is closed and within
 -- the limits
-pub record CanSplice (s : Splice) (d : Contents) : Type 0 where
-  pub places : s.at + s.cut ≤ length d.lines
-  pub closed : IsClosed (after_splice s d).lines
-  pub within : pass_limit (after_splice s d).lines ≡ false
+abbrev pub CanSplice : Splice → Contents → Type 0
+CanSplice s d = CanExchange s.at s.cut s.put d.lines
 
 -- the splice that gives back what another took
 abbrev pub inverse : Splice → Contents → Splice

@@ -1,31 +1,15 @@
 -- The table of a deck.
 use Rattle.std.specs.Prelude.{◌+◌, ◌++◌, ℕ, List, [], ◌∷◌, Bool, if◌then◌else◌, map, reverse, Option, Some, None, option_map}
-use Rattle.std.specs.Option.{is_some}
 use Rattle.std.specs.Map.{lookup}
 use Rattle.def_entry.specs.declared.key.Key.{Key}
 use Rattle.def_entry.specs.Entries.{Entry}
 use Rattle.def_entry.specs.SameKeys.{is_same}
+pub use Rattle.def_entry.specs.Tables.{Table, entry_at, is_present, keys_of}
 use Rattle.deck_lines.specs.Readings.{entry_in}
 use Rattle.deck_lines.specs.declared.line.DeckLine.{DeckLine}
 use Rattle.deck.specs.Active.{active_lines}
 use Rattle.deck.specs.Decks.{Contents}
 use Rattle.deck.specs.declared.settings.Settings.{Settings}
-
--- keys with their entries, the last one first
-abbrev pub Table : Type 0
-Table = List (Key × Entry)
-
--- the entry of a key: that of its last active line
-abbrev pub entry_at : Table → Key → Option Entry
-entry_at table k = lookup (is_same k) table
-
--- the key has an entry
-abbrev pub is_present : Table → Key → Bool
-is_present table k = is_some (entry_at table k)
-
--- the keys of all entries, those of earlier lines too
-abbrev pub keys_of : Table → List Key
-keys_of table = map (λ e. e.0) table
 
 -- keys with the places of the lines that define them and their entries
 abbrev pub Definitions : Type 0

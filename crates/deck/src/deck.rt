@@ -18,6 +18,7 @@ mod keys;
 mod lines_from;
 mod loading;
 mod snapshot;
+mod splice;
 mod switch;
 mod texts;
 

@@ -3,4 +3,4 @@
 mod flags;
 mod surroundings;
 
-pub use flags::active_flags;
+pub use flags::{active_flags, edited_flags};

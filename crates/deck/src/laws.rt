@@ -1,6 +1,7 @@
 //! Laws of decks.
 
 ghost use Rattle.deck.specs.Changes.{ChangedLaw};
+ghost use Rattle.deck.specs.KeyLists.{KeyListLaw};
 ghost use Rattle.deck.specs.Splices.{InverseLaw};
 
 use def_entry::same_text_law;
@@ -16,3 +17,8 @@ pub fn changes_are_computed()
 {
     same_text_law();
 }
+
+/// A list of all keys in order is the only one.
+pub fn key_lists_are_one()
+    ensures { KeyListLaw }
+{}

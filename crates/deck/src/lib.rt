@@ -12,6 +12,6 @@ mod splice;
 
 pub use deck::Deck;
 pub use fault::DeckFault;
-pub use laws::{changes_are_computed, splices_are_undone};
+pub use laws::{changes_are_computed, key_lists_are_one, splices_are_undone};
 pub use settings::Settings;
 pub use splice::Splice;

@@ -1,7 +1,7 @@
 -- What lines define, by the numbers of keys.
-use Rattle.std.proofs.Common.{◌≡◌, ◌++◌, ◌∷◌, ◌+◌, [], ℕ, List, map, take, drop, refl, sym, ap, subst, ◌∙◌, Option, Some, None, option_map, slice_get}
+use Rattle.std.proofs.Common.{◌≡◌, ◌++◌, ◌∷◌, ◌+◌, ◌<◌, [], ℕ, List, map, take, drop, get_or, length, refl, sym, ap, subst, ◌∙◌, Option, Some, None, option_map, slice_get}
 use Rattle.std.specs.Option.{option_and_then}
-use Rattle.std.proofs.lemmas.List.{drop-map, map-append, take-map}
+use Rattle.std.proofs.lemmas.List.{drop-map, map-append, take-map, take_more}
 use Rattle.std.proofs.lemmas.Option.{slice_get-map}
 use Rattle.def_entry.specs.Entries.{Entry}
 use Rattle.def_entry.specs.Seen.{seen_entry}
@@ -114,3 +114,13 @@ keyed_entry (Some d) = refl
 pub keyed_key : (d : Option (Key × Entry)) → option_map (λ (p : Option Key × Entry). p.0) (option_map keyed_definition d) ≡ option_map (λ (p : Key × Entry). Some p.0) d
 keyed_key None = refl
 keyed_key (Some d) = refl
+
+-- what the first lines define, with one line more
+pub defined_more : (names more : Names) → IsExtended names more → (ds after : List (Option Definition)) (d : Option Definition) (lines : List DeckLine) (i : ℕ) (line : DeckLine) →
+    i < length lines → line ≡ get_or lines i line → after ≡ ds ++ d ∷ [] → option_map (seen_definition more) d ≡ option_map keyed_definition (entry_in line) →
+    IsDefined names ds (map entry_in (take i lines)) → IsDefined more after (map entry_in (take (i + 1) lines))
+defined_more names more wider ds after d lines i line h at put reads are =
+    ap (map (option_map (seen_definition more))) put
+    ∙ defined_put names more wider ds (map entry_in (take i lines)) d (entry_in line) reads are
+    ∙ ap (map (option_map keyed_definition))
+    (sym (ap (map entry_in) (take_more lines i line h ∙ ap (λ t. take i lines ++ t ∷ []) (sym at)) ∙ map-append entry_in (take i lines) (line ∷ [])))

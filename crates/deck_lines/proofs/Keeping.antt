@@ -1,6 +1,6 @@
 -- Lines with their marks, within the limits.
-use Rattle.std.proofs.Common.{◌≡◌, ◌++◌, ◌∷◌, ◌+◌, ◌-◌, ◌<◌, ◌≤◌, [], ℕ, zero, suc, List, Bool, true, false, not, length, map, take, drop, reverse, refl, append_assoc, sym, ap, subst, ◌∙◌, arith, length-append, length-take, length-drop, Option, Some, slice_get}
-use Rattle.std.specs.Prelude.{nat_le, nat_lt}
+use Rattle.std.proofs.Common.{◌≡◌, ◌++◌, ◌∷◌, ◌+◌, ◌-◌, ◌<◌, ◌≤◌, [], ℕ, zero, suc, List, Bool, true, false, not, length, map, take, drop, reverse, refl, append_assoc, sym, ap, ◌∙◌, arith, length-append, length-take, Some, slice_get, get_or}
+use Rattle.std.specs.Prelude.{nat_le}
 use Rattle.std.proofs.lemmas.Bool.Decides.{nat_tests}
 use Rattle.std.proofs.lemmas.List.{length-map, reverse-append}
 use Rattle.std.proofs.lemmas.List.Sums.{sum_by-append, sum_by-cons, sum_by-take-drop}
@@ -136,3 +136,11 @@ pub bytes_on : (put : List DeckLine) → bytes_in (map unmarked put) ≡ text_le
 bytes_on put =
     let each : length (map mark_of put) ≡ length (map unmarked put) = length-map put mark_of ∙ sym (length-map put unmarked) in
     sym (marks_bytes (map unmarked put) (map mark_of put) each) ∙ ap text_len (marks_on put)
+
+-- the line at a place, with its mark
+pub marks_get : (ls : List Line) (ms : List Bool) (i : ℕ) (l : Line) (m : Bool) → length ms ≡ length ls → i < length ls →
+    l ≡ get_or ls i l → m ≡ get_or ms i false → slice_get (with_marks ls ms) i ≡ Some (with_mark m l)
+marks_get [] ms i l m h g e f = absurd (omega arith)
+marks_get (k ∷ ls) [] i l m h g e f = absurd (omega arith)
+marks_get (k ∷ ls) (n ∷ ms) zero l m h g e f = rw (e, f) refl
+marks_get (k ∷ ls) (n ∷ ms) (suc i) l m h g e f = marks_get ls ms i l m (omega arith) (omega arith) e f

@@ -1,11 +1,11 @@
 -- Keys and their numbers.
-use Rattle.std.proofs.Common.{◌≡◌, ℕ, List, refl, sym, ap, subst, ◌∙◌, inl, inr, ◌⊎◌, Option, Some, None, option_map, slice_get}
-use Rattle.def_entry.specs.Entries.{Entry}
+use Rattle.std.proofs.Common.{◌≡◌, ℕ, List, refl, sym, ap, subst, ◌∙◌, inl, inr, ◌⊎◌, Option, Some, None, option_map, slice_get, []}
+use Rattle.def_entry.specs.Entries.{Entry, Primitive}
 use Rattle.def_entry.specs.Keys.{key}
 use Rattle.def_entry.specs.declared.key.Key.{Key}
 use Rattle.def_entry.specs.declared.key.Kind.{Kind}
 use Rattle.def_entry.specs.declared.key.Kind.TheVariants as kind
-use Rattle.deck_lines.specs.Names.{IsExtended, IsOneToOne, Names, names_of, with_key, with_name, with_names}
+use Rattle.deck_lines.specs.Names.{IsExtended, IsOneToOne, Names, key_at, names_of, with_key, with_name, with_names}
 use Rattle.deck_lines.specs.Stores.{with_definition}
 use Rattle.deck_lines.specs.declared.key_number.KeyNumber.{KeyNumber}
 use Rattle.deck_lines.proofs.Numbering.{IsDistinct, distinct_put, kept_at}
@@ -83,3 +83,15 @@ extended names (Some d) n k e = ap (option_map (key n.kind)) stays ∙ sym (ap (
           ∙ kept_at put.name (names_of names put.kind) n.number k.name (subst (λ a. slice_get (names_of names a) n.number ≡ Some k.name) (sym h.0) at)
       | inr h ↦ ap (λ these. slice_get these n.number) h ∙ at
     ]
+
+-- the same, for one key
+pub key_extended : (names room more : Names) (k : Key) → room ≡ names → more ≡ with_key room k → IsExtended names more
+key_extended names room more k p q n l e =
+    ap (λ (t : Names). key_at t n) q ∙ extended room (Some (k, record { text = []; what = Primitive })) n l (ap (λ (t : Names). key_at t n) p ∙ e)
+
+pub key_one_to_one : (names room more : Names) (k : Key) → room ≡ names → more ≡ with_key room k → IsOneToOne names → IsOneToOne more
+key_one_to_one names room more k p q one =
+    subst IsOneToOne (sym q) (one_to_one room (Some (k, record { text = []; what = Primitive })) (subst IsOneToOne (sym p) one))
+
+pub same_extended : (names more : Names) → more ≡ names → IsExtended names more
+same_extended names more p n l e = ap (λ (t : Names). key_at t n) p ∙ e

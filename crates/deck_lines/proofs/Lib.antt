@@ -1,7 +1,9 @@
 mod Closing
 mod Defining
 mod Drafting
+mod Exchangeable
 mod Exchanging
+mod Finding
 mod Keeping
 mod Keys
 mod Loading

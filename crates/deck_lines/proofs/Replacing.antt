@@ -1,5 +1,5 @@
 -- Lines with their marks exchanged, within the limits.
-use Rattle.std.proofs.Common.{◌≡◌, ◌++◌, ◌+◌, ◌-◌, ◌≤◌, ℕ, List, Bool, false, length, map, take, drop, sym, ap, ◌∙◌, arith, length-append}
+use Rattle.std.proofs.Common.{◌≡◌, ◌++◌, ◌+◌, ◌-◌, ◌≤◌, ℕ, List, Bool, false, length, map, take, drop, sym, ap, ◌∙◌, arith}
 use Rattle.std.proofs.lemmas.Bool.Decides.{nat_tests}
 use Rattle.std.proofs.lemmas.List.{length-map}
 use Rattle.std.proofs.lemmas.List.Sums.{sum_by-append}
@@ -11,11 +11,11 @@ use Rattle.deck_lines.specs.declared.line.DeckLine.{DeckLine}
 use Rattle.deck_lines.proofs.Exchanging.{long, marks_exchange, parts_of}
 use Rattle.deck_lines.proofs.Keeping.{marks_drop, marks_len, marks_on, marks_take}
 
-few_lines : (lines : List DeckLine) → pass_limit lines ≡ false → length lines ≤ 100000
+pub few_lines : (lines : List DeckLine) → pass_limit lines ≡ false → length lines ≤ 100000
 unfolding pass_limit
 few_lines lines e = grind (arith, nat_tests, e)
 
-few_bytes : (lines : List DeckLine) → pass_limit lines ≡ false → text_len lines ≤ 67108864
+pub few_bytes : (lines : List DeckLine) → pass_limit lines ≡ false → text_len lines ≤ 67108864
 unfolding pass_limit
 few_bytes lines e = grind (arith, nat_tests, e)
 

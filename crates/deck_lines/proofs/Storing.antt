@@ -1,22 +1,24 @@
 -- Lines with what they define.
-use Rattle.std.proofs.Common.{◌≡◌, ◌++◌, ◌∷◌, ◌+◌, [], ℕ, List, map, take, drop, true, sym, ap, subst, ◌∙◌, Option, Some, None, option_map, slice_get, length}
+use Rattle.std.proofs.Common.{◌≡◌, ◌++◌, ◌∷◌, ◌+◌, [], ℕ, List, map, take, drop, true, refl, inl, inr, sym, ap, subst, ◌∙◌, Option, Some, None, option_map, slice_get, length}
 use Rattle.std.specs.Option.{option_and_then}
 use Rattle.std.proofs.lemmas.List.{drop-map, length-map, map-append, take-map}
 use Rattle.def_entry.specs.Entries.{Entry}
 use Rattle.def_entry.specs.Seen.{seen_entry}
 use Rattle.def_entry.specs.declared.entry.Entry.{Entry as MadeEntry}
 use Rattle.def_entry.specs.declared.key.Key.{Key}
+use Rattle.deck_lines.specs.Edited.{Edited}
 use Rattle.deck_lines.specs.Kept.{AreDefined, IsDefined, IsKept, keyed_definition, seen_definition}
-use Rattle.deck_lines.specs.Names.{IsOneToOne, Names, is_numbered, key_at, names_of}
+use Rattle.deck_lines.specs.Names.{IsExtended, IsOneToOne, Names, is_numbered, key_at, names_of}
 use Rattle.deck_lines.specs.NumberedKeys.{names_in}
 use Rattle.deck_lines.specs.Numbering.{IsNumbering}
 use Rattle.deck_lines.specs.Readings.{entry_in}
-use Rattle.deck_lines.specs.Stores.{Store, with_definition}
+use Rattle.deck_lines.specs.Stores.{Store, definition_at, with_definition}
 use Rattle.deck_lines.specs.declared.key_number.KeyNumber.{KeyNumber}
 use Rattle.deck_lines.specs.declared.line.DeckLine.{DeckLine}
 use Rattle.deck_lines.specs.declared.store.definitions.Definition.{Definition}
 use Rattle.deck_lines.specs.declared.store.definitions.Definitions.{Definitions}
-use Rattle.deck_lines.proofs.Defining.{there}
+use Rattle.deck_lines.proofs.Defining.{grown, there}
+use Rattle.deck_lines.proofs.Finding.{get_append, get_drop, get_take}
 use Rattle.deck_lines.proofs.Keys.{found_key, one_to_one}
 use Rattle.deck_lines.proofs.Numbering.{found_is_any, some_one}
 
@@ -108,3 +110,54 @@ numbering_of lines d s kept e = subst IsNumbering e (record {
   each = λ place made is. numbered_at (names_in d.keys) (slice_get d.of_lines.items place) (slice_get lines place) made (there (names_in d.keys) d.of_lines.items lines place kept.defined) is;
   unique = kept.unique;
 })
+
+-- more keys with numbers beside the same lines
+pub kept_read : (lines : List DeckLine) (d new : Definitions) → IsKept lines d → new.of_lines.items ≡ d.of_lines.items → IsExtended (names_in d.keys) (names_in new.keys) →
+    (IsOneToOne (names_in d.keys) → IsOneToOne (names_in new.keys)) → IsKept lines new
+kept_read lines d new kept items wider unique = record {
+  defined =
+      subst (λ ds. IsDefined (names_in new.keys) ds (map entry_in lines)) (sym items)
+      (grown (names_in d.keys) (names_in new.keys) wider d.of_lines.items (map entry_in lines) kept.defined);
+  unique = unique kept.unique;
+}
+
+-- where some lines are replaced by others whose keys have numbers
+pub numbering_edited : (store : Store) (put : List DeckLine) (ds : List (Option Definition)) (at cut : ℕ) → IsNumbering store → IsDefined store.names ds (map entry_in put) →
+    IsNumbering (record store { lines = take at store.lines ++ (put ++ drop (at + cut) store.lines) })
+numbering_edited store put ds at cut numbering are = record {
+  each = λ place made is. by place made (slice_get (take at store.lines ++ (put ++ drop (at + cut) store.lines)) place) refl is;
+  unique = numbering.unique;
+}
+  where
+    stored : (j : ℕ) (x : DeckLine) (made : Key × Entry) → slice_get store.lines j ≡ Some x → entry_in x ≡ Some made → is_numbered store.names made.0 ≡ true
+    stored j x made e is = numbering.each j made (ap (option_and_then entry_in) e ∙ is)
+
+    among : (j : ℕ) (x : DeckLine) (made : Key × Entry) → slice_get put j ≡ Some x → entry_in x ≡ Some made → is_numbered store.names made.0 ≡ true
+    among j x made e is = numbered_at store.names (slice_get ds j) (slice_get put j) made (there store.names ds put j are) (ap (option_and_then entry_in) e ∙ is)
+
+    behind : (x : DeckLine) (made : Key × Entry) → entry_in x ≡ Some made → ((j : ℕ) × (slice_get (put ++ drop (at + cut) store.lines) j ≡ Some x)) → is_numbered store.names made.0 ≡ true
+    behind x made is (j, e) = elim (get_append put (drop (at + cut) store.lines) j x e) [
+      | inl f ↦ among j x made f is
+      | inr (k, f) ↦ stored (at + cut + k) x made (get_drop (at + cut) store.lines k x f) is
+    ]
+
+    by : (place : ℕ) (made : Key × Entry) (o : Option DeckLine) → slice_get (take at store.lines ++ (put ++ drop (at + cut) store.lines)) place ≡ o → option_and_then entry_in o ≡ Some made →
+        is_numbered store.names made.0 ≡ true
+    by place made None e is = cc
+    by place made (Some x) e is = elim (get_append (take at store.lines) (put ++ drop (at + cut) store.lines) place x e) [
+      | inl f ↦ stored place x made (get_take at store.lines place x f) is
+      | inr f ↦ behind x made is f
+    ]
+
+-- what a line defines after an edit, by where it comes from
+abbrev pub IsSeenAt : Edited → ℕ → Option Definition → Type 0
+IsSeenAt edited place o = option_map (seen_definition edited.names) o ≡ option_map keyed_definition (definition_at edited.after place)
+
+pub seen_edited : (o : Option Definition) (from : List DeckLine) (i j : ℕ) (e f : Edited) → e ≡ f → slice_get e.after j ≡ slice_get from i →
+    option_map (seen_definition e.names) o ≡ option_map keyed_definition (definition_at from i) → IsSeenAt f j o
+seen_edited o from i j e f view same is =
+    subst (λ (v : Edited). IsSeenAt v j o) view (is ∙ ap (λ x. option_map keyed_definition (option_and_then entry_in x)) (sym same))
+
+pub unseen_edited : (j : ℕ) (e f : Edited) → e ≡ f → slice_get e.after j ≡ None → IsSeenAt f j None
+unseen_edited j e f view none =
+    subst (λ (v : Edited). IsSeenAt v j None) view (ap (λ x. option_map keyed_definition (option_and_then entry_in x)) (sym none))

@@ -1,6 +1,8 @@
 pub mod Blocks
 pub mod Closed
+pub mod Edited
 pub mod Excerpts
+pub mod Exchangeable
 pub mod Exchanges
 pub mod Includes
 pub mod Kept
@@ -11,6 +13,7 @@ pub mod Names
 pub mod NumberedKeys
 pub mod NumberedNames
 pub mod Numbering
+pub mod Origins
 pub mod Readings
 pub mod Stores
 pub mod Views

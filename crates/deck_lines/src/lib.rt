@@ -12,7 +12,10 @@ mod store;
 pub use draft::{Draft, LoadFault, Notices};
 pub use key_number::KeyNumber;
 pub use laws::decks_are_closed;
-pub use line::{Block, DeckLine, DeckLines, Ending, MarkedLines, Role};
+pub use line::{Block, BorrowedLine, DeckLine, DeckLines, Ending, MarkedLines, Role};
 pub use load::load_text;
 pub use reading::{Reading, read_line};
-pub use store::{LineStore, MOST_BYTES, MOST_LINES, PutDefinitions};
+pub use store::{
+    EditedLines, KeyNumbers, LineStore, MOST_BYTES, MOST_LINES, NameSet, PutDefinitions,
+    can_exchange,
+};

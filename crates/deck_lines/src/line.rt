@@ -1,5 +1,9 @@
 //! The lines of a deck, and its blocks.
 
+ghost use Rattle.std.specs.Prelude.{◌≡◌, ◌<◌, Some, length, slice_get};
+ghost use Rattle.deck_lines.specs.Blocks.{same_ending as same_end};
+ghost use Rattle.deck_lines.specs.Marks.{with_marks};
+
 use def_lines::Line;
 use units_io::{List, Text};
 
@@ -14,6 +18,27 @@ pub struct DeckLine {
     pub mark: bool,
 }
 
+/// A line of a deck where it stands.
+#[derive(Clone, Copy)]
+pub struct BorrowedLine<'a> {
+    pub number: u32,
+    pub text: &'a [u8],
+    pub mark: bool,
+}
+
+impl DeckLine {
+    /// The line, without a copy.
+    pub fn borrowed(&self) -> BorrowedLine<'_>
+        ensures { self.now ≡ record { number = result.number; text = result.text.now; mark = result.mark } }
+    {
+        BorrowedLine {
+            number: self.number,
+            text: self.text.as_bytes(),
+            mark: self.mark,
+        }
+    }
+}
+
 /// Lines of a deck, in order.
 pub type DeckLines = List<DeckLine>;
 
@@ -24,12 +49,42 @@ pub struct MarkedLines<'a> {
     pub marks: &'a [bool],
 }
 
+impl<'a> MarkedLines<'a> {
+    /// The line at a place.
+    pub fn line(self, place: usize) -> BorrowedLine<'a>
+        requires each { length self.marks.now ≡ length self.lines.now }
+        requires inside { place < length self.lines.now }
+        ensures { slice_get (with_marks self.entry.lines.now self.entry.marks.now) place
+            ≡ Some (record { number = result.number; text = result.text.now; mark = result.mark }) }
+    {
+        let MarkedLines { lines, marks } = self;
+        let line = &lines[place];
+        BorrowedLine {
+            number: line.number,
+            text: line.text.as_bytes(),
+            mark: marks[place],
+        }
+    }
+}
+
 /// Which line closes a block.
 #[derive(Clone, Copy, Debug, PartialEq, Eq)]
 pub enum Ending {
     ByLocale,
     ByVar,
     ByUtf8,
+}
+
+/// Whether two ends are one.
+pub(crate) fn same_ending(ending: Ending, other: Ending) -> bool
+    ensures { result ≡ same_end ending other }
+{
+    matches!(
+        (ending, other),
+        (Ending::ByLocale, Ending::ByLocale)
+            | (Ending::ByVar, Ending::ByVar)
+            | (Ending::ByUtf8, Ending::ByUtf8)
+    )
 }
 
 /// What a line does to the blocks around it.

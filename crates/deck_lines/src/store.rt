@@ -1,14 +1,22 @@
 //! The store of the lines of a deck.
 
 mod definitions;
+mod edited_lines;
 mod exchange;
+mod exchangeable;
 mod key_numbers;
 mod line_list;
 mod line_store;
 mod lists;
 mod marked;
 mod name_set;
+mod origins;
+mod reads;
 
 pub use definitions::PutDefinitions;
+pub use edited_lines::EditedLines;
+pub use exchangeable::can_exchange;
+pub use key_numbers::KeyNumbers;
 pub use line_list::{MOST_BYTES, MOST_LINES};
 pub use line_store::LineStore;
+pub use name_set::NameSet;

@@ -16,7 +16,7 @@ impl Deck {
     pub fn defining(&self, alloc: Global) -> Result<Texts, AllocError>
         ensures { IfOk result (λ texts. texts ≡ spec.defining self.now) }
     {
-        let flags = active_flags(alloc, self.store.marked(), &self.settings)?;
+        let flags = active_flags(alloc, &self.store, &self.settings)?;
         defining_texts(alloc, &self.store, flags.as_slice())
     }
 }

@@ -19,7 +19,7 @@ impl Deck {
         let Some(place) = self.last_place(key) else {
             return Err(DeckFault::NoSuchKey);
         };
-        let mut flags = active_flags(alloc, self.store.marked(), &self.settings)?;
+        let mut flags = active_flags(alloc, &self.store, &self.settings)?;
         flags[place] = false;
         let mut last = LastPlaces::by_flags(alloc, flags.as_slice(), &self.store)?;
         let keys = changed_keys(alloc, &self.store, &self.last, &last)?;

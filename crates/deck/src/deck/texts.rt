@@ -16,7 +16,7 @@ impl Deck {
         ensures { IfOk result (λ texts. texts ≡ spec.messages self.now) }
     {
         let marked = self.store.marked();
-        let flags = active_flags(alloc, marked, &self.settings)?;
+        let flags = active_flags(alloc, &self.store, &self.settings)?;
         let lines = marked.lines;
         let mut texts = Texts::new(alloc);
         for i in 0..lines.len() {

@@ -1,33 +1,40 @@
 //! Which lines are active.
 
-ghost use Rattle.std.specs.Prelude.{◌≡◌, IfOk, length};
-ghost use Rattle.deck_lines.specs.Marks.{with_marks};
+ghost use Rattle.std.specs.Prelude.{◌≡◌, IfOk};
 ghost use Rattle.deck.specs.Active.{active_lines};
 
 use super::surroundings::Surroundings;
 use crate::settings::Settings;
-use deck_lines::MarkedLines;
+use deck_lines::{EditedLines, LineStore};
 use std::alloc::{AllocError, Global};
 
-/// Of each line, whether it is active under the settings.
+/// Of each line of a store, whether it is active under the settings.
 pub fn active_flags(
     alloc: Global,
-    marked: MarkedLines<'_>,
+    store: &LineStore,
     settings: &Settings,
 ) -> Result<Vec<bool>, AllocError>
-    requires { length marked.marks.now ≡ length marked.lines.now }
-    ensures { IfOk result (λ flags. flags.items
-        ≡ active_lines settings.now (with_marks marked.entry.lines.now marked.entry.marks.now)) }
+    ensures { IfOk result (λ flags. flags.items ≡ active_lines settings.now store.now.lines) }
 {
-    let MarkedLines { lines, marks } = marked;
+    edited_flags(alloc, &EditedLines::unchanged(store), settings)
+}
+
+/// Of each line after an edit, whether it is active under the settings.
+pub fn edited_flags(
+    alloc: Global,
+    edited: &EditedLines<'_>,
+    settings: &Settings,
+) -> Result<Vec<bool>, AllocError>
+    ensures { IfOk result (λ flags. flags.items ≡ active_lines settings.now edited.now.after) }
+{
     let locale = settings.locale.as_bytes();
     let mut flags = Vec::new(alloc);
     let mut around = Surroundings::start(alloc, &settings.vars);
-    for i in 0..lines.len() {
-        let mark = marks[i];
-        let active = around.is_active(mark);
+    for place in 0..edited.len() {
+        let line = edited.line(place);
+        let active = around.is_active(line.mark);
         flags.push(active)?;
-        around.pass(alloc, locale, lines[i].text.as_bytes(), mark)?;
+        around.pass(alloc, locale, line.text, line.mark)?;
     }
     Ok(flags)
 }

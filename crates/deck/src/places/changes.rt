@@ -1,8 +1,10 @@
 //! The keys that an edit changes.
 
 ghost use Rattle.std.specs.Prelude.{◌≡◌, ◌++◌, IfOk, OnOk, not, option_map};
+ghost use Rattle.std.specs.Bool.{OnTrue};
 ghost use Rattle.std.specs.Option.{option_copied};
 ghost use Rattle.def_entry.specs.Views.{entry_view};
+ghost use Rattle.deck_lines.specs.Edited.{store_after, store_before};
 ghost use Rattle.deck_lines.specs.Names.{key_at, names_of};
 ghost use Rattle.deck_lines.specs.Numbering.{IsNumbering};
 ghost use Rattle.deck.specs.Changes.{IsTableChange, is_same_entry};
@@ -11,7 +13,7 @@ ghost use Rattle.deck.specs.Numbers.{AreInPlace, differs, entry_there, key_if, k
 ghost use Rattle.deck.specs.Tables.{Definitions, table_of};
 
 use super::last_places::LastPlaces;
-use deck_lines::{KeyNumber, LineStore};
+use deck_lines::{EditedLines, KeyNumber, LineStore};
 use def_entry::{Entry, Key, Keys, Kind, same_text_law};
 use std::alloc::{AllocError, Global};
 use units_io::Text;
@@ -27,12 +29,26 @@ pub fn changed_keys(
         → AreLast store.now.names ds before.now → AreLast store.now.names es after.now
         → IsTableChange (table_of ds) (table_of es) keys) }
 {
+    keys_between(alloc, &EditedLines::unchanged(store), before, after)
+}
+
+/// The keys whose entries differ between last places before an edit and last places after it.
+pub fn keys_between(
+    alloc: Global,
+    edited: &EditedLines<'_>,
+    before: &LastPlaces,
+    after: &LastPlaces,
+) -> Result<Keys, AllocError>
+    ensures { IfOk result (λ keys. (ds es : Definitions) → AreInPlace edited.now.before ds → AreInPlace edited.now.after es
+        → AreLast edited.now.names ds before.now → AreLast edited.now.names es after.now
+        → IsTableChange (table_of ds) (table_of es) keys) }
+{
     same_text_law();
     let mut keys = Keys::new(alloc);
-    push_changed(alloc, &mut keys, store, before, after, Kind::Unit)?;
-    push_changed(alloc, &mut keys, store, before, after, Kind::Prefix)?;
-    push_changed(alloc, &mut keys, store, before, after, Kind::Func)?;
-    push_changed(alloc, &mut keys, store, before, after, Kind::List)?;
+    push_changed(alloc, &mut keys, edited, before, after, Kind::Unit)?;
+    push_changed(alloc, &mut keys, edited, before, after, Kind::Prefix)?;
+    push_changed(alloc, &mut keys, edited, before, after, Kind::Func)?;
+    push_changed(alloc, &mut keys, edited, before, after, Kind::List)?;
     Ok(keys)
 }
 
@@ -40,20 +56,21 @@ pub fn changed_keys(
 fn push_changed(
     alloc: Global,
     keys: &mut Keys,
-    store: &LineStore,
+    edited: &EditedLines<'_>,
     before: &LastPlaces,
     after: &LastPlaces,
     kind: Kind,
 ) -> Result<(), AllocError>
-    ensures numbering { IsNumbering store.now }
+    ensures numbering_before { IsNumbering (store_before edited.now) }
+    ensures numbering_after { IsNumbering (store_after edited.now) }
     ensures keys { OnOk result (keys.new ≡ keys.old
-        ++ keys_where (differs store.now.lines before.now after.now) kind 0 (names_of store.now.names kind)) }
+        ++ keys_where (differs edited.now before.now after.now) kind 0 (names_of edited.now.names kind)) }
 {
-    for number in 0..store.name_count(kind) {
+    for number in 0..edited.name_count(kind) {
         push_if_changed(
             alloc,
             keys,
-            store,
+            edited,
             before,
             after,
             KeyNumber { kind, number },
@@ -66,18 +83,18 @@ fn push_changed(
 fn push_if_changed(
     alloc: Global,
     keys: &mut Keys,
-    store: &LineStore,
+    edited: &EditedLines<'_>,
     before: &LastPlaces,
     after: &LastPlaces,
     n: KeyNumber,
 ) -> Result<(), AllocError>
     ensures { OnOk result (keys.new ≡ keys.old
-        ++ key_if (differs store.now.lines before.now after.now n) (key_at store.now.names n)) }
+        ++ key_if (differs edited.now before.now after.now n) (key_at edited.now.names n)) }
 {
-    if !is_changed(store, before.get(n), after.get(n)) {
+    if !is_changed(edited, before.get(n), after.get(n)) {
         return Ok(());
     }
-    let Some(name) = store.name(n) else {
+    let Some(name) = edited.name(n) else {
         return Ok(());
     };
     let kind = n.kind;
@@ -85,26 +102,38 @@ fn push_if_changed(
     keys.push(alloc, Key { kind, name })
 }
 
-// Whether the entries at two places have other texts, or there is one alone.
-fn is_changed(store: &LineStore, before: Option<usize>, after: Option<usize>) -> bool
-    ensures { result ≡ not (is_same_entry (entry_there store.now.lines before) (entry_there store.now.lines after)) }
+// Whether the entries at a place before the edit and at one after it have other texts, or there is one
+// alone.
+fn is_changed(edited: &EditedLines<'_>, before: Option<usize>, after: Option<usize>) -> bool
+    ensures { result ≡ not (is_same_entry (entry_there edited.now.before before) (entry_there edited.now.after after)) }
 {
-    if before == after {
+    if is_one_line(edited, before, after) {
         return false;
     }
-    match (entry_at(store, before), entry_at(store, after)) {
+    let unedited = edited.before();
+    match (entry_at(&unedited, before), entry_at(edited, after)) {
         (Some(old), Some(new)) => old.text.as_bytes() != new.text.as_bytes(),
         (None, None) => false,
         _ => true,
     }
 }
 
+// Whether one line stands at both places, so that no text has to be compared.
+fn is_one_line(edited: &EditedLines<'_>, before: Option<usize>, after: Option<usize>) -> bool
+    ensures { OnTrue result (entry_there edited.now.after after ≡ entry_there edited.now.before before) }
+{
+    match (before, after) {
+        (Some(before), Some(after)) => edited.is_left(before, after),
+        _ => false,
+    }
+}
+
 // The entry at a place, if there is one.
-fn entry_at(store: &LineStore, place: Option<usize>) -> Option<&Entry>
-    ensures { option_map entry_view (option_copied result) ≡ entry_there store.now.lines place }
+fn entry_at<'a>(edited: &'a EditedLines<'_>, place: Option<usize>) -> Option<&'a Entry>
+    ensures { option_map entry_view (option_copied result) ≡ entry_there edited.now.after place }
 {
     match place {
-        Some(place) => store.entry(place),
+        Some(place) => edited.entry(place),
         None => None,
     }
 }

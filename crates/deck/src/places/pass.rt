@@ -7,9 +7,9 @@ ghost use Rattle.deck.specs.LastPlaces.{AreLast, HasRoom};
 ghost use Rattle.deck.specs.Tables.{Definitions, definition_by, definitions, definitions_by};
 
 use super::last_places::LastPlaces;
-use crate::force::active_flags;
+use crate::force::edited_flags;
 use crate::settings::Settings;
-use deck_lines::LineStore;
+use deck_lines::{EditedLines, LineStore};
 use def_entry::Kind;
 use std::alloc::{AllocError, Global};
 
@@ -23,8 +23,19 @@ impl LastPlaces {
         ensures last { IfOk result (λ last. AreLast store.now.names (definitions settings.now store.now.lines) last) }
         ensures within { pass_limit store.now.lines ≡ false }
     {
-        let flags = active_flags(alloc, store.marked(), settings)?;
-        LastPlaces::by_flags(alloc, flags.as_slice(), store)
+        LastPlaces::under_edited(alloc, settings, &EditedLines::unchanged(store))
+    }
+
+    /// The same of the lines after an edit.
+    pub fn under_edited(
+        alloc: Global,
+        settings: &Settings,
+        edited: &EditedLines<'_>,
+    ) -> Result<LastPlaces, AllocError>
+        ensures { IfOk result (λ last. AreLast edited.now.names (definitions settings.now edited.now.after) last) }
+    {
+        let flags = edited_flags(alloc, edited, settings)?;
+        LastPlaces::of_edited(alloc, flags.as_slice(), edited)
     }
 
     /// The place of the last line of each key among those whose flag is true.
@@ -36,38 +47,50 @@ impl LastPlaces {
         requires { length flags.now ≡ length store.now.lines }
         ensures { IfOk result (λ last. AreLast store.now.names (definitions_by flags.now store.now.lines) last) }
     {
-        let mut last = with_room(alloc, store)?;
+        LastPlaces::of_edited(alloc, flags, &EditedLines::unchanged(store))
+    }
+
+    // The same of the lines after an edit.
+    fn of_edited(
+        alloc: Global,
+        flags: &[bool],
+        edited: &EditedLines<'_>,
+    ) -> Result<LastPlaces, AllocError>
+        requires { length flags.now ≡ length edited.now.after }
+        ensures { IfOk result (λ last. AreLast edited.now.names (definitions_by flags.now edited.now.after) last) }
+    {
+        let mut last = with_room(alloc, edited)?;
         for place in 0..flags.len() {
-            note_line(store, &mut last, flags[place], place);
+            note_line(edited, &mut last, flags[place], place);
         }
         Ok(last)
     }
 }
 
 // No places, with room for those of all keys that have a number.
-fn with_room(alloc: Global, store: &LineStore) -> Result<LastPlaces, AllocError>
-    ensures room { IfOk result (λ last. HasRoom store.now.names last) }
-    ensures none { IfOk result (λ last. AreLast store.now.names [] last) }
+fn with_room(alloc: Global, edited: &EditedLines<'_>) -> Result<LastPlaces, AllocError>
+    ensures room { IfOk result (λ last. HasRoom edited.now.names last) }
+    ensures none { IfOk result (λ last. AreLast edited.now.names [] last) }
 {
     let mut last = LastPlaces::new(alloc);
-    last.make_room(Kind::Unit, store.name_count(Kind::Unit))?;
-    last.make_room(Kind::Prefix, store.name_count(Kind::Prefix))?;
-    last.make_room(Kind::Func, store.name_count(Kind::Func))?;
-    last.make_room(Kind::List, store.name_count(Kind::List))?;
+    last.make_room(Kind::Unit, edited.name_count(Kind::Unit))?;
+    last.make_room(Kind::Prefix, edited.name_count(Kind::Prefix))?;
+    last.make_room(Kind::Func, edited.name_count(Kind::Func))?;
+    last.make_room(Kind::List, edited.name_count(Kind::List))?;
     Ok(last)
 }
 
 // Gives the key of a line its place, where the line is active.
-fn note_line(store: &LineStore, last: &mut LastPlaces, active: bool, place: usize)
-    requires { HasRoom store.now.names last.old }
-    ensures room { HasRoom store.now.names last.new }
-    ensures last { (ds : Definitions) → AreLast store.now.names ds last.old
-        → AreLast store.now.names (definition_by place active (definition_at store.now.lines place) ++ ds) last.new }
+fn note_line(edited: &EditedLines<'_>, last: &mut LastPlaces, active: bool, place: usize)
+    requires { HasRoom edited.now.names last.old }
+    ensures room { HasRoom edited.now.names last.new }
+    ensures last { (ds : Definitions) → AreLast edited.now.names ds last.old
+        → AreLast edited.now.names (definition_by place active (definition_at edited.now.after place) ++ ds) last.new }
 {
     if !active {
         return;
     }
-    if let Some(n) = store.key_number(place) {
+    if let Some(n) = edited.key_number(place) {
         last.put(n, place);
     }
 }

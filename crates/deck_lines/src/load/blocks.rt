@@ -1,14 +1,14 @@
 //! The blocks of a file.
 
 ghost use Rattle.std.specs.Prelude.{◌≡◌, ◌++◌, [], None, map, option_map, reverse, OnOk, OnErr};
-ghost use Rattle.deck_lines.specs.Blocks.{end_text, same_ending as same_end};
+ghost use Rattle.deck_lines.specs.Blocks.{end_text};
 ghost use Rattle.deck_lines.specs.Excerpts.{blocks_behind_role, closes_innermost as closes_inner, file_end, missing_end, role_excerpt, unclosed_notice};
 ghost use Rattle.deck_lines.specs.Loads.{Extends, IsLoad, ReadsNone};
 ghost use Rattle.deck_lines.specs.Marks.{plain_line};
 ghost use Rattle.deck_lines.specs.Readings.{entry_in};
 
 use crate::draft::{Draft, LoadFault};
-use crate::line::{Block, Ending, Role};
+use crate::line::{Block, Ending, Role, same_ending};
 use def_lines::Line;
 use std::alloc::{AllocError, Global};
 use units_io::Text;
@@ -53,18 +53,6 @@ fn closes_innermost(blocks: &[Block], ending: Ending) -> bool
         Some(block) => same_ending(ending, block.ending),
         None => false,
     }
-}
-
-// Whether two ends are one.
-fn same_ending(ending: Ending, other: Ending) -> bool
-    ensures { result ≡ same_end ending other }
-{
-    matches!(
-        (ending, other),
-        (Ending::ByLocale, Ending::ByLocale)
-            | (Ending::ByVar, Ending::ByVar)
-            | (Ending::ByUtf8, Ending::ByUtf8)
-    )
 }
 
 /// The end of a file in which these blocks are open, the innermost last.

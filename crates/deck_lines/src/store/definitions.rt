@@ -6,7 +6,7 @@ ghost use Rattle.def_entry.specs.Entries.{Entry as Said};
 ghost use Rattle.def_entry.specs.Seen.{seen_entry};
 ghost use Rattle.def_entry.specs.declared.key.Key.{Key as KeyValue};
 ghost use Rattle.deck_lines.specs.Kept.{AreDefined, HasRoomFor, IsDefined, keyed_definition, seen_definition};
-ghost use Rattle.deck_lines.specs.Names.{key_at, no_names};
+ghost use Rattle.deck_lines.specs.Names.{Names, key_at, no_names};
 ghost use Rattle.deck_lines.specs.NumberedKeys.{names_in};
 ghost use Rattle.deck_lines.specs.Readings.{entry_in};
 ghost use Rattle.deck_lines.specs.Stores.{definition_at, with_definition};
@@ -57,11 +57,7 @@ impl Definitions {
             → option_map (seen_definition (names_in self.now.keys)) (option_copied result)
             ≡ option_map keyed_definition (definition_at lines place) }
     {
-        match self.of_lines.get(place) {
-            Some(Some(definition)) => Some(definition),
-            Some(None) => None,
-            None => None,
-        }
+        definition_in(self.of_lines.as_slice(), place)
     }
 
     /// Makes room for what one more line defines.
@@ -151,5 +147,17 @@ impl Definitions {
         ensures names { names_in self.new.keys ≡ names_in self.old.keys }
     {
         exchange(&mut self.of_lines, at, cut, &mut put, &mut gone);
+    }
+}
+
+/// What the line at a place defines, among what lines define.
+pub fn definition_in(definitions: &[Option<Definition>], place: usize) -> Option<&Definition>
+    ensures { (names : Names) (lines : List DeckLine) → IsDefined names definitions.now (map entry_in lines)
+        → option_map (seen_definition names) (option_copied result) ≡ option_map keyed_definition (definition_at lines place) }
+{
+    match definitions.get(place) {
+        Some(Some(definition)) => Some(definition),
+        Some(None) => None,
+        None => None,
     }
 }

@@ -6,19 +6,20 @@ ghost use Rattle.def_entry.specs.Keys.{key};
 ghost use Rattle.def_entry.specs.Seen.{seen_entry};
 ghost use Rattle.def_entry.specs.Views.{entry_view};
 ghost use Rattle.deck_lines.specs.Exchanges.{IsExchanged};
-ghost use Rattle.deck_lines.specs.Kept.{IsDefined};
+ghost use Rattle.deck_lines.specs.Kept.{IsDefined, keyed_definition, seen_definition};
 ghost use Rattle.deck_lines.specs.Limits.{pass_limit};
 ghost use Rattle.deck_lines.specs.Marks.{unmarked, with_mark, with_marks};
-ghost use Rattle.deck_lines.specs.Names.{is_numbered, key_at, names_of};
+ghost use Rattle.deck_lines.specs.Names.{IsExtended, is_numbered, key_at, names_of};
 ghost use Rattle.deck_lines.specs.Numbering.{IsNumbering};
 ghost use Rattle.deck_lines.specs.Readings.{entry_in};
 ghost use Rattle.deck_lines.specs.Stores.{definition_at, no_lines, with_line};
-ghost use Rattle.deck_lines.specs.declared.line.DeckLine.{DeckLine};
+ghost use Rattle.deck_lines.specs.declared.line.DeckLine.{DeckLine as Marked};
 
-use super::definitions::{Definitions, PutDefinitions};
+use super::definitions::{Definition, Definitions, PutDefinitions};
 use super::line_list::LineList;
+use super::reads::read_definitions;
 use crate::key_number::KeyNumber;
-use crate::line::{DeckLines, MarkedLines};
+use crate::line::{DeckLine, DeckLines, MarkedLines};
 use def_entry::{Entry, Key, Kind};
 use def_lines::{Line, Lines};
 use std::alloc::{AllocError, AllocFailed, Global};
@@ -83,7 +84,7 @@ impl LineStore {
 
     /// Whether one more line, with a text of this many bytes, is within the limits.
     pub fn has_room(&self, len: usize) -> bool
-        ensures { (line : DeckLine) → length line.text ≡ len → pass_limit (self.now.lines ++ line ∷ []) ≡ not result }
+        ensures { (line : Marked) → length line.text ≡ len → pass_limit (self.now.lines ++ line ∷ []) ≡ not result }
     {
         self.lines.has_room(len)
     }
@@ -174,6 +175,27 @@ impl LineStore {
         self.lines.remove(place);
         self.definitions.remove(place);
     }
+
+    /// Reads what lines define that are to be put among the others, and gives their keys numbers. The
+    /// lines of the store and the numbers that keys have stay, after a refusal too.
+    pub fn read(&mut self, alloc: Global, lines: &[DeckLine]) -> Result<PutDefinitions, AllocError>
+        ensures lines { self.new.lines ≡ self.old.lines }
+        ensures extended { IsExtended self.old.names self.new.names }
+        ensures before { IsNumbering self.old }
+        ensures after { IsNumbering self.new }
+        ensures ok { IfOk result (λ put. IsDefined self.new.names put.of_lines.items (map entry_in lines.now)) }
+    {
+        read_definitions(alloc, &mut self.definitions.keys, lines)
+    }
+
+    // What the line at a place defines.
+    pub(super) fn definition(&self, place: usize) -> Option<&Definition>
+        ensures { option_map (seen_definition self.now.names) (option_copied result)
+            ≡ option_map keyed_definition (definition_at self.now.lines place) }
+    {
+        self.definitions.at(place)
+    }
+
     /// Puts other lines in the place of some, from a place on, with what they define, and answers
     /// those that go. Keys keep their numbers. A refusal hands the lines back and changes nothing.
     pub fn exchange(

@@ -8,13 +8,13 @@ use Rattle.deck.proofs.deck.Deck.defining.Goals as goal
 
 pub defining_texts-requires : goal.defining_texts-requires
 defining_texts-requires c =
-    ap length (c.as_slice.ensures.value ∙ c.in_ok-flags.ensures ∙ ap (active_lines c.self.inside.settings) c.marked.ensures.lines)
+    ap length (c.as_slice.ensures.value ∙ c.in_ok-flags.ensures)
     ∙ length-activity _ _ c.self.inside.store.lines
 
 pub returns : goal.returns
 returns c =
     subst (λ (ts : List (List ℕ)). IfOk c.defining_texts.result (λ texts. texts ≡ ts))
     (ap (λ fs. in_turn definition_in (where_true fs c.self.inside.store.lines))
-    (c.as_slice.ensures.value ∙ c.in_ok-flags.ensures ∙ ap (active_lines c.self.inside.settings) c.marked.ensures.lines)
+    (c.as_slice.ensures.value ∙ c.in_ok-flags.ensures)
     ∙ ap (λ (d : Contents). in_turn definition_in (where_true (active_lines d.settings d.lines) d.lines)) c.self.view_is)
     c.defining_texts.ensures

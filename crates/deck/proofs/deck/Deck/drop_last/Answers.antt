@@ -21,14 +21,14 @@ index_mut-requires c =
     let defines = defined_last settings lines c.args.key.now c.in-Some.place last in
     let inside : c.in-Some.place < length lines = within settings lines c.in-Some.place (c.args.key.now, defines.0) defines.1 in
     let count : length c.in_ok-flags.flags.items ≡ length lines =
-    ap length (c.in_ok-flags.ensures ∙ ap (active_lines settings) c.marked.ensures.lines) ∙ length-activity _ _ lines in
+    ap length c.in_ok-flags.ensures ∙ length-activity _ _ lines in
     omega (arith, inside, count, c.in_ok-flags.flags.ok.0)
 
 pub by_flags-requires : goal.by_flags-requires
 by_flags-requires c =
     let lines : List DeckLine = c.self.inside.store.lines in
     let count : length c.in_ok-flags.flags.items ≡ length lines =
-    ap length (c.in_ok-flags.ensures ∙ ap (active_lines c.self.inside.settings) c.marked.ensures.lines) ∙ length-activity _ _ lines in
+    ap length c.in_ok-flags.ensures ∙ length-activity _ _ lines in
     omega (arith, count, c.as_slice.ensures.len, c.in_ok-flags.flags.ok.0)
 
 pub remove-requires : goal.remove-requires
@@ -48,7 +48,7 @@ invariant_of-self c =
     ap (λ (d : Contents). last_place d.settings d.lines c.args.key.now) c.self.view_is ∙ sym c.in-Some.ensures in
     let defines = defined_last settings lines c.args.key.now c.in-Some.place last in
     let flags : c.as_slice.result.now ≡ set (active_lines settings lines) c.in-Some.place false =
-    c.as_slice.ensures.value ∙ ap (λ (fs : List Bool). set fs c.in-Some.place false) (c.in_ok-flags.ensures ∙ ap (active_lines settings) c.marked.ensures.lines) in
+    c.as_slice.ensures.value ∙ ap (λ (fs : List Bool). set fs c.in-Some.place false) c.in_ok-flags.ensures in
     indexed_dropped settings lines c.in-Some.place (c.args.key.now, defines.0) defines.1 c.remove.new.self c.in_ok-last.last c.close_gap.new.self
     c.remove.ensures.lines c.self.invariant.closed
     (subst (λ (ns : Names). AreLast ns (definitions_by (set (active_lines settings lines) c.in-Some.place false) lines) c.in_ok-last.last) (sym c.remove.ensures.names)
@@ -65,7 +65,7 @@ returns c =
     let defines = defined_last settings lines k place last in
     let flags = c.as_slice.result.now in
     let flags_are : flags ≡ set (active_lines settings lines) place false =
-    c.as_slice.ensures.value ∙ ap (λ (fs : List Bool). set fs place false) (c.in_ok-flags.ensures ∙ ap (active_lines settings) c.marked.ensures.lines) in
+    c.as_slice.ensures.value ∙ ap (λ (fs : List Bool). set fs place false) c.in_ok-flags.ensures in
     let table_is : table_of (definitions settings c.remove.new.self.lines) ≡ table_of (definitions_by flags lines) =
     ap (λ ls. table_of (definitions settings ls)) c.remove.ensures.lines ∙ ap table_of (definitions_dropped settings lines place (k, defines.0) defines.1)
     ∙ table_moved place (definitions_by (set (active_lines settings lines) place false) lines) ∙ ap (λ fs. table_of (definitions_by fs lines)) (sym flags_are) in (

@@ -14,7 +14,8 @@ use Rattle.deck.proofs.deck.Deck.messages.Goals as goal
 pub index-requires : goal.index-requires
 index-requires c =
     let shown : List DeckLine = with_marks c.marked-marked.result.lines.now c.marked-marked.result.marks.now in
-    let count : length c.in_ok-flags.flags.items ≡ length shown = ap length c.in_ok-flags.ensures ∙ length-activity _ _ shown in
+    let count : length c.in_ok-flags.flags.items ≡ length shown =
+    ap length c.in_ok-flags.ensures ∙ length-activity _ _ c.self.inside.store.lines ∙ sym (ap length c.marked-marked.ensures.lines) in
     omega (arith, c.loop-i-test.true, count, marks_len c.marked-marked.result.lines.now c.marked-marked.result.marks.now c.marked-marked.ensures.each, c.in_ok-flags.flags.ok.0)
 
 pub loop-i-preserved : goal.loop-i-preserved
@@ -24,7 +25,8 @@ loop-i-preserved c =
     let are : shown ≡ lines = c.marked-marked.ensures.lines ∙ ap (λ (d : Contents). d.lines) c.self.view_is in
     let mark : Bool = get_or c.marked-marked.result.marks.now c.loop-i.i false in
     let x : DeckLine = with_mark mark c.index-lines-i.result in
-    let count : length c.in_ok-flags.flags.items ≡ length shown = ap length c.in_ok-flags.ensures ∙ length-activity _ _ shown in
+    let count : length c.in_ok-flags.flags.items ≡ length shown =
+    ap length c.in_ok-flags.ensures ∙ length-activity _ _ c.self.inside.store.lines ∙ sym (ap length c.marked-marked.ensures.lines) in
     let inside : c.loop-i.i < length c.in_ok-flags.flags.items =
     omega (arith, c.loop-i-test.true, count, marks_len c.marked-marked.result.lines.now c.marked-marked.result.marks.now c.marked-marked.ensures.each) in
     let there : drop c.loop-i.i lines ≡ x ∷ drop (c.loop-i.i + 1) lines =
@@ -42,4 +44,4 @@ returns c =
     let are : shown ≡ lines = c.marked-marked.ensures.lines ∙ ap (λ (d : Contents). d.lines) c.self.view_is in
     let past : length lines ≤ c.loop-i.i = omega (arith, c.loop-i-test.false, ap length are, marks_len c.marked-marked.result.lines.now c.marked-marked.result.marks.now c.marked-marked.ensures.each) in
     sym (append-nil c.loop-i.texts) ∙ ap (λ t. c.loop-i.texts ++ t) (sym (told_all message_in c.in_ok-flags.flags.items lines c.loop-i.i past)) ∙ c.loop-i.invariant
-    ∙ ap (λ fs. in_turn message_in (where_true fs lines)) (c.in_ok-flags.ensures ∙ ap (active_lines c.self.inside.settings) are ∙ ap (λ (d : Contents). active_lines d.settings lines) c.self.view_is)
+    ∙ ap (λ fs. in_turn message_in (where_true fs lines)) (c.in_ok-flags.ensures ∙ ap (λ (d : Contents). active_lines d.settings d.lines) c.self.view_is)

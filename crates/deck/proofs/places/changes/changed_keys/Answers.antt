@@ -1,22 +1,14 @@
-use Rattle.std.proofs.Common.{◌≡◌, ◌++◌, List, sym, ap, subst, ◌∙◌, append_assoc}
-use Rattle.def_entry.specs.declared.key.Key.{Key}
-use Rattle.def_entry.specs.declared.key.Kind.{Kind}
-use Rattle.def_entry.specs.declared.key.Kind.TheVariants as kind
-use Rattle.deck_lines.specs.Names.{names_of}
+use Rattle.std.proofs.Common.{subst}
+use Rattle.std.specs.Prelude.{IfOk}
+use Rattle.deck_lines.specs.Edited.{Edited}
 use Rattle.deck.specs.Changes.{IsTableChange}
-use Rattle.deck.specs.Numbers.{differs, keys_where}
-use Rattle.deck.specs.Tables.{table_of}
-use Rattle.deck.proofs.Changing.{changed_numbers}
+use Rattle.deck.specs.LastPlaces.{AreLast}
+use Rattle.deck.specs.Numbers.{AreInPlace}
+use Rattle.deck.specs.Tables.{Definitions, table_of}
 use Rattle.deck.proofs.places.changes.changed_keys.Goals as goal
 
-four : (a b c d : List Key) → ((a ++ b) ++ c) ++ d ≡ a ++ (b ++ (c ++ d))
-four a b c d = append_assoc (a ++ b) c d ∙ append_assoc a b (c ++ d)
-
 pub returns : goal.returns
-returns c = λ ds es placed put was is_last.
-    let changed : Kind → List Key = λ k. keys_where (differs c.args.store.now.lines c.args.before.now c.args.after.now) k 0 (names_of c.args.store.now.names k) in
-    let keys : c.push_changed-4.new.keys ≡ ((changed kind.Unit ++ changed kind.Prefix) ++ changed kind.Func) ++ changed kind.List =
-    c.in_ok-push_changed-4.ensures.keys ∙ ap (λ ks. ks ++ changed kind.List) (c.in_ok-push_changed-3.ensures.keys ∙ ap (λ ks. ks ++ changed kind.Func) (c.in_ok-push_changed-2.ensures.keys
-    ∙ ap (λ ks. ks ++ changed kind.Prefix) (c.in_ok-push_changed.ensures.keys ∙ ap (λ ks. ks ++ changed kind.Unit) c.new-keys.ensures))) in
-    subst (IsTableChange (table_of ds) (table_of es)) (sym (keys ∙ four (changed kind.Unit) (changed kind.Prefix) (changed kind.Func) (changed kind.List)))
-    (changed_numbers c.same_text_law.ensures c.args.store.now c.in_ok-push_changed.ensures.numbering c.args.before.now c.args.after.now ds es placed put was is_last)
+returns c =
+    subst (λ (e : Edited). IfOk c.keys_between.result (λ keys. (ds es : Definitions) → AreInPlace e.before ds → AreInPlace e.after es
+    → AreLast e.names ds c.args.before.now → AreLast e.names es c.args.after.now → IsTableChange (table_of ds) (table_of es) keys))
+    c.unchanged.ensures.is c.keys_between.ensures

@@ -6,7 +6,7 @@ use Rattle.deck.proofs.Lasting.{none_last}
 use Rattle.deck.proofs.places.pass.with_room.Goals as goal
 
 pub returns-clause-none : goal.returns-clause-none
-returns-clause-none c = none_last c.args.store.now.names _ (λ kind.
+returns-clause-none c = none_last c.args.edited.now.names _ (λ kind.
     subst (λ (ps : List (Option ℕ)). HasSamePlaces ps (places_of c.make_room-4.new.self kind)) (c.new-last.ensures kind)
     (same_then _ _ _ (c.in_ok-make_room.ensures.same kind) (same_then _ _ _ (c.in_ok-make_room-2.ensures.same kind)
     (same_then _ _ _ (c.in_ok-make_room-3.ensures.same kind) (c.in_ok-make_room-4.ensures.same kind)))))

@@ -1,4 +1,4 @@
-use Rattle.std.proofs.Common.{◌≡◌, ◌++◌, ◌+◌, ◌-◌, ◌≤◌, length, take, drop, vec_len, sym, ap, ◌∙◌, arith, cond, length-append, length-drop, length-take}
+use Rattle.std.proofs.Common.{◌≡◌, ◌++◌, ◌+◌, ◌≤◌, length, take, drop, ap, ◌∙◌, arith, cond, length-append, length-drop, length-take}
 use Rattle.deck_lines.proofs.Turning.{left_is, gone_is, back_is}
 use Rattle.deck_lines.proofs.store.exchange.exchange.Goals as goal
 

@@ -1,4 +1,4 @@
-use Rattle.std.proofs.Common.{◌≡◌, ◌+◌, ◌≤◌, ◌∷◌, [], ap, length, length-append, arith, vec_capacity}
+use Rattle.std.proofs.Common.{◌≡◌, ◌∷◌, [], ap, length, length-append, arith}
 use Rattle.deck_lines.proofs.Keeping.{marks_pop}
 use Rattle.deck_lines.proofs.store.marked.put_together.Goals as goal
 

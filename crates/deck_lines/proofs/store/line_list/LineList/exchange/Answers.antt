@@ -1,5 +1,5 @@
-use Rattle.std.proofs.Common.{◌≡◌, ◌≤◌, ◌+◌, ◌++◌, List, false, length, take, drop, sym, ap, ◌∙◌, arith}
-use Rattle.deck_lines.specs.Limits.{most_bytes, pass_limit, text_len}
+use Rattle.std.proofs.Common.{◌≡◌, ◌≤◌, ◌+◌, ◌++◌, List, false, length, take, drop, ap, ◌∙◌, arith}
+use Rattle.deck_lines.specs.Limits.{pass_limit, text_len}
 use Rattle.deck_lines.specs.Marks.{with_marks}
 use Rattle.deck_lines.specs.declared.line.DeckLine.{DeckLine}
 use Rattle.deck_lines.proofs.Keeping.{marks_len}

@@ -1,0 +1,92 @@
+-- A table has one list of its keys.
+use Rattle.std.proofs.Common.{◌≡◌, ◌∷◌, [], ◌||◌, List, Bool, true, false, T, cond, map, is_some, Option, Some, refl, sym, ap, subst, ◌∙◌, inl, inr}
+use Rattle.std.proofs.lemmas.Bool.{and_parts, cases_Bool, false_from_ne_true, true≢false}
+use Rattle.std.proofs.lemmas.Map.Lookups.{btree_set_from_contains}
+use Rattle.std.specs.Cmp.{Equal-is, tied_itself}
+use Rattle.std.specs.FinMap as map_of
+use Rattle.std.specs.FinMap.Entries.{below_all}
+use Rattle.std.specs.List.{AllByRecursion, list_any}
+use Rattle.std.specs.List.Sorted.{IsStrictlySortedBy}
+use Rattle.std.specs.Ordering.{eq_by_cmp, is_eq, is_lt}
+use Rattle.std.specs.declared.cmp.Ordering.{Ordering}
+use Rattle.std.specs.declared.cmp.Ordering.TheVariants.{Less, Equal, Greater}
+use Rattle.def_entry.specs.declared.key.Key.{Key}
+use Rattle.def_entry.specs.Entries.{Entry}
+use Rattle.def_entry.specs.KeyOrder.{key_cmp}
+use Rattle.def_entry.specs.SameKeys.{is_among, is_same}
+use Rattle.def_entry.proofs.SameKeys.{key_order, same_keys}
+use Rattle.deck.specs.KeyLists.{KeyListLaw, table_keys}
+use Rattle.deck.specs.Tables.{Table, keys_of}
+use Rattle.deck.proofs.Counting.{among}
+
+told : (b : Bool) → T b → b ≡ true
+told true h = refl
+told false h = absurd h
+
+less : (o : Ordering) → is_lt o ≡ true → o ≡ Less
+less Less e = refl
+less Equal e = cc
+less Greater e = cc
+
+all_below :
+    (k : Key) (es : List (Key × Entry)) → below_all key_cmp k es ≡ true
+    → AllByRecursion (λ y. key_cmp k y ≡ Less) (map (λ (e : Key × Entry). e.0) es)
+all_below k [] below = tt
+all_below k (e ∷ es) below =
+    let parts = and_parts (is_lt (key_cmp k e.0)) (below_all key_cmp k es) below in
+    (less (key_cmp k e.0) parts.0, all_below k es parts.1)
+
+sorted :
+    (es : List (Key × Entry)) → map_of.is_sorted key_cmp es ≡ true
+    → IsStrictlySortedBy key_cmp (map (λ (e : Key × Entry). e.0) es)
+unfolding IsStrictlySortedBy
+sorted [] order = tt
+sorted (e ∷ es) order =
+    let parts = and_parts (below_all key_cmp e.0 es) (map_of.is_sorted key_cmp es) order in
+    (all_below e.0 es parts.0, sorted es parts.1)
+
+abbrev map_of_table : Table → map_of.FinMap key_cmp Entry
+map_of_table table = map_of.from_entries table
+
+in_order : (table : Table) → IsStrictlySortedBy key_cmp (table_keys table)
+in_order table =
+    let m = map_of_table table in
+    sorted (map_of.entries m) (told (map_of.is_sorted key_cmp (map_of.entries m)) (map_of.entries_sorted m))
+
+-- keys are told to be equal by their order as by themselves
+tells : (k l : Key) → eq_by_cmp key_cmp k l ≡ is_same k l
+tells k l = elim (cases_Bool (is_same k l)) [
+  | inl e ↦ ap is_eq (subst (λ (x : Key). key_cmp k x ≡ Equal) ((same_keys k l).0 e) (tied_itself key_order.total k)) ∙ sym e
+  | inr e ↦ false_from_ne_true (eq_by_cmp key_cmp k l) (λ t. true≢false (sym ((same_keys k l).1 (exact t)) ∙ e)) ∙ sym e
+]
+  where
+    exact : eq_by_cmp key_cmp k l ≡ true → k ≡ l
+    exact t = key_order.exact k l ((Equal-is (key_cmp k l)).0 t)
+
+any_alike : (k : Key) (ks : List Key) → list_any (eq_by_cmp key_cmp k) ks ≡ is_among ks k
+any_alike k ks = ap (λ (t : Key → Bool). list_any t ks) (λ i l. tells k l i)
+
+with_one : (a b : Bool) → a ≡ b → (v : Entry) (o : Option Entry) → is_some (cond a (Some v) o) ≡ (b || is_some o)
+with_one true b same v o = ap (λ c. c || is_some o) same
+with_one false b same v o = ap (λ c. c || is_some o) same
+
+-- a key is in the map where it is among the keys
+contained : (table : Table) (k : Key) → map_of.contains_key (map_of_table table) k ≡ is_among (keys_of table) k
+contained [] k = ap is_some (map_of.get-empty key_cmp k)
+contained (e ∷ es) k =
+    ap is_some (map_of.get-insert key_order.total (map_of_table es) e.0 e.1 k)
+    ∙ with_one (eq_by_cmp key_cmp k e.0) (is_same k e.0) (tells k e.0) e.1 (map_of.get (map_of_table es) k)
+    ∙ ap (λ b. is_same k e.0 || b) (contained es k)
+
+pub one_key_list : KeyListLaw
+one_key_list table keys are =
+    btree_set_from_contains key_order.total (record { keys = keys }) (record { keys = table_keys table })
+    are.order (in_order table) alike key_order.exact
+  where
+    alike : (k : Key) → list_any (eq_by_cmp key_cmp k) keys ≡ list_any (eq_by_cmp key_cmp k) (table_keys table)
+    alike k =
+        any_alike k keys
+        ∙ (are.each k
+        ∙ (sym (among table k)
+        ∙ (sym (contained table k)
+        ∙ map_of.contains_key-keys (map_of_table table) k)))

@@ -1,0 +1,16 @@
+use Rattle.std.proofs.Common.{◌≡◌, Bool, true, false, not, sym, ap, ◌∙◌}
+use Rattle.std.specs.Bool.{OnTrue}
+use Rattle.deck.specs.Changes.{is_same_entry}
+use Rattle.deck.specs.Numbers.{entry_there}
+use Rattle.deck.proofs.EntryTexts.{entry_itself}
+use Rattle.deck.proofs.places.changes.is_changed.Goals as goal
+
+on_true : (b : Bool) {P : Type 0} → b ≡ true → OnTrue b P → P
+on_true true e h = h
+on_true false e h = cc
+
+pub returns-then-is_one_line : goal.returns-then-is_one_line
+returns-then-is_one_line c =
+    let before = entry_there c.args.edited.now.before c.args.before in
+    sym (ap (λ e. not (is_same_entry before e)) (on_true c.is_one_line.result c.if-is_one_line.true c.is_one_line.ensures)
+    ∙ ap not (entry_itself before))

@@ -1,0 +1,16 @@
+use Rattle.std.proofs.Common.{length, ap, subst, ◌∙◌}
+use Rattle.std.specs.Prelude.{IfOk}
+use Rattle.deck.specs.LastPlaces.{AreLast}
+use Rattle.deck.specs.Tables.{Definitions, definitions, definitions_by}
+use Rattle.deck.proofs.Marking.{length-activity}
+use Rattle.deck.proofs.places.last_places.LastPlaces.under_edited.Goals as goal
+
+pub of_edited-requires : goal.of_edited-requires
+of_edited-requires c = ap length (c.as_slice.ensures.value ∙ c.in_ok-flags.ensures) ∙ length-activity _ _ c.args.edited.now.after
+
+pub returns : goal.returns
+unfolding definitions
+returns c =
+    subst (λ (ds : Definitions). IfOk c.of_edited.result (λ last. AreLast c.args.edited.now.names ds last))
+    (ap (λ fs. definitions_by fs c.args.edited.now.after) (c.as_slice.ensures.value ∙ c.in_ok-flags.ensures))
+    c.of_edited.ensures

@@ -1,0 +1,117 @@
+//! Lines replaced by others.
+
+ghost use Rattle.std.specs.Prelude.{◌≡◌, ◌≤◌, ◌+◌, ◌↔◌, length, map, IfOk, IsTrue};
+ghost use Rattle.deck_lines.specs.Kept.{IsDefined};
+ghost use Rattle.deck_lines.specs.Readings.{entry_in};
+ghost use Rattle.deck.specs.Changes.{IsTableChange};
+ghost use Rattle.deck.specs.LastPlaces.{AreLast, IsIndexed};
+ghost use Rattle.deck.specs.Splices as splices;
+ghost use Rattle.deck.specs.Tables.{definitions, table_of};
+
+use super::Deck;
+use crate::places::{LastPlaces, keys_between};
+use crate::settings::Settings;
+use crate::splice::Splice;
+use deck_lines::{EditedLines, LineStore, PutDefinitions, can_exchange};
+use def_entry::Keys;
+use std::alloc::{AllocError, Global};
+use std::mem;
+
+impl Deck {
+    /// Whether a splice can be made: the lines that it takes out are there, and what comes of it is
+    /// closed and within the limits. The only error is want of memory. It takes one pass over the deck.
+    pub fn can_splice(&self, alloc: Global, change: &Splice) -> Result<bool, AllocError>
+        ensures { IfOk result (λ can. IsTrue can ↔ splices.CanSplice change.now self.now) }
+    {
+        let put = change.put.as_slice();
+        can_exchange(alloc, &self.store, change.at, change.cut, put)
+    }
+
+    /// Puts other lines in the place of some, and other settings in force, and answers the keys whose
+    /// entries differ afterwards, and the splice that gives back what was. The notices stay. The only
+    /// error is want of memory, which hands the splice back. It takes one pass over the deck.
+    pub fn splice(
+        &mut self,
+        alloc: Global,
+        change: Splice,
+    ) -> Result<(Keys, Splice), (Splice, AllocError)>
+        requires { splices.CanSplice change self.old }
+        ensures { splices.IsSpliced change self.old self.new result }
+    {
+        let Ok(changes) = find_changes(alloc, &mut self.store, &self.last, &self.settings, &change)
+        else {
+            return Err((change, AllocError));
+        };
+        let Splice {
+            at,
+            cut,
+            put,
+            settings,
+        } = change;
+        let put_len = put.len();
+        let gone = match self
+            .store
+            .exchange(alloc, at, cut, put, changes.definitions)
+        {
+            Ok(gone) => gone,
+            Err(refused) => {
+                let put = refused.value;
+                let change = Splice {
+                    at,
+                    cut,
+                    put,
+                    settings,
+                };
+                return Err((change, AllocError));
+            }
+        };
+        self.last = changes.last;
+        let inverse = Splice {
+            at,
+            cut: put_len,
+            put: gone,
+            settings: mem::replace(&mut self.settings, settings),
+        };
+        Ok((changes.keys, inverse))
+    }
+}
+
+// What is found of a splice before it is made: what its lines define, the last places afterwards, and
+// the keys whose entries differ.
+#[derive(Drop)]
+struct SpliceChanges {
+    definitions: PutDefinitions,
+    last: LastPlaces,
+    keys: Keys,
+}
+
+// Finds it, for which keys of the lines to be put get numbers. All else stays.
+fn find_changes(
+    alloc: Global,
+    store: &mut LineStore,
+    last: &LastPlaces,
+    settings: &Settings,
+    change: &Splice,
+) -> Result<SpliceChanges, AllocError>
+    requires places { change.now.at + change.now.cut ≤ length store.old.lines }
+    requires indexed { IsIndexed store.old settings.now last.now }
+    ensures lines { store.new.lines ≡ store.old.lines }
+    ensures indexed { IsIndexed store.new settings.now last.now }
+    ensures defined { IfOk result (λ found.
+        IsDefined store.new.names found.definitions.of_lines.items (map entry_in change.now.put)) }
+    ensures last { IfOk result (λ found. AreLast store.new.names
+        (definitions change.now.settings (splices.spliced_lines change.now store.old.lines)) found.last) }
+    ensures keys { IfOk result (λ found. IsTableChange (table_of (definitions settings.now store.old.lines))
+        (table_of (definitions change.now.settings (splices.spliced_lines change.now store.old.lines))) found.keys) }
+{
+    let put = change.put.as_slice();
+    let definitions = store.read(alloc, put)?;
+    let edited = EditedLines::exchanged(store, change.at, change.cut, put, &definitions);
+    let now = LastPlaces::under_edited(alloc, &change.settings, &edited)?;
+    let keys = keys_between(alloc, &edited, last, &now)?;
+    Ok(SpliceChanges {
+        definitions,
+        last: now,
+        keys,
+    })
+}

@@ -1,0 +1,85 @@
+-- Lines that may be put in the place of others.
+use Rattle.std.proofs.Common.{◌≡◌, ◌∷◌, ◌+◌, ◌-◌, ◌<◌, ◌≤◌, ◌↔◌, [], ℕ, Bool, true, false, List, length, reverse, eqb, eq-eqb, refl, sym, ap, ◌∙◌, arith, Some, None, Result, Ok, Err}
+use Rattle.std.specs.Prelude.{IfOk}
+use Rattle.std.proofs.lemmas.Bool.{eqb-true, false≢true}
+use Rattle.std.proofs.lemmas.Bool.Decides.{nat_tests}
+use Rattle.std.proofs.lemmas.List.{length-reverse}
+use Rattle.std.proofs.lemmas.List.Sums.{sum_by-cons}
+use Rattle.std.proofs.lemmas.Option.{same_Some}
+use Rattle.std.specs.Option.{option_and_then}
+use Rattle.deck_lines.specs.Closed.{IsClosed, blocks_after, blocks_past}
+use Rattle.deck_lines.specs.Exchangeable.{CanExchange}
+use Rattle.deck_lines.specs.Limits.{most_bytes, most_lines, pass_limit, text_len}
+use Rattle.deck_lines.specs.Origins.{exchanged_lines}
+use Rattle.deck_lines.specs.declared.line.DeckLine.{DeckLine}
+use Rattle.deck_lines.specs.declared.line.Ending.{Ending}
+use Rattle.deck_lines.proofs.Finding.{exchanged_len}
+use Rattle.deck_lines.proofs.Replacing.{few_bytes, few_lines}
+
+module _ (all xs rest : List DeckLine) (x : DeckLine) (e : xs ≡ x ∷ rest) where
+  texts : text_len xs ≡ length x.text + text_len rest
+  texts = ap text_len e ∙ sum_by-cons (λ (l : DeckLine). length l.text) x rest
+
+  -- the texts of lines as far as one, and there is no room for it
+  pub too_long : (len room : ℕ) → len ≡ length x.text → text_len xs + most_bytes ≡ text_len all + room → room < len → text_len all ≤ most_bytes → ⊥
+  too_long len room f h l m = omega (arith, f, h, l, m, texts)
+
+  -- and there is
+  pub texts_more : (len room : ℕ) → len ≡ length x.text → text_len xs + most_bytes ≡ text_len all + room → len ≤ room → text_len rest + most_bytes ≡ text_len all + (room - len)
+  texts_more len room f h l = omega (arith, f, h, l, texts)
+
+  -- the blocks of lines as far as one, behind which none are told
+  pub not_closed : (blocks : List Ending) → blocks_after blocks xs ≡ blocks_after [] all → blocks_past blocks x ≡ None → IsClosed all → ⊥
+  not_closed blocks h f closed =
+      let none : None ≡ Some [] = sym (ap (blocks_after blocks) e ∙ ap (option_and_then (λ now. blocks_after now rest)) f) ∙ h ∙ closed in
+      cc
+
+  -- and behind which some are
+  pub blocks_more : (blocks now : List Ending) → blocks_after blocks xs ≡ blocks_after [] all → blocks_past blocks x ≡ Some now → blocks_after now rest ≡ blocks_after [] all
+  blocks_more blocks now h f = sym (ap (blocks_after blocks) e ∙ ap (option_and_then (λ bs. blocks_after bs rest)) f) ∙ h
+
+-- no block is open
+pub none_open : (items : List Ending) → Some (reverse items) ≡ Some [] → items ≡ []
+none_open [] e = refl
+none_open (i ∷ items) e = absurd (omega (arith, length-reverse (i ∷ items), ap length (same_Some (reverse (i ∷ items)) [] e)))
+
+no_items : (items : List Ending) → length items ≡ 0 → items ≡ []
+no_items [] e = refl
+no_items (i ∷ items) e = absurd (omega (arith, e))
+
+-- behind all lines
+pub at_end : (all : List DeckLine) (items : List Ending) (count room : ℕ) (empty : Bool) → empty ≡ eqb count 0 → count ≡ length items →
+    blocks_after (reverse items) [] ≡ blocks_after [] all → text_len [] + most_bytes ≡ text_len all + room →
+    (empty ≡ true) ↔ (IsClosed all × (text_len all ≤ most_bytes))
+at_end all items count room empty e c h t = (
+  λ y. (sym h ∙ ap (λ bs. Some (reverse bs)) (no_items items (sym c ∙ eqb-true count 0 (sym e ∙ y))), omega (arith, t)),
+  λ r. e ∙ eq-eqb count 0 (c ∙ ap length (none_open items (h ∙ r.0))),
+)
+
+-- lines are within the limits where they are few and their texts are
+pub few_and_small : (lines : List DeckLine) → length lines ≤ most_lines → text_len lines ≤ most_bytes → pass_limit lines ≡ false
+unfolding pass_limit
+few_and_small lines few small = grind (arith, nat_tests, few, small)
+
+module _ (at cut : ℕ) (put lines : List DeckLine) where
+  pub exchangeable : (can : Bool) → at + cut ≤ length lines → length (exchanged_lines at cut put lines) ≤ most_lines →
+      (can ≡ true) ↔ (IsClosed (exchanged_lines at cut put lines) × (text_len (exchanged_lines at cut put lines) ≤ most_bytes)) → (can ≡ true) ↔ CanExchange at cut put lines
+  exchangeable can places few is = (
+    λ y. record { places = places; closed = (is.0 y).0; within = few_and_small (exchanged_lines at cut put lines) few (is.0 y).1 },
+    λ c. is.1 (c.closed, few_bytes (exchanged_lines at cut put lines) c.within),
+  )
+
+  -- no place behind the lines
+  pub not_there : (length lines < at + cut) → (false ≡ true) ↔ CanExchange at cut put lines
+  not_there past = (λ t. absurd (false≢true t), λ c. absurd (omega (arith, past, c.places)))
+
+  -- and not too many lines
+  pub too_many : at + cut ≤ length lines → most_lines < length lines - cut + length put → (false ≡ true) ↔ CanExchange at cut put lines
+  too_many places many = (
+    λ t. absurd (false≢true t),
+    λ c. absurd (omega (arith, many, exchanged_len lines put at cut places, few_lines (exchanged_lines at cut put lines) c.within)),
+  )
+
+pub if_ok : {A E : Type 0} (r : Result A E) {P Q : A → Type 0} → IfOk r P → ((x : A) → P x → Q x) → IfOk r Q
+if_ok (Ok x) h f = f x h
+if_ok (Err e) h f = tt

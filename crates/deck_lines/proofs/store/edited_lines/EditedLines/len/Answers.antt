@@ -1,0 +1,21 @@
+use Rattle.std.proofs.Common.{ap, arith, length}
+use Rattle.deck_lines.specs.Edited.{Edited}
+use Rattle.deck_lines.proofs.Finding.{exchanged_len}
+use Rattle.deck_lines.proofs.Keeping.{marks_len}
+use Rattle.deck_lines.proofs.store.edited_lines.EditedLines.len.Goals as goal
+
+pub overflow_sub-result : goal.overflow_sub-result
+overflow_sub-result c =
+    omega (arith, c.self.invariant.places, ap length c.marked.ensures.lines, marks_len c.marked.result.lines.now c.marked.result.marks.now c.marked.ensures.each)
+
+pub returns : goal.returns
+returns c =
+    let e = c.self.inside in
+    omega (
+      arith,
+      c.self.invariant.places,
+      ap length c.marked.ensures.lines,
+      marks_len c.marked.result.lines.now c.marked.result.marks.now c.marked.ensures.each,
+      exchanged_len e.store.now.lines e.put.now e.at e.cut c.self.invariant.places,
+      ap (λ (v : Edited). length v.after) c.self.view_is,
+    )

@@ -1,0 +1,60 @@
+use Rattle.std.proofs.Common.{◌≡◌, ◌+◌, [], List, Some, None, cond, drop, length, reverse, refl, sym, ap, ◌∙◌, arith}
+use Rattle.std.proofs.lemmas.Bool.{false≢true}
+use Rattle.std.proofs.lemmas.List.{drop_all}
+use Rattle.deck_lines.specs.Closed.{blocks_after}
+use Rattle.deck_lines.specs.Limits.{most_bytes, text_len}
+use Rattle.deck_lines.specs.Origins.{exchanged_lines}
+use Rattle.deck_lines.specs.declared.line.DeckLine.{DeckLine}
+use Rattle.deck_lines.proofs.Exchangeable.{at_end, blocks_more, not_closed, texts_more, too_long}
+use Rattle.deck_lines.proofs.Finding.{drop_found, exchanged_len}
+use Rattle.deck_lines.proofs.store.exchangeable.are_closed_and_small.Goals as goal
+
+pub line_at-line-requires-clause-inside : goal.line_at-line-requires-clause-inside
+line_at-line-requires-clause-inside c =
+    omega (arith, c.loop-place-test.true, c.requires.places, c.len.ensures.count, exchanged_len c.args.store.now.lines c.args.put.now c.args.at c.args.cut c.requires.places)
+
+pub loop-place-preserved : goal.loop-place-preserved
+loop-place-preserved c =
+    let after : List DeckLine = exchanged_lines c.args.at c.args.cut c.args.put.now c.args.store.now.lines in
+    let i = c.loop-place.place in
+    let line : DeckLine = record { number = c.line_at-line.result.number; text = c.line_at-line.result.text.now; mark = c.line_at-line.result.mark } in
+    let there = drop_found after i line c.line_at-line.ensures in
+    let before = reverse c.loop-place.endings.items in
+    let now = reverse c.pass_line.new.endings.items in
+    record {
+      closed =
+          blocks_more after (drop i after) (drop (i + 1) after) line there before now c.loop-place.invariant.closed
+          (c.in_ok-passes.ensures line.number ∙ ap (λ b. cond b (Some now) None) c.if-not-passes.false);
+      room = texts_more after (drop i after) (drop (i + 1) after) line there (length line.text) c.loop-place.room refl c.loop-place.invariant.room (omega (arith, c.if-room-len.false));
+    }
+
+pub returns-then-room-len : goal.returns-then-room-len
+returns-then-room-len c =
+    let after : List DeckLine = exchanged_lines c.args.at c.args.cut c.args.put.now c.args.store.now.lines in
+    let i = c.loop-place.place in
+    let line : DeckLine = record { number = c.line_at-line.result.number; text = c.line_at-line.result.text.now; mark = c.line_at-line.result.mark } in (
+      λ t. absurd (false≢true t),
+      λ h. absurd (too_long after (drop i after) (drop (i + 1) after) line (drop_found after i line c.line_at-line.ensures) (length line.text) c.loop-place.room refl
+          c.loop-place.invariant.room c.if-room-len.true h.1),
+    )
+
+pub returns-then-not-passes : goal.returns-then-not-passes
+returns-then-not-passes c =
+    let after : List DeckLine = exchanged_lines c.args.at c.args.cut c.args.put.now c.args.store.now.lines in
+    let i = c.loop-place.place in
+    let line : DeckLine = record { number = c.line_at-line.result.number; text = c.line_at-line.result.text.now; mark = c.line_at-line.result.mark } in
+    let now = reverse c.pass_line.new.endings.items in (
+      λ t. absurd (false≢true t),
+      λ h. absurd (not_closed after (drop i after) (drop (i + 1) after) line (drop_found after i line c.line_at-line.ensures) (reverse c.loop-place.endings.items)
+          c.loop-place.invariant.closed (c.in_ok-passes.ensures line.number ∙ ap (λ b. cond b (Some now) None) c.if-not-passes.true) h.0),
+    )
+
+pub returns : goal.returns
+returns c =
+    let after : List DeckLine = exchanged_lines c.args.at c.args.cut c.args.put.now c.args.store.now.lines in
+    let none : drop c.loop-place.place after ≡ [] =
+    drop_all c.loop-place.place after
+    (omega (arith, c.loop-place-test.false, c.requires.places, c.len.ensures.count, exchanged_len c.args.store.now.lines c.args.put.now c.args.at c.args.cut c.requires.places)) in
+    at_end after c.loop-place.endings.items _ c.loop-place.room c.is_empty.result c.is_empty.ensures c.loop-place.endings.ok.0
+    (sym (ap (blocks_after (reverse c.loop-place.endings.items)) none) ∙ c.loop-place.invariant.closed)
+    (sym (ap (λ ls. text_len ls + most_bytes) none) ∙ c.loop-place.invariant.room)

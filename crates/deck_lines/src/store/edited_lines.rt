@@ -1,0 +1,174 @@
+//! The lines of a store as an edit will leave them.
+
+ghost use Rattle.std.specs.Prelude.{◌≡◌, ◌≤◌, ◌<◌, ◌+◌, Some, false, length, map, slice_get, option_map};
+ghost use Rattle.std.specs.Bool.{OnTrue};
+ghost use Rattle.std.specs.Option.{option_copied};
+ghost use Rattle.def_entry.specs.Views.{entry_view};
+ghost use Rattle.deck_lines.specs.Edited.{store_after, store_before, unedited};
+ghost use Rattle.deck_lines.specs.Kept.{IsDefined, keyed_definition, seen_definition};
+ghost use Rattle.deck_lines.specs.Limits.{pass_limit};
+ghost use Rattle.deck_lines.specs.Names.{key_at, names_of};
+ghost use Rattle.deck_lines.specs.Numbering.{IsNumbering};
+ghost use Rattle.deck_lines.specs.Origins.{exchanged_lines};
+ghost use Rattle.deck_lines.specs.Readings.{entry_in};
+ghost use Rattle.deck_lines.specs.Stores.{definition_at};
+
+use super::definitions::{Definition, PutDefinitions, definition_in};
+use super::line_store::LineStore;
+use super::origins::{Origin, line_at, origin_of};
+use crate::key_number::KeyNumber;
+use crate::line::{BorrowedLine, DeckLine};
+use def_entry::{Entry, Kind};
+use std::marker::Model;
+
+/// The lines of a store with others in the place of some, before the store is changed.
+#[derive(Drop)]
+pub struct EditedLines<'a> {
+    store: &'a LineStore,
+    at: usize,
+    cut: usize,
+    put: &'a [DeckLine],
+    definitions: &'a [Option<Definition>],
+}
+
+impl<'a> Model for EditedLines<'a> {
+    ghost use Rattle.deck_lines.specs.Edited.{ArePut, Edited};
+    ghost use Rattle.deck_lines.specs.Origins.{exchanged_lines};
+
+    ghost Value = { Edited };
+
+    ghost view = { λ e. record {
+      before = e.store.now.lines;
+      after = exchanged_lines e.at e.cut e.put.now e.store.now.lines;
+      names = e.store.now.names;
+    } };
+
+    ghost invariant = { λ e. ArePut e.store.now e.at e.cut e.put.now e.definitions.now };
+}
+
+impl<'a> EditedLines<'a> {
+    /// The lines of the store as they are.
+    pub fn unchanged(store: &'a LineStore) -> EditedLines<'a>
+        ensures is { result ≡ unedited store.now }
+        ensures within { pass_limit store.now.lines ≡ false }
+    {
+        EditedLines {
+            store,
+            at: store.lines().len(),
+            cut: 0,
+            put: &[],
+            definitions: &[],
+        }
+    }
+
+    /// With other lines in the place of some, from a place on.
+    pub fn exchanged(
+        store: &'a LineStore,
+        at: usize,
+        cut: usize,
+        put: &'a [DeckLine],
+        definitions: &'a PutDefinitions,
+    ) -> EditedLines<'a>
+        requires places { at + cut ≤ length store.now.lines }
+        requires defined { IsDefined store.now.names definitions.now.of_lines.items (map entry_in put.now) }
+        ensures { result ≡ record {
+          before = store.now.lines;
+          after = exchanged_lines at cut put.now store.now.lines;
+          names = store.now.names;
+        } }
+    {
+        EditedLines {
+            store,
+            at,
+            cut,
+            put,
+            definitions: definitions.of_lines.as_slice(),
+        }
+    }
+
+    /// The lines before the edit.
+    pub fn before(&self) -> EditedLines<'_>
+        ensures { result ≡ unedited (store_before self.now) }
+    {
+        EditedLines::unchanged(self.store)
+    }
+
+    /// How many lines there are.
+    pub fn len(&self) -> usize
+        ensures { result ≡ length self.now.after }
+    {
+        self.store.marked().lines.len() - self.cut + self.put.len()
+    }
+
+    /// The line at a place.
+    pub fn line(&self, place: usize) -> BorrowedLine<'_>
+        requires { place < length self.now.after }
+        ensures { slice_get self.now.after place
+            ≡ Some (record { number = result.number; text = result.text.now; mark = result.mark }) }
+    {
+        line_at(self.store, self.at, self.cut, self.put, place)
+    }
+
+    /// Whether the line at a place before the edit is left, and stands at this place afterwards. No
+    /// text is read.
+    pub fn is_left(&self, before: usize, after: usize) -> bool
+        ensures { OnTrue result (slice_get self.now.after after ≡ slice_get self.now.before before) }
+    {
+        match origin_of(self.store.len(), self.at, self.cut, self.put.len(), after) {
+            Origin::Stored(place) => place == before,
+            Origin::Put(_) => false,
+            Origin::Past => false,
+        }
+    }
+
+    /// The entry that the line at a place gives.
+    pub fn entry(&self, place: usize) -> Option<&Entry>
+        ensures { option_map entry_view (option_copied result) ≡ option_map (λ d. d.1) (definition_at self.now.after place) }
+    {
+        match self.definition(place) {
+            Some(definition) => Some(&definition.entry),
+            None => None,
+        }
+    }
+
+    /// The number of the key that the line at a place defines.
+    pub fn key_number(&self, place: usize) -> Option<KeyNumber>
+        ensures number { option_map (key_at self.now.names) result
+            ≡ option_map (λ d. Some d.0) (definition_at self.now.after place) }
+        ensures numbering { IsNumbering (store_after self.now) }
+    {
+        match self.definition(place) {
+            Some(definition) => Some(definition.key),
+            None => None,
+        }
+    }
+
+    /// The name of the key that has this number.
+    pub fn name(&self, n: KeyNumber) -> Option<&[u8]>
+        ensures { option_copied result ≡ slice_get (names_of self.now.names n.kind) n.number }
+    {
+        self.store.name(n)
+    }
+
+    /// How many keys of a kind have a number.
+    pub fn name_count(&self, kind: Kind) -> usize
+        ensures count { result ≡ length (names_of self.now.names kind) }
+        ensures before { IsNumbering (store_before self.now) }
+        ensures after { IsNumbering (store_after self.now) }
+    {
+        self.store.name_count(kind)
+    }
+
+    // What the line at a place defines.
+    fn definition(&self, place: usize) -> Option<&Definition>
+        ensures is { option_map (seen_definition self.now.names) (option_copied result)
+            ≡ option_map keyed_definition (definition_at self.now.after place) }
+        ensures numbering { IsNumbering (store_after self.now) }
+    {
+        match origin_of(self.store.len(), self.at, self.cut, self.put.len(), place) {
+            Origin::Stored(place) => self.store.definition(place),
+            Origin::Put(place) => definition_in(self.definitions, place),
+            Origin::Past => None,
+        }
+    }
+}

@@ -1,0 +1,119 @@
+//! Whether lines may be put in the place of others.
+
+ghost use Rattle.std.specs.Prelude.{◌≡◌, ◌≤◌, ◌+◌, ◌↔◌, ℕ, [], Some, None, IfOk, IsTrue, length, reverse, if◌then◌else◌};
+ghost use Rattle.def_lines.specs.Kinds.{kind_of};
+ghost use Rattle.deck_lines.specs.Blocks.{role_of};
+ghost use Rattle.deck_lines.specs.Closed.{IsClosed, blocks_past, blocks_without};
+ghost use Rattle.deck_lines.specs.Exchangeable.{CanExchange};
+ghost use Rattle.deck_lines.specs.Limits.{most_bytes, most_lines, text_len};
+ghost use Rattle.deck_lines.specs.Origins.{exchanged_lines};
+
+use super::line_list::{MOST_BYTES, MOST_LINES};
+use super::line_store::LineStore;
+use super::origins::line_at;
+use crate::line::{DeckLine, Ending, Role, same_ending};
+use def_lines::{LineKind, classify};
+use std::alloc::{AllocError, Global};
+
+/// Whether lines may be put in the place of some, from a place on: there are so many there, and what
+/// comes of it is closed and within the limits. The only error is want of memory. It takes one pass
+/// over the lines.
+pub fn can_exchange(
+    alloc: Global,
+    store: &LineStore,
+    at: usize,
+    cut: usize,
+    put: &[DeckLine],
+) -> Result<bool, AllocError>
+    ensures { IfOk result (λ can. IsTrue can ↔ CanExchange at cut put.now store.now.lines) }
+{
+    let count = store.lines().len();
+    if count < at {
+        return Ok(false);
+    }
+    if count - at < cut {
+        return Ok(false);
+    }
+    let left = count - cut;
+    if MOST_LINES - left < put.len() {
+        return Ok(false);
+    }
+    are_closed_and_small(alloc, store, at, cut, put)
+}
+
+// Whether what comes of it is closed, and its texts are within the limit.
+fn are_closed_and_small(
+    alloc: Global,
+    store: &LineStore,
+    at: usize,
+    cut: usize,
+    put: &[DeckLine],
+) -> Result<bool, AllocError>
+    requires places { at + cut ≤ length store.now.lines }
+    requires few { length (exchanged_lines at cut put.now store.now.lines) ≤ most_lines }
+    ensures { IfOk result (λ are. IsTrue are ↔ (IsClosed (exchanged_lines at cut put.now store.now.lines)
+        × (text_len (exchanged_lines at cut put.now store.now.lines) ≤ most_bytes))) }
+{
+    let mut endings = Vec::new(alloc);
+    let mut room = MOST_BYTES;
+    for place in 0..store.len() - cut + put.len() {
+        let line = line_at(store, at, cut, put, place);
+        let len = line.text.len();
+        if room < len {
+            return Ok(false);
+        }
+        room -= len;
+        let passes = pass_line(&mut endings, line.text, line.mark)?;
+        if !passes {
+            return Ok(false);
+        }
+    }
+    Ok(endings.is_empty())
+}
+
+// Goes behind a line, among the ends of the open blocks, the innermost last, unless it closes what is
+// not the innermost.
+#[tactic(auto, unfolding(crate::specs::Closed::blocks_past))]
+fn pass_line(endings: &mut Vec<Ending>, text: &[u8], mark: bool) -> Result<bool, AllocError>
+    ensures { IfOk result (λ passes. (number : ℕ)
+        → blocks_past (reverse endings.old.items) (record { number = number; text = text.now; mark = mark })
+        ≡ (if passes then Some (reverse endings.new.items) else None)) }
+{
+    if mark {
+        return Ok(true);
+    }
+    match role_of_line(text) {
+        Role::Opens(ending) => {
+            endings.push(ending)?;
+            Ok(true)
+        }
+        Role::Closes(ending) => Ok(close_innermost(endings, ending)),
+        Role::Inside => Ok(true),
+    }
+}
+
+// Closes the innermost block, if this is its end.
+fn close_innermost(endings: &mut Vec<Ending>, ending: Ending) -> bool
+    ensures { blocks_without ending (reverse endings.old.items)
+        ≡ (if result then Some (reverse endings.new.items) else None) }
+{
+    match endings.pop() {
+        Some(innermost) => same_ending(ending, innermost),
+        None => false,
+    }
+}
+
+// What a line does to the blocks around it.
+fn role_of_line(text: &[u8]) -> Role
+    ensures { result ≡ role_of (kind_of text.now) }
+{
+    match classify(text) {
+        LineKind::Locale(_) => Role::Opens(Ending::ByLocale),
+        LineKind::Var(_, _) | LineKind::VarNot(_, _) => Role::Opens(Ending::ByVar),
+        LineKind::Utf8 => Role::Opens(Ending::ByUtf8),
+        LineKind::EndLocale => Role::Closes(Ending::ByLocale),
+        LineKind::EndVar => Role::Closes(Ending::ByVar),
+        LineKind::EndUtf8 => Role::Closes(Ending::ByUtf8),
+        _ => Role::Inside,
+    }
+}

@@ -1,0 +1,60 @@
+//! Where lines come from that stand among others after an exchange.
+
+ghost use Rattle.std.specs.Prelude.{◌≡◌, ◌≤◌, ◌<◌, ◌+◌, List, Some, length, slice_get};
+ghost use Rattle.deck_lines.specs.Origins.{exchanged_lines, line_from};
+ghost use Rattle.deck_lines.specs.declared.line.DeckLine.{DeckLine as Marked};
+
+use super::line_store::LineStore;
+use crate::line::{BorrowedLine, DeckLine};
+
+/// Where a line comes from.
+#[derive(Clone, Copy)]
+pub enum Origin {
+    /// It stood at this place before.
+    Stored(usize),
+    /// It is at this place among those that were put.
+    Put(usize),
+    /// There is no line.
+    Past,
+}
+
+/// Where the line at a place comes from, of so many lines, when so many others were put in the place
+/// of some from a place on.
+pub fn origin_of(count: usize, at: usize, cut: usize, put: usize, place: usize) -> Origin
+    requires { at + cut ≤ count }
+    ensures { (lines others : List Marked) → length lines ≡ count → length others ≡ put
+        → slice_get (exchanged_lines at cut others lines) place ≡ line_from lines others result }
+{
+    if place < at {
+        return Origin::Stored(place);
+    }
+    let past_front = place - at;
+    if past_front < put {
+        return Origin::Put(past_front);
+    }
+    let past_put = past_front - put;
+    if count - (at + cut) <= past_put {
+        return Origin::Past;
+    }
+    Origin::Stored(at + cut + past_put)
+}
+
+/// The line at a place, when lines are put in the place of some from a place on.
+pub fn line_at<'a>(
+    store: &'a LineStore,
+    at: usize,
+    cut: usize,
+    put: &'a [DeckLine],
+    place: usize,
+) -> BorrowedLine<'a>
+    requires places { at + cut ≤ length store.now.lines }
+    requires inside { place < length (exchanged_lines at cut put.now store.now.lines) }
+    ensures { slice_get (exchanged_lines at cut put.now store.now.lines) place
+        ≡ Some (record { number = result.number; text = result.text.now; mark = result.mark }) }
+{
+    match origin_of(store.len(), at, cut, put.len(), place) {
+        Origin::Stored(place) => store.marked().line(place),
+        Origin::Put(place) => put[place].borrowed(),
+        Origin::Past => unreachable!(),
+    }
+}

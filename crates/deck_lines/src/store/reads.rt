@@ -1,0 +1,73 @@
+//! What lines define that are to be put into a store.
+
+ghost use Rattle.std.specs.Prelude.{◌≡◌, Some, map, option_map, IfOk};
+ghost use Rattle.def_entry.specs.Views.{entry_view};
+ghost use Rattle.deck_lines.specs.Kept.{IsDefined, keyed_definition, seen_definition};
+ghost use Rattle.deck_lines.specs.Names.{IsExtended, IsOneToOne};
+ghost use Rattle.deck_lines.specs.NumberedKeys.{names_in};
+ghost use Rattle.deck_lines.specs.Readings.{entry_in};
+
+use super::definitions::{Definition, PutDefinitions};
+use super::key_numbers::KeyNumbers;
+use crate::line::DeckLine;
+use crate::reading::{Reading, read_line};
+use def_entry::{Entry, Key};
+use std::alloc::{AllocError, Global};
+
+/// What lines define, by the numbers of their keys, which are given where there are none.
+pub fn read_definitions(
+    alloc: Global,
+    keys: &mut KeyNumbers,
+    lines: &[DeckLine],
+) -> Result<PutDefinitions, AllocError>
+    ensures extended { IsExtended (names_in keys.old) (names_in keys.new) }
+    ensures unique { IsOneToOne (names_in keys.old) → IsOneToOne (names_in keys.new) }
+    ensures ok { IfOk result (λ put. IsDefined (names_in keys.new) put.of_lines.items (map entry_in lines.now)) }
+{
+    let mut definitions = Vec::new(alloc);
+    for line in lines {
+        let definition = definition_of(alloc, keys, line)?;
+        definitions.push(definition)?;
+    }
+    Ok(PutDefinitions {
+        of_lines: definitions,
+    })
+}
+
+// What a line defines.
+#[tactic(auto, unfolding(crate::specs::Readings::entry_in))]
+fn definition_of(
+    alloc: Global,
+    keys: &mut KeyNumbers,
+    line: &DeckLine,
+) -> Result<Option<Definition>, AllocError>
+    ensures extended { IsExtended (names_in keys.old) (names_in keys.new) }
+    ensures unique { IsOneToOne (names_in keys.old) → IsOneToOne (names_in keys.new) }
+    ensures ok { IfOk result (λ d. option_map (seen_definition (names_in keys.new)) d
+        ≡ option_map keyed_definition (entry_in line.now)) }
+{
+    if line.mark {
+        return Ok(None);
+    }
+    match read_line(alloc, line.text.as_bytes())? {
+        Reading::Defines(key, entry) => Ok(Some(number_definition(keys, key, entry)?)),
+        Reading::Stands(_) => Ok(None),
+        Reading::Includes(_) => Ok(None),
+        Reading::Faulty(_) => Ok(None),
+    }
+}
+
+// A definition by the number of its key.
+fn number_definition(
+    keys: &mut KeyNumbers,
+    key: Key,
+    entry: Entry,
+) -> Result<Definition, AllocError>
+    ensures extended { IsExtended (names_in keys.old) (names_in keys.new) }
+    ensures unique { IsOneToOne (names_in keys.old) → IsOneToOne (names_in keys.new) }
+    ensures ok { IfOk result (λ d. seen_definition (names_in keys.new) d ≡ (Some key, entry_view entry)) }
+{
+    keys.reserve_one(key.kind)?;
+    let key = keys.put(key);
+    Ok(Definition { key, entry })
+}
