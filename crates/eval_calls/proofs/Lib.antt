@@ -1,0 +1,7 @@
+mod EachPart
+mod Functions
+mod Known
+mod Ranks
+mod Read
+mod Rows
+mod Told

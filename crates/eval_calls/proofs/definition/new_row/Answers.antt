@@ -1,0 +1,29 @@
+use Rattle.std.proofs.Common.{refl, ap, ◌∙◌}
+use Rattle.def_entry.specs.Views.{what_view}
+use Rattle.tree_eval.specs.Entries.{meaning_of}
+use Rattle.tree_eval.specs.Outcomes.{outcome_of}
+use Rattle.eval_calls.specs.Lines.{known, means, name_of, what_of}
+use Rattle.eval_calls.proofs.Read.{holds_read}
+use Rattle.eval_calls.proofs.definition.new_row.Goals as goal
+
+pub reduce-requires-clause-words : goal.reduce-requires-clause-words
+reduce-requires-clause-words g c = holds_read _ _ _ _ c.len.ensures c.in_ok-words.ensures
+
+pub reduce-requires-clause-target : goal.reduce-requires-clause-target
+reduce-requires-clause-target g c = c.in_ok-rank.ensures.target
+
+pub returns : goal.returns
+returns g c = (
+  record {
+    name = ap name_of c.in_ok-line.ensures ∙ c.requires.name;
+    what = ap what_of c.in_ok-line.ensures ∙ c.requires.what;
+    words = c.in_ok-words.ensures;
+    all_known = c.in_ok-rank.ensures.all_known;
+    target = c.in_ok-rank.ensures.target;
+    outcome = c.in_ok-outcome.ensures.outcome
+        ∙ ap (λ name. outcome_of (meaning_of (means (known c.args.table.now)) name (what_view c.args.entry.what)))
+        c.as_bytes.ensures;
+    rank = c.in_ok-rank.ensures.ranked c.args.name;
+  },
+  refl,
+)

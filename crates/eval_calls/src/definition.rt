@@ -1,0 +1,127 @@
+//! Definitions that a table takes.
+
+ghost use Rattle.std.specs.Prelude.{◌≡◌, ◌<◌, IfOk, true};
+ghost use Rattle.def_entry.specs.Reading.{has_entry};
+ghost use Rattle.def_entry.specs.Views.{what_view};
+ghost use Rattle.def_lines.specs.Kinds.{kind_of};
+ghost use Rattle.eval_calls.specs.Definitions.{Says};
+ghost use Rattle.eval_calls.specs.Lines as lines;
+ghost use Rattle.eval_calls.specs.Parts.{AreWordsOf};
+ghost use Rattle.eval_calls.specs.Rows as spec;
+
+use crate::parts::PartWords;
+use crate::refusal::Refusal;
+use crate::row::Row;
+use crate::scene::Scene;
+use crate::table::Table;
+use crate::texts::outcome_text;
+use def_entry::{Entry, EntryFault, What, entry_fault_text, read_entry, told_law};
+use def_lines::{LineKind, classify};
+use std::alloc::Global;
+use std::marker::Brand;
+use std::sync::ledger::{Blank, Ledger};
+use tree_eval::reduce;
+use units_io::{Steps, Text};
+
+/// What a line says of a name.
+#[derive(Drop)]
+pub(crate) struct Definition {
+    pub(crate) name: Text,
+    pub(crate) entry: Entry,
+}
+
+// Takes the definition of a line, whose outcome it answers.
+pub(crate) fn define(alloc: Global, table: &mut Table, line: &[u8]) -> Result<Text, Refusal> {
+    let Definition { name, entry } = read_definition(alloc, line)?;
+    if table.find(name.as_bytes()).is_some() {
+        return Err(Refusal::DefinedTwice);
+    }
+    let row = new_row::<Brand>(alloc, table, line, name, entry, Blank::new(1))?;
+    let text = outcome_text(alloc, &row.outcome)?;
+    table.push(alloc, row)?;
+    Ok(text)
+}
+
+// What a line says.
+fn read_definition(alloc: Global, line: &[u8]) -> Result<Definition, Refusal>
+    ensures { IfOk result (Says line.now) }
+{
+    match classify(line) {
+        LineKind::Definition | LineKind::UnitList => read_said(alloc, line),
+        _ => Err(Refusal::BadLine),
+    }
+}
+
+fn read_said(alloc: Global, line: &[u8]) -> Result<Definition, Refusal>
+    requires { has_entry (kind_of line.now) ≡ true }
+    ensures { IfOk result (Says line.now) }
+{
+    told_law();
+    match read_entry(alloc, line) {
+        Ok((key, entry)) => Ok(Definition {
+            name: key.name,
+            entry,
+        }),
+        Err(EntryFault::OutOfMemory) => Err(Refusal::OutOfMemory),
+        Err(fault) => Err(Refusal::Fault(entry_fault_text(alloc, &fault)?)),
+    }
+}
+
+// The rank of what is said of a name, where all its words are known.
+fn rank_of(table: &Table, what: &What, words: &PartWords) -> Result<u32, Refusal>
+    requires { AreWordsOf words.now (what_view what.now) }
+    ensures { IfOk result (spec.MayStand (lines.known table.now) (what_view what.now) words.now) }
+{
+    if !table.knows_parts(words) {
+        return Err(Refusal::UnknownWord);
+    }
+    if !table.has_target(what) {
+        return Err(Refusal::NoFunction);
+    }
+    match table.rank(what, words) {
+        Some(rank) => Ok(rank),
+        None => Err(Refusal::RankTooGreat),
+    }
+}
+
+// The row of a definition, in one step that nobody counts.
+fn new_row<L: Ledger>(
+    alloc: Global,
+    table: &Table,
+    line: &[u8],
+    name: Text,
+    entry: Entry,
+    blank: Blank,
+) -> Result<Row, Refusal>
+    requires name { lines.name_of line.now ≡ name }
+    requires what { lines.what_of line.now ≡ what_view entry.what }
+    requires ledger { blank.name ≡ L.name }
+    requires parts { blank.parts ≡ L.parts }
+    requires some { 0 < blank.parts }
+    ensures { IfOk result (λ row. spec.Keeps (lines.known table.now) row × (row.name ≡ name)) }
+{
+    let words = PartWords::of_what(alloc, &entry.what)?;
+    let rank = rank_of(table, &entry.what, &words)?;
+    let scene = Scene {
+        table,
+        words: &words,
+    };
+    let mut steps: Steps<L> = Steps::new(blank);
+    let outcome = reduce(
+        alloc,
+        &scene,
+        table.len(),
+        name.as_bytes(),
+        &entry,
+        &mut steps,
+    )?;
+    let line = Text::from_bytes(alloc, line)?;
+    Ok(Row {
+        name,
+        line,
+        entry,
+        words,
+        outcome,
+        rank,
+    })
+}
