@@ -1,0 +1,7 @@
+use Rattle.std.proofs.Common.{◌≡◌, ◌++◌, drop}
+use Rattle.deck_calls.specs.Answers.{items_behind, list_text}
+use Rattle.deck_calls.proofs.answer.texts_text.Given as goal
+
+-- what is written and what is still to be written
+abbrev pub invariant-loop-item : goal.invariant-loop-item
+invariant-loop-item l = l.text.items ++ items_behind (drop l.item-index l.rest) ≡ list_text l.texts

@@ -1,0 +1,107 @@
+//! Edits of a deck, and what they answer.
+
+ghost use Rattle.std.specs.Prelude.{◌≡◌, IfOk};
+ghost use Rattle.deck_calls.specs.Answers as answers;
+
+use crate::answer::{changes_text, fault_text, line_of};
+use crate::call::{Change, Edit};
+use deck::{Deck, DeckFault, Settings, Splice};
+use deck_lines::{DeckLine, DeckLines};
+use def_entry::{KeyFault, Keys, read_key};
+use std::alloc::{AllocError, Global};
+use units_io::{Files, Text};
+
+// What an edit answers: the keys that it changes, or why it is refused.
+pub(crate) fn edit_answer<F: Files>(
+    alloc: Global,
+    files: &mut F,
+    deck: &mut Deck,
+    inverse: &mut Option<Splice>,
+    settings: Settings,
+    edit: Edit<'_>,
+) -> Result<Vec<u8>, AllocError> {
+    match edit {
+        Edit::Define(line) => outcome_text(alloc, deck.define(alloc, line)),
+        Edit::Drop(text) => drop_answer(alloc, deck, text),
+        Edit::Append(name) => outcome_text(alloc, deck.append(alloc, files, name)),
+        Edit::Switch => outcome_text(alloc, deck.switch(alloc, settings)),
+        Edit::Splice(change) => {
+            *inverse = None;
+            let change = splice_of(alloc, change, settings)?;
+            splice_answer(alloc, deck, inverse, change)
+        }
+        Edit::Back => match inverse.take() {
+            Some(change) => splice_answer(alloc, deck, inverse, change),
+            None => line_of(alloc, b"no splice"),
+        },
+    }
+}
+
+// The keys that an edit changed, or why it was refused.
+fn outcome_text(alloc: Global, outcome: Result<Keys, DeckFault>) -> Result<Vec<u8>, AllocError>
+    ensures { IfOk result (λ text. text.items ≡ answers.outcome_text outcome) }
+{
+    match outcome {
+        Ok(keys) => changes_text(alloc, &keys),
+        Err(fault) => fault_text(alloc, fault),
+    }
+}
+
+// Drops the last line in force of the key that is written so.
+fn drop_answer(alloc: Global, deck: &mut Deck, text: &[u8]) -> Result<Vec<u8>, AllocError> {
+    match read_key(alloc, text) {
+        Ok(key) => outcome_text(alloc, deck.drop_last(alloc, &key)),
+        Err(KeyFault::NotKey) => line_of(alloc, b"not a key"),
+        Err(KeyFault::OutOfMemory) => Err(AllocError),
+    }
+}
+
+// The splice of these lines, each with the number 0, and these settings.
+fn splice_of(alloc: Global, change: Change<'_>, settings: Settings) -> Result<Splice, AllocError> {
+    let Change { at, cut, lines } = change;
+    let mut put = DeckLines::new(alloc);
+    for text in lines.split(|byte| *byte == b';') {
+        if !text.is_empty() {
+            put.push(alloc, deck_line(alloc, text)?)?;
+        }
+    }
+    Ok(Splice {
+        at,
+        cut,
+        put,
+        settings,
+    })
+}
+
+// A line, with the mark where a `~` stands before it.
+fn deck_line(alloc: Global, text: &[u8]) -> Result<DeckLine, AllocError> {
+    let (text, mark) = match text.strip_prefix(b"~".as_slice()) {
+        Some(rest) => (rest, true),
+        None => (text, false),
+    };
+    let text = Text::from_bytes(alloc, text)?;
+    Ok(DeckLine {
+        number: 0,
+        text,
+        mark,
+    })
+}
+
+// Makes a splice where that may be, and keeps its inverse.
+fn splice_answer(
+    alloc: Global,
+    deck: &mut Deck,
+    inverse: &mut Option<Splice>,
+    change: Splice,
+) -> Result<Vec<u8>, AllocError> {
+    if !deck.can_splice(alloc, &change)? {
+        return line_of(alloc, b"no such splice");
+    }
+    match deck.splice(alloc, change) {
+        Ok((keys, back)) => {
+            *inverse = Some(back);
+            changes_text(alloc, &keys)
+        }
+        Err((_, error)) => Err(error),
+    }
+}
