@@ -15,9 +15,11 @@ use Rattle.def_entry.specs.Entries.{Entry}
 use Rattle.def_entry.specs.KeyOrder.{key_cmp}
 use Rattle.def_entry.specs.SameKeys.{is_among, is_same}
 use Rattle.def_entry.proofs.SameKeys.{key_order, same_keys}
-use Rattle.deck.specs.KeyLists.{KeyListLaw, table_keys}
-use Rattle.deck.specs.Tables.{Table, keys_of}
+use Rattle.deck.specs.Changes.{AreOnce}
+use Rattle.deck.specs.KeyLists.{AreKeys, KeyListLaw, WholeLaw, table_keys}
+use Rattle.deck.specs.Tables.{Table, is_present, keys_of}
 use Rattle.deck.proofs.Counting.{among}
+use Rattle.deck.proofs.KeyCounts.{counted}
 
 told : (b : Bool) → T b → b ≡ true
 told true h = refl
@@ -90,3 +92,27 @@ one_key_list table keys are =
         ∙ (sym (among table k)
         ∙ (sym (contained table k)
         ∙ map_of.contains_key-keys (map_of_table table) k)))
+
+-- the keys of the table are all of them
+are_keys : (table : Table) → AreKeys table (table_keys table)
+are_keys table = record { each = each; order = in_order table }
+  where
+    each : (k : Key) → is_among (table_keys table) k ≡ is_present table k
+    each k =
+        sym (any_alike k (table_keys table))
+        ∙ (sym (map_of.contains_key-keys (map_of_table table) k) ∙ (contained table k ∙ among table k))
+
+none_below : (k : Key) (ks : List Key) → AllByRecursion (λ y. key_cmp k y ≡ Less) ks → is_among ks k ≡ false
+none_below k [] h = refl
+none_below k (y ∷ ks) h =
+    ap (λ b. b || is_among ks k) (sym (tells k y) ∙ ap is_eq h.0) ∙ none_below k ks h.1
+
+once : (ks : List Key) → IsStrictlySortedBy key_cmp ks → AreOnce ks
+unfolding IsStrictlySortedBy
+once [] order = tt
+once (k ∷ ks) order = (none_below k ks order.0, once ks order.1)
+
+pub all_whole : WholeLaw
+all_whole table =
+    let are = are_keys table in
+    record { all = are; count = counted table (table_keys table) are.each (once (table_keys table) are.order) }

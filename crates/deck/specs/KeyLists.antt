@@ -35,3 +35,7 @@ key_count table kind = length (of_kind kind (each_once (keys_of table)))
 pub record IsWhole (table : Table) (keys : List Key) : Type 0 where
   pub all : AreKeys table keys
   pub count : (kind : Kind) → length (of_kind kind keys) ≡ key_count table kind
+
+-- law: the keys of a table are such a list
+abbrev pub WholeLaw : Type 0
+WholeLaw = (table : Table) → IsWhole table (table_keys table)

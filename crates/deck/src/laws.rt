@@ -1,7 +1,7 @@
 //! Laws of decks.
 
 ghost use Rattle.deck.specs.Changes.{ChangedLaw};
-ghost use Rattle.deck.specs.KeyLists.{KeyListLaw};
+ghost use Rattle.deck.specs.KeyLists.{KeyListLaw, WholeLaw};
 ghost use Rattle.deck.specs.Splices.{InverseLaw};
 
 use def_entry::same_text_law;
@@ -21,4 +21,9 @@ pub fn changes_are_computed()
 /// A list of all keys in order is the only one.
 pub fn key_lists_are_one()
     ensures { KeyListLaw }
+{}
+
+/// The keys of a table are all that have an entry, and as many of each kind as there are.
+pub fn table_keys_are_whole()
+    ensures { WholeLaw }
 {}

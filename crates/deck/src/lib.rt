@@ -12,6 +12,6 @@ mod splice;
 
 pub use deck::Deck;
 pub use fault::DeckFault;
-pub use laws::{changes_are_computed, key_lists_are_one, splices_are_undone};
+pub use laws::{changes_are_computed, key_lists_are_one, splices_are_undone, table_keys_are_whole};
 pub use settings::Settings;
 pub use splice::Splice;

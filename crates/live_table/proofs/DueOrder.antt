@@ -1,0 +1,194 @@
+-- In the order of a walk each name is due once those before it are settled.
+use Rattle.std.proofs.Common.{◌≡◌, ◌⊎◌, ◌<◌, ℕ, zero, suc, Bool, true, false, List, [], ◌∷◌, ◌++◌, set, length, Option, Some, None, nat_eq, option_map, refl, sym, ◌∙◌, ap, subst, inl, inr, arith}
+use Rattle.std.specs.List.{IsDistinct, slice_get}
+use Rattle.std.proofs.lemmas.Bool.{cases_eq, eq-eqb}
+use Rattle.std.proofs.lemmas.List.{length-set}
+use Rattle.expr_tree.specs.declared.word_list.WordUse.{WordUse}
+use Rattle.def_entry.specs.declared.key.Key.{Key}
+use Rattle.def_entry.specs.Entries.{Entry}
+use Rattle.def_entry.specs.Tables.{Table, entry_at, is_present}
+use Rattle.name_walk.specs.declared.step.Step.{Step}
+use Rattle.name_walk.specs.declared.step.Step.TheVariants.{Nowhere, To}
+use Rattle.name_walk.specs.Closed as walk
+use Rattle.name_walk.specs.Closed.{EndsWithin, IsDone, IsSettled}
+use Rattle.name_walk.specs.Faults as walk_faults
+use Rattle.name_walk.specs.Lists.{In}
+use Rattle.name_walk.specs.NewlyClosed.{AreNewlyClosed, AreOrdered, IsReached}
+use Rattle.name_walk.specs.Steps.{Graph, InRange, LeadsTo, Reaches, at_once, further, steps}
+use Rattle.name_walk.proofs.Closed.{closed_law_holds}
+use Rattle.name_walk.proofs.Lists.{In-push, all_at}
+use Rattle.name_walk.proofs.Marks.{get_set_other, get_set_same}
+use Rattle.tree_eval.specs.declared.outcome.Outcome.{Outcome}
+use Rattle.table_names.specs.declared.fault.NameFault.{NameFault}
+use Rattle.table_names.specs.Closed.{IsClosed}
+use Rattle.table_names.specs.Words.{key_words}
+use Rattle.name_numbers.specs.FaultLaws.{NumberedFaultLaw}
+use Rattle.name_numbers.specs.Numbered.{AreWords, ForOne, ForRefused, ForTwo, ForUnknown, IsWord, LeadToKnown, named}
+use Rattle.live_table.specs.declared.callee.Callee.{Callee}
+use Rattle.live_table.specs.declared.dead_end.DeadEnd.{DeadEnd}
+use Rattle.live_table.specs.Callees.{HasStarts}
+use Rattle.live_table.specs.Due.{AreDue, IsDue, with_outcome}
+use Rattle.live_table.specs.Explored.{AreExplored, fault_at}
+use Rattle.live_table.specs.Sound.{AreNodes, HasStartsOf, IsFaithful}
+use Rattle.live_table.specs.Stored.{Listed, key_at}
+use Rattle.live_table.proofs.Growing.{get_some}
+use Rattle.live_table.proofs.Places.{some_same}
+
+-- ---- steps that all lead somewhere are those of their words, whatever the dead ends are
+module _ (t : Table) (key : ℕ → Key) (one other : ℕ → Option Key → NameFault) where
+  any_word : (u : WordUse) (x y : Step) → ((b : ℕ) → x ≡ Nowhere b → ⊥) → IsWord t key one u x y → IsWord t key other u x y
+  any_word u x y h (ForRefused b is e) = absurd (h b refl)
+  any_word u x y h (ForUnknown b fine none e) = absurd (h b refl)
+  any_word u x y h (ForOne n fine e) = ForOne n fine e
+  any_word u x y h (ForTwo n m fine e) = ForTwo n m fine e
+
+  pub any_words : (us : List WordUse) (xs : List Step) → ((b : ℕ) → In (Nowhere b) xs → ⊥) → AreWords t key one us xs → AreWords t key other us xs
+  any_words [] [] h w = w
+  any_words [] (x ∷ xs) h w = absurd w
+  any_words (u ∷ us) [] h w = absurd w
+  any_words (u ∷ us) (x ∷ []) h w = absurd w
+  any_words (u ∷ us) (x ∷ y ∷ xs) h w =
+      (any_word u x y (λ b e. h b (inl (sym e))) w.0, any_words us xs (λ b i. h b (inr (inr i))) w.1)
+
+no_end : (g : Graph) (k n b : ℕ) → EndsWithin g k n → In (Nowhere b) (steps g n) → ⊥
+no_end g zero n b e i = e
+no_end g (suc k) n b e i = all_at (walk.LeadsInto (EndsWithin g k)) (steps g n) (Nowhere b) e i
+
+-- ---- what is known of each name of an order
+record IsReady (t : Table) (l : Listed) (n : ℕ) : Type 0 where
+  pub within : n < length l.keys
+  pub present : is_present t (key_at l.keys n) ≡ true
+  pub closed : IsClosed t (key_at l.keys n)
+  pub ends : walk.IsClosed l.graph n
+  pub faithful : IsFaithful t l n
+  pub starts : HasStartsOf t l n
+
+-- some names of an order are settled, in the same nodes
+record AreSettledFirst (l now : Listed) (before later : List ℕ) : Type 0 where
+  pub keys : now.keys ≡ l.keys
+  pub graph : now.graph ≡ l.graph
+  pub size : length now.settled ≡ length l.keys
+  pub done : (m : ℕ) → IsDone l.settled before m → IsSettled now.settled m
+  pub fresh : (m : ℕ) → In m later → IsSettled now.settled m → ⊥
+  pub callees : (m : ℕ) → In m later → slice_get now.callees m ≡ slice_get l.callees m
+
+unsettled : (bs : List Bool) (m : ℕ) → m < length bs → (slice_get bs m ≡ Some true → ⊥) → slice_get bs m ≡ Some false
+unsettled [] m h f = absurd (omega arith)
+unsettled (true ∷ bs) zero h f = absurd (f refl)
+unsettled (false ∷ bs) zero h f = refl
+unsettled (b ∷ bs) (suc m) h f = unsettled bs m (omega arith) f
+
+module _ (t : Table) (l : Listed) where
+  one_due : (now : Listed) (before ns : List ℕ) (n : ℕ) → IsReady t l n → AreSettledFirst l now before (n ∷ ns)
+      → ((m : ℕ) → LeadsTo l.graph n m → IsDone l.settled before m) → IsDue t now n
+  one_due now before ns n r s below = record {
+    within = inside;
+    fresh = unsettled now.settled n (let a : length now.settled ≡ length l.keys = s.size in let b : n < length l.keys = r.within in omega arith) (s.fresh n (inl refl));
+    present = subst (λ (ks : List Key). is_present t (key_at ks n) ≡ true) (sym s.keys) r.present;
+    closed = subst (λ (ks : List Key). IsClosed t (key_at ks n)) (sym s.keys) r.closed;
+    ends = subst (λ (g : Graph). walk.IsClosed g n) (sym s.graph) r.ends;
+    below = λ m h. s.done m (below m (subst (λ (g : Graph). LeadsTo g n m) s.graph h));
+    faithful = λ ends.
+        subst (λ (p : List Key × Graph). AreWords t (key_at p.0) ends (key_words t (key_at p.0 n)) (steps p.1 n))
+        (λ j. (sym s.keys j, sym s.graph j)) (r.faithful ends);
+    starts = λ e c at is. r.starts e c (ap (λ (ks : List Key). entry_at t (key_at ks n)) (sym s.keys) ∙ at) (sym (s.callees n (inl refl)) ∙ is);
+  }
+    where
+      inside : n < length now.keys
+      inside = let a : length now.keys ≡ length l.keys = ap length s.keys in let b : n < length l.keys = r.within in omega arith
+
+  -- one more is settled
+  next : (now : Listed) (before ns : List ℕ) (n : ℕ) (o : Outcome) (c : Callee) → n < length l.keys → AreSettledFirst l now before (n ∷ ns)
+      → ((m : ℕ) → In m ns → m ≡ n → ⊥) → AreSettledFirst l (with_outcome n o c now) (before ++ n ∷ []) ns
+  next now before ns n o c h s apart = record {
+    keys = s.keys;
+    graph = s.graph;
+    size = length-set now.settled n true ∙ s.size;
+    done = done;
+    fresh = λ m i e. s.fresh m (inr i) (sym (get_set_other now.settled n m true (apart m i)) ∙ e);
+    callees = λ m i. get_set_other now.callees n m c (apart m i) ∙ s.callees m (inr i);
+  }
+    where
+      own : IsSettled (set now.settled n true) n
+      own = get_set_same now.settled n true (let a : length now.settled ≡ length l.keys = s.size in omega arith)
+
+      still : (m : ℕ) → IsSettled now.settled m → IsSettled (set now.settled n true) m
+      still m e = elim (cases_eq m n) [
+        | inl q ↦ subst (λ (x : ℕ). IsSettled (set now.settled n true) x) (sym q) own
+        | inr ne ↦ get_set_other now.settled n m true ne ∙ e
+      ]
+
+      done : (m : ℕ) → IsDone l.settled (before ++ n ∷ []) m → IsSettled (set now.settled n true) m
+      done m (inl e) = still m (s.done m (inl e))
+      done m (inr i) = elim (In-push before n m i) [
+        | inl j ↦ still m (s.done m (inr j))
+        | inr q ↦ subst (λ (x : ℕ). IsSettled (set now.settled n true) x) (sym q) own
+      ]
+
+  apart_from : (n : ℕ) (ns : List ℕ) → IsDistinct nat_eq (n ∷ ns) → (m : ℕ) → In m ns → m ≡ n → ⊥
+  unfolding IsDistinct
+  apart_from n ns d m i q =
+      let f : nat_eq n m ≡ false = all_at (λ y. nat_eq n y ≡ false) ns m d.0 i in
+      let e : nat_eq n m ≡ true = eq-eqb n m (sym q) in
+      let z : true ≡ false = sym e ∙ f in cc
+
+  later_once : (n : ℕ) (ns : List ℕ) → IsDistinct nat_eq (n ∷ ns) → IsDistinct nat_eq ns
+  unfolding IsDistinct
+  later_once n ns d = d.1
+
+  due_from : (ns before : List ℕ) (now : Listed) → ((n : ℕ) → In n ns → IsReady t l n) → AreOrdered l.graph l.settled before ns
+      → IsDistinct nat_eq ns → AreSettledFirst l now before ns → AreDue t now ns
+  due_from [] before now r o d s = tt
+  due_from (n ∷ ns) before now r o d s = (
+    one_due now before ns n (r n (inl refl)) s o.0,
+    λ out c. due_from ns (before ++ n ∷ []) (with_outcome n out c now) (λ m i. r m (inr i)) o.1 (later_once n ns d)
+        (next now before ns n out c (r n (inl refl)).within s (apart_from n ns d)),
+  )
+
+module _ (law : NumberedFaultLaw) (t : Table) (l : Listed) (ends : List DeadEnd) (known : ℕ → Bool) (query : List Step) (order : List ℕ)
+    (nodes : AreNodes t l) (explored : AreExplored t l ends known) (targets : LeadToKnown known query)
+    (closing : AreNewlyClosed l.graph l.settled query order) where
+  known_below : {n m : ℕ} → known n ≡ true → Reaches l.graph n m → known m ≡ true
+  known_below {n} {m} k (at_once h) = explored.numbered.below n m k h
+  known_below {n} {m} k (further {x = x} h r) = known_below (explored.numbered.below n x k h) r
+
+  known_reached : (n : ℕ) → IsReached l.graph query n → known n ≡ true
+  known_reached n (r, i, inl e) = subst (λ (x : ℕ). known x ≡ true) (sym e) (targets r i)
+  known_reached n (r, i, inr way) = known_below (targets r i) way
+
+  pub known_in_order : (n : ℕ) → In n order → known n ≡ true
+  known_in_order n i = known_reached n ((closing.exactly n).0 i).0
+
+  ready : (n : ℕ) → In n order → IsReady t l n
+  ready n i = record {
+    within = inside;
+    present = explored.numbered.present n is_known;
+    closed =
+        sym (law.key t (key_at l.keys) (fault_at ends) l.graph known explored.numbered nodes.net.range n is_known)
+        ∙ ap (option_map (named t (key_at l.keys) (fault_at ends)))
+        ((closed_law_holds.faultless l.graph nodes.net.range n (explored.numbered.within n is_known)).0 is_closed);
+    ends = is_closed;
+    faithful = λ other.
+        any_words t (key_at l.keys) (fault_at ends) other (key_words t (key_at l.keys n)) (steps l.graph n)
+        (λ b j. no_end l.graph (length l.graph) n b is_closed j) (explored.numbered.faithful n is_known);
+    starts = explored.starts n is_known;
+  }
+    where
+      is_known : known n ≡ true
+      is_known = known_in_order n i
+
+      is_closed : walk.IsClosed l.graph n
+      is_closed = closing.closed n i
+
+      inside : n < length l.keys
+      inside = let a : n < length l.graph = explored.numbered.within n is_known in let b : length l.graph ≡ length l.keys = nodes.step_count in omega arith
+
+  pub are_due : AreDue t l order
+  are_due = due_from t l order [] l ready closing.ordered closing.once (record {
+    keys = refl;
+    graph = refl;
+    size = nodes.net.size ∙ nodes.step_count;
+    done = λ m e. elim e [ inl q ↦ q | inr i ↦ absurd i ];
+    fresh = λ m i. ((closing.exactly m).0 i).1;
+    callees = λ m i. refl;
+  })

@@ -1,0 +1,177 @@
+-- What queries settle and edits leave stays right.
+use Rattle.std.proofs.Common.{◌≡◌, ◌⊎◌, Bool, true, false, cond, not, List, [], ◌∷◌, Contains}
+use Rattle.std.proofs.Common.{Option, Some, None, is_none, is_some, refl, sym, ◌∙◌, ap, subst, inl, inr}
+use Rattle.std.specs.FinMap as map_of
+use Rattle.std.proofs.lemmas.Bool.{cases_Bool, cond-true, not-true, not_from_false, false_from_ne_true, true≢false}
+use Rattle.expr_tree.specs.declared.word_list.WordUse.{WordUse}
+use Rattle.def_entry.specs.declared.key.Key.{Key}
+use Rattle.def_entry.specs.SameKeys.{is_among}
+use Rattle.def_entry.specs.Tables.{Table, is_present}
+use Rattle.tree_eval.specs.declared.outcome.Outcome.{Outcome}
+use Rattle.table_names.specs.Affected.{IsAffected, is_affected}
+use Rattle.table_names.specs.Closed.{AreClosed, IsClosed}
+use Rattle.table_names.specs.Edits.{AreChanged, IsAsBefore}
+use Rattle.table_names.specs.Faults.{key_fault, name_fault}
+use Rattle.table_names.specs.Leads.{Reaches}
+use Rattle.table_names.specs.Meanings.{outcome}
+use Rattle.table_names.specs.Reach.{key_reach, reach}
+use Rattle.table_names.specs.Words.{key_words}
+use Rattle.table_names.proofs.Affecting.{affected_law}
+use Rattle.table_names.proofs.Closing.{closed_law}
+use Rattle.table_names.proofs.Kept.{unaffected_law}
+use Rattle.table_names.proofs.KeyLists.{among_member, member_among}
+use Rattle.table_names.proofs.Members.{member_cases, member_later}
+use Rattle.table_names.proofs.Reaching.{reach_law}
+use Rattle.deck.specs.Changes.{changed_keys}
+use Rattle.live_table.specs.Right.{IsRight, IsSettled, RightLaw}
+use Rattle.live_table.specs.States.{AsksKey, AsksWords, Becomes, CanBe, Event, OrderLaw, State}
+use Rattle.live_table.specs.States.{after, after_edit, after_query, with_settled}
+use Rattle.live_table.proofs.Outcomes.{left_in, left_out, put_in}
+
+-- ---- what a query settles
+-- closed keys that have entries, with all that they reach
+record AreWhole (t : Table) (keys : List Key) : Type 0 where
+  present : (n : Key) → Contains keys n → is_present t n ≡ true
+  closed : (n : Key) → Contains keys n → IsClosed t n
+  below : (n m : Key) → Contains keys n → Reaches t n m → Contains keys m
+
+module _ (t : Table) where
+  words_whole : (words : List WordUse) → AreClosed t words → AreWhole t (reach t words)
+  words_whole words e = record {
+    present = λ n i. reach_law.present t words n ((reach_law.listed t words e n).0 i);
+    closed = λ n i. closed_law.below t words e n ((reach_law.listed t words e n).0 i);
+    below = λ n m i r. (reach_law.listed t words e m).1 (reach_law.further t words n m ((reach_law.listed t words e n).0 i) r);
+  }
+
+  key_whole : (n : Key) → is_present t n ≡ true → IsClosed t n → AreWhole t (n ∷ key_reach t n)
+  key_whole n there e = record { present = present; closed = closed; below = below }
+    where
+      words_closed : AreClosed t (key_words t n)
+      words_closed = (closed_law.key t n).0 e
+
+      whole : AreWhole t (key_reach t n)
+      whole = words_whole (key_words t n) words_closed
+
+      present : (m : Key) → Contains (n ∷ key_reach t n) m → is_present t m ≡ true
+      present m i = elim (member_cases m n (key_reach t n) i) [
+        | inl q ↦ subst (λ (k : Key). is_present t k ≡ true) (sym q) there
+        | inr j ↦ whole.present m j
+      ]
+
+      closed : (m : Key) → Contains (n ∷ key_reach t n) m → IsClosed t m
+      closed m i = elim (member_cases m n (key_reach t n) i) [
+        | inl q ↦ subst (λ (k : Key). IsClosed t k) (sym q) e
+        | inr j ↦ whole.closed m j
+      ]
+
+      below : (m k : Key) → Contains (n ∷ key_reach t n) m → Reaches t m k → Contains (n ∷ key_reach t n) k
+      below m k i r = member_later k n (key_reach t n) (elim (member_cases m n (key_reach t n) i) [
+        | inl q ↦ (reach_law.listed t (key_words t n) words_closed k).1 (subst (λ (x : Key). Reaches t x k) q r)
+        | inr j ↦ whole.below m k j r
+      ])
+
+module _ (s : State) (keys : List Key) (whole : AreWhole s.table keys) (h : IsRight s) where
+  abbrev grown : State
+  grown = with_settled keys s
+
+  either : (n : Key) → Contains keys n ⊎ (map_of.get grown.kept n ≡ map_of.get s.kept n)
+  either n = elim (cases_Bool (is_among keys n)) [
+    | inl e ↦ inl (member_among keys n e)
+    | inr e ↦ inr (left_out s.table keys s.kept n (λ i. true≢false (sym (among_member keys n i) ∙ e)))
+  ]
+
+  old_or_new : (n : Key) → IsSettled grown n → Contains keys n ⊎ IsSettled s n
+  old_or_new n i = elim (either n) [ inl j ↦ inl j | inr e ↦ inr (sym (ap is_some e) ∙ i) ]
+
+  new_in : (n : Key) → Contains keys n → IsSettled grown n
+  new_in n i = ap is_some (put_in s.table keys s.kept n (inl i))
+
+  old_in : (n : Key) → IsSettled s n → IsSettled grown n
+  old_in n i = elim (either n) [ inl j ↦ new_in n j | inr e ↦ ap is_some e ∙ i ]
+
+  grown_right : IsRight grown
+  grown_right = record {
+    present = λ n i. elim (old_or_new n i) [ inl j ↦ whole.present n j | inr j ↦ h.present n j ];
+    closed = λ n i. elim (old_or_new n i) [ inl j ↦ whole.closed n j | inr j ↦ h.closed n j ];
+    below = λ n m i r. elim (old_or_new n i) [ inl j ↦ new_in m (whole.below n m j r) | inr j ↦ old_in m (h.below n m j r) ];
+    right = λ n o e. elim (either n) [
+      | inl j ↦ some_same (outcome s.table n) o (sym (put_in s.table keys s.kept n (inl j)) ∙ e)
+      | inr q ↦ h.right n o (sym q ∙ e)
+    ];
+  }
+    where
+      some_same : (p o : Outcome) → Some p ≡ Some o → o ≡ p
+      some_same p o e = cc
+
+query_right : (s : State) (keys : List Key) (b : Bool) → (b ≡ true → AreWhole s.table keys) → IsRight s → IsRight (after_query b keys s)
+query_right s keys true whole h = grown_right s keys (whole refl) h
+query_right s keys false whole h = h
+
+none_is : {A : Type 0} (o : Option A) → is_none o ≡ true → o ≡ None
+none_is None e = refl
+none_is (Some x) e = cc
+
+-- ---- what an edit leaves
+left_some : (b : Bool) (o : Option Outcome) → is_some (cond b o None) ≡ true → (b ≡ true) × (is_some o ≡ true)
+left_some true o e = (refl, e)
+left_some false o e = cc
+
+left_is : (b : Bool) (o : Option Outcome) (x : Outcome) → cond b o None ≡ Some x → o ≡ Some x
+left_is true o x e = e
+left_is false o x e = cc
+
+module _ (s : State) (table : Table) (keys : List Key) (changed : AreChanged s.table table keys) (h : IsRight s) where
+  abbrev left : State
+  left = after_edit table keys s
+
+  abbrev stays : Key → Bool
+  stays n = not (is_affected s.table keys n)
+
+  parts : (n : Key) → IsSettled left n → (stays n ≡ true) × IsSettled s n
+  parts n i = left_some (stays n) (map_of.get s.kept n) (sym (ap is_some (left_in s.kept stays n)) ∙ i)
+
+  free : (n : Key) → IsSettled left n → IsAffected s.table keys n → ⊥
+  free n i a =
+      true≢false (sym ((affected_law.computed s.table keys n (h.closed n (parts n i).1)).1 a) ∙ not-true (is_affected s.table keys n) (parts n i).0)
+
+  stays_in : (m : Key) → IsSettled s m → (IsAffected s.table keys m → ⊥) → IsSettled left m
+  stays_in m i f =
+      let e : stays m ≡ true =
+      not_from_false (is_affected s.table keys m)
+      (false_from_ne_true (is_affected s.table keys m) (λ q. f ((affected_law.computed s.table keys m (h.closed m i)).0 q))) in
+      ap is_some (left_in s.kept stays m ∙ cond-true (stays m) (map_of.get s.kept m) None e) ∙ i
+
+  as_before : (n : Key) → IsSettled left n → IsAsBefore s.table table n
+  as_before n i = unaffected_law s.table table keys changed n (h.closed n (parts n i).1) (free n i)
+
+  below_still : (n m : Key) → IsSettled left n → Reaches table n m → IsSettled left m
+  below_still n m i r =
+      let before : Reaches s.table n m = ((as_before n i).reach m).1 r in
+      stays_in m (h.below n m (parts n i).1 before) (λ a. free n i (affected_law.users s.table keys n m before a))
+
+  edit_right : IsRight left
+  edit_right = record {
+    present = λ n i. sym (ap is_some (as_before n i).entry) ∙ h.present n (parts n i).1;
+    closed = λ n i. (as_before n i).closed;
+    below = below_still;
+    right = λ n o e.
+        h.right n o (left_is (stays n) (map_of.get s.kept n) o (sym (left_in s.kept stays n) ∙ e)) ∙ (as_before n (ap is_some e)).outcome;
+  }
+
+-- ---- one event, and a list of them
+pub one_step : (e : Event) (s : State) → CanBe e s → IsRight s → IsRight (after e s)
+one_step (AsksWords words) s can h =
+    query_right s (reach s.table words) (is_none (name_fault s.table words))
+    (λ e. words_whole s.table words (none_is (name_fault s.table words) e)) h
+one_step (AsksKey n) s can h =
+    query_right s (n ∷ key_reach s.table n) (is_none (key_fault s.table n))
+    (λ e. key_whole s.table n can (none_is (key_fault s.table n) e)) h
+one_step (Becomes table) s can h = edit_right s table (changed_keys s.table table) can h
+
+pub right_law : RightLaw
+right_law [] s can h = h
+right_law (e ∷ es) s can h = right_law es (after e s) can.1 (one_step e s can.0 h)
+
+pub order_law : OrderLaw
+order_law [] fs s = refl
+order_law (e ∷ es) fs s = order_law es fs (after e s)

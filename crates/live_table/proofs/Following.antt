@@ -1,0 +1,72 @@
+-- Queries one behind another.
+use Rattle.std.proofs.Common.{◌≡◌, ◌≤◌, ℕ, Bool, true, false, List, [], ◌∷◌, ◌++◌, map, filter, take, length, refl, sym, ◌∙◌, ap, subst, arith}
+use Rattle.std.specs.Prelude.{Result, Ok, Err}
+use Rattle.std.specs.declared.alloc.AllocError.{AllocError}
+use Rattle.quantity.specs.Amount.{Amount}
+use Rattle.def_entry.specs.declared.key.Key.{Key}
+use Rattle.def_entry.specs.Tables.{is_present}
+use Rattle.table_names.specs.Faults.{key_fault, name_fault}
+use Rattle.table_names.specs.Reach.{key_reach, reach}
+use Rattle.deck.specs.Tables.{table}
+use Rattle.std.specs.Option.{is_none}
+use Rattle.live_table.specs.declared.fault.QueryFault.{QueryFault}
+use Rattle.live_table.specs.declared.fault.QueryFault.TheVariants.{Name, Value, OutOfMemory}
+use Rattle.live_table.specs.Calls.{AreQueries, IsQuery}
+use Rattle.live_table.specs.Shown.{Follows, IsCutOff, IsRightTable, Shown, state}
+use Rattle.live_table.specs.States.{AsksKey, AsksWords, Becomes, Event, State, after, after_all, after_query}
+use Rattle.live_table.proofs.Events.{order_law}
+
+query_rises : (b : Bool) (keys : List Key) (s : State) → s.steps ≤ (after_query b keys s).steps
+query_rises true keys s = omega arith
+query_rises false keys s = omega arith
+
+event_rises : (e : Event) (s : State) → s.steps ≤ (after e s).steps
+event_rises (AsksWords words) s = query_rises (is_none (name_fault s.table words)) (reach s.table words) s
+event_rises (AsksKey n) s = query_rises (is_none (key_fault s.table n)) (n ∷ key_reach s.table n) s
+event_rises (Becomes t) s = omega arith
+
+pub steps_rise : (es : List Event) (s : State) → s.steps ≤ (after_all es s).steps
+steps_rise [] s = omega arith
+steps_rise (e ∷ es) s =
+    let a : s.steps ≤ (after e s).steps = event_rises e s in
+    let b : (after e s).steps ≤ (after_all es (after e s)).steps = steps_rise es (after e s) in omega arith
+
+pub follows_none : (s : Shown) (n : ℕ) → IsRightTable s → Follows [] s s n n
+follows_none s n right = record { stands = refl; right = right }
+
+pub follows_both : (es fs : List Event) (a b c : Shown) (o n m : ℕ) → Follows es a b o n → Follows fs b c n m → Follows (es ++ fs) a c o m
+follows_both es fs a b c o n m f g = record {
+  stands = g.stands ∙ (ap (after_all fs) f.stands ∙ sym (order_law es fs (state a o)));
+  right = g.right;
+}
+
+-- cut off in the midst of others
+pub cut_both : (es fs gs : List Event) (a b c : Shown) (o n m : ℕ) → b.deck ≡ a.deck → Follows es a b o n → IsCutOff fs b c n m → IsCutOff (es ++ (fs ++ gs)) a c o m
+cut_both es fs gs a b c o n m same f g = record {
+  deck = g.deck ∙ same;
+  right = g.right;
+  least =
+      let x : o ≤ (after_all es (state a o)).steps = steps_rise es (state a o) in
+      let y : n ≡ (after_all es (state a o)).steps = ap (λ (s : State). s.steps) f.stands in
+      let z : n ≤ m = g.least in omega arith;
+  most =
+      let x : m ≤ (after_all fs (state b n)).steps = g.most in
+      let y : (after_all fs (state b n)).steps ≤ (after_all gs (after_all fs (state b n))).steps = steps_rise gs (after_all fs (state b n)) in
+      let z : (after_all (es ++ (fs ++ gs)) (state a o)).steps ≡ (after_all gs (after_all fs (state b n))).steps =
+      ap (λ (s : State). s.steps) (order_law es (fs ++ gs) (state a o) ∙ (ap (after_all (fs ++ gs)) (sym f.stands) ∙ order_law fs gs (state b n))) in
+      omega arith;
+}
+
+-- an answer that is no want of memory, or is told as want of memory after all
+pub query_answer : (e : Event) (r : Result Amount QueryFault) (a b : Shown) (o n : ℕ) → b.deck ≡ a.deck → Follows (e ∷ []) a b o n → IsQuery e r a b o n
+query_answer e (Ok q) a b o n same f = f
+query_answer e (Err (Name x)) a b o n same f = f
+query_answer e (Err (Value v)) a b o n same f = f
+query_answer e (Err OutOfMemory) a b o n same f = record {
+  deck = same;
+  right = f.right;
+  least =
+      let x : o ≤ (after_all (e ∷ []) (state a o)).steps = steps_rise (e ∷ []) (state a o) in
+      let y : n ≡ (after_all (e ∷ []) (state a o)).steps = ap (λ (s : State). s.steps) f.stands in omega arith;
+  most = let y : n ≡ (after_all (e ∷ []) (state a o)).steps = ap (λ (s : State). s.steps) f.stands in omega arith;
+}

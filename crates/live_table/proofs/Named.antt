@@ -1,0 +1,173 @@
+-- One more name at the end changes nothing of the others.
+use Rattle.std.proofs.Common.{◌≡◌, ◌⊎◌, ◌+◌, ◌<◌, ◌≤◌, ℕ, zero, suc, Bool, true, false, List, [], ◌∷◌, ◌++◌, map, length, Vec, Option, Some, None, refl, sym, ◌∙◌, ap, subst, inl, inr, arith, length-append}
+use Rattle.std.specs.declared.alloc.Global.{Global}
+use Rattle.std.specs.List.{slice_get}
+use Rattle.std.specs.Option.{is_some}
+use Rattle.std.proofs.lemmas.Bool.{cases_lt}
+use Rattle.std.proofs.lemmas.List.{map-append}
+use Rattle.def_entry.specs.declared.key.Key.{Key}
+use Rattle.def_entry.specs.Entries.{Entry}
+use Rattle.def_entry.specs.SameKeys.{is_among}
+use Rattle.def_entry.specs.Tables.{Table, entry_at, is_present}
+use Rattle.name_walk.specs.declared.step.Step.{Step}
+use Rattle.name_walk.specs.declared.step.Step.TheVariants.{Nowhere, To}
+use Rattle.name_walk.specs.Closed.{IsSettled}
+use Rattle.name_walk.specs.Lists.{In}
+use Rattle.name_walk.specs.Steps.{Graph, items_of, steps}
+use Rattle.name_walk.proofs.Settled.{settled_law_holds}
+use Rattle.tree_eval.specs.declared.outcome.Outcome.{Outcome}
+use Rattle.table_names.specs.declared.fault.NameFault.{NameFault}
+use Rattle.table_names.specs.Meanings.{key_meaning}
+use Rattle.table_names.specs.Words.{key_words}
+use Rattle.table_names.proofs.KeyLists.{among_member}
+use Rattle.table_names.proofs.Members.{member_at}
+use Rattle.name_numbers.specs.Numbered.{AreWords}
+use Rattle.live_table.specs.declared.callee.Callee.{Callee}
+use Rattle.live_table.specs.declared.dead_end.DeadEnd.{DeadEnd}
+use Rattle.live_table.specs.Callees.{HasRank, HasStarts}
+use Rattle.live_table.specs.Exploring.{AreAdded, AreListed, with_name}
+use Rattle.live_table.specs.Sound.{AreNodes, HasRankOf, HasStartsOf, IsFaithful}
+use Rattle.live_table.specs.Stored.{Listed, kept_of, key_at, onto}
+use Rattle.live_table.proofs.Growing.{key_read, key_same, push_more, same_words, settled_within}
+use Rattle.live_table.proofs.Places.{get_lt, some_same}
+
+nothing_kept : (ks : List Key) (os : List (Option Outcome)) (k : Key) → length os ≡ length ks → kept_of (ks ++ k ∷ []) (os ++ None ∷ []) ≡ kept_of ks os
+nothing_kept [] [] k e = refl
+nothing_kept [] (o ∷ os) k e = absurd (omega arith)
+nothing_kept (x ∷ ks) [] k e = absurd (omega arith)
+nothing_kept (x ∷ ks) (o ∷ os) k e = ap (onto x o) (nothing_kept ks os k (omega arith))
+
+last_key : (ks : List Key) (k : Key) → key_at (ks ++ k ∷ []) (length ks) ≡ k
+last_key [] k = refl
+last_key (x ∷ ks) k = last_key ks k
+
+was_true : (bs : List Bool) (n : ℕ) → slice_get (bs ++ false ∷ []) n ≡ Some true → slice_get bs n ≡ Some true
+was_true [] zero e = cc
+was_true [] (suc n) e = cc
+was_true (b ∷ bs) zero e = e
+was_true (b ∷ bs) (suc n) e = was_true bs n e
+
+steps_front : (g : Graph) (v : Vec Step Global) (n : ℕ) → v.items ≡ [] → steps (g ++ v ∷ []) n ≡ steps g n
+steps_front [] v zero e = e
+steps_front [] v (suc n) e = refl
+steps_front (w ∷ g) v zero e = refl
+steps_front (w ∷ g) v (suc n) e = steps_front g v n e
+
+get_front : {A : Type 0} (xs : List A) (x : A) (n : ℕ) → n < length xs → slice_get (xs ++ x ∷ []) n ≡ slice_get xs n
+get_front [] x n h = absurd (omega arith)
+get_front (y ∷ xs) x zero h = refl
+get_front (y ∷ xs) x (suc n) h = get_front xs x n (omega arith)
+
+one_more : {A : Type 0} (xs : List A) (x : A) → length (xs ++ x ∷ []) ≡ suc (length xs)
+one_more xs x = let e : length (xs ++ x ∷ []) ≡ length xs + 1 = length-append xs (x ∷ []) in omega arith
+
+-- a key that is not among some is at none of their places
+pub not_there : (ks : List Key) (k : Key) → is_among ks k ≡ false → (n : ℕ) → n < length ks → key_at ks n ≡ k → ⊥
+not_there ks k e n h q =
+    let t : is_among ks k ≡ true = among_member ks k (member_at ks n k (key_read ks n h ∙ ap Some q)) in
+    let z : true ≡ false = sym t ∙ e in cc
+
+module _ (t : Table) (l : Listed) (k : Key) (c : Callee) (v : Vec Step Global) (empty : v.items ≡ []) (nodes : AreNodes t l)
+    (new : (n : ℕ) → n < length l.keys → key_at l.keys n ≡ k → ⊥) where
+  abbrev m : Listed
+  m = with_name k c v l
+
+  key_front : (n : ℕ) → n < length l.keys → key_at m.keys n ≡ key_at l.keys n
+  key_front n h = key_same l.keys m.keys n (push_more l.keys (k ∷ [])) h
+
+  apart : (n q : ℕ) → n < length m.keys → q < length m.keys → key_at m.keys n ≡ key_at m.keys q → n ≡ q
+  apart n q h j e =
+      let s : length m.keys ≡ suc (length l.keys) = one_more l.keys k in
+      elim (cases_lt n (length l.keys)) [
+        | inl a ↦ elim (cases_lt q (length l.keys)) [
+          | inl b ↦ nodes.apart n q a b (sym (key_front n a) ∙ (e ∙ key_front q b))
+          | inr b ↦
+              let f : q ≡ length l.keys = omega arith in
+              absurd (new n a (sym (key_front n a) ∙ (e ∙ (ap (key_at m.keys) f ∙ last_key l.keys k))))
+        ]
+        | inr a ↦ elim (cases_lt q (length l.keys)) [
+          | inl b ↦
+              let f : n ≡ length l.keys = omega arith in
+              absurd (new q b (sym (key_front q b) ∙ (sym e ∙ (ap (key_at m.keys) f ∙ last_key l.keys k))))
+          | inr b ↦ omega arith
+        ]
+      ]
+
+  same_graph : (n : ℕ) → steps m.graph n ≡ steps l.graph n
+  same_graph n = steps_front l.graph v n empty
+
+  graph_size : length m.graph ≡ suc (length l.graph)
+  graph_size = one_more l.graph v
+
+  was : (n : ℕ) → IsSettled m.settled n → IsSettled l.settled n
+  was n e = was_true l.settled n e
+
+  still : (n : ℕ) → IsSettled l.settled n → IsSettled m.settled n
+  still n e = push_more l.settled (false ∷ []) n true e
+
+  in_old : (n : ℕ) → IsSettled m.settled n → n < length l.keys
+  in_old n e = settled_within t l nodes n (was n e)
+
+  same_callee : (n : ℕ) → n < length l.keys → slice_get m.callees n ≡ slice_get l.callees n
+  same_callee n h = get_front l.callees c n (let q : length l.callees ≡ length l.keys = nodes.callee_count in omega arith)
+
+  faithful : (n : ℕ) → IsSettled m.settled n → IsFaithful t m n
+  faithful n e ends =
+      subst (λ (p : Key × List Step). AreWords t (key_at m.keys) ends (key_words t p.0) p.1)
+      (λ j. (sym (key_front n (in_old n e)) j, sym (same_graph n) j))
+      (same_words t (key_at l.keys) (key_at m.keys) ends ends (key_words t (key_at l.keys n)) (steps l.graph n)
+      (λ q i. key_front q (settled_within t l nodes q ((nodes.net.settled n (was n e)).1 q i))) (λ b i holder. refl)
+      (nodes.faithful n (was n e) ends))
+
+  starts : (n : ℕ) → IsSettled m.settled n → HasStartsOf t m n
+  starts n e entry callee at is =
+      nodes.starts n (was n e) entry callee (ap (entry_at t) (sym (key_front n (in_old n e))) ∙ at) (sym (same_callee n (in_old n e)) ∙ is)
+
+  ranks : (n : ℕ) → IsSettled m.settled n → HasRankOf t m n
+  ranks n e callee is =
+      subst (λ (q : Key). HasRank (key_meaning t q) callee) (sym (key_front n (in_old n e)))
+      (nodes.ranks n (was n e) callee (sym (same_callee n (in_old n e)) ∙ is))
+
+  named_nodes : AreNodes t m
+  named_nodes = record {
+    step_count = one_more l.graph v ∙ (ap suc nodes.step_count ∙ sym (one_more l.keys k));
+    outcome_count = one_more l.outcomes None ∙ (ap suc nodes.outcome_count ∙ sym (one_more l.keys k));
+    callee_count = one_more l.callees c ∙ (ap suc nodes.callee_count ∙ sym (one_more l.keys k));
+    marked = ap (λ (bs : List Bool). bs ++ false ∷ []) nodes.marked ∙ sym (map-append is_some l.outcomes (None ∷ []));
+    apart = apart;
+    net = record {
+      range = λ a b i.
+          let h : b < length l.graph = nodes.net.range a b (subst (λ (xs : List Step). In (To b) xs) (same_graph a) i) in
+          let s : length m.graph ≡ suc (length l.graph) = graph_size in omega arith;
+      size = one_more l.settled false ∙ (ap suc nodes.net.size ∙ sym graph_size);
+      settled = settled_law_holds.elsewhere l.graph m.graph l.settled m.settled nodes.net.settled
+          (let s : length m.graph ≡ suc (length l.graph) = graph_size in omega arith)
+          (λ n. (was n, still n)) (λ n e. same_graph n);
+    };
+    present = λ n e. subst (λ (q : Key). is_present t q ≡ true) (sym (key_front n (in_old n e))) (nodes.present n (was n e));
+    faithful = faithful;
+    starts = starts;
+    ranks = ranks;
+  }
+
+  pub named_added : (list : List ℕ) (ends : List DeadEnd) → AreListed t l list → AreAdded t l m list list ends ends
+  named_added list ends right = record {
+    grown = record {
+      nodes = named_nodes;
+      kept = nothing_kept l.keys l.outcomes k nodes.outcome_count;
+      listed = record {
+        within = λ n i. let h : n < length l.keys = right.within n i in let s : length m.keys ≡ suc (length l.keys) = one_more l.keys k in omega arith;
+        fresh = λ n i e. right.fresh n i (was n e);
+        present = λ n i. subst (λ (q : Key). is_present t q ≡ true) (sym (key_front n (right.within n i))) (right.present n i);
+        once = right.once;
+      };
+      keys_more = push_more l.keys (k ∷ []);
+      settled_still = still;
+      list_more = λ i x e. e;
+      ends_more = λ i x e. e;
+    };
+    same = record { steps = λ n h o. same_graph n; callees = λ n h o. same_callee n h };
+  }
+
+pub named_number : (l : Listed) (k : Key) (c : Callee) (v : Vec Step Global) → (length l.keys < length (with_name k c v l).keys) × (k ≡ key_at (with_name k c v l).keys (length l.keys))
+named_number l k c v = (let s : length (l.keys ++ k ∷ []) ≡ suc (length l.keys) = one_more l.keys k in omega arith, sym (last_key l.keys k))

@@ -1,0 +1,94 @@
+-- To settle what is reached is to settle what is new of it.
+use Rattle.std.proofs.Common.{◌≡◌, ◌+◌, ◌-◌, ◌^◌, min, ℕ, true, false, List, [], ◌∷◌, length, Contains}
+use Rattle.std.proofs.Common.{Option, Some, None, is_some, refl, sym, ◌∙◌, ap, inl, inr, arith}
+use Rattle.std.specs.FinMap as map_of
+use Rattle.std.specs.List.{IsDistinct}
+use Rattle.std.specs.Ordering.{eq_by_cmp}
+use Rattle.std.proofs.lemmas.Bool.{cases_Bool, cond-false, false_from_ne_true, true≢false}
+use Rattle.std.proofs.lemmas.List.Elements.{All-contains, All-from_recursion}
+use Rattle.def_entry.specs.declared.key.Key.{Key}
+use Rattle.def_entry.specs.KeyOrder.{key_cmp}
+use Rattle.def_entry.specs.SameKeys.{is_among, is_same}
+use Rattle.def_entry.specs.Tables.{Table}
+use Rattle.def_entry.proofs.SameKeys.{key_order, same_keys}
+use Rattle.tree_eval.specs.declared.outcome.Outcome.{Outcome}
+use Rattle.table_names.specs.Meanings.{outcome}
+use Rattle.table_names.proofs.KeyLists.{among_member, member_among}
+use Rattle.table_names.proofs.Members.{member_first, member_later}
+use Rattle.live_table.specs.New.{AreNew, NewLaw}
+use Rattle.live_table.specs.Right.{IsRight, IsSettled}
+use Rattle.live_table.specs.States.{Kept, State, with_outcomes, with_settled}
+use Rattle.live_table.proofs.Outcomes.{inserted, left_out, one_key, put_in}
+
+some_of : (o : Option Outcome) (x : Outcome) → is_some o ≡ true → ((y : Outcome) → o ≡ Some y → y ≡ x) → o ≡ Some x
+some_of None x e h = cc
+some_of (Some y) x e h = ap Some (h y refl)
+
+-- as many more are kept as are put in, where none was kept and none stands twice
+count : (table : Table) (names : List Key) (kept : Kept) → IsDistinct is_same names
+    → ((n : Key) → Contains names n → is_some (map_of.get kept n) ≡ false)
+    → map_of.len (with_outcomes table names kept) ≡ map_of.len kept + length names
+unfolding IsDistinct
+count table [] kept once new = omega arith
+count table (k ∷ names) kept once new =
+    let here : map_of.len (map_of.insert kept k (outcome table k)) ≡ map_of.len kept + 1 =
+    map_of.len-insert key_order.total kept k (outcome table k)
+    ∙ cond-false (is_some (map_of.get kept k)) (map_of.len kept) (map_of.len kept + 1) (new k (member_first k k names refl)) in
+    let rest : map_of.len (with_outcomes table names (map_of.insert kept k (outcome table k)))
+    ≡ map_of.len (map_of.insert kept k (outcome table k)) + length names =
+    count table names (map_of.insert kept k (outcome table k)) once.1 still in
+    omega (arith, here, rest)
+  where
+    apart : (n : Key) → Contains names n → is_same k n ≡ false
+    apart n i = All-contains (λ y. is_same k y ≡ false) names n (All-from_recursion (λ y. is_same k y ≡ false) names once.0) i
+
+    other : (n : Key) → Contains names n → eq_by_cmp key_cmp n k ≡ false
+    other n i = false_from_ne_true (eq_by_cmp key_cmp n k) (λ e. true≢false (sym ((same_keys k n).1 (sym (one_key n k e))) ∙ apart n i))
+
+    still : (n : Key) → Contains names n → is_some (map_of.get (map_of.insert kept k (outcome table k)) n) ≡ false
+    still n i =
+        ap is_some (inserted table kept k n ∙ cond-false (eq_by_cmp key_cmp n k) (Some (outcome table k)) (map_of.get kept n) (other n i))
+        ∙ new n (member_later n k names i)
+
+module _ (s : State) (reached names : List Key) (h : IsRight s) (new : AreNew s reached names) where
+  kept_by : (n : Key) → map_of.get (with_outcomes s.table names s.kept) n ≡ map_of.get (with_outcomes s.table reached s.kept) n
+  kept_by n = elim (cases_Bool (is_among names n)) [
+    | inl e ↦
+        let i : Contains names n = member_among names n e in
+        put_in s.table names s.kept n (inl i) ∙ sym (put_in s.table reached s.kept n (inl ((new.exactly n).0 i).0))
+    | inr e ↦
+        let out : Contains names n → ⊥ = λ i. true≢false (sym (among_member names n i) ∙ e) in
+        left_out s.table names s.kept n out ∙ elim (cases_Bool (is_among reached n)) [
+          | inl q ↦ settled_before (member_among reached n q) (cases_settled (member_among reached n q) out)
+          | inr q ↦ sym (left_out s.table reached s.kept n (λ i. true≢false (sym (among_member reached n i) ∙ q)))
+        ]
+  ]
+    where
+      cases_settled : Contains reached n → (Contains names n → ⊥) → IsSettled s n
+      cases_settled i out = elim (cases_Bool (is_some (map_of.get s.kept n))) [
+        | inl e ↦ e
+        | inr e ↦ absurd (out ((new.exactly n).1 (i, λ q. true≢false (sym q ∙ e))))
+      ]
+
+      settled_before : Contains reached n → IsSettled s n → map_of.get s.kept n ≡ map_of.get (with_outcomes s.table reached s.kept) n
+      settled_before i e = some_of (map_of.get s.kept n) (outcome s.table n) e (h.right n) ∙ sym (put_in s.table reached s.kept n (inl i))
+
+  same_kept : with_outcomes s.table names s.kept ≡ with_outcomes s.table reached s.kept
+  same_kept = map_of.same_map key_order.total key_order.exact _ _ kept_by
+
+  counted : map_of.len (with_outcomes s.table names s.kept) - map_of.len s.kept ≡ length names
+  counted =
+      let c : map_of.len (with_outcomes s.table names s.kept) ≡ map_of.len s.kept + length names =
+      count s.table names s.kept new.once (λ n i. false_from_ne_true _ ((new.exactly n).0 i).1) in
+      omega (arith, c)
+
+  abbrev stands : Kept → ℕ → State
+  stands kept n = record s { kept = kept; reductions = min (2 ^ 64 - 1) (s.reductions + n); steps = s.steps + n }
+
+  settles : with_settled reached s ≡ stands (with_outcomes s.table names s.kept) (length names)
+  settles =
+      ap (λ (m : Kept). stands m (map_of.len m - map_of.len s.kept)) (sym same_kept)
+      ∙ ap (stands (with_outcomes s.table names s.kept)) counted
+
+pub new_law : NewLaw
+new_law s reached names h new = settles s reached names h new

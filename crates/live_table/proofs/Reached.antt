@@ -1,0 +1,272 @@
+-- The names below a query get their steps, one name after another.
+use Rattle.std.proofs.Common.{◌≡◌, ◌⊎◌, ◌+◌, ◌<◌, ◌≤◌, ◌||◌, ℕ, zero, suc, Bool, true, false, List, [], ◌∷◌, ◌++◌, set, take, length, Vec, Option, Some, None, nat_eq, refl, sym, ◌∙◌, ap, subst, inl, inr, arith}
+use Rattle.std.specs.declared.alloc.Global.{Global}
+use Rattle.std.specs.List.{IsDistinct, slice_get}
+use Rattle.std.proofs.lemmas.Bool.{cases_eq, cases_lt, eq-eqb, or_cases}
+use Rattle.std.proofs.lemmas.List.{length-set, take_all}
+use Rattle.def_entry.specs.declared.key.Key.{Key}
+use Rattle.def_entry.specs.Entries.{Entry}
+use Rattle.def_entry.specs.Tables.{Table, entry_at}
+use Rattle.name_walk.specs.declared.step.Step.{Step}
+use Rattle.name_walk.specs.declared.step.Step.TheVariants.{Nowhere, To}
+use Rattle.name_walk.specs.Closed.{IsSettled}
+use Rattle.name_walk.specs.Faults.{on}
+use Rattle.name_walk.specs.Lists.{In}
+use Rattle.name_walk.specs.Steps.{Graph, LeadsTo, items_of, steps}
+use Rattle.name_walk.proofs.Lists.{In-on, In-push, all_at, get_In, on-In, take_at}
+use Rattle.name_walk.proofs.Marks.{get_set_other, get_set_same}
+use Rattle.name_walk.proofs.Settled.{settled_law_holds}
+use Rattle.table_names.specs.Words.{key_words}
+use Rattle.name_numbers.specs.Numbered.{AreWords}
+use Rattle.live_table.specs.declared.callee.Callee.{Callee}
+use Rattle.live_table.specs.declared.dead_end.DeadEnd.{DeadEnd}
+use Rattle.live_table.specs.Callees.{HasStarts}
+use Rattle.live_table.specs.Explored.{AreExplored, fault_at}
+use Rattle.live_table.specs.Exploring.{AreAdded, AreGrown, AreListed, AreSame, AreWritten, IsKnown, IsWritten, is_known, is_marked, with_steps}
+use Rattle.live_table.specs.Sound.{AreNodes, HasRankOf, HasStartsOf, IsFaithful}
+use Rattle.live_table.specs.Stored.{Listed, key_at}
+use Rattle.live_table.proofs.Growing.{grown_both, grown_none, in_more, key_same, known_within, more_length, take_more, written_more}
+use Rattle.live_table.proofs.Places.{get_lt, some_same}
+
+-- ---- other steps of a name that is not settled
+steps_other : (g : Graph) (n m : ℕ) (v : Vec Step Global) → (m ≡ n → ⊥) → steps (set g n v) m ≡ steps g m
+steps_other g n m v ne = ap items_of (get_set_other g n m v ne)
+
+steps_same : (g : Graph) (n : ℕ) (v : Vec Step Global) → n < length g → steps (set g n v) n ≡ v.items
+steps_same g n v h = ap items_of (get_set_same g n v h)
+
+no_steps : (g : Graph) (x : ℕ) (s : Step) → length g ≤ x → In s (steps g x) → ⊥
+no_steps [] x s h j = j
+no_steps (w ∷ g) zero s h j = absurd (omega arith)
+no_steps (w ∷ g) (suc x) s h j = no_steps g x s (omega arith) j
+
+module _ (t : Table) (l : Listed) (n : ℕ) (c : Callee) (v : Vec Step Global) (nodes : AreNodes t l) (fresh : IsSettled l.settled n → ⊥)
+    (inside : (m : ℕ) → In (To m) v.items → m < length l.keys) where
+  abbrev later : Listed
+  later = with_steps n c v l
+
+  count : length (set l.graph n v) ≡ length l.graph
+  count = length-set l.graph n v
+
+  not_n : (m : ℕ) → IsSettled l.settled m → m ≡ n → ⊥
+  not_n m e q = fresh (subst (λ (x : ℕ). IsSettled l.settled x) q e)
+
+  range : (a b : ℕ) → In (To b) (steps (set l.graph n v) a) → b < length (set l.graph n v)
+  range a b i = elim (cases_eq a n) [
+    | inl q ↦ let z : b < length l.graph = at_n q i in let s : length (set l.graph n v) ≡ length l.graph = count in omega arith
+    | inr ne ↦
+        let z : b < length l.graph = nodes.net.range a b (subst (λ (xs : List Step). In (To b) xs) (steps_other l.graph n a v ne) i) in
+        let s : length (set l.graph n v) ≡ length l.graph = count in omega arith
+  ]
+    where
+      at_n : a ≡ n → In (To b) (steps (set l.graph n v) a) → b < length l.graph
+      at_n q j = elim (cases_lt n (length l.graph)) [
+        | inl h ↦
+            let z : b < length l.keys = inside b (subst (λ (xs : List Step). In (To b) xs) (ap (steps (set l.graph n v)) q ∙ steps_same l.graph n v h) j) in
+            let s : length l.graph ≡ length l.keys = nodes.step_count in omega arith
+        | inr h ↦ absurd (no_steps (set l.graph n v) a (To b) (let s : length (set l.graph n v) ≡ length l.graph = count in omega (arith, q)) j)
+      ]
+
+  pub stepped_nodes : AreNodes t later
+  stepped_nodes = record {
+    step_count = count ∙ nodes.step_count;
+    outcome_count = nodes.outcome_count;
+    callee_count = length-set l.callees n c ∙ nodes.callee_count;
+    marked = nodes.marked;
+    apart = nodes.apart;
+    net = record {
+      range = range;
+      size = nodes.net.size ∙ sym count;
+      settled = settled_law_holds.elsewhere l.graph (set l.graph n v) l.settled l.settled nodes.net.settled
+          (let s : length (set l.graph n v) ≡ length l.graph = count in omega arith)
+          (λ m. ((λ e. e), (λ e. e))) (λ m e. steps_other l.graph n m v (not_n m e));
+    };
+    present = nodes.present;
+    faithful = λ m e ends. subst (λ (xs : List Step). AreWords t (key_at l.keys) ends (key_words t (key_at l.keys m)) xs)
+        (sym (steps_other l.graph n m v (not_n m e))) (nodes.faithful m e ends);
+    starts = λ m e entry callee at is. nodes.starts m e entry callee at (sym (get_set_other l.callees n m c (not_n m e)) ∙ is);
+    ranks = λ m e callee is. nodes.ranks m e callee (sym (get_set_other l.callees n m c (not_n m e)) ∙ is);
+  }
+
+-- a name on the list gets its steps, behind what was added for its words
+module _ (t : Table) (l m : Listed) (here there : List ℕ) (ends more : List DeadEnd) (n : ℕ) (c : Callee) (v : Vec Step Global)
+    (added : AreAdded t l m here there ends more) (right : AreListed t l here) (is_listed : In n here)
+    (written : AreWritten t m there more (key_words t (key_at l.keys n)) v.items) where
+  in_there : In n there
+  in_there = in_more here there n added.grown.list_more is_listed
+
+  in_keys : n < length l.keys
+  in_keys = right.within n is_listed
+
+  inside : (q : ℕ) → In (To q) v.items → q < length m.keys
+  inside q i = known_within t m there added.grown.nodes added.grown.listed q (written.targets q i)
+
+  longer : length l.keys ≤ length m.keys
+  longer = more_length l.keys m.keys added.grown.keys_more
+
+  pub stepped_grown : AreGrown t l (with_steps n c v m) here there ends more
+  stepped_grown = record {
+    nodes = stepped_nodes t m n c v added.grown.nodes (added.grown.listed.fresh n in_there) inside;
+    kept = added.grown.kept;
+    listed = record {
+      within = added.grown.listed.within;
+      fresh = added.grown.listed.fresh;
+      present = added.grown.listed.present;
+      once = added.grown.listed.once;
+    };
+    keys_more = added.grown.keys_more;
+    settled_still = added.grown.settled_still;
+    list_more = added.grown.list_more;
+    ends_more = added.grown.ends_more;
+  }
+
+  pub stepped_same : AreSame (λ q. q ≡ n → ⊥) l (with_steps n c v m)
+  stepped_same = record {
+    steps = λ q h ne. steps_other m.graph n q v ne ∙ added.same.steps q h tt;
+    callees = λ q h ne. get_set_other m.callees n q c ne ∙ added.same.callees q h tt;
+  }
+
+  same_key : key_at m.keys n ≡ key_at l.keys n
+  same_key = key_same l.keys m.keys n added.grown.keys_more in_keys
+
+  in_graph : n < length m.graph
+  in_graph = let a : length m.graph ≡ length m.keys = added.grown.nodes.step_count in let b : length l.keys ≤ length m.keys = longer in let h : n < length l.keys = in_keys in omega arith
+
+  in_callees : n < length m.callees
+  in_callees = let a : length m.callees ≡ length m.keys = added.grown.nodes.callee_count in let b : length l.keys ≤ length m.keys = longer in let h : n < length l.keys = in_keys in omega arith
+
+  pub stepped_written : ((e : Entry) → entry_at t (key_at l.keys n) ≡ Some e → HasStarts e.what c) → IsWritten t (with_steps n c v m) there more n
+  stepped_written starts = record {
+    steps = subst (λ (p : Key × List Step). AreWritten t (with_steps n c v m) there more (key_words t p.0) p.1)
+        (λ i. (sym same_key i, sym (steps_same m.graph n v in_graph) i))
+        (record { words = written.words; targets = written.targets; nowhere = written.nowhere });
+    starts = λ e callee at is. subst (HasStarts e.what) (own callee is) (starts e (ap (entry_at t) (sym same_key) ∙ at));
+  }
+    where
+      own : (callee : Callee) → slice_get (set m.callees n c) n ≡ Some callee → c ≡ callee
+      own callee is = some_same c callee (sym (get_set_same m.callees n c in_callees) ∙ is)
+
+-- ---- where the loop stands
+pub record IsExploring (t : Table) (old now : Listed) (here list : List ℕ) (ends more : List DeadEnd) (place : ℕ) : Type 0 where
+  pub grown : AreGrown t old now here list ends more
+  pub gone : (n : ℕ) → In n (take place list) → IsWritten t now list more n
+  pub within : place ≤ length list
+
+pub exploring_start : (t : Table) (l : Listed) (list : List ℕ) (ends : List DeadEnd) → AreNodes t l → AreListed t l list
+    → IsExploring t l l list list ends ends 0
+exploring_start t l list ends nodes right = record {
+  grown = grown_none t l list ends ends nodes right (λ i x e. e);
+  gone = λ n i. absurd i;
+  within = omega arith;
+}
+
+in_take : {A : Type 0} (k : ℕ) (xs : List A) (x : A) → In x (take k xs) → In x xs
+in_take zero xs x i = absurd i
+in_take (suc k) [] x i = i
+in_take (suc k) (y ∷ xs) x (inl e) = inl e
+in_take (suc k) (y ∷ xs) x (inr i) = inr (in_take k xs x i)
+
+distinct_at : (ns : List ℕ) (i n : ℕ) → IsDistinct nat_eq ns → slice_get ns i ≡ Some n → In n (take i ns) → ⊥
+unfolding IsDistinct
+distinct_at [] i n d e j = cc
+distinct_at (x ∷ ns) zero n d e j = j
+distinct_at (x ∷ ns) (suc i) n d e (inr j) = distinct_at ns i n d.1 e j
+distinct_at (x ∷ ns) (suc i) n d e (inl q) =
+    let f : nat_eq x n ≡ false = all_at (λ y. nat_eq x y ≡ false) ns n d.0 (get_In ns i n e) in
+    let t : nat_eq x n ≡ true = eq-eqb x n (sym q) in
+    absurd (let z : true ≡ false = sym t ∙ f in cc)
+
+module _ (t : Table) (old now m : Listed) (here list there : List ℕ) (ends more most : List DeadEnd) (place n : ℕ)
+    (is : slice_get list place ≡ Some n) (s : IsExploring t old now here list ends more place)
+    (grown : AreGrown t now m list there more most) (same : AreSame (λ q. q ≡ n → ⊥) now m) (written : IsWritten t m there most n) where
+  pub listed_now : In n list
+  listed_now = get_In list place n is
+
+  gone_old : (x : ℕ) → In x (take place list) → IsWritten t m there most x
+  gone_old x i =
+      let ne : x ≡ n → ⊥ = (λ q. distinct_at list place n s.grown.listed.once is (subst (λ (y : ℕ). In y (take place list)) q i)) in
+      let h : x < length now.keys = s.grown.listed.within x (in_take place list x i) in
+      record {
+        steps = subst (λ (p : Key × List Step). AreWritten t m there most (key_words t p.0) p.1)
+            (λ j. (sym (key_same now.keys m.keys x grown.keys_more h) j, sym (same.steps x h ne) j))
+            (written_more t now m list there more most s.grown.nodes s.grown.listed grown (key_words t (key_at now.keys x)) (steps now.graph x) (s.gone x i).steps);
+        starts = λ e callee at is. (s.gone x i).starts e callee (ap (entry_at t) (sym (key_same now.keys m.keys x grown.keys_more h)) ∙ at) (sym (same.callees x h ne) ∙ is);
+      }
+
+  enough : place < length list
+  enough = get_lt list place n is
+
+  taken : take (place + 1) there ≡ take place list ++ n ∷ []
+  taken =
+      take_at there place n (grown.list_more place n is)
+      ∙ ap (λ (xs : List ℕ). xs ++ n ∷ []) (take_more list there place grown.list_more (let e : place < length list = enough in omega arith))
+
+  pub exploring_next : IsExploring t old m here there ends most (place + 1)
+  exploring_next = record {
+    grown = grown_both t old now m here list there ends more most s.grown grown;
+    gone = λ x i. elim (In-push (take place list) n x (subst (λ (xs : List ℕ). In x xs) taken i)) [
+      | inl j ↦ gone_old x j
+      | inr e ↦ subst (λ (y : ℕ). IsWritten t m there most y) (sym e) written
+    ];
+    within =
+        let h : length list ≤ length there = more_length list there grown.list_more in
+        let e : place < length list = enough in omega arith;
+  }
+
+-- ---- at the end all is explored
+is_flag : (o : Option Bool) → is_marked o ≡ true → o ≡ Some true
+is_flag None e = cc
+is_flag (Some b) e = ap Some e
+
+or_left : (a b : Bool) → a ≡ true → (a || b) ≡ true
+or_left true b e = refl
+or_left false b e = cc
+
+or_right : (a b : Bool) → b ≡ true → (a || b) ≡ true
+or_right true b e = refl
+or_right false b e = e
+
+pub from_known : (l : Listed) (list : List ℕ) (n : ℕ) → is_known l.settled list n ≡ true → IsKnown l list n
+from_known l list n k = elim (or_cases (is_marked (slice_get l.settled n)) (on list n) k) [
+  | inl e ↦ inl (is_flag (slice_get l.settled n) e)
+  | inr e ↦ inr (on-In list n e)
+]
+
+pub to_known : (l : Listed) (list : List ℕ) (n : ℕ) → IsKnown l list n → is_known l.settled list n ≡ true
+to_known l list n (inl e) = or_left (is_marked (slice_get l.settled n)) (on list n) (ap is_marked e)
+to_known l list n (inr i) = or_right (is_marked (slice_get l.settled n)) (on list n) (In-on list n i)
+
+module _ (t : Table) (old now : Listed) (here list : List ℕ) (ends more : List DeadEnd) (place : ℕ)
+    (s : IsExploring t old now here list ends more place) (all : length list ≤ place) where
+  abbrev known : ℕ → Bool
+  known = is_known now.settled list
+
+  is_gone : (n : ℕ) → In n list → IsWritten t now list more n
+  is_gone n i = s.gone n (subst (λ (xs : List ℕ). In n xs) (sym (take_all place list all)) i)
+
+  is_within : (n : ℕ) → known n ≡ true → n < length now.keys
+  is_within n k = known_within t now list s.grown.nodes s.grown.listed n (from_known now list n k)
+
+  pub explored_all : AreExplored t now more known
+  explored_all = record {
+    numbered = record {
+      within = λ n k. let h : n < length now.keys = is_within n k in let c : length now.graph ≡ length now.keys = s.grown.nodes.step_count in omega arith;
+      below = λ n q k i. elim (from_known now list n k) [
+        | inl e ↦ to_known now list q (inl ((s.grown.nodes.net.settled n e).1 q i))
+        | inr j ↦ to_known now list q ((is_gone n j).steps.targets q i)
+      ];
+      apart = λ n q k j e. s.grown.nodes.apart n q (is_within n k) (is_within q j) e;
+      present = λ n k. elim (from_known now list n k) [ inl e ↦ s.grown.nodes.present n e | inr j ↦ s.grown.listed.present n j ];
+      faithful = λ n k. elim (from_known now list n k) [
+        | inl e ↦ s.grown.nodes.faithful n e (fault_at more)
+        | inr j ↦ (is_gone n j).steps.words
+      ];
+    };
+    starts = λ n k. elim (from_known now list n k) [ inl e ↦ s.grown.nodes.starts n e | inr j ↦ (is_gone n j).starts ];
+  }
+
+-- after the last place there is nothing
+pub at_end : (list : List ℕ) (place : ℕ) → slice_get list place ≡ None → length list ≤ place
+at_end [] place e = omega arith
+at_end (x ∷ list) zero e = cc
+at_end (x ∷ list) (suc place) e = let h : length list ≤ place = at_end list place e in omega arith

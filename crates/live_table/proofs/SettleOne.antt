@@ -1,0 +1,287 @@
+-- A name that is due is settled: its outcome is put in, and the nodes stay sound.
+use Rattle.std.proofs.Common.{◌≡◌, ◌⊎◌, ◌+◌, ◌-◌, ◌^◌, ◌<◌, min, ℕ, Bool, true, false, List, []}
+use Rattle.std.proofs.Common.{◌∷◌, set, length, Contains, Some, is_some, get_or, sym, ◌∙◌}
+use Rattle.std.proofs.Common.{ap, subst, inl, inr, arith}
+use Rattle.std.specs.FinMap as map_of
+use Rattle.std.specs.List.{IsDistinct, slice_get}
+use Rattle.std.specs.Option.{is_none}
+use Rattle.std.proofs.lemmas.Bool.{cases_eq}
+use Rattle.std.proofs.lemmas.List.{length-set, map-set}
+use Rattle.std.proofs.lemmas.Option.{get_or_from_slice_get, slice_get-get_or}
+use Rattle.expr_tree.specs.declared.word_list.WordUse.{WordUse}
+use Rattle.def_entry.specs.declared.key.Key.{Key}
+use Rattle.def_entry.specs.Entries.{Entry}
+use Rattle.def_entry.specs.Tables.{entry_at, is_present}
+use Rattle.deck.specs.Decks.{Contents}
+use Rattle.deck.specs.Tables.{table}
+use Rattle.name_walk.specs.Closed.{IsSettled}
+use Rattle.name_walk.specs.Closed as walk
+use Rattle.name_walk.specs.Steps.{LeadsTo, steps}
+use Rattle.tree_eval.specs.declared.outcome.Outcome.{Outcome}
+use Rattle.tree_eval.specs.Entries.{rank_of_meaning}
+use Rattle.table_names.specs.Closed.{IsClosed}
+use Rattle.table_names.specs.Faults.{key_fault}
+use Rattle.table_names.specs.Leads.{WordsLeadTo, WordsReach, targets}
+use Rattle.table_names.specs.Leads as leads
+use Rattle.table_names.specs.Meanings.{key_meaning, outcome}
+use Rattle.table_names.specs.Reach.{key_reach}
+use Rattle.table_names.specs.Words.{key_words}
+use Rattle.table_names.proofs.Closing.{closed_law}
+use Rattle.table_names.proofs.Members.{member_cases, member_first, no_member}
+use Rattle.table_names.proofs.Reaching.{reach_law}
+use Rattle.live_table.specs.declared.callee.Callee.{Callee}
+use Rattle.live_table.specs.declared.surroundings.Asked.TheVariants.{Name}
+use Rattle.live_table.specs.Asked.{put_in}
+use Rattle.live_table.specs.Callees.{HasRank, HasStarts}
+use Rattle.live_table.specs.Due.{IsDue, with_outcome}
+use Rattle.live_table.specs.New.{AreNew}
+use Rattle.live_table.specs.Ranks.{ranked}
+use Rattle.live_table.specs.Right.{IsRight}
+use Rattle.live_table.specs.Right as right_of
+use Rattle.live_table.specs.Scenes.{IsLed}
+use Rattle.live_table.specs.Shown.{IsRightTable, Shown, state}
+use Rattle.live_table.specs.Sound.{AreNodes, HasRankOf, HasStartsOf, IsFaithful, IsSound}
+use Rattle.live_table.specs.States.{AsksKey, State, after_query, with_settled}
+use Rattle.live_table.specs.Stored.{Listed, kept_of, key_at, shown}
+use Rattle.live_table.specs.Surrounded.{IsSurrounding, scene}
+use Rattle.live_table.proofs.Kept.{key_settled, no_outcome, number_settled, put_at}
+use Rattle.live_table.proofs.New.{new_law}
+use Rattle.live_table.proofs.Events.{one_step}
+use Rattle.live_table.proofs.Places.{element, get_lt, get_set_other, get_set_same, some_same}
+use Rattle.live_table.proofs.Telling.{at_hand_settled, key_settled_words, led_by}
+use Rattle.live_table.proofs.ToldWords.{IsLedBy}
+
+-- what is right does not depend on what was counted
+pub right_anyhow : (deck : Contents) (l : Listed) (r q : ℕ) → IsRightTable (shown deck l r)
+    → IsRightTable (shown deck l q)
+right_anyhow deck l r q h = record { present = h.present; closed = h.closed; below = h.below; right = h.right }
+
+-- a settled number that is asked for
+pub function_surrounded : (deck : Contents) (l : Listed) (r : ℕ) → IsSound deck l r → (n : ℕ) → IsSettled l.settled n
+    → IsSurrounding deck l (Name n)
+function_surrounded deck l r sound n e = record {
+  numbers = sound.numbers;
+  right = right_anyhow deck l r 0 sound.right;
+  subject = at_hand_settled deck l sound.numbers (right_anyhow deck l r 0 sound.right) n e;
+}
+
+-- what is kept of a function stays but for its rank
+pub put_is : (l : Listed) (n : ℕ) (o : Outcome) (rank : ℕ) (found : Callee) → found ≡ get_or l.callees n found
+    → (c : Callee) → slice_get l.callees n ≡ Some c
+    → with_outcome n o (ranked rank found) l ≡ with_outcome n o (ranked rank c) l
+put_is l n o rank found at c e =
+    ap (λ (x : Callee). with_outcome n o (ranked rank x) l) (at ∙ get_or_from_slice_get l.callees n c found e)
+
+-- ---- by name: a closed key of which all that it leads to is settled
+module _ (s : Shown) (k : Key) (right : IsRightTable s) (there : is_present (table s.deck) k ≡ true)
+    (closed : IsClosed (table s.deck) k)
+    (below : (m : Key) → WordsLeadTo (table s.deck) (key_words (table s.deck) k) m → right_of.IsSettled (state s 0) m)
+    (fresh : right_of.IsSettled (state s 0) k → ⊥) where
+  abbrev before : State
+  before = state s 0
+
+  abbrev reached : List Key
+  reached = k ∷ key_reach (table s.deck) k
+
+  all_reached : {words : List WordUse} {m : Key} → WordsReach (table s.deck) words m
+      → ((x : Key) → WordsLeadTo (table s.deck) words x → right_of.IsSettled before x)
+      → right_of.IsSettled before m
+  all_reached {m = m} (leads.at_once h) f = f m h
+  all_reached {m = m} (leads.further {n = n} h r) f = right.below n m (f n h) r
+
+  is_new : AreNew before reached (k ∷ [])
+  unfolding IsDistinct
+  is_new = record { exactly = λ m. (to m, from m); once = (tt, tt) }
+    where
+      to : (m : Key) → Contains (k ∷ []) m → Contains reached m × (right_of.IsSettled before m → ⊥)
+      to m i = elim (member_cases m k [] i) [
+        | inl e ↦ (
+          member_first m k (key_reach (table s.deck) k) e,
+          λ h. fresh
+              (subst (λ (x : Key). right_of.IsSettled before x) e h),
+        )
+        | inr j ↦ absurd (no_member m j)
+      ]
+
+      from : (m : Key) → Contains reached m × (right_of.IsSettled before m → ⊥) → Contains (k ∷ []) m
+      from m h = elim (member_cases m k (key_reach (table s.deck) k) h.0) [
+        | inl e ↦ member_first m k [] e
+        | inr j ↦ absurd (h.1 (all_reached
+            ((reach_law.listed (table s.deck) (key_words (table s.deck) k)
+            ((closed_law.key (table s.deck) k).0 closed) m).0 j) below))
+      ]
+
+  pub put_right : IsRightTable (put_in s (k ∷ []))
+  put_right =
+      let asked : IsRight (after_query (is_none (key_fault (table s.deck) k)) reached before) =
+      one_step (AsksKey k) before there right in
+      let settles : IsRight (with_settled reached before) =
+      subst (λ (b : Bool). IsRight (after_query b reached before)) (ap is_none closed) asked in
+      let h = subst IsRight (new_law before reached (k ∷ []) right is_new) settles in
+      record { present = h.present; closed = h.closed; below = h.below; right = h.right }
+
+-- ---- what is due, by number
+module _ (deck : Contents) (l : Listed) (r n : ℕ) (sound : IsSound deck l r) (due : IsDue (table deck) l n) where
+  abbrev the_key : Key
+  the_key = key_at l.keys n
+
+  pub surrounded : IsSurrounding deck l (Name n)
+  surrounded = record {
+    numbers = sound.numbers;
+    right = right_anyhow deck l r 0 sound.right;
+    subject = record {
+      within = due.within;
+      present = due.present;
+      closed = due.closed;
+      below = due.below;
+      faithful = due.faithful;
+      starts = due.starts;
+    };
+  }
+
+  abbrev Settled : Key → Type 0
+  Settled k = right_of.IsSettled (state (shown deck l r) 0) k
+
+  below_by_name : (m : Key) → WordsLeadTo (table deck) (key_words (table deck) the_key) m
+      → right_of.IsSettled (state (shown deck l r) 0) m
+  below_by_name m (u, i, t) =
+      let at : slice_get (key_words (table deck) the_key) i.0 ≡ Some u =
+      slice_get-get_or (key_words (table deck) the_key) i.0 u i.1 ∙ ap Some i.2 in
+      let h : IsLedBy (scene deck l (Name n)) u (steps l.graph n) i.0 =
+      led_by deck l (Name n) surrounded (key_words (table deck) the_key) (steps l.graph n)
+      (key_settled_words deck l (Name n) surrounded n surrounded.subject) i.0 u at in
+      by h.n h.m h.led h.led.are
+    where
+      by : (x y : ℕ) → IsLed (scene deck l (Name n)) u x y → ((targets (table deck) u ≡ key_at l.keys x ∷ []) ×
+          (x ≡ y)) ⊎ (targets (table deck) u ≡ key_at l.keys x ∷ key_at l.keys y ∷ []) → Settled m
+      by x y led (inl e) = elim (member_cases m (key_at l.keys x) [] (subst (λ (ks : List Key). Contains ks m) e.0 t)) [
+        | inl q ↦ subst Settled (sym q) (key_settled deck l r sound.numbers x led.first)
+        | inr j ↦ absurd (no_member m j)
+      ]
+      by x y led (inr e) = elim (member_cases m (key_at l.keys x) (key_at l.keys y ∷ [])
+          (subst (λ (ks : List Key). Contains ks m) e t)) [
+            | inl q ↦ subst Settled (sym q) (key_settled deck l r sound.numbers x led.first)
+            | inr j ↦ elim (member_cases m (key_at l.keys y) [] j) [
+              | inl q ↦ subst Settled (sym q) (key_settled deck l r sound.numbers y led.second)
+              | inr z ↦ absurd (no_member m z)
+            ]
+          ]
+
+  not_settled : right_of.IsSettled (state (shown deck l r) 0) the_key → ⊥
+  not_settled e = let z : Some false ≡ Some true =
+      sym due.fresh ∙ number_settled deck l r sound.numbers n due.within e in cc
+
+  module _ (o : Outcome) (c : Callee) (now : ℕ) (is : o ≡ outcome (table deck) the_key)
+      (starts : (e : Entry) → entry_at (table deck) the_key ≡ Some e → HasStarts e.what c)
+      (rank : HasRank (key_meaning (table deck) the_key) c)
+      (count : now ≡ min (2 ^ 64 - 1) (r + 1)) where
+    abbrev after : Listed
+    after = with_outcome n o c l
+
+    abbrev Known : ℕ → Type 0
+    Known m = (m ≡ n) ⊎ ((m ≡ n → ⊥) × IsSettled l.settled m)
+
+    pub shown_after : shown deck (with_outcome n o c l) now ≡ put_in (shown deck l r) (the_key ∷ [])
+    shown_after = λ i. record {
+      deck = deck;
+      kept = (put_at l.keys l.outcomes n o sound.numbers.apart due.within
+          (no_outcome l.outcomes n (sym (ap (λ (bs : List Bool). slice_get bs n) sound.numbers.marked) ∙ due.fresh))
+          ∙ ap (map_of.insert (kept_of l.keys l.outcomes) the_key) is) i;
+      reductions = count i;
+    }
+
+    set_there : (m : ℕ) → IsSettled l.settled m → IsSettled (set l.settled n true) m
+    set_there m e = elim (cases_eq m n) [
+      | inl q ↦
+          ap (slice_get (set l.settled n true)) q ∙ get_set_same l.settled n true (get_lt l.settled n false due.fresh)
+      | inr ne ↦ get_set_other l.settled n m true ne ∙ e
+    ]
+
+    set_from : (m : ℕ) → IsSettled (set l.settled n true) m → Known m
+    set_from m e =
+        elim (cases_eq m n) [ inl q ↦ inl q | inr ne ↦ inr (ne, sym (get_set_other l.settled n m true ne) ∙ e) ]
+
+    ends_of : (m : ℕ) → Known m → walk.IsClosed l.graph m × ((q : ℕ) → LeadsTo l.graph m q → IsSettled
+        (set l.settled n true) q)
+    ends_of m (inl e) =
+        subst (λ (x : ℕ). walk.IsClosed l.graph x × ((q : ℕ) → LeadsTo l.graph x q → IsSettled (set l.settled n true)
+        q)) (sym e)
+        (due.ends, λ q h. set_there q (due.below q h))
+    ends_of m (inr e) =
+        ((sound.numbers.net.settled m e.1).0, λ q h. set_there q ((sound.numbers.net.settled m e.1).1 q h))
+
+    present_of : (m : ℕ) → Known m → is_present (table deck) (key_at l.keys m) ≡ true
+    present_of m (inl e) = subst (λ (x : ℕ). is_present (table deck) (key_at l.keys x) ≡ true) (sym e) due.present
+    present_of m (inr e) = sound.numbers.present m e.1
+
+    faithful_of : (m : ℕ) → Known m → IsFaithful (table deck) l m
+    faithful_of m (inl e) = subst (IsFaithful (table deck) l) (sym e) due.faithful
+    faithful_of m (inr e) = sound.numbers.faithful m e.1
+
+    callee_there : slice_get (set l.callees n c) n ≡ Some c
+    callee_there = get_set_same l.callees n c (let a : n < length l.keys = due.within in let b : length l.callees ≡
+        length l.keys = sound.numbers.callee_count in omega arith)
+
+    starts_of : (m : ℕ) → Known m → HasStartsOf (table deck) after m
+    starts_of m (inl e) = subst (HasStartsOf (table deck) after) (sym e)
+        (λ x d entry at. subst (HasStarts x.what) (some_same c d (sym callee_there ∙ at)) (starts x entry))
+    starts_of m (inr e) =
+        λ x d entry at. sound.numbers.starts m e.1 x d entry (sym (get_set_other l.callees n m c e.0) ∙ at)
+
+    rank_of : (m : ℕ) → Known m → HasRankOf (table deck) after m
+    rank_of m (inl e) = subst (HasRankOf (table deck) after) (sym e)
+        (λ d at. subst (HasRank (key_meaning (table deck) the_key)) (some_same c d (sym callee_there ∙ at)) rank)
+    rank_of m (inr e) = λ d at. sound.numbers.ranks m e.1 d (sym (get_set_other l.callees n m c e.0) ∙ at)
+
+    nodes_after : AreNodes (table deck) (with_outcome n o c l)
+    nodes_after = record {
+      step_count = sound.numbers.step_count;
+      outcome_count = length-set l.outcomes n (Some o) ∙ sound.numbers.outcome_count;
+      callee_count = length-set l.callees n c ∙ sound.numbers.callee_count;
+      marked =
+          ap (λ (bs : List Bool). set bs n true) sound.numbers.marked ∙ sym (map-set is_some l.outcomes n (Some o));
+      apart = sound.numbers.apart;
+      net = record {
+        range = sound.numbers.net.range;
+        size = length-set l.settled n true ∙ sound.numbers.net.size;
+        settled = λ m e. ends_of m (set_from m e);
+      };
+      present = λ m e. present_of m (set_from m e);
+      faithful = λ m e. faithful_of m (set_from m e);
+      starts = λ m e. starts_of m (set_from m e);
+      ranks = λ m e. rank_of m (set_from m e);
+    }
+
+    pub sound_after : IsSound deck (with_outcome n o c l) now
+    sound_after = record {
+      numbers = nodes_after;
+      right = subst IsRightTable (sym shown_after) (put_right (shown deck l r) the_key sound.right due.present
+          due.closed below_by_name not_settled);
+      few = omega (arith, count);
+    }
+
+  -- with what was kept of a function, and its rank
+  module _ (o : Outcome) (is : o ≡ outcome (table deck) the_key) (rank : ℕ)
+      (rank_is : rank ≡ rank_of_meaning (key_meaning (table deck) the_key))
+      (now : ℕ) (count : now ≡ min (2 ^ 64 - 1) (r + 1)) (later : Listed)
+      (put : (c : Callee) → slice_get l.callees n ≡ Some c → later ≡ with_outcome n o (ranked rank c) l) where
+    old_callee : (c : Callee) × (slice_get l.callees n ≡ Some c)
+    old_callee = element l.callees n (let a : n < length l.keys = due.within in let b : length l.callees ≡ length
+        l.keys = sound.numbers.callee_count in omega arith)
+
+    later_is : later ≡ with_outcome n o (ranked rank old_callee.0) l
+    later_is = put old_callee.0 old_callee.1
+
+    starts_are : (e : Entry) → entry_at (table deck) the_key ≡ Some e → HasStarts e.what (ranked rank old_callee.0)
+    starts_are e entry = due.starts e old_callee.0 entry old_callee.1
+
+    pub settled_sound : IsSound deck later now
+    settled_sound = subst (λ (x : Listed). IsSound deck x now) (sym later_is)
+        (sound_after o (ranked rank old_callee.0) now is starts_are rank_is count)
+
+    pub settled_nodes : (p : Outcome) × (c : Callee) × (later ≡ with_outcome n p c l)
+    settled_nodes = (o, ranked rank old_callee.0, later_is)
+
+    pub settled_shown : shown deck later now ≡ put_in (shown deck l r) (the_key ∷ [])
+    settled_shown = ap (λ (x : Listed). shown deck x now) later_is
+        ∙ shown_after o (ranked rank old_callee.0) now is starts_are rank_is count

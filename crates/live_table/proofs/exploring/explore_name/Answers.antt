@@ -1,0 +1,49 @@
+use Rattle.std.proofs.Common.{◌≡◌, ◌<◌, ◌≤◌, List, ℕ, length, arith, subst}
+use Rattle.expr_tree.specs.declared.word_list.WordUse.{WordUse}
+use Rattle.deck.specs.Tables.{table}
+use Rattle.live_table.specs.Exploring.{AreWritten}
+use Rattle.live_table.specs.Stored.{listed}
+use Rattle.live_table.proofs.Growing.{more_length}
+use Rattle.live_table.proofs.Reached.{stepped_grown, stepped_same, stepped_written}
+use Rattle.live_table.proofs.exploring.explore_name.Goals as goal
+
+pub words_of_key-requires-clause-within : goal.words_of_key-requires-clause-within
+words_of_key-requires-clause-within c = c.requires.listed.within c.args.n c.requires.name
+
+pub index_mut-requires : goal.index_mut-requires
+index_mut-requires c =
+    let s = c.put_words.new.nodes.callees.ok.0 in
+    let a = c.put_words.ensures.added.grown.nodes.callee_count in
+    let b = more_length c.args.nodes.now.keys c.put_words.new.nodes.keys c.put_words.ensures.added.grown.keys_more in
+    let h = c.requires.listed.within c.args.n c.requires.name in
+    omega arith
+
+pub index_mut-requires-2 : goal.index_mut-requires-2
+index_mut-requires-2 c =
+    let s = c.put_words.new.nodes.steps.ok.0 in
+    let a = c.put_words.ensures.added.grown.nodes.step_count in
+    let b = more_length c.args.nodes.now.keys c.put_words.new.nodes.keys c.put_words.ensures.added.grown.keys_more in
+    let h = c.requires.listed.within c.args.n c.requires.name in
+    omega arith
+
+pub returns-clause-grown : goal.returns-clause-grown
+returns-clause-grown c =
+    stepped_grown (table c.args.deck.now) (listed c.args.nodes.now) (listed c.put_words.new.nodes) c.args.agenda.now c.put_words.new.agenda c.args.dead_ends.now.items c.put_words.new.dead_ends.items
+    c.args.n (record { rank = c.index_mut.result.now.rank; starts = c.in_ok-entry.entry.starts }) c.in_ok-steps.steps c.put_words.ensures.added c.requires.listed c.requires.name
+    (subst (λ (us : List WordUse). AreWritten (table c.args.deck.now) (listed c.put_words.new.nodes) c.put_words.new.agenda c.put_words.new.dead_ends.items us c.in_ok-steps.steps.items)
+    c.in_ok-entry.ensures.words c.in_ok-steps.ensures.written)
+
+pub returns-clause-same : goal.returns-clause-same
+returns-clause-same c =
+    stepped_same (table c.args.deck.now) (listed c.args.nodes.now) (listed c.put_words.new.nodes) c.args.agenda.now c.put_words.new.agenda c.args.dead_ends.now.items c.put_words.new.dead_ends.items
+    c.args.n (record { rank = c.index_mut.result.now.rank; starts = c.in_ok-entry.entry.starts }) c.in_ok-steps.steps c.put_words.ensures.added c.requires.listed c.requires.name
+    (subst (λ (us : List WordUse). AreWritten (table c.args.deck.now) (listed c.put_words.new.nodes) c.put_words.new.agenda c.put_words.new.dead_ends.items us c.in_ok-steps.steps.items)
+    c.in_ok-entry.ensures.words c.in_ok-steps.ensures.written)
+
+pub returns-clause-written : goal.returns-clause-written
+returns-clause-written c =
+    stepped_written (table c.args.deck.now) (listed c.args.nodes.now) (listed c.put_words.new.nodes) c.args.agenda.now c.put_words.new.agenda c.args.dead_ends.now.items c.put_words.new.dead_ends.items
+    c.args.n (record { rank = c.index_mut.result.now.rank; starts = c.in_ok-entry.entry.starts }) c.in_ok-steps.steps c.put_words.ensures.added c.requires.listed c.requires.name
+    (subst (λ (us : List WordUse). AreWritten (table c.args.deck.now) (listed c.put_words.new.nodes) c.put_words.new.agenda c.put_words.new.dead_ends.items us c.in_ok-steps.steps.items)
+    c.in_ok-entry.ensures.words c.in_ok-steps.ensures.written)
+    c.in_ok-entry.ensures.starts

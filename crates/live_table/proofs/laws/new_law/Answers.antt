@@ -1,0 +1,5 @@
+use Rattle.live_table.proofs.New as laws
+use Rattle.live_table.proofs.laws.new_law.Goals as goal
+
+pub returns : goal.returns
+returns c = laws.new_law

@@ -1,0 +1,17 @@
+use Rattle.std.proofs.Common.{sym, subst}
+use Rattle.std.specs.Prelude.{Result}
+use Rattle.std.specs.declared.alloc.AllocError.{AllocError}
+use Rattle.std.proofs.lemmas.Result.{err_from_is_err_and}
+use Rattle.deck.specs.Tables.{table}
+use Rattle.live_table.specs.Calls.{AreQueries, all_names}
+use Rattle.live_table.specs.Shown.{IsRightTable}
+use Rattle.live_table.proofs.NameQueries.{cut_at_once}
+use Rattle.live_table.proofs.live_table.LiveTable.settle_all.Goals as goal
+
+pub returns-in_err-keys-clause-after : goal.returns-in_err-keys-clause-after
+returns-in_err-keys-clause-after g c =
+    let p = err_from_is_err_and c.from_residual.result c.from_residual.ensures.1 in
+    subst (λ (r : Result (Unit {0}) AllocError). AreQueries (all_names (table c.args.self.now.deck)) r c.args.self.now
+    c.args.self.now c.args.steps.now c.args.steps.now) (sym p.1)
+    (cut_at_once (all_names (table c.args.self.now.deck)) c.args.self.now c.args.steps.now
+    (subst IsRightTable c.self.view_is c.self.invariant.right))

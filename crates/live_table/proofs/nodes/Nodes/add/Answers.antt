@@ -1,0 +1,15 @@
+use Rattle.std.proofs.Common.{◌≡◌, ◌++◌, ◌∷◌, [], None, false, List, sym, ◌∙◌, ap}
+use Rattle.live_table.proofs.nodes.Nodes.add.Goals as goal
+
+pub returns-clause-ok : goal.returns-clause-ok
+returns-clause-ok c =
+    let keys = c.in_ok-push.ensures.ok in
+    let callees = c.in_ok-push-2.ensures.items ∙ (λ i. c.reserve.ensures.items i ++ c.no_callee.result ∷ []) in
+    let outcomes = c.in_ok-push-3.ensures.items ∙ (λ i. c.reserve-2.ensures.items i ++ None ∷ []) in
+    let steps = c.in_ok-push-4.ensures.items ∙ (λ i. c.reserve-3.ensures.items i ++ c.new.result ∷ []) in
+    let settled = c.in_ok-push-5.ensures.items ∙ (λ i. c.reserve-4.ensures.items i ++ false ∷ []) in (
+      c.no_callee.result,
+      c.new.result,
+      c.new.ensures.items,
+      λ i. record { keys = keys i; callees = callees i; outcomes = outcomes i; graph = steps i; settled = settled i },
+    )

@@ -1,0 +1,47 @@
+use Rattle.std.proofs.Common.{◌≡◌, ◌<◌, length, arith}
+use Rattle.live_table.specs.Stored.{listed}
+use Rattle.live_table.proofs.Kept.{settled_count}
+use Rattle.live_table.proofs.SettleOne.{settled_nodes, settled_shown, settled_sound}
+use Rattle.live_table.proofs.settling.settle_one.Goals as goal
+
+pub put-requires-clause-callees : goal.put-requires-clause-callees
+put-requires-clause-callees g c =
+    let a : c.args.n < length (listed c.args.nodes.now).keys = c.requires.due.within in
+    let b : length (listed c.args.nodes.now).callees ≡ length (listed c.args.nodes.now).keys =
+    c.requires.sound.numbers.callee_count in
+    omega (arith, a, b)
+
+pub put-requires-clause-outcomes : goal.put-requires-clause-outcomes
+put-requires-clause-outcomes g c =
+    let a : c.args.n < length (listed c.args.nodes.now).keys = c.requires.due.within in
+    let b : length (listed c.args.nodes.now).outcomes ≡ length (listed c.args.nodes.now).keys =
+    c.requires.sound.numbers.outcome_count in
+    omega (arith, a, b)
+
+pub put-requires-clause-settled : goal.put-requires-clause-settled
+put-requires-clause-settled g c =
+    let a : c.args.n < length (listed c.args.nodes.now).keys = c.requires.due.within in
+    let b : length (listed c.args.nodes.now).settled ≡ length (listed c.args.nodes.now).keys =
+    settled_count c.args.deck.now (listed c.args.nodes.now) c.args.reductions.now c.requires.sound.numbers in
+    omega (arith, a, b)
+
+pub returns-clause-sound : goal.returns-clause-sound
+returns-clause-sound g c =
+    settled_sound c.args.deck.now (listed c.args.nodes.now) c.args.reductions.now c.args.n c.requires.sound
+    c.requires.due c.in_ok-outcome.outcome c.in_ok-outcome.ensures.outcome c.rank_of-rank.result
+    c.rank_of-rank.ensures
+    c.saturating_add.result (omega (arith, c.saturating_add.ensures)) (listed c.put.new.nodes) c.put.ensures
+
+pub returns-clause-nodes : goal.returns-clause-nodes
+returns-clause-nodes g c =
+    settled_nodes c.args.deck.now (listed c.args.nodes.now) c.args.reductions.now c.args.n c.requires.sound
+    c.requires.due c.in_ok-outcome.outcome c.in_ok-outcome.ensures.outcome c.rank_of-rank.result
+    c.rank_of-rank.ensures
+    c.saturating_add.result (omega (arith, c.saturating_add.ensures)) (listed c.put.new.nodes) c.put.ensures
+
+pub returns-clause-ok : goal.returns-clause-ok
+returns-clause-ok g c =
+    settled_shown c.args.deck.now (listed c.args.nodes.now) c.args.reductions.now c.args.n c.requires.sound
+    c.requires.due c.in_ok-outcome.outcome c.in_ok-outcome.ensures.outcome c.rank_of-rank.result
+    c.rank_of-rank.ensures
+    c.saturating_add.result (omega (arith, c.saturating_add.ensures)) (listed c.put.new.nodes) c.put.ensures

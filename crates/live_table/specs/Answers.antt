@@ -1,0 +1,41 @@
+-- What queries answer.
+use Rattle.std.specs.Prelude.{◌≡◌, ◌⊎◌, ℕ, List, Option, Some, None, Result, Ok, Err}
+use Rattle.expr_tree.specs.Syntax.{Syntax}
+use Rattle.expr_tree.specs.Words.{words_in}
+use Rattle.quantity.specs.Amount.{Amount}
+use Rattle.def_entry.specs.declared.key.Kind.TheVariants as kind
+use Rattle.def_entry.specs.Keys.{key}
+use Rattle.def_entry.specs.Tables.{Table}
+use Rattle.tree_eval.specs.Expanded.{Meaning, One, Two, Callee}
+use Rattle.tree_eval.specs.Steps.{Worth, one}
+use Rattle.tree_eval.specs.Value.{unapplied, value}
+use Rattle.table_names.specs.declared.fault.NameFault.{NameFault}
+use Rattle.table_names.specs.Faults.{key_fault, name_fault}
+use Rattle.table_names.specs.Meanings.{expansion, key_meaning}
+use Rattle.live_table.specs.declared.fault.QueryFault.{QueryFault}
+use Rattle.live_table.specs.declared.fault.QueryFault.TheVariants.{Name, Value, OutOfMemory}
+
+-- the name fault where there is one, and else the value or its first fault
+abbrev pub by_names : Option NameFault → Worth → Result Amount QueryFault
+by_names (Some fault) worth = Err (Name fault)
+by_names None (Ok q) = Ok q
+by_names None (Err fault) = Err (Value fault)
+
+-- what a tree is worth
+abbrev pub answer : Table → Syntax → Result Amount QueryFault
+answer table e = by_names (name_fault table (words_in e)) (value (expansion table e) None)
+
+-- the inverse of what a function key stands for; of anything else there is none
+abbrev pub inverse_at : Meaning → Amount → Worth
+inverse_at (Callee f) b = unapplied f b
+inverse_at (One x) b = Ok one
+inverse_at (Two x y) b = Ok one
+
+-- the inverse of the function of this name
+abbrev pub inverse_answer : Table → List ℕ → Amount → Result Amount QueryFault
+inverse_answer table name b =
+    by_names (key_fault table (key kind.Func name)) (inverse_at (key_meaning table (key kind.Func name)) b)
+
+-- this answer, or want of memory
+abbrev pub Answers : Result Amount QueryFault → Result Amount QueryFault → Type 0
+Answers result answer = (result ≡ Err OutOfMemory) ⊎ (result ≡ answer)

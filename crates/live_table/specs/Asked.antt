@@ -1,0 +1,77 @@
+-- What asking for names does to a live table.
+use Rattle.std.specs.Prelude.{◌≡◌, ◌⊎◌, ◌+◌, ◌^◌, ◌-◌, ◌≤◌, ℕ, min, List, [], ◌∷◌, map, take, length, Option, Some, None, Result, Ok, Err}
+use Rattle.std.specs.declared.alloc.AllocError.{AllocError}
+use Rattle.def_entry.specs.declared.key.Key.{Key}
+use Rattle.deck.specs.Tables.{table}
+use Rattle.def_entry.specs.Tables.{Table}
+use Rattle.name_walk.specs.declared.step.Step.{Step}
+use Rattle.name_walk.specs.Faults as walk
+use Rattle.name_walk.specs.NewlyClosed.{AreNewlyClosed}
+use Rattle.table_names.specs.declared.fault.NameFault.{NameFault}
+use Rattle.name_numbers.specs.Numbered.{named}
+use Rattle.live_table.specs.declared.dead_end.DeadEnd.{DeadEnd}
+use Rattle.live_table.specs.declared.fault.QueryFault.{QueryFault}
+use Rattle.live_table.specs.declared.fault.QueryFault.TheVariants.{Name, Value, OutOfMemory}
+use Rattle.live_table.specs.Explored.{fault_at}
+use Rattle.live_table.specs.Stored.{Listed, key_at}
+use Rattle.live_table.specs.Shown.{Follows, IsCutOff, Shown}
+use Rattle.live_table.specs.States.{Event, with_outcomes}
+
+-- the outcome of each key put in, and that many counted
+abbrev pub put_in : Shown → List Key → Shown
+put_in s keys = record {
+  deck = s.deck;
+  kept = with_outcomes (table s.deck) keys s.kept;
+  reductions = min (2 ^ 64 - 1) (s.reductions + length keys);
+}
+
+-- all keys of a walk's order are settled, each with one step
+pub record AreAllSettled (keys : List Key) (before now : Shown) (old new : ℕ) : Type 0 where
+  pub shown : now ≡ put_in before keys
+  pub steps : new ≡ old + length keys
+
+-- the first of them are settled, each with one step, and perhaps one step was taken for the next
+pub record AreSomeSettled (keys : List Key) (before now : Shown) (old new : ℕ) : Type 0 where
+  pub count : ℕ
+  pub within : count ≤ length keys
+  pub shown : now ≡ put_in before (take count keys)
+  pub least : old + count ≤ new
+  pub most : new ≤ old + length keys
+
+-- all, or some and then want of memory
+abbrev pub AreSettledBy : List Key → Result (Unit {0}) AllocError → Shown → Shown → ℕ → ℕ → Type 0
+AreSettledBy keys (Ok _) before now old new = AreAllSettled keys before now old new
+AreSettledBy keys (Err _) before now old new = AreSomeSettled keys before now old new
+
+-- names were asked for that have this name fault: none, and they are settled; or it; or want of memory
+abbrev pub IsAsked : {A : Type 0} → Event → Option NameFault → (A → Type 0) → Result A QueryFault → Shown → Shown → ℕ → ℕ → Type 0
+IsAsked event fault Given (Ok x) before now old new = (fault ≡ None) × Given x × Follows (event ∷ []) before now old new
+IsAsked event fault Given (Err (Name f)) before now old new = (fault ≡ Some f) × Follows (event ∷ []) before now old new
+IsAsked event fault Given (Err (Value _)) before now old new = ⊥
+IsAsked event fault Given (Err OutOfMemory) before now old new = IsCutOff (event ∷ []) before now old new
+
+-- a walk without a fault newly closes these names
+pub record IsClosing (l : Listed) (query : List Step) (order : List ℕ) : Type 0 where
+  pub none : walk.fault l.graph [] query ≡ None
+  pub closes : AreNewlyClosed l.graph l.settled query order
+
+-- the fault of a walk, by name
+pub record IsFaulty (table : Table) (l : Listed) (ends : List DeadEnd) (query : List Step) (f : NameFault) : Type 0 where
+  pub fault : walk.NameFault
+  pub some : walk.fault l.graph [] query ≡ Some fault
+  pub by_name : f ≡ named table (key_at l.keys) (fault_at ends) fault
+
+-- nothing changes
+pub record IsStill (before now : Shown) (old new : ℕ) : Type 0 where
+  pub shown : now ≡ before
+  pub steps : new ≡ old
+
+-- a query by number: the names that it newly closes are settled; or it has a fault; or want of memory
+abbrev pub IsAnswered : Table → Listed → List DeadEnd → List Step → Result (Unit {0}) QueryFault → Shown → Shown → ℕ → ℕ → Type 0
+IsAnswered table l ends query (Ok _) before now old new =
+    (order : List ℕ) × IsClosing l query order × AreAllSettled (map (key_at l.keys) order) before now old new
+IsAnswered table l ends query (Err (Name f)) before now old new = IsFaulty table l ends query f × IsStill before now old new
+IsAnswered table l ends query (Err (Value _)) before now old new = ⊥
+IsAnswered table l ends query (Err OutOfMemory) before now old new =
+    IsStill before now old new
+    ⊎ ((order : List ℕ) × IsClosing l query order × AreSomeSettled (map (key_at l.keys) order) before now old new)

@@ -1,0 +1,49 @@
+-- What is kept of a function beside its entry.
+use Rattle.std.specs.Prelude.{◌≡◌, ◌+◌, ℕ, Some, length}
+use Rattle.def_entry.specs.Entries as what
+use Rattle.def_entry.specs.Entries.{Entry, What}
+use Rattle.def_entry.specs.declared.key.Key.{Key}
+use Rattle.def_entry.specs.Tables.{Table, entry_at}
+use Rattle.expr_tree.specs.Words.{words_in}
+use Rattle.tree_eval.specs.declared.holder.Part.{Part}
+use Rattle.tree_eval.specs.declared.holder.Part.TheVariants as part
+use Rattle.tree_eval.specs.Entries.{part_words, rank_of_meaning, words_if}
+use Rattle.tree_eval.specs.Expanded.{Meaning}
+use Rattle.live_table.specs.declared.callee.Callee.{Callee}
+use Rattle.live_table.specs.declared.callee.PartStarts.{PartStarts}
+use Rattle.live_table.specs.declared.entry_words.EntryWords.{EntryWords}
+use Rattle.table_names.specs.Words.{key_words, what_words}
+
+-- where the words of a tree begin among those of its entry: the in unit, the out unit, the forward tree and
+-- the inverse stand behind one another, any other tree stands alone
+abbrev pub start_of : What → Part → ℕ
+start_of (what.Function d) part.OutUnit = length (words_if d.in_unit)
+start_of (what.Function d) part.Forward = length (words_if d.in_unit) + length (words_if d.out_unit)
+start_of (what.Function d) part.Inverse =
+    length (words_if d.in_unit) + length (words_if d.out_unit) + length (words_in d.forward)
+start_of _ _ = 0
+
+-- the same as it is kept
+abbrev pub start_at : PartStarts → Part → ℕ
+start_at starts part.OutUnit = starts.out_unit
+start_at starts part.Forward = starts.forward
+start_at starts part.Inverse = starts.inverse
+start_at starts _ = 0
+
+-- the trees of an entry begin there
+abbrev pub HasStarts : What → Callee → Type 0
+HasStarts what callee = (p : Part) → start_at callee.starts p ≡ start_of what p
+
+-- the rank is that of what the key stands for, 0 where that is no function
+abbrev pub HasRank : Meaning → Callee → Type 0
+HasRank meaning callee = callee.rank ≡ rank_of_meaning meaning
+
+-- the words of an entry, and where its trees begin among them
+pub record AreEntryWords (what : What) (made : EntryWords) : Type 0 where
+  pub words : made.words ≡ what_words what
+  pub starts : (p : Part) → start_at made.starts p ≡ start_of what p
+
+-- the same of the entry of a key
+pub record AreKeyWords (table : Table) (k : Key) (made : EntryWords) : Type 0 where
+  pub words : made.words ≡ key_words table k
+  pub starts : (e : Entry) → entry_at table k ≡ Some e → (p : Part) → start_at made.starts p ≡ start_of e.what p

@@ -1,0 +1,35 @@
+-- Names that are to be settled next.
+use Rattle.std.specs.Prelude.{◌≡◌, ◌<◌, ⊤, ℕ, true, false, List, [], ◌∷◌, length, Some, slice_get, slice_set}
+use Rattle.def_entry.specs.Tables.{Table, is_present}
+use Rattle.name_walk.specs.Closed.{IsSettled}
+use Rattle.name_walk.specs.Closed as walk
+use Rattle.name_walk.specs.Steps.{LeadsTo}
+use Rattle.table_names.specs.Closed.{IsClosed}
+use Rattle.tree_eval.specs.declared.outcome.Outcome.{Outcome}
+use Rattle.live_table.specs.declared.callee.Callee.{Callee}
+use Rattle.live_table.specs.Sound.{HasStartsOf, IsFaithful}
+use Rattle.live_table.specs.Stored.{Listed, key_at}
+
+-- it has an entry, no name fault, and the steps of its words; it is not settled, what it leads to is
+pub record IsDue (table : Table) (l : Listed) (n : ℕ) : Type 0 where
+  pub within : n < length l.keys
+  pub fresh : slice_get l.settled n ≡ Some false
+  pub present : is_present table (key_at l.keys n) ≡ true
+  pub closed : IsClosed table (key_at l.keys n)
+  pub ends : walk.IsClosed l.graph n
+  pub below : (m : ℕ) → LeadsTo l.graph n m → IsSettled l.settled m
+  pub faithful : IsFaithful table l n
+  pub starts : HasStartsOf table l n
+
+-- with its outcome, and what is kept of a function
+abbrev pub with_outcome : ℕ → Outcome → Callee → Listed → Listed
+with_outcome n o c l = record l {
+  callees = slice_set l.callees n c;
+  outcomes = slice_set l.outcomes n (Some o);
+  settled = slice_set l.settled n true;
+}
+
+-- names in an order in which each is due once those before it are settled
+abbrev pub AreDue : Table → Listed → List ℕ → Type 0
+AreDue table l [] = ⊤
+AreDue table l (n ∷ order) = IsDue table l n × ((o : Outcome) (c : Callee) → AreDue table (with_outcome n o c l) order)

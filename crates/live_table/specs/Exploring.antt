@@ -1,0 +1,95 @@
+-- Where an exploring of names stands: names that are still to be gone through are on an agenda.
+use Rattle.std.specs.Prelude.{◌≡◌, ◌⊎◌, ◌||◌, ◌++◌, ◌∷◌, [], ◌<◌, ℕ, Bool, true, false, List, length, Option, Some, None, Vec, nat_eq, slice_get, slice_set}
+use Rattle.std.specs.declared.alloc.Global.{Global}
+use Rattle.std.specs.List.{IsDistinct}
+use Rattle.expr_tree.specs.declared.word_list.WordUse.{WordUse}
+use Rattle.def_entry.specs.declared.key.Key.{Key}
+use Rattle.def_entry.specs.Tables.{Table, is_present}
+use Rattle.name_walk.specs.declared.step.Step.{Step}
+use Rattle.name_walk.specs.declared.step.Step.TheVariants.{Nowhere, To}
+use Rattle.name_walk.specs.Closed.{IsSettled}
+use Rattle.name_walk.specs.Faults.{on}
+use Rattle.name_walk.specs.Lists.{In}
+use Rattle.name_walk.specs.Steps.{steps}
+use Rattle.table_names.specs.Words.{key_words}
+use Rattle.name_numbers.specs.Numbered.{AreWords}
+use Rattle.live_table.specs.declared.callee.Callee.{Callee}
+use Rattle.live_table.specs.declared.dead_end.DeadEnd.{DeadEnd}
+use Rattle.live_table.specs.Explored.{fault_at}
+use Rattle.live_table.specs.Sound.{AreNodes, HasStartsOf}
+use Rattle.live_table.specs.Stored.{Listed, kept_of, key_at}
+
+-- numbers of names that have an entry and are not settled, each once
+pub record AreListed (table : Table) (l : Listed) (list : List ℕ) : Type 0 where
+  pub within : (n : ℕ) → In n list → n < length l.keys
+  pub fresh : (n : ℕ) → In n list → IsSettled l.settled n → ⊥
+  pub present : (n : ℕ) → In n list → is_present table (key_at l.keys n) ≡ true
+  pub once : IsDistinct nat_eq list
+
+-- what stands in the one stands in the other at its place
+abbrev pub IsMore : {A : Type 0} → List A → List A → Type 0
+IsMore {A} xs ys = (i : ℕ) (x : A) → slice_get xs i ≡ Some x → slice_get ys i ≡ Some x
+
+-- names, listed numbers and dead ends are added, and of the settled names the same is kept
+pub record AreGrown (table : Table) (l m : Listed) (here there : List ℕ) (ends more : List DeadEnd) : Type 0 where
+  pub nodes : AreNodes table m
+  pub kept : kept_of m.keys m.outcomes ≡ kept_of l.keys l.outcomes
+  pub listed : AreListed table m there
+  pub keys_more : IsMore l.keys m.keys
+  pub settled_still : (n : ℕ) → IsSettled l.settled n → IsSettled m.settled n
+  pub list_more : IsMore here there
+  pub ends_more : IsMore ends more
+
+-- the names before have the same steps, but perhaps one
+pub record AreSame (Other : ℕ → Type 0) (l m : Listed) : Type 0 where
+  pub steps : (n : ℕ) → n < length l.keys → Other n → steps m.graph n ≡ steps l.graph n
+  pub callees : (n : ℕ) → n < length l.keys → Other n → slice_get m.callees n ≡ slice_get l.callees n
+
+-- they are added, and nothing else changes
+pub record AreAdded (table : Table) (l m : Listed) (here there : List ℕ) (ends more : List DeadEnd) : Type 0 where
+  pub grown : AreGrown table l m here there ends more
+  pub same : AreSame (λ _. Unit {0}) l m
+
+-- settled, or listed
+abbrev pub IsKnown : Listed → List ℕ → ℕ → Type 0
+IsKnown l list n = IsSettled l.settled n ⊎ In n list
+
+-- the same, computed
+abbrev pub is_marked : Option Bool → Bool
+is_marked None = false
+is_marked (Some b) = b
+
+abbrev pub is_known : List Bool → List ℕ → ℕ → Bool
+is_known settled list n = is_marked (slice_get settled n) || on list n
+
+-- these are the steps of the words, each to a name that is settled or listed
+pub record AreWritten (table : Table) (l : Listed) (list : List ℕ) (ends : List DeadEnd) (us : List WordUse) (xs : List Step) : Type 0 where
+  pub words : AreWords table (key_at l.keys) (fault_at ends) us xs
+  pub targets : (n : ℕ) → In (To n) xs → IsKnown l list n
+  pub nowhere : (t : ℕ) → In (Nowhere t) xs → t < length ends
+
+-- behind other steps those of one more word
+abbrev pub AreWrittenBehind : Table → Listed → List ℕ → List DeadEnd → WordUse → List Step → List Step → Type 0
+AreWrittenBehind table l list ends u xs ys = (zs : List Step) × (ys ≡ xs ++ zs) × AreWritten table l list ends (u ∷ []) zs
+
+-- the steps of a number are those of its words
+pub record IsWritten (table : Table) (l : Listed) (list : List ℕ) (ends : List DeadEnd) (n : ℕ) : Type 0 where
+  pub steps : AreWritten table l list ends (key_words table (key_at l.keys n)) (steps l.graph n)
+  pub starts : HasStartsOf table l n
+
+-- one more name, with no steps yet
+abbrev pub with_name : Key → Callee → Vec Step Global → Listed → Listed
+with_name k c v l = record {
+  keys = l.keys ++ k ∷ [];
+  callees = l.callees ++ c ∷ [];
+  outcomes = l.outcomes ++ None ∷ [];
+  graph = l.graph ++ v ∷ [];
+  settled = l.settled ++ false ∷ [];
+}
+
+abbrev pub IsNamed : Key → Listed → Listed → Type 0
+IsNamed k l m = (c : Callee) × (v : Vec Step Global) × (v.items ≡ []) × (m ≡ with_name k c v l)
+
+-- other steps of one name, with where its trees begin
+abbrev pub with_steps : ℕ → Callee → Vec Step Global → Listed → Listed
+with_steps n c v l = record l { callees = slice_set l.callees n c; graph = slice_set l.graph n v }

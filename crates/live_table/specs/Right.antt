@@ -1,0 +1,27 @@
+-- Kept outcomes that are right.
+use Rattle.std.specs.Prelude.{◌≡◌, true, List, Some}
+use Rattle.std.specs.FinMap as map_of
+use Rattle.std.specs.Option.{is_some}
+use Rattle.def_entry.specs.declared.key.Key.{Key}
+use Rattle.def_entry.specs.Tables.{is_present}
+use Rattle.tree_eval.specs.declared.outcome.Outcome.{Outcome}
+use Rattle.table_names.specs.Closed.{IsClosed}
+use Rattle.table_names.specs.Leads.{Reaches}
+use Rattle.table_names.specs.Meanings.{outcome}
+use Rattle.live_table.specs.States.{AllCanBe, Event, State, after_all}
+
+-- a settled name
+abbrev pub IsSettled : State → Key → Type 0
+IsSettled s n = is_some (map_of.get s.kept n) ≡ true
+
+-- each settled name has an entry and no name fault, what it reaches is settled, and what is kept of it is
+-- its outcome in the present table
+pub record IsRight (s : State) : Type 0 where
+  pub present : (n : Key) → IsSettled s n → is_present s.table n ≡ true
+  pub closed : (n : Key) → IsSettled s n → IsClosed s.table n
+  pub below : (n m : Key) → IsSettled s n → Reaches s.table n m → IsSettled s m
+  pub right : (n : Key) (o : Outcome) → map_of.get s.kept n ≡ Some o → o ≡ outcome s.table n
+
+-- law: so it is after any queries and edits
+abbrev pub RightLaw : Type 0
+RightLaw = (es : List Event) (s : State) → AllCanBe es s → IsRight s → IsRight (after_all es s)

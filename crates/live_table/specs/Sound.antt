@@ -1,0 +1,56 @@
+-- What the nodes of a live table owe at any time.
+use Rattle.std.specs.Prelude.{◌≡◌, ◌<◌, ◌≤◌, ◌^◌, ◌-◌, ℕ, true, Option, map, length, Some, slice_get}
+use Rattle.std.specs.Option.{is_some}
+use Rattle.def_entry.specs.declared.key.Key.{Key}
+use Rattle.def_entry.specs.Entries.{Entry}
+use Rattle.def_entry.specs.Tables.{Table, entry_at, is_present}
+use Rattle.deck.specs.Decks.{Contents}
+use Rattle.deck.specs.Tables.{table}
+use Rattle.name_walk.specs.Closed.{IsSettled}
+use Rattle.name_walk.specs.Nets.{IsNet}
+use Rattle.name_walk.specs.Steps.{steps}
+use Rattle.table_names.specs.declared.fault.NameFault.{NameFault}
+use Rattle.table_names.specs.Meanings.{key_meaning}
+use Rattle.table_names.specs.Words.{key_words}
+use Rattle.name_numbers.specs.Numbered.{AreWords}
+use Rattle.live_table.specs.declared.callee.Callee.{Callee}
+use Rattle.live_table.specs.Callees.{HasRank, HasStarts}
+use Rattle.live_table.specs.Shown.{IsRightTable}
+use Rattle.live_table.specs.Stored.{Listed, key_at, shown}
+
+-- the steps of a number are those of the words of its key, whatever the words that lead nowhere are
+abbrev pub IsFaithful : Table → Listed → ℕ → Type 0
+IsFaithful table l n =
+    (dead_end : ℕ → Option Key → NameFault)
+    → AreWords table (key_at l.keys) dead_end (key_words table (key_at l.keys n)) (steps l.graph n)
+
+-- so are the places where the trees of its entry begin
+abbrev pub HasStartsOf : Table → Listed → ℕ → Type 0
+HasStartsOf table l n =
+    (e : Entry) (c : Callee) → entry_at table (key_at l.keys n) ≡ Some e → slice_get l.callees n ≡ Some c
+    → HasStarts e.what c
+
+-- and its rank
+abbrev pub HasRankOf : Table → Listed → ℕ → Type 0
+HasRankOf table l n =
+    (c : Callee) → slice_get l.callees n ≡ Some c → HasRank (key_meaning table (key_at l.keys n)) c
+
+-- each number has a key of its own, and steps; what a settled name leads to is settled, it has an entry, and
+-- its steps are those of its words in the present table. Of any other name the steps may be stale.
+pub record AreNodes (table : Table) (l : Listed) : Type 0 where
+  pub step_count : length l.graph ≡ length l.keys
+  pub outcome_count : length l.outcomes ≡ length l.keys
+  pub callee_count : length l.callees ≡ length l.keys
+  pub marked : l.settled ≡ map is_some l.outcomes
+  pub apart : (n m : ℕ) → n < length l.keys → m < length l.keys → key_at l.keys n ≡ key_at l.keys m → n ≡ m
+  pub net : IsNet l.graph l.settled
+  pub present : (n : ℕ) → IsSettled l.settled n → is_present table (key_at l.keys n) ≡ true
+  pub faithful : (n : ℕ) → IsSettled l.settled n → IsFaithful table l n
+  pub starts : (n : ℕ) → IsSettled l.settled n → HasStartsOf table l n
+  pub ranks : (n : ℕ) → IsSettled l.settled n → HasRankOf table l n
+
+-- a live table: its nodes, and of each settled name the right outcome
+pub record IsSound (deck : Contents) (l : Listed) (reductions : ℕ) : Type 0 where
+  pub numbers : AreNodes (table deck) l
+  pub right : IsRightTable (shown deck l reductions)
+  pub few : reductions ≤ 2 ^ 64 - 1

@@ -1,0 +1,66 @@
+-- What nodes owe to an evaluation.
+use Rattle.std.specs.Prelude.{◌≡◌, ◌<◌, ℕ, true, List, [], Option, Some, None, length}
+use Rattle.expr_tree.specs.declared.word_list.WordUse.{WordUse}
+use Rattle.def_entry.specs.declared.key.Key.{Key}
+use Rattle.def_entry.specs.Tables.{Table, is_present}
+use Rattle.deck.specs.Decks.{Contents}
+use Rattle.deck.specs.Tables.{table}
+use Rattle.name_walk.specs.declared.step.Step.{Step}
+use Rattle.name_walk.specs.declared.step.Step.TheVariants.{To}
+use Rattle.name_walk.specs.Closed.{IsSettled}
+use Rattle.name_walk.specs.Lists.{In}
+use Rattle.name_walk.specs.Steps.{LeadsTo}
+use Rattle.table_names.specs.declared.fault.NameFault.{NameFault}
+use Rattle.table_names.specs.Closed.{AreClosed, IsClosed}
+use Rattle.name_numbers.specs.Numbered.{AreWords}
+use Rattle.live_table.specs.declared.surroundings.Asked.{Asked}
+use Rattle.live_table.specs.declared.surroundings.Asked.TheVariants.{Expression, Name}
+use Rattle.live_table.specs.Scenes.{Scene}
+use Rattle.live_table.specs.Sound.{AreNodes, HasStartsOf, IsFaithful}
+use Rattle.live_table.specs.Shown.{IsRightTable}
+use Rattle.live_table.specs.Stored.{Listed, key_at, shown}
+
+-- words without a name fault with their steps, all of which lead to settled names
+pub record AreSettledWords (table : Table) (l : Listed) (us : List WordUse) (xs : List Step) : Type 0 where
+  pub dead_end : ℕ → Option Key → NameFault
+  pub words : AreWords table (key_at l.keys) dead_end us xs
+  pub closed : AreClosed table us
+  pub settled : (m : ℕ) → In (To m) xs → IsSettled l.settled m
+
+-- a name of which all that it leads to is settled, with the steps of its words
+pub record IsAtHand (table : Table) (l : Listed) (n : ℕ) : Type 0 where
+  pub within : n < length l.keys
+  pub present : is_present table (key_at l.keys n) ≡ true
+  pub closed : IsClosed table (key_at l.keys n)
+  pub below : (m : ℕ) → LeadsTo l.graph n m → IsSettled l.settled m
+  pub faithful : IsFaithful table l n
+  pub starts : HasStartsOf table l n
+
+-- what is asked for, over these nodes
+abbrev pub IsAsked : Table → Listed → Asked → Type 0
+IsAsked table l (Expression us xs) = AreSettledWords table l us.now xs.now
+IsAsked table l (Name n) = IsAtHand table l n
+
+-- nodes with the right outcomes, and what is asked for over them
+pub record IsSurrounding (deck : Contents) (l : Listed) (asked : Asked) : Type 0 where
+  pub numbers : AreNodes (table deck) l
+  pub right : IsRightTable (shown deck l 0)
+  pub subject : IsAsked (table deck) l asked
+
+-- what an evaluation is told by them
+abbrev pub words_of : Asked → List WordUse
+words_of (Expression us xs) = us.now
+words_of (Name n) = []
+
+abbrev pub name_of : Asked → Option ℕ
+name_of (Expression us xs) = None
+name_of (Name n) = Some n
+
+abbrev pub scene : Contents → Listed → Asked → Scene
+scene deck l asked = record {
+  deck = deck;
+  keys = l.keys;
+  settled = l.settled;
+  words = words_of asked;
+  name = name_of asked;
+}

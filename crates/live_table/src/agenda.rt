@@ -1,0 +1,83 @@
+//! Numbers that are to be gone through.
+
+ghost use Rattle.std.specs.Prelude.{◌≡◌, ◌+◌, ◌^◌, ◌<◌, ◌++◌, ◌∷◌, [], length, if◌then◌else◌, IfSome, OnOk, OnErr, slice_get};
+ghost use Rattle.name_walk.specs.Faults.{on};
+ghost use Rattle.live_table.specs.Agendas.{AreSameMarks};
+
+use std::alloc::{AllocError, Global};
+use std::marker::Model;
+
+/// Numbers in order, each once. It keeps its memory from one query to the next.
+#[derive(Drop)]
+pub(crate) struct Agenda {
+    numbers: Vec<usize>,
+    // whether a number is there, false beyond the last
+    marks: Vec<bool>,
+}
+
+impl Model for Agenda {
+    ghost use Rattle.std.specs.Prelude.{List, ℕ};
+    ghost use Rattle.live_table.specs.Agendas.{IsMarked};
+
+    ghost Value = { List ℕ };
+
+    ghost view = { λ a. a.numbers.items };
+
+    ghost invariant = { λ a. IsMarked a.marks.items a.numbers.items };
+}
+
+impl Agenda {
+    /// No number.
+    pub(crate) fn new(alloc: Global) -> Agenda
+        ensures { result ≡ [] }
+    {
+        Agenda {
+            numbers: Vec::new(alloc),
+            marks: Vec::new(alloc),
+        }
+    }
+
+    /// The number at a place, from 0.
+    pub(crate) fn get(&self, place: usize) -> Option<usize>
+        ensures number { result ≡ slice_get self.now place }
+        ensures few { IfSome result (λ _. place + 1 < 2 ^ 64) }
+    {
+        self.numbers.get(place).copied()
+    }
+
+    /// Puts a number, which is below `end`, behind the others, if it is not there. A refusal changes nothing.
+    pub(crate) fn put(&mut self, n: usize, end: usize) -> Result<(), AllocError>
+        requires { n < end }
+        ensures ok { OnOk result (self.new ≡ (if on self.old n then self.old else self.old ++ n ∷ [])) }
+        ensures err { OnErr result (self.new ≡ self.old) }
+    {
+        cover(&mut self.marks, n, end)?;
+        if self.marks[n] {
+            return Ok(());
+        }
+        self.numbers.push(n)?;
+        self.marks[n] = true;
+        Ok(())
+    }
+
+    /// Takes all numbers out, at the cost of how many there are.
+    pub(crate) fn clear(&mut self)
+        ensures { self.new ≡ [] }
+    {
+        while let Some(n) = self.numbers.pop() {
+            self.marks[n] = false;
+        }
+    }
+}
+
+// Makes room for the mark of a number, which is below `end`. No mark changes.
+fn cover(marks: &mut Vec<bool>, n: usize, end: usize) -> Result<(), AllocError>
+    requires { n < end }
+    ensures same { AreSameMarks marks.old.items marks.new.items }
+    ensures ok { OnOk result (n < length marks.new.items) }
+{
+    if n < marks.len() {
+        return Ok(());
+    }
+    marks.resize(end, false)
+}

@@ -1,0 +1,141 @@
+//! Asking for names.
+
+ghost use Rattle.std.specs.Prelude.{◌≡◌, ◌∷◌, [], ℕ, Bool, true, OnOk};
+ghost use Rattle.def_entry.specs.Keys.{key as key_named};
+ghost use Rattle.def_entry.specs.Tables.{is_present};
+ghost use Rattle.name_walk.specs.Closed.{IsSettled};
+ghost use Rattle.deck.specs.Tables.{table};
+ghost use Rattle.table_names.specs.Faults.{key_fault, name_fault};
+ghost use Rattle.name_numbers.specs.Numbered.{LeadToKnown};
+ghost use Rattle.live_table.specs.Asked.{IsAnswered, IsAsked};
+ghost use Rattle.live_table.specs.Explored.{AreExplored};
+ghost use Rattle.live_table.specs.Sound.{IsSound};
+ghost use Rattle.live_table.specs.States.{AsksKey, AsksWords};
+ghost use Rattle.live_table.specs.Stored.{key_at, listed, shown};
+ghost use Rattle.live_table.specs.Surrounded.{AreSettledWords};
+
+use crate::agenda::Agenda;
+use crate::dead_end::DeadEnd;
+use crate::exploring::explore;
+use crate::fault::QueryFault;
+use crate::naming::named_fault;
+use crate::nodes::Nodes;
+use crate::numbering::put_target;
+use crate::settling::settle;
+use crate::stepping::put_words;
+use deck::Deck;
+use def_entry::{Key, Kind};
+use expr_tree::Words;
+use name_numbers::{numbered_fault_law, settling_law};
+use name_walk::{Net, Step, Walker};
+use std::alloc::Global;
+use std::sync::ledger::Ledger;
+use units_io::{Steps, Text};
+
+/// Asks for the names of words: they have a name fault, or what they reach is settled, and their steps are
+/// given. After want of memory some of it may be settled.
+pub(crate) fn ask_words<L: Ledger>(
+    alloc: Global,
+    deck: &Deck,
+    nodes: &mut Nodes,
+    agenda: &mut Agenda,
+    walker: &mut Walker,
+    reductions: &mut u64,
+    words: &Words,
+    steps: &mut Steps<L>,
+) -> Result<Vec<Step>, QueryFault>
+    requires sound { IsSound deck.now (listed nodes.old) reductions.old }
+    ensures sound { IsSound deck.now (listed nodes.new) reductions.new }
+    ensures asked { IsAsked (AsksWords words.now) (name_fault (table deck.now) words.now)
+        (λ query. AreSettledWords (table deck.now) (listed nodes.new) words.now query.items) result
+        (shown deck.now (listed nodes.old) reductions.old) (shown deck.now (listed nodes.new) reductions.new)
+        steps.old steps.new }
+{
+    numbered_fault_law();
+    settling_law();
+    agenda.clear();
+    let mut dead_ends = Vec::new(alloc);
+    let query = put_words(alloc, deck, nodes, agenda, &mut dead_ends, words)?;
+    explore(alloc, deck, nodes, agenda, &mut dead_ends)?;
+    settle_query(
+        alloc, deck, nodes, walker, reductions, &dead_ends, &query, steps,
+    )?;
+    Ok(query)
+}
+
+/// Asks for a key that has an entry, in the same way, and gives its number.
+pub(crate) fn ask_key<L: Ledger>(
+    alloc: Global,
+    deck: &Deck,
+    nodes: &mut Nodes,
+    agenda: &mut Agenda,
+    walker: &mut Walker,
+    reductions: &mut u64,
+    kind: Kind,
+    name: &[u8],
+    steps: &mut Steps<L>,
+) -> Result<usize, QueryFault>
+    requires sound { IsSound deck.now (listed nodes.old) reductions.old }
+    requires present { is_present (table deck.now) (key_named kind name.now) ≡ true }
+    ensures sound { IsSound deck.now (listed nodes.new) reductions.new }
+    ensures asked { IsAsked (AsksKey (key_named kind name.now)) (key_fault (table deck.now) (key_named kind name.now))
+        (λ n. (key_named kind name.now ≡ key_at nodes.new.keys n) × IsSettled nodes.new.settled.items n) result
+        (shown deck.now (listed nodes.old) reductions.old) (shown deck.now (listed nodes.new) reductions.new)
+        steps.old steps.new }
+{
+    numbered_fault_law();
+    settling_law();
+    agenda.clear();
+    let name = Text::from_bytes(alloc, name)?;
+    let n = put_target(alloc, nodes, agenda, Key { kind, name })?;
+    let mut dead_ends = Vec::new(alloc);
+    explore(alloc, deck, nodes, agenda, &mut dead_ends)?;
+    settle_query(
+        alloc,
+        deck,
+        nodes,
+        walker,
+        reductions,
+        &dead_ends,
+        &[Step::To(n)],
+        steps,
+    )?;
+    Ok(n)
+}
+
+// Settles what a query newly closes, unless it has a name fault. All names below it are explored.
+fn settle_query<L: Ledger>(
+    alloc: Global,
+    deck: &Deck,
+    nodes: &mut Nodes,
+    walker: &mut Walker,
+    reductions: &mut u64,
+    dead_ends: &[DeadEnd],
+    query: &[Step],
+    steps: &mut Steps<L>,
+) -> Result<(), QueryFault>
+    requires sound { IsSound deck.now (listed nodes.old) reductions.old }
+    requires explored { (known : ℕ → Bool) × AreExplored (table deck.now) (listed nodes.old) dead_ends.now known
+        × LeadToKnown known query.now }
+    ensures sound { IsSound deck.now (listed nodes.new) reductions.new }
+    ensures keys { OnOk result (nodes.new.keys ≡ nodes.old.keys) }
+    ensures answered { IsAnswered (table deck.now) (listed nodes.old) dead_ends.now query.now result
+        (shown deck.now (listed nodes.old) reductions.old) (shown deck.now (listed nodes.new) reductions.new)
+        steps.old steps.new }
+{
+    numbered_fault_law();
+    let net = Net {
+        steps: &nodes.steps,
+        settled: &nodes.settled,
+    };
+    match walker.walk(alloc, &net, query)? {
+        Some(fault) => {
+            let fault = named_fault(alloc, &nodes.keys, dead_ends, &fault)?;
+            Err(QueryFault::Name(fault))
+        }
+        None => {
+            settle(alloc, deck, nodes, reductions, walker.order(), steps)?;
+            Ok(())
+        }
+    }
+}

@@ -1,0 +1,84 @@
+//! Numbers and steps for all names below a query.
+
+ghost use Rattle.std.specs.Prelude.{◌≡◌, ◌<◌, true, IfOk, length};
+ghost use Rattle.def_entry.specs.Tables.{is_present};
+ghost use Rattle.deck.specs.Tables.{table};
+ghost use Rattle.name_walk.specs.Lists.{In};
+ghost use Rattle.live_table.specs.Callees.{AreKeyWords};
+ghost use Rattle.live_table.specs.Explored.{AreExplored};
+ghost use Rattle.live_table.specs.Exploring.{AreGrown, AreListed, AreSame, IsWritten, is_known};
+ghost use Rattle.live_table.specs.Sound.{AreNodes};
+ghost use Rattle.live_table.specs.Stored.{key_at, listed};
+
+use crate::agenda::Agenda;
+use crate::dead_end::DeadEnd;
+use crate::entry_words::{EntryWords, entry_words};
+use crate::nodes::Nodes;
+use crate::stepping::put_words;
+use deck::Deck;
+use std::alloc::{AllocError, Global};
+
+/// Numbers all names that those on the agenda reach and that are not settled, and gives them their steps in
+/// the present table. Then all of them are on the agenda. The only error is want of memory.
+pub(crate) fn explore(
+    alloc: Global,
+    deck: &Deck,
+    nodes: &mut Nodes,
+    agenda: &mut Agenda,
+    dead_ends: &mut Vec<DeadEnd>,
+) -> Result<(), AllocError>
+    requires nodes { AreNodes (table deck.now) (listed nodes.old) }
+    requires listed { AreListed (table deck.now) (listed nodes.old) agenda.old }
+    ensures grown { AreGrown (table deck.now) (listed nodes.old) (listed nodes.new) agenda.old agenda.new
+        dead_ends.old.items dead_ends.new.items }
+    ensures explored { IfOk result (λ _. AreExplored (table deck.now) (listed nodes.new) dead_ends.new.items
+        (is_known nodes.new.settled.items agenda.new)) }
+{
+    let mut place = 0;
+    while let Some(n) = agenda.get(place) {
+        explore_name(alloc, deck, nodes, agenda, dead_ends, n)?;
+        place += 1;
+    }
+    Ok(())
+}
+
+// Gives a name on the agenda its steps.
+fn explore_name(
+    alloc: Global,
+    deck: &Deck,
+    nodes: &mut Nodes,
+    agenda: &mut Agenda,
+    dead_ends: &mut Vec<DeadEnd>,
+    n: usize,
+) -> Result<(), AllocError>
+    requires nodes { AreNodes (table deck.now) (listed nodes.old) }
+    requires listed { AreListed (table deck.now) (listed nodes.old) agenda.old }
+    requires name { In n agenda.old }
+    ensures grown { AreGrown (table deck.now) (listed nodes.old) (listed nodes.new) agenda.old agenda.new
+        dead_ends.old.items dead_ends.new.items }
+    ensures same { AreSame (λ m. m ≡ n → ⊥) (listed nodes.old) (listed nodes.new) }
+    ensures written { IfOk result (λ _. IsWritten (table deck.now) (listed nodes.new) agenda.new dead_ends.new.items n) }
+{
+    let entry = words_of_key(alloc, deck, nodes, n)?;
+    let steps = put_words(alloc, deck, nodes, agenda, dead_ends, &entry.words)?;
+    nodes.callees[n].starts = entry.starts;
+    nodes.steps[n] = steps;
+    Ok(())
+}
+
+// The words of the entry of a name.
+fn words_of_key(
+    alloc: Global,
+    deck: &Deck,
+    nodes: &Nodes,
+    n: usize,
+) -> Result<EntryWords, AllocError>
+    requires within { n < length nodes.now.keys }
+    requires present { is_present (table deck.now) (key_at nodes.now.keys n) ≡ true }
+    ensures { IfOk result (λ made. AreKeyWords (table deck.now) (key_at nodes.now.keys n) made) }
+{
+    match deck.entry(nodes.keys.kind(n), nodes.keys.name(n)) {
+        Some(entry) => entry_words(alloc, &entry.what),
+        None => unreachable!(),
+    }
+}

@@ -1,0 +1,20 @@
+//! Laws of kept outcomes.
+
+ghost use Rattle.live_table.specs.New.{NewLaw};
+ghost use Rattle.live_table.specs.Right.{RightLaw};
+ghost use Rattle.live_table.specs.States.{OrderLaw};
+
+/// After any queries and edits each kept outcome is that of the present table.
+pub fn right_law()
+    ensures { RightLaw }
+{}
+
+/// What stands after events depends on them one behind another.
+pub fn order_law()
+    ensures { OrderLaw }
+{}
+
+/// What a query settles, by the names that are new.
+pub fn new_law()
+    ensures { NewLaw }
+{}

@@ -1,0 +1,28 @@
+//! A deck with the outcome of each name that was asked for.
+#![tactic(auto)]
+
+mod agenda;
+mod asking;
+mod callee;
+mod counts;
+mod dead_end;
+mod deck_table;
+mod entry_words;
+mod evaluating;
+mod exploring;
+mod fault;
+mod key_index;
+mod laws;
+mod leading;
+mod live_table;
+mod naming;
+mod nodes;
+mod numbering;
+mod settling;
+mod stepping;
+mod surroundings;
+
+pub use counts::Counts;
+pub use fault::QueryFault;
+pub use laws::{new_law, order_law, right_law};
+pub use live_table::LiveTable;

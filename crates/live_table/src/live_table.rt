@@ -1,0 +1,229 @@
+//! A deck with the outcome of each name that was asked for.
+
+ghost use Rattle.std.specs.Prelude.{◌≡◌, ◌∷◌, [], true, length, Err, OnErr, OnOk};
+ghost use Rattle.std.specs.FinMap as map_of;
+ghost use Rattle.expr_tree.specs.Trees.{syntax};
+ghost use Rattle.expr_tree.specs.Words.{words_in};
+ghost use Rattle.def_entry.specs.Keys.{key as key_named};
+ghost use Rattle.def_entry.specs.declared.key.Kind.TheVariants as kind;
+ghost use Rattle.def_entry.specs.Tables.{is_present};
+ghost use Rattle.deck.specs.Tables.{table};
+ghost use Rattle.live_table.specs.declared.fault.QueryFault.TheVariants.{OutOfMemory};
+ghost use Rattle.live_table.specs.Answers as spec;
+ghost use Rattle.live_table.specs.Calls.{ArePresent, AreQueries, IsQuery, all_names, names_in, queries_of};
+ghost use Rattle.live_table.specs.Shown.{IsRightTable};
+ghost use Rattle.live_table.specs.States.{AsksKey, AsksWords};
+
+use crate::agenda::Agenda;
+use crate::asking::{ask_key, ask_words};
+use crate::counts::Counts;
+use crate::evaluating::{inverse_worth, worth};
+use crate::fault::QueryFault;
+use crate::nodes::Nodes;
+use deck::{Deck, key_lists_are_one, table_keys_are_whole};
+use def_entry::{Key, Kind};
+use expr_tree::{Tree, words};
+use name_walk::Walker;
+use quantity::Quantity;
+use std::alloc::{AllocError, Global};
+use std::marker::Model;
+use std::sync::ledger::Ledger;
+use units_io::Steps;
+
+/// A deck with one kept outcome for each settled name. Contracts see the deck, a finite map from
+/// the settled names to their outcomes, and how many names were settled.
+#[derive(Drop)]
+pub struct LiveTable {
+    deck: Deck,
+    nodes: Nodes,
+    // what queries use again
+    agenda: Agenda,
+    walker: Walker,
+    reductions: u64,
+}
+
+impl Model for LiveTable {
+    ghost use Rattle.live_table.specs.Shown.{Shown, shown_code};
+    ghost use Rattle.live_table.specs.Sound.{IsSound};
+    ghost use Rattle.live_table.specs.Stored.{listed, shown};
+
+    ghost Value = { Shown };
+
+    ghost coded = { shown_code };
+
+    ghost view = { λ t. shown t.deck (listed t.nodes) t.reductions };
+
+    ghost invariant = { λ t. IsSound t.deck (listed t.nodes) t.reductions };
+}
+
+impl LiveTable {
+    /// A deck of which no name is settled. It takes no memory.
+    pub fn new(alloc: Global, deck: Deck) -> LiveTable
+        ensures { result ≡ record { deck = deck; kept = map_of.empty; reductions = 0 } }
+    {
+        LiveTable {
+            deck,
+            nodes: Nodes::new(alloc),
+            agenda: Agenda::new(alloc),
+            walker: Walker::new(alloc),
+            reductions: 0,
+        }
+    }
+
+    /// The deck.
+    pub fn deck(&self) -> &Deck
+        ensures deck { result.now ≡ self.now.deck }
+        ensures right { IsRightTable self.now }
+    {
+        &self.deck
+    }
+
+    /// What an expression is worth in the table of the present deck: its name fault where it has
+    /// one, or else its value or the first fault of its whole expansion. Without a name fault the
+    /// names that it reaches are settled from then on, each with one step.
+    pub fn value<L: Ledger>(
+        &mut self,
+        alloc: Global,
+        tree: &Tree,
+        steps: &mut Steps<L>,
+    ) -> Result<Quantity, QueryFault>
+        ensures deck { self.new.deck ≡ self.old.deck }
+        ensures answer { spec.Answers result (spec.answer (table self.old.deck) (syntax tree.now)) }
+        ensures after { IsQuery (AsksWords (words_in (syntax tree.now))) result
+            self.old self.new steps.old steps.new }
+    {
+        let deck = &self.deck;
+        let words = words(alloc, tree)?;
+        let query = ask_words(
+            alloc,
+            deck,
+            &mut self.nodes,
+            &mut self.agenda,
+            &mut self.walker,
+            &mut self.reductions,
+            &words,
+            steps,
+        )?;
+        worth(alloc, deck, &self.nodes, tree, &words, &query)
+    }
+
+    /// The inverse of a function that has an entry at a value, as `value` answers. It asks for the function.
+    pub fn unapply<L: Ledger>(
+        &mut self,
+        alloc: Global,
+        name: &[u8],
+        value: &Quantity,
+        steps: &mut Steps<L>,
+    ) -> Result<Quantity, QueryFault>
+        requires { is_present (table self.old.deck) (key_named kind.Func name.now) ≡ true }
+        ensures deck { self.new.deck ≡ self.old.deck }
+        ensures answer { spec.Answers result (spec.inverse_answer (table self.old.deck) name.now value.now) }
+        ensures after { IsQuery (AsksKey (key_named kind.Func name.now)) result
+            self.old self.new steps.old steps.new }
+    {
+        let n = ask_key(
+            alloc,
+            &self.deck,
+            &mut self.nodes,
+            &mut self.agenda,
+            &mut self.walker,
+            &mut self.reductions,
+            Kind::Func,
+            name,
+            steps,
+        )?;
+        inverse_worth(alloc, &self.deck, &self.nodes, n, value)
+    }
+
+    /// Asks for each unit, prefix and function, in byte order of names. The only error is want of
+    /// memory.
+    pub fn settle_all<L: Ledger>(
+        &mut self,
+        alloc: Global,
+        steps: &mut Steps<L>,
+    ) -> Result<(), AllocError>
+        ensures deck { self.new.deck ≡ self.old.deck }
+        ensures after { AreQueries (all_names (table self.old.deck)) result self.old self.new steps.old steps.new }
+    {
+        key_lists_are_one();
+        let keys = self.deck.keys(alloc)?;
+        self.settle_keys(alloc, keys.as_slice(), steps)
+    }
+
+    // Asks for each unit, prefix and function of keys that have entries.
+    fn settle_keys<L: Ledger>(
+        &mut self,
+        alloc: Global,
+        keys: &[Key],
+        steps: &mut Steps<L>,
+    ) -> Result<(), AllocError>
+        requires right { IsRightTable self.old }
+        requires present { ArePresent (table self.old.deck) keys.now }
+        ensures deck { self.new.deck ≡ self.old.deck }
+        ensures after { AreQueries (queries_of keys.now) result self.old self.new steps.old steps.new }
+    {
+        for key in keys {
+            self.settle_key(alloc, key, steps)?;
+        }
+        Ok(())
+    }
+
+    // Asks for a key that has an entry, unless it is a list.
+    fn settle_key<L: Ledger>(
+        &mut self,
+        alloc: Global,
+        key: &Key,
+        steps: &mut Steps<L>,
+    ) -> Result<(), AllocError>
+        requires right { IsRightTable self.old }
+        requires present { is_present (table self.old.deck) key.now ≡ true }
+        ensures deck { self.new.deck ≡ self.old.deck }
+        ensures after { AreQueries (queries_of (key.now ∷ [])) result self.old self.new steps.old steps.new }
+    {
+        if let Kind::List = key.kind {
+            return Ok(());
+        }
+        let answer = ask_key(
+            alloc,
+            &self.deck,
+            &mut self.nodes,
+            &mut self.agenda,
+            &mut self.walker,
+            &mut self.reductions,
+            key.kind,
+            key.name.as_bytes(),
+            steps,
+        );
+        only_memory(&answer)
+    }
+
+    /// What was counted. The settled names are counted anew, in one pass over the names that were reached.
+    pub fn counts(&self) -> Counts
+        ensures settled { result.settled ≡ map_of.len self.now.kept }
+        ensures names { result.names ≡ length (names_in (table self.now.deck)) }
+        ensures reductions { result.reductions ≡ self.now.reductions }
+    {
+        table_keys_are_whole();
+        // No deck has so many lines that the sum would not fit.
+        let _within = self.deck.lines();
+        let units = self.deck.key_count(Kind::Unit);
+        let prefixes = self.deck.key_count(Kind::Prefix);
+        let functions = self.deck.key_count(Kind::Func);
+        Counts {
+            settled: self.nodes.settled_count(),
+            names: units + prefixes + functions,
+            reductions: self.reductions,
+        }
+    }
+}
+
+// Want of memory, where that is why there is no answer.
+fn only_memory(answer: &Result<usize, QueryFault>) -> Result<(), AllocError>
+    ensures ok { OnOk result (answer.now ≡ Err OutOfMemory → ⊥) }
+    ensures err { OnErr result (answer.now ≡ Err OutOfMemory) }
+{
+    match answer {
+        Err(QueryFault::OutOfMemory) => Err(AllocError),
+        _ => Ok(()),
+    }
+}

@@ -1,0 +1,153 @@
+//! The outcomes of names, in the order of a walk.
+
+ghost use Rattle.std.specs.Prelude.{◌≡◌, ◌+◌, ◌<◌, ◌∷◌, [], ℕ, map, IfOk, OnErr, OnOk, Some, length, slice_get};
+ghost use Rattle.live_table.specs.declared.callee.Callee.{Callee};
+ghost use Rattle.name_walk.specs.Lists.{In};
+ghost use Rattle.deck.specs.Tables.{table};
+ghost use Rattle.tree_eval.specs.Entries.{rank_of_meaning};
+ghost use Rattle.table_names.specs.Meanings as names;
+ghost use Rattle.live_table.specs.Asked.{AreSettledBy, put_in};
+ghost use Rattle.live_table.specs.Due.{AreDue, IsDue, with_outcome};
+ghost use Rattle.live_table.specs.Ranks as ranks;
+ghost use Rattle.live_table.specs.Sound.{IsSound};
+ghost use Rattle.live_table.specs.Stored.{key_at, listed, shown};
+
+use crate::callee::Callee;
+use crate::nodes::Nodes;
+use crate::surroundings::{Asked, Surroundings, entry, steps_of};
+use deck::Deck;
+use name_walk::Step;
+use std::alloc::{AllocError, Global};
+use std::sync::ledger::Ledger;
+use tree_eval::{Outcome, reduce};
+use units_io::Steps;
+
+/// Settles the names of a walk, targets before users, each with one step.
+pub(crate) fn settle<L: Ledger>(
+    alloc: Global,
+    deck: &Deck,
+    nodes: &mut Nodes,
+    reductions: &mut u64,
+    order: &[usize],
+    steps: &mut Steps<L>,
+) -> Result<(), AllocError>
+    requires sound { IsSound deck.now (listed nodes.old) reductions.old }
+    requires order { AreDue (table deck.now) (listed nodes.old) order.now }
+    ensures sound { IsSound deck.now (listed nodes.new) reductions.new }
+    ensures settled { AreSettledBy (map (key_at nodes.old.keys) order.now) result
+        (shown deck.now (listed nodes.old) reductions.old) (shown deck.now (listed nodes.new) reductions.new)
+        steps.old steps.new }
+    ensures keys { OnOk result (nodes.new.keys ≡ nodes.old.keys) }
+{
+    for n in order {
+        settle_one(alloc, deck, nodes, reductions, *n, steps)?;
+    }
+    Ok(())
+}
+
+// Settles a name with one step. Want of memory leaves it as it was.
+fn settle_one<L: Ledger>(
+    alloc: Global,
+    deck: &Deck,
+    nodes: &mut Nodes,
+    reductions: &mut u64,
+    n: usize,
+    steps: &mut Steps<L>,
+) -> Result<(), AllocError>
+    requires sound { IsSound deck.now (listed nodes.old) reductions.old }
+    requires due { IsDue (table deck.now) (listed nodes.old) n }
+    ensures sound { IsSound deck.now (listed nodes.new) reductions.new }
+    ensures nodes { OnOk result
+        ((o : Outcome) × (c : Callee) × (listed nodes.new ≡ with_outcome n o c (listed nodes.old))) }
+    ensures ok { OnOk result (shown deck.now (listed nodes.new) reductions.new
+        ≡ put_in (shown deck.now (listed nodes.old) reductions.old) (key_at nodes.old.keys n ∷ [])) }
+    ensures err { OnErr result (shown deck.now (listed nodes.new) reductions.new
+        ≡ shown deck.now (listed nodes.old) reductions.old) }
+    ensures steps { steps.new ≡ steps.old + 1 }
+{
+    let outcome = outcome_of(alloc, deck, nodes, n, steps)?;
+    let rank = rank_of(deck, nodes, n, &outcome);
+    put(nodes, n, outcome, rank);
+    *reductions = reductions.saturating_add(1);
+    Ok(())
+}
+
+// Puts in the outcome and the rank of a name, which is settled then.
+fn put(nodes: &mut Nodes, n: usize, outcome: Outcome, rank: u32)
+    requires callees { n < length (listed nodes.old).callees }
+    requires outcomes { n < length (listed nodes.old).outcomes }
+    requires settled { n < length (listed nodes.old).settled }
+    ensures { (c : Callee) → slice_get (listed nodes.old).callees n ≡ Some c
+        → listed nodes.new ≡ with_outcome n outcome (ranks.ranked rank c) (listed nodes.old) }
+{
+    let starts = nodes.callees[n].starts;
+    nodes.callees[n] = Callee { rank, starts };
+    nodes.outcomes[n] = Some(outcome);
+    nodes.settled[n] = true;
+}
+
+// The outcome of a name, in one step.
+fn outcome_of<'a, L: Ledger>(
+    alloc: Global,
+    deck: &'a Deck,
+    nodes: &'a Nodes,
+    n: usize,
+    steps: &mut Steps<L>,
+) -> Result<Outcome, AllocError>
+    requires sound { (reductions : ℕ) × IsSound deck.now (listed nodes.now) reductions }
+    requires due { IsDue (table deck.now) (listed nodes.now) n }
+    ensures outcome { IfOk result (λ o. o ≡ names.outcome (table deck.now) (key_at nodes.now.keys n)) }
+    ensures steps { steps.new ≡ steps.old + 1 }
+{
+    let surroundings = Surroundings {
+        deck,
+        nodes,
+        asked: Asked::Name(n),
+    };
+    reduce(
+        alloc,
+        &surroundings,
+        n,
+        nodes.keys.name(n),
+        entry(deck, nodes, n),
+        steps,
+    )
+}
+
+// The rank of a name with this outcome.
+fn rank_of(deck: &Deck, nodes: &Nodes, n: usize, outcome: &Outcome) -> u32
+    requires sound { (reductions : ℕ) × IsSound deck.now (listed nodes.now) reductions }
+    requires due { IsDue (table deck.now) (listed nodes.now) n }
+    requires outcome { outcome.now ≡ names.outcome (table deck.now) (key_at nodes.now.keys n) }
+    ensures { result ≡ rank_of_meaning (names.key_meaning (table deck.now) (key_at nodes.now.keys n)) }
+{
+    // No deck has so many lines that a rank would not fit.
+    let _within = deck.lines();
+    match outcome {
+        Outcome::Callable => greatest_rank(&nodes.callees, steps_of(nodes, n)) + 1,
+        _ => 0,
+    }
+}
+
+// The greatest rank of the names to which the steps lead, 0 where there is none.
+fn greatest_rank(callees: &[Callee], steps: &[Step]) -> u32
+    requires { (m : ℕ) → In (Step.To m) steps.now → m < length callees.now }
+    ensures { result ≡ ranks.greatest_step_rank callees.now steps.now }
+{
+    let mut greatest = 0;
+    for step in steps {
+        greatest = step_rank(callees, *step).max(greatest);
+    }
+    greatest
+}
+
+// The rank of the name to which a step leads.
+fn step_rank(callees: &[Callee], step: Step) -> u32
+    requires { (m : ℕ) → step ≡ Step.To m → m < length callees.now }
+    ensures { result ≡ ranks.step_rank callees.now step }
+{
+    match step {
+        Step::To(n) => callees[n].rank,
+        Step::Nowhere(_) => 0,
+    }
+}

@@ -1,0 +1,131 @@
+//! Steps for words.
+
+ghost use Rattle.std.specs.Prelude.{◌≡◌, ◌++◌, ◌∷◌, [], IfOk, length};
+ghost use Rattle.deck.specs.Tables.{table};
+ghost use Rattle.live_table.specs.Exploring.{AreAdded, AreListed, AreWritten, AreWrittenBehind, IsMore};
+ghost use Rattle.live_table.specs.Sound.{AreNodes};
+ghost use Rattle.live_table.specs.Stored.{listed};
+
+use crate::agenda::Agenda;
+use crate::dead_end::DeadEnd;
+use crate::leading::{Lead, lead_of};
+use crate::nodes::Nodes;
+use crate::numbering::put_target;
+use deck::Deck;
+use expr_tree::{WordUse, Words};
+use name_walk::Step;
+use std::alloc::{AllocError, Global};
+use units_io::Text;
+
+/// The steps of words, two for each. A name that is met for the first time gets a number, and one that is
+/// not settled is put on the agenda. The only error is want of memory.
+pub(crate) fn put_words(
+    alloc: Global,
+    deck: &Deck,
+    nodes: &mut Nodes,
+    agenda: &mut Agenda,
+    dead_ends: &mut Vec<DeadEnd>,
+    words: &Words,
+) -> Result<Vec<Step>, AllocError>
+    requires nodes { AreNodes (table deck.now) (listed nodes.old) }
+    requires listed { AreListed (table deck.now) (listed nodes.old) agenda.old }
+    ensures added { AreAdded (table deck.now) (listed nodes.old) (listed nodes.new)
+        agenda.old agenda.new dead_ends.old.items dead_ends.new.items }
+    ensures written { IfOk result (λ steps. AreWritten (table deck.now) (listed nodes.new) agenda.new
+        dead_ends.new.items words.now steps.items) }
+{
+    let mut steps = Vec::new(alloc);
+    for u in words.as_slice() {
+        put_word(alloc, deck, nodes, agenda, dead_ends, u, &mut steps)?;
+    }
+    Ok(steps)
+}
+
+// Puts the steps of one word behind those of others.
+fn put_word(
+    alloc: Global,
+    deck: &Deck,
+    nodes: &mut Nodes,
+    agenda: &mut Agenda,
+    dead_ends: &mut Vec<DeadEnd>,
+    u: &WordUse,
+    steps: &mut Vec<Step>,
+) -> Result<(), AllocError>
+    requires nodes { AreNodes (table deck.now) (listed nodes.old) }
+    requires listed { AreListed (table deck.now) (listed nodes.old) agenda.old }
+    ensures added { AreAdded (table deck.now) (listed nodes.old) (listed nodes.new)
+        agenda.old agenda.new dead_ends.old.items dead_ends.new.items }
+    ensures written { IfOk result (λ _. AreWrittenBehind (table deck.now) (listed nodes.new) agenda.new
+        dead_ends.new.items u.now steps.old.items steps.new.items) }
+{
+    let word = word_steps(alloc, deck, nodes, agenda, dead_ends, u)?;
+    steps.push(word.first)?;
+    steps.push(word.second)?;
+    Ok(())
+}
+
+// The two steps of a word.
+#[derive(Clone, Copy, Drop)]
+struct WordSteps {
+    first: Step,
+    second: Step,
+}
+
+// The steps of one word.
+fn word_steps(
+    alloc: Global,
+    deck: &Deck,
+    nodes: &mut Nodes,
+    agenda: &mut Agenda,
+    dead_ends: &mut Vec<DeadEnd>,
+    u: &WordUse,
+) -> Result<WordSteps, AllocError>
+    requires nodes { AreNodes (table deck.now) (listed nodes.old) }
+    requires listed { AreListed (table deck.now) (listed nodes.old) agenda.old }
+    ensures added { AreAdded (table deck.now) (listed nodes.old) (listed nodes.new)
+        agenda.old agenda.new dead_ends.old.items dead_ends.new.items }
+    ensures written { IfOk result (λ steps. AreWritten (table deck.now) (listed nodes.new) agenda.new
+        dead_ends.new.items (u.now ∷ []) (steps.first ∷ steps.second ∷ [])) }
+{
+    match lead_of(alloc, deck, u)? {
+        Lead::Refused => put_dead_end(alloc, &u.text, true, dead_ends),
+        Lead::Nowhere => put_dead_end(alloc, &u.text, false, dead_ends),
+        Lead::One(key) => {
+            let n = put_target(alloc, nodes, agenda, key)?;
+            Ok(WordSteps {
+                first: Step::To(n),
+                second: Step::To(n),
+            })
+        }
+        Lead::Two(prefix, unit) => {
+            let n = put_target(alloc, nodes, agenda, prefix)?;
+            let m = put_target(alloc, nodes, agenda, unit)?;
+            Ok(WordSteps {
+                first: Step::To(n),
+                second: Step::To(m),
+            })
+        }
+    }
+}
+
+// The steps of a word that leads nowhere.
+fn put_dead_end(
+    alloc: Global,
+    text: &Text,
+    is_refused: bool,
+    dead_ends: &mut Vec<DeadEnd>,
+) -> Result<WordSteps, AllocError>
+    ensures more { IsMore dead_ends.old.items dead_ends.new.items }
+    ensures put { IfOk result (λ _. dead_ends.new.items
+        ≡ dead_ends.old.items ++ record { text = text.now; is_refused = is_refused } ∷ []) }
+    ensures first { IfOk result (λ steps. steps.first ≡ Step.Nowhere (length dead_ends.old.items)) }
+    ensures second { IfOk result (λ steps. steps.second ≡ Step.Nowhere (length dead_ends.old.items)) }
+{
+    let text = text.copy(alloc)?;
+    let step = Step::Nowhere(dead_ends.len());
+    dead_ends.push(DeadEnd { text, is_refused })?;
+    Ok(WordSteps {
+        first: step,
+        second: step,
+    })
+}

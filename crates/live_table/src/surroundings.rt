@@ -1,0 +1,199 @@
+//! What an evaluation asks of the nodes.
+
+ghost use Rattle.std.specs.Prelude.{◌≡◌, ◌+◌, ◌*◌, ◌^◌, ◌<◌, ℕ, true, Some, length, slice_get};
+ghost use Rattle.def_entry.specs.Tables.{entry_at, is_present};
+ghost use Rattle.def_entry.specs.Views.{entry_view};
+ghost use Rattle.deck.specs.Tables.{table};
+ghost use Rattle.name_walk.specs.Steps.{steps};
+ghost use Rattle.live_table.specs.declared.callee.Callee.{Callee};
+ghost use Rattle.live_table.specs.Callees as callees;
+ghost use Rattle.live_table.specs.Stored.{key_at};
+
+use crate::nodes::Nodes;
+use deck::Deck;
+use def_entry::Entry;
+use expr_tree::Words;
+use name_walk::Step;
+use std::marker::Model;
+use tree_eval::{Env, Holder, Meaning, Outcome, Part};
+
+/// What is asked for.
+#[derive(Clone, Copy, Drop)]
+pub(crate) enum Asked<'a> {
+    /// An expression with these words and their steps.
+    Expression(&'a Words, &'a [Step]),
+    /// The name of this number.
+    Name(usize),
+}
+
+/// A deck and its nodes as an evaluation sees them.
+#[derive(Drop)]
+pub(crate) struct Surroundings<'a> {
+    pub(crate) deck: &'a Deck,
+    pub(crate) nodes: &'a Nodes,
+    pub(crate) asked: Asked<'a>,
+}
+
+impl<'a> Model for Surroundings<'a> {
+    ghost use Rattle.live_table.specs.Scenes.{Scene};
+
+    ghost Value = { Scene };
+
+    ghost use Rattle.live_table.specs.Stored.{listed};
+    ghost use Rattle.live_table.specs.Surrounded.{IsSurrounding, scene};
+
+    ghost view = { λ s. scene s.deck.now (listed s.nodes.now) s.asked };
+
+    ghost invariant = { λ s. IsSurrounding s.deck.now (listed s.nodes.now) s.asked };
+}
+
+impl<'a> Env for Surroundings<'a> {
+    ghost use Rattle.live_table.specs.Scenes as scenes;
+
+    ghost words = { scenes.holder_words };
+
+    ghost means = { scenes.word_means };
+
+    ghost has = { scenes.has_callee };
+
+    ghost callee = { scenes.callee_at };
+
+    fn meaning(&self, holder: Holder, place: usize) -> Meaning<'_> {
+        self.told(self.targets(holder, place))
+    }
+
+    fn function(&self, id: usize) -> &Entry {
+        entry(self.deck, self.nodes, id)
+    }
+
+    fn function_name(&self, id: usize) -> &[u8] {
+        self.nodes.keys.name(id)
+    }
+
+    fn rank(&self, id: usize) -> u32 {
+        self.nodes.callees[id].rank
+    }
+}
+
+// The numbers to which a word leads: its one target twice, or a prefix and a unit.
+#[derive(Clone, Copy, Drop)]
+struct Targets {
+    first: usize,
+    second: usize,
+}
+
+impl<'a> Surroundings<'a> {
+    ghost use Rattle.expr_tree.specs.declared.word_list.WordUse.{WordUse};
+    ghost use Rattle.tree_eval.specs.Environment.{IsTold};
+    ghost use Rattle.table_names.specs.Meanings as names;
+    ghost use Rattle.name_walk.specs.Closed.{IsSettled};
+    ghost use Rattle.live_table.specs.Scenes as scenes;
+
+    // The numbers to which the word at the place leads.
+    fn targets(&self, holder: Holder, place: usize) -> Targets
+        requires { place < length (scenes.holder_words self.now holder) }
+        ensures led { (u : WordUse) → slice_get (scenes.holder_words self.now holder) place ≡ Some u
+            → scenes.IsLed self.now u result.first result.second }
+        ensures first { IsSettled self.now.settled result.first }
+        ensures second { IsSettled self.now.settled result.second }
+        ensures few { place < 2 ^ 63 }
+    {
+        match holder {
+            Holder::Query => match self.asked {
+                Asked::Expression(_, steps) => targets_at(steps, place),
+                Asked::Name(_) => unreachable!(),
+            },
+            Holder::Of(id, part) => {
+                let steps = steps_of(self.nodes, id);
+                targets_at(steps, start_of(self.nodes, id, part) + place)
+            }
+        }
+    }
+
+    // What is told of a word by the numbers to which it leads.
+    fn told(&self, targets: Targets) -> Meaning<'_>
+        requires first { IsSettled self.now.settled targets.first }
+        requires second { IsSettled self.now.settled targets.second }
+        ensures { (u : WordUse) → scenes.IsLed self.now u targets.first targets.second
+            → IsTold (scenes.has_callee self.now) (scenes.callee_at self.now) (scenes.word_means self.now u) result }
+    {
+        let outcome = self.outcome(targets.first);
+        if targets.first != targets.second {
+            return Meaning::Two(outcome, self.outcome(targets.second));
+        }
+        match outcome {
+            Outcome::Callable => Meaning::Function(targets.first),
+            _ => Meaning::One(outcome),
+        }
+    }
+
+    // The outcome of a settled name.
+    fn outcome(&self, n: usize) -> &Outcome
+        requires { IsSettled self.now.settled n }
+        ensures { result.now ≡ names.outcome (table self.now.deck) (key_at self.now.keys n) }
+    {
+        match &self.nodes.outcomes[n] {
+            Some(outcome) => outcome,
+            None => unreachable!(),
+        }
+    }
+}
+
+/// The entry of the key of a number.
+pub(crate) fn entry<'a>(deck: &'a Deck, nodes: &'a Nodes, n: usize) -> &'a Entry
+    requires within { n < length nodes.now.keys }
+    requires present { is_present (table deck.now) (key_at nodes.now.keys n) ≡ true }
+    ensures { entry_at (table deck.now) (key_at nodes.now.keys n) ≡ Some (entry_view result.now) }
+{
+    let kind = nodes.keys.kind(n);
+    let name = nodes.keys.name(n);
+    deck.entry(kind, name).unwrap()
+}
+
+/// The steps of a number.
+pub(crate) fn steps_of(nodes: &Nodes, n: usize) -> &[Step]
+    requires { n < length nodes.now.steps.items }
+    ensures is { result.now ≡ steps nodes.now.steps.items n }
+    ensures few { length result.now < 2 ^ 63 }
+{
+    &nodes.steps[n]
+}
+
+// Where the words of a part begin among those of the entry of a number.
+fn start_of(nodes: &Nodes, n: usize, part: Part) -> usize
+    requires { n < length nodes.now.callees.items }
+    ensures { (c : Callee) → slice_get nodes.now.callees.items n ≡ Some c → result ≡ callees.start_at c.starts part }
+{
+    let starts = &nodes.callees[n].starts;
+    match part {
+        Part::OutUnit => starts.out_unit,
+        Part::Forward => starts.forward,
+        Part::Inverse => starts.inverse,
+        Part::InUnit | Part::TableUnit | Part::Body => 0,
+    }
+}
+
+// The numbers to which the steps of the word at the place lead.
+fn targets_at(steps: &[Step], place: usize) -> Targets
+    requires first { (n : ℕ) × (slice_get steps.now (2 * place) ≡ Some (Step.To n)) }
+    requires second { (n : ℕ) × (slice_get steps.now (2 * place + 1) ≡ Some (Step.To n)) }
+    ensures first { slice_get steps.now (2 * place) ≡ Some (Step.To result.first) }
+    ensures second { slice_get steps.now (2 * place + 1) ≡ Some (Step.To result.second) }
+    ensures few { place < 2 ^ 63 }
+{
+    Targets {
+        first: number_of(steps[2 * place]),
+        second: number_of(steps[2 * place + 1]),
+    }
+}
+
+// The number to which a step leads.
+fn number_of(step: Step) -> usize
+    requires { (n : ℕ) × (step ≡ Step.To n) }
+    ensures { step ≡ Step.To result }
+{
+    match step {
+        Step::To(n) => n,
+        Step::Nowhere(_) => unreachable!(),
+    }
+}
