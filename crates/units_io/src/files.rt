@@ -73,7 +73,7 @@ impl<T: Drop> From<AllocFailed<T>> for StoreFault {
 
 /// Files to read and to write.
 pub trait Files {
-    ghost use Rattle.units_io.specs.Fetching.{FileMap, IsFetched, FailsWithCause, longest_file};
+    ghost use Rattle.units_io.specs.Fetching.{FileMap, IsFetched, FailsWithCause, faults_after_fetch, longest_file};
     ghost use Rattle.units_io.specs.Storing.{IsStored, StoreHasCause};
 
     /// The bytes of each file, where they are told.
@@ -86,12 +86,14 @@ pub trait Files {
     ghost store_faults: { Self → ℕ };
 
     /// The bytes of the file of this name. `Absent` where there is none, `TooLong` where it has more than
-    /// `LONGEST_FILE` bytes, and `Failed` only where the count of failed fetches rose.
+    /// `LONGEST_FILE` bytes, and `Failed` where it could not be read: then, and only then, the count of
+    /// failed fetches is one more.
     fn fetch(&mut self, alloc: Global, name: &[u8]) -> Result<Text, FetchFault>
         ensures told { IfSome (files self.old) (λ m. IsFetched m name.now result) }
         ensures within { IfOk result (λ text. length text ≤ longest_file) }
         ensures kept { files self.new ≡ files self.old }
         ensures cause { FailsWithCause (faults self.old) (faults self.new) result }
+        ensures counted { faults self.new ≡ faults_after_fetch (faults self.old) result }
         ensures stores { store_faults self.new ≡ store_faults self.old };
 
     /// Gives the file of this name these bytes. `Failed` comes only where the count of failed stores rose,
