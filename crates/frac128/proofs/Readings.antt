@@ -1,13 +1,13 @@
 -- What the parts of a numeral give.
-use Rattle.std.proofs.Common.{◌≡◌, ◌≤◌, ◌+ℤ◌, ◌-ℤ◌, ℕ, ℤ, suc, pos, Bool, true, false, List, [], ◌∷◌, length, take, drop, Some, None}
+use Rattle.std.proofs.Common.{◌≡◌, ◌≤◌, ◌-◌, ◌+ℤ◌, ◌-ℤ◌, ℕ, ℤ, suc, pos, Bool, true, false, List, [], ◌∷◌, length, take, drop, Some, None}
 use Rattle.std.proofs.Common.{arith, refl, sym, ap, ◌∙◌}
 use Rattle.std.specs.Prelude.{if◌then◌else◌, ◌==◌, nat_le, Ok, Err}
 use Rattle.std.proofs.lemmas.Bool.Decides.{nat_tests}
 use Rattle.frac128.specs.declared.numeral.NumeralFault.TheVariants.{TooLong}
-use Rattle.frac128.specs.Decimals.{coefficient_of, end_zeros, exponent_of, exponent_size, exponent_text, mantissa, most_exponent, places}
+use Rattle.frac128.specs.Decimals.{coefficient_of, digits_of, end_zeros, exponent_of, exponent_size, exponent_text, mantissa, most_exponent, places}
 use Rattle.frac128.specs.Decimals.{read, short_coefficient}
 use Rattle.frac128.specs.Fraction.{most}
-use Rattle.frac128.specs.Numerals.{is_mark_byte, before, from, is_numeral}
+use Rattle.frac128.specs.Numerals.{before, from, is_digit, is_mark_byte, is_numeral}
 use Rattle.frac128.proofs.Comparisons.{le-false, le-true}
 
 -- a front is no longer than the list
@@ -16,6 +16,16 @@ before-le p [] = omega arith
 before-le p (x ∷ xs) = by_test (p x) (before-le p xs)
   where
     by_test : (b : Bool) → length (before p xs) ≤ length xs → length (if◌then◌else◌ {A = List ℕ} b [] (x ∷ before p xs)) ≤ suc (length xs)
+    by_test true h = omega arith
+    by_test false h = omega arith
+
+-- the digits are no more than the bytes
+digits-le : (bytes : List ℕ) → length (digits_of bytes) ≤ length bytes
+digits-le [] = omega arith
+digits-le (b ∷ bs) = by_test (is_digit b) (digits-le bs)
+  where
+    by_test : (t : Bool) → length (digits_of bs) ≤ length bs
+        → length (if◌then◌else◌ {A = List ℕ} t ((b - 48) ∷ digits_of bs) (digits_of bs)) ≤ suc (length bs)
     by_test true h = omega arith
     by_test false h = omega arith
 
@@ -63,6 +73,13 @@ no_short false p h = refl
 is_shortened : (b : Bool) (p q : ℕ × ℕ) → Some p ≡ (if b then Some q else None) → (b ≡ true) × (p ≡ q)
 is_shortened true p q h = (refl, cc)
 is_shortened false p q h = absurd (cc)
+
+-- the zeros at the end are no more than the bytes
+pub zeros-le : (bytes : List ℕ) (c z : ℕ) → Some (c, z) ≡ short_coefficient bytes → z ≤ length bytes
+zeros-le bytes c z some =
+    let short = is_shortened (nat_le (coefficient_of bytes) most) (c, z) (coefficient_of bytes, end_zeros bytes) some in
+    let z_is : z ≡ end_zeros bytes = ap (λ p. p.1) short.1 in
+    omega (arith, digits-le bytes)
 
 -- the coefficient is too large
 pub read_wide : (bytes m t : List ℕ) → IsSplit bytes m t → None ≡ short_coefficient m → Err TooLong ≡ read bytes

@@ -1,6 +1,6 @@
 //! Decimal numerals as a coefficient and a power of ten, and their values.
 
-ghost use Rattle.std.specs.Prelude.{◌≡◌, ◌+◌, ◌<◌, ◌≤◌, ◌*◌, ◌^◌, pos, SomeIff};
+ghost use Rattle.std.specs.Prelude.{◌≡◌, ◌+◌, ◌<◌, ◌≤◌, ◌*◌, ◌^◌, pos, unsigned_abs, SomeIff};
 ghost use Rattle.frac128.specs.Decimals.{value_of};
 ghost use Rattle.frac128.specs.Fraction.{most};
 ghost use Rattle.frac128.specs.Steps.{ratio};
@@ -20,61 +20,106 @@ pub enum NumeralFault {
 }
 
 /// What a numeral says: a coefficient times ten to a power.
+// Three words, since expressions hold many: the two of the coefficient, and that of the scale,
+// which is below 0 where the first word is.
 #[derive(Clone, Copy, Debug, PartialEq, Eq)]
 pub struct Numeral {
-    coefficient: u128,
-    scale: i128,
+    high: i64,
+    low: u64,
+    tens: u64,
 }
 
 impl Model for Numeral {
-    ghost use Rattle.std.specs.Prelude.{◌≤◌};
+    ghost use Rattle.std.specs.Prelude.{◌≤◌, ◌<◌, ◌+◌, ◌*◌, ◌/◌, ◌%◌, ◌^◌};
+    ghost use Rattle.std.proofs.lemmas.Nat.{mod_low};
     ghost use Rattle.frac128.specs.Decimals.{Decimal};
     ghost use Rattle.frac128.specs.Fraction.{most};
+    ghost use Rattle.frac128.specs.Words.{distance, high_again, tens_again, with_sign_of};
 
     ghost Value = { Decimal };
 
-    ghost view = { λ x. record { coefficient = x.coefficient; scale = x.scale } };
+    ghost view = { λ x. record {
+      coefficient = distance x.high * 2 ^ 64 + x.low;
+      scale = with_sign_of x.high x.tens;
+    } };
 
-    ghost invariant = { λ x. x.coefficient ≤ most };
+    ghost invariant = { λ x. (x.low < 2 ^ 64) × (distance x.high * 2 ^ 64 + x.low ≤ most) };
 
-    ghost inverse = { λ x. record { coefficient = x.coefficient; scale = x.scale } };
+    ghost inverse = { λ x. record {
+      high = with_sign_of x.scale (x.coefficient / 2 ^ 64);
+      low = x.coefficient % 2 ^ 64;
+      tens = distance x.scale;
+    } };
+
+    ghost inverse_ok = { λ x h i. record {
+      high = high_again x.high x.tens x.low h.0 i;
+      low = mod_low (distance x.high) 64 x.low h.0 i;
+      tens = tens_again x.high x.tens i;
+    } };
 }
 
 impl Numeral {
     // The coefficient times ten to the scale.
     pub(crate) fn new(coefficient: u128, scale: i128) -> Numeral
-        requires { coefficient ≤ most }
+        requires coefficient { coefficient ≤ most }
+        requires scale { unsigned_abs scale < 2 ^ 64 }
         ensures { result ≡ record { coefficient = coefficient; scale = scale } }
     {
-        Numeral { coefficient, scale }
+        let high = (coefficient >> 64) as i64;
+        let low = (coefficient % (1 << 64)) as u64;
+        if scale < 0 {
+            Numeral {
+                high: -1 - high,
+                low,
+                tens: (-1 - scale) as u64,
+            }
+        } else {
+            Numeral {
+                high,
+                low,
+                tens: scale as u64,
+            }
+        }
     }
 
     /// The number that is multiplied.
     pub fn coefficient(&self) -> u128
-        ensures { result ≡ self.now.coefficient }
+        ensures is { result ≡ self.now.coefficient }
+        ensures fits { result ≤ most }
     {
-        self.coefficient
+        let high = if self.high < 0 {
+            -1 - self.high
+        } else {
+            self.high
+        };
+        (high as u128) * (1 << 64) + u128::from(self.low)
     }
 
     /// The exponent of the power of ten that it is multiplied by.
     pub fn scale(&self) -> i128
         ensures { result ≡ self.now.scale }
     {
-        self.scale
+        if self.high < 0 {
+            -1 - i128::from(self.tens)
+        } else {
+            i128::from(self.tens)
+        }
     }
 
     /// The value. `Overflow` where it does not fit.
     pub fn value(&self) -> Result<Frac, FracFault>
         ensures { result ≡ value_of self.now }
     {
-        if self.coefficient == 0 {
+        let coefficient = self.coefficient();
+        if coefficient == 0 {
             return Ok(Frac::whole(0));
         }
-        let power = self.scale.unsigned_abs();
-        if self.scale >= 0 {
-            scaled_up(self.coefficient, power)
+        let scale = self.scale();
+        let power = scale.unsigned_abs();
+        if scale >= 0 {
+            scaled_up(coefficient, power)
         } else {
-            scaled_down(self.coefficient, power)
+            scaled_down(coefficient, power)
         }
     }
 }

@@ -80,11 +80,14 @@ fn mark_place(bytes: &[u8]) -> usize
 
 // How many bytes stand after the point, or 0 where there is none.
 fn places(bytes: &[u8]) -> usize
-    ensures { result ≡ places_of bytes.now }
+    ensures is { result ≡ places_of bytes.now }
+    ensures within { result ≤ length bytes.now }
+    ensures fits { length bytes.now < 2 ^ 63 }
 {
+    let len = bytes.len();
     for (i, &byte) in bytes.iter().enumerate() {
         if byte == b'.' {
-            return bytes.len() - i - 1;
+            return len - i - 1;
         }
     }
     0
