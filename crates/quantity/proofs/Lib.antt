@@ -1,3 +1,4 @@
+pub mod Copies
 pub mod Fractions
 pub mod Listed
 pub mod Lookups

@@ -15,6 +15,11 @@ use Rattle.quantity.specs.declared.fault.QuantityFault.TheVariants.{Number, Expo
 abbrev pub IsAnswer : Result Amount QuantityFault → Result Amount QuantityFault → Type 0
 IsAnswer answer expected = Gives OutOfMemory (λ x. x) answer expected
 
+-- the answer is the expected one; it has no fault but those of numbers
+abbrev pub IsStepOnNumbers : Result Amount FracFault → Result Amount QuantityFault → Type 0
+IsStepOnNumbers (Ok x) expected = expected ≡ Ok x
+IsStepOnNumbers (Err fault) expected = expected ≡ Err (Number fault)
+
 -- the exponents are the expected ones, or out of range where none are expected, or there is want of
 -- memory
 abbrev pub AreThose : Result Exponents ExponentFault → Option Exponents → Type 0

@@ -1,5 +1,7 @@
 -- Products and quotients of quantities.
 use Rattle.std.specs.Prelude.{◌≡◌, ℕ, List, Option, Some, Result}
+use Rattle.std.specs.FinMap as map_of
+use Rattle.frac128.specs.Fraction.{Fraction}
 use Rattle.frac128.specs.Steps.{over, times}
 use Rattle.quantity.specs.Amount.{Amount}
 use Rattle.quantity.specs.Answers.{joined, ranged}
@@ -13,6 +15,10 @@ product_exponents p o = ranged (λ name. exponent_sum (exponent_of p name) (expo
 -- the difference of the two exponents of each name
 unfoldable pub quotient_exponents : Exponents → Exponents → Option Exponents
 quotient_exponents p o = ranged (λ name. exponent_difference (exponent_of p name) (exponent_of o name)) (names_of p o)
+
+-- a number without exponents
+abbrev pub number : Fraction → Amount
+number x = record { value = x; exponents = map_of.empty }
 
 abbrev pub product_of : Amount → Amount → Result Amount QuantityFault
 product_of x y = joined (times x.value y.value) (product_exponents x.exponents y.exponents)

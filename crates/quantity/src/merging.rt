@@ -1,8 +1,8 @@
 //! The merge of two lists of powers.
 
-ghost use Rattle.std.specs.Prelude.{◌≡◌, ◌<◌, ◌∷◌, All, length};
+ghost use Rattle.std.specs.Prelude.{◌≡◌, ◌<◌, ◌∷◌, All, IfOk, length, map};
 ghost use Rattle.quantity.specs.Factors.{exponent_in};
-ghost use Rattle.quantity.specs.Merges.{IsListed, IsPut, first_of as first_of_lists, merged};
+ghost use Rattle.quantity.specs.Merges.{IsListed, IsPut, first_of as first_of_lists, merged, taken};
 ghost use Rattle.quantity.specs.Exponents.{IsPower, exponent_sum};
 
 use crate::exponent::Exponent;
@@ -11,7 +11,7 @@ use crate::fault::ExponentFault;
 use crate::power::Power;
 use frac128::reduced_law;
 use smallvec::{IntoIter, SmallVec};
-use std::alloc::Global;
+use std::alloc::{AllocError, Global};
 use std::cmp::Ordering;
 
 // Where the first name of two lists in order stands.
@@ -24,13 +24,49 @@ enum First {
 }
 
 // The powers of two lists in order as one list in order, where the exponents of a name that both
-// have are added, and those that cancel are left out. The powers of the first list are moved.
+// have are added, and those that cancel are left out. The powers of the first list are moved; where
+// there are no others, nothing is done.
 pub(crate) fn merge(
     alloc: Global,
-    left: SmallVec<Power, 2>,
+    left: SmallVec<Power, 1>,
     right: &[Power],
     factor: Factor,
-) -> Result<SmallVec<Power, 2>, ExponentFault>
+) -> Result<SmallVec<Power, 1>, ExponentFault>
+    requires left { All IsPower left.items }
+    requires right { All IsPower right.now }
+    ensures { IsListed result (merged (exponent_in factor) left.items right.now) }
+{
+    if right.is_empty() {
+        return Ok(left);
+    }
+    if left.is_empty() {
+        return Ok(copies(alloc, right, factor)?);
+    }
+    merge_both(alloc, left, right, factor)
+}
+
+// Copies of the powers of a factor.
+pub(crate) fn copies(
+    alloc: Global,
+    powers: &[Power],
+    factor: Factor,
+) -> Result<SmallVec<Power, 1>, AllocError>
+    ensures { IfOk result (λ copies. copies.items ≡ map (taken (exponent_in factor)) powers.now) }
+{
+    let mut copies = SmallVec::with_capacity(alloc, powers.len())?;
+    for power in powers {
+        copies.push(power.with(alloc, factor.exponent(power.exponent()))?)?;
+    }
+    Ok(copies)
+}
+
+// The merge step by step.
+fn merge_both(
+    alloc: Global,
+    left: SmallVec<Power, 1>,
+    right: &[Power],
+    factor: Factor,
+) -> Result<SmallVec<Power, 1>, ExponentFault>
     requires left { All IsPower left.items }
     requires right { All IsPower right.now }
     ensures { IsListed result (merged (exponent_in factor) left.items right.now) }
@@ -58,7 +94,7 @@ pub(crate) fn merge(
 }
 
 // The next of the powers that are left, of which there are some.
-fn next_of(left: &mut IntoIter<Power, 2>) -> Power
+fn next_of(left: &mut IntoIter<Power, 1>) -> Power
     requires { 0 < length left.old }
     ensures { left.old ≡ result ∷ left.new }
 {
@@ -91,7 +127,7 @@ fn first_of(left: &[Power], right: &[Power]) -> First
 
 // Puts a power with a second exponent added at the end, where that is not 0.
 fn put_sum(
-    powers: &mut SmallVec<Power, 2>,
+    powers: &mut SmallVec<Power, 1>,
     power: Power,
     exponent: Exponent,
 ) -> Result<(), ExponentFault>

@@ -1,6 +1,6 @@
 //! The exponents of a quantity, in the byte order of their names.
 
-ghost use Rattle.std.specs.Prelude.{◌≡◌, ◌==◌, ◌++◌, ◌↔◌, ℕ, List, pos, IfOk, IsTrue, OnOk};
+ghost use Rattle.std.specs.Prelude.{◌≡◌, ◌==◌, ◌++◌, ◌↔◌, ℕ, List, pos, IfOk, IsTrue, OnOk, Some};
 ghost use Rattle.std.specs.FinMap as map;
 ghost use Rattle.frac128.specs.Fraction.{negated, whole};
 ghost use Rattle.quantity.specs.Amount.{are_reciprocal, conform};
@@ -8,6 +8,7 @@ ghost use Rattle.quantity.specs.Answers.{AreThose};
 ghost use Rattle.quantity.specs.Exponents.{AreKept, exponent_of};
 ghost use Rattle.quantity.specs.Factors.{exponents_with};
 ghost use Rattle.quantity.specs.Powers.{power_exponents};
+ghost use Rattle.quantity.specs.Products.{product_exponents, quotient_exponents};
 ghost use Rattle.quantity.specs.Text.{powers_text};
 
 use crate::degree::Degree;
@@ -15,7 +16,7 @@ use crate::exponent::Exponent;
 use crate::factor::Factor;
 use crate::fault::ExponentFault;
 use crate::matching::{exponent_in, same_powers};
-use crate::merging::merge;
+use crate::merging::{copies, merge};
 use crate::power::Power;
 use crate::scaling::scale;
 use crate::text::put_powers;
@@ -24,10 +25,11 @@ use smallvec::SmallVec;
 use std::alloc::{AllocError, Global};
 use std::marker::Model;
 
-/// Names with exponents other than 0, the first two of them in the value itself.
+/// Names with exponents other than 0. One alone is in the value itself, which is small, since it is
+/// moved at each step.
 #[derive(Drop)]
 pub(crate) struct Powers {
-    items: SmallVec<Power, 2>,
+    items: SmallVec<Power, 1>,
 }
 
 impl Model for Powers {
@@ -66,10 +68,7 @@ impl Powers {
     pub(crate) fn copy(&self, alloc: Global) -> Result<Powers, AllocError>
         ensures { IfOk result (λ powers. powers ≡ self.now) }
     {
-        let mut items = SmallVec::with_capacity(alloc, self.items.len())?;
-        for power in self.items.as_slice() {
-            items.push(power.with(alloc, power.exponent())?)?;
-        }
+        let items = copies(alloc, self.items.as_slice(), Factor::Plain)?;
         Ok(Powers { items })
     }
 
@@ -128,6 +127,27 @@ impl Powers {
         reduced_law();
         let items = merge(alloc, self.items, other.items.as_slice(), factor)?;
         Ok(Powers { items })
+    }
+
+    // The exponents of the product, of which both factors are taken over.
+    pub(crate) fn times_all(self, alloc: Global, other: Powers) -> Result<Powers, ExponentFault>
+        ensures { AreThose result (product_exponents self other) }
+    {
+        reduced_law();
+        if self.items.is_empty() {
+            other.items.as_slice();
+            return Ok(other);
+        }
+        self.times(alloc, &other, Factor::Plain)
+    }
+
+    // A number has no exponents to add or to take away.
+    pub(crate) fn number_facts(&self)
+        ensures product { product_exponents self.now map.empty ≡ Some self.now }
+        ensures quotient { quotient_exponents self.now map.empty ≡ Some self.now }
+    {
+        reduced_law();
+        self.items.as_slice();
     }
 
     // The exponents of a power.

@@ -1,11 +1,12 @@
 //! Products and quotients.
 
-ghost use Rattle.quantity.specs.Answers.{IsAnswer};
-ghost use Rattle.quantity.specs.Products.{product_of, quotient_of};
+ghost use Rattle.quantity.specs.Answers.{IsAnswer, IsStepOnNumbers};
+ghost use Rattle.quantity.specs.Products.{number, product_of, quotient_of};
 
 use crate::factor::Factor;
 use crate::fault::QuantityFault;
 use crate::quantity::Quantity;
+use frac128::{Frac, FracFault};
 use std::alloc::Global;
 
 impl Quantity {
@@ -42,5 +43,40 @@ impl Quantity {
         let value = self.value.div(&other.value)?;
         let powers = self.powers.times(alloc, &other.powers, Factor::Inverse)?;
         Ok(Quantity { value, powers })
+    }
+
+    /// `mul` that takes both over. Where this quantity is a number, it copies no name.
+    pub fn times_all(self, alloc: Global, other: Quantity) -> Result<Quantity, QuantityFault>
+        ensures { IsAnswer result (product_of self other) }
+    {
+        let value = self.value.mul(&other.value)?;
+        let powers = self.powers.times_all(alloc, other.powers)?;
+        Ok(Quantity { value, powers })
+    }
+
+    /// `times` with a number, which leaves the exponents as they are. The error is that of the
+    /// product of the numbers.
+    pub fn times_number(self, x: &Frac) -> Result<Quantity, FracFault>
+        ensures { IsStepOnNumbers result (product_of self (number x.now)) }
+    {
+        self.powers.number_facts();
+        let value = self.value.mul(x)?;
+        Ok(Quantity {
+            value,
+            powers: self.powers,
+        })
+    }
+
+    /// `over` with a number, which leaves the exponents as they are. The error is that of the
+    /// quotient of the numbers.
+    pub fn over_number(self, x: &Frac) -> Result<Quantity, FracFault>
+        ensures { IsStepOnNumbers result (quotient_of self (number x.now)) }
+    {
+        self.powers.number_facts();
+        let value = self.value.div(x)?;
+        Ok(Quantity {
+            value,
+            powers: self.powers,
+        })
     }
 }

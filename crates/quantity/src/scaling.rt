@@ -15,9 +15,9 @@ use std::alloc::Global;
 // then.
 pub(crate) fn scale(
     alloc: Global,
-    items: SmallVec<Power, 2>,
+    items: SmallVec<Power, 1>,
     degree: &Degree,
-) -> Result<SmallVec<Power, 2>, ExponentFault>
+) -> Result<SmallVec<Power, 1>, ExponentFault>
     requires { All IsPower items.items }
     ensures { IsListed result (scaled degree.now items.items) }
 {
@@ -33,7 +33,7 @@ pub(crate) fn scale(
 
 // Puts a power with its exponent multiplied at the end, where that is not 0.
 fn put_product(
-    powers: &mut SmallVec<Power, 2>,
+    powers: &mut SmallVec<Power, 1>,
     power: Power,
     degree: &Degree,
 ) -> Result<(), ExponentFault>
