@@ -1,4 +1,5 @@
 pub mod FirstLine
 pub mod Joining
 pub mod Listing
+pub mod Skipping
 pub mod Trimming

@@ -1,8 +1,9 @@
 -- The logical lines of a file.
-use Rattle.std.specs.Prelude.{◌==◌, ◌+◌, ℕ, List, [], ◌∷◌, ◌++◌, Bool, false, map, reverse, if◌then◌else◌}
+use Rattle.std.specs.Prelude.{◌==◌, ◌+◌, ℕ, List, [], ◌∷◌, ◌++◌, Bool, false, filter, map, not, reverse, if◌then◌else◌}
 use Rattle.std.specs.List.{before_first}
 use Rattle.def_lines.specs.declared.line.Line.{Line}
 use Rattle.def_lines.specs.Blanks.{before_blanks, trimmed}
+use Rattle.def_lines.specs.Words.{is_empty}
 
 -- a byte at the front of the first of some lines
 abbrev pub onto_line : ℕ → List (List ℕ) → List (List ℕ)
@@ -71,3 +72,11 @@ lines_behind count bytes = map trimmed_line (lines_from (count + 1) (physical_li
 -- the logical lines of a file, each with the number of its first physical line
 abbrev pub logical_lines : List ℕ → List Line
 logical_lines bytes = lines_behind 0 bytes
+
+-- the line is not blank
+abbrev pub is_shown : Line → Bool
+is_shown line = not (is_empty line.text)
+
+-- those of some lines that are not blank
+abbrev pub shown : List Line → List Line
+shown lines = filter is_shown lines

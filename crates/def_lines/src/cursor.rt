@@ -1,11 +1,11 @@
 //! The logical lines of a file, taken one by one.
 ghost use Rattle.std.specs.Prelude.{◌≡◌, ◌≤◌, ◌+◌, ◌++◌, ◌∷◌, [], List, IfOk, OnErr, length, map};
 ghost use Rattle.std.specs.Map.Iter.{TakesFirst};
-ghost use Rattle.def_lines.specs.Lines.{joined, lines_behind, lines_from, logical_lines, physical_lines, trimmed_line};
+ghost use Rattle.def_lines.specs.Lines.{joined, lines_behind, lines_from, logical_lines, physical_lines, shown, trimmed_line};
 
 use crate::line::{LentLine, Line, Lines};
 use crate::part::Part;
-use crate::physical::{clean, next_line, strip_last};
+use crate::physical::{clean, line_feed_count, next_line, strip_last};
 use std::alloc::{AllocError, Global};
 use std::marker::Model;
 
@@ -69,6 +69,32 @@ impl<'a> Cursor<'a> {
             }
             Err(e) => Err(e),
         }
+    }
+
+    /// The next line that is not blank, or `None` where none is left. Only a line that is joined takes
+    /// memory; where that is wanting, no line but blank ones is taken.
+    pub fn take_shown(&mut self, alloc: Global) -> Result<Option<LentLine<'a>>, AllocError>
+        ensures ok { IfOk result (λ line. TakesFirst (λ line. line) (shown self.old) line (shown self.new)) }
+        ensures err { OnErr result (shown self.new ≡ shown self.old) }
+    {
+        while let Some(line) = self.take(alloc)? {
+            if !line.text().is_empty() {
+                return Ok(Some(line));
+            }
+            self.skip_line_feeds();
+        }
+        Ok(None)
+    }
+
+    // Passes over the empty physical lines at the front. A file may have millions of them.
+    fn skip_line_feeds(&mut self)
+        ensures shown { shown self.new ≡ shown self.old }
+        ensures fewer { length self.new ≤ length self.old }
+    {
+        let count = line_feed_count(self.rest);
+        let (_, rest) = self.rest.split_at(count);
+        self.rest = rest;
+        self.number += count as u32;
     }
 }
 

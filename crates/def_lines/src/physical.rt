@@ -1,7 +1,7 @@
 //! The physical lines of a file.
 
 ghost use Rattle.std.specs.Prelude.{◌≡◌, ◌==◌, ◌≤◌, ◌<◌, ◌∷◌, length, true, false, MatchOption};
-ghost use Rattle.std.specs.List.{position_or_len};
+ghost use Rattle.std.specs.List.{position_or_len, prefix_len as prefix_len_of};
 ghost use Rattle.def_lines.specs.Lines.{cleaned, ends_with, front, physical_lines};
 
 use crate::blanks::trim_end;
@@ -39,6 +39,14 @@ pub(crate) fn strip_last(text: &[u8], byte: u8) -> Option<&[u8]>
         Some((last, rest)) if *last == byte => Some(rest),
         _ => None,
     }
+}
+
+// How many line feeds are at the front of the bytes.
+pub(crate) fn line_feed_count(bytes: &[u8]) -> usize
+    ensures is { result ≡ prefix_len_of (λ b. b == 10) bytes.now }
+    ensures within { result ≤ length bytes.now }
+{
+    prefix_len(bytes, |byte| byte == b'\n')
 }
 
 // The place of the first such byte, or the length where there is none.
