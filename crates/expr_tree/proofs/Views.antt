@@ -27,10 +27,10 @@ of_word w = ap syntax (sym (made.rolls-Word w)) ∙ fold-roll-Tree Syntax Factor
 pub of_argument : syntax made.Argument ≡ tree.Argument
 of_argument = ap syntax (sym made.rolls-Argument) ∙ fold-roll-Tree Syntax Factors Terms Members level (λ fs. factors fs.items.items) (λ ts. terms ts.items.items) (λ es. members es.items.items) one.Argument
 
-pub of_call : (w : List ℕ) (e : Box Tree Global) → syntax (made.Call w e) ≡ tree.Call w (syntax e.value)
+pub of_call : (w : Box (List ℕ) Global) (e : Box Tree Global) → syntax (made.Call w e) ≡ tree.Call w.value (syntax e.value)
 of_call w e = ap syntax (sym (made.rolls-Call w e)) ∙ fold-roll-Tree Syntax Factors Terms Members level (λ fs. factors fs.items.items) (λ ts. terms ts.items.items) (λ es. members es.items.items) (one.Call w e)
 
-pub of_inverse : (w : List ℕ) (e : Box Tree Global) → syntax (made.Inverse w e) ≡ tree.Inverse w (syntax e.value)
+pub of_inverse : (w : Box (List ℕ) Global) (e : Box Tree Global) → syntax (made.Inverse w e) ≡ tree.Inverse w.value (syntax e.value)
 of_inverse w e = ap syntax (sym (made.rolls-Inverse w e)) ∙ fold-roll-Tree Syntax Factors Terms Members level (λ fs. factors fs.items.items) (λ ts. terms ts.items.items) (λ es. members es.items.items) (one.Inverse w e)
 
 pub of_root : (n : RootKind) (e : Box Tree Global) → syntax (made.Root n e) ≡ tree.Root n (syntax e.value)

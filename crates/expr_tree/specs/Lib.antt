@@ -16,4 +16,5 @@ pub mod TextExamples
 pub mod Tokens
 pub mod Trees
 pub mod Views
+pub mod WordUses
 pub mod Words

@@ -18,8 +18,8 @@ pub record ViewLaw : Type 0 where
   pub bar : (q : Box Quotient) → syntax (Bar q) ≡ tree.Bar q.value.top q.value.bottom
   pub word : (w : List ℕ) → syntax (Word w) ≡ tree.Word w
   pub argument : syntax Argument ≡ tree.Argument
-  pub call : (w : List ℕ) (e : Box Tree) → syntax (Call w e) ≡ tree.Call w (syntax e.value)
-  pub inverse : (w : List ℕ) (e : Box Tree) → syntax (Inverse w e) ≡ tree.Inverse w (syntax e.value)
+  pub call : (w : Box (List ℕ)) (e : Box Tree) → syntax (Call w e) ≡ tree.Call w.value (syntax e.value)
+  pub inverse : (w : Box (List ℕ)) (e : Box Tree) → syntax (Inverse w e) ≡ tree.Inverse w.value (syntax e.value)
   pub root : (kind : RootKind) (e : Box Tree) → syntax (Root kind e) ≡ tree.Root kind (syntax e.value)
   pub group : (e : Box Tree) → syntax (Group e) ≡ tree.Group (syntax e.value)
   pub negate : (e : Box Tree) → syntax (Negate e) ≡ tree.Negate (syntax e.value)

@@ -9,8 +9,8 @@ use crate::word_list::{WordKind, WordUse, Words};
 use std::alloc::{AllocError, Global};
 use units_io::Text;
 
-/// The words of the tree, from left to right.
-pub fn words(alloc: Global, tree: &Tree) -> Result<Words, AllocError>
+/// The words of the tree, from left to right. Their bytes are those of the tree.
+pub fn words<'a>(alloc: Global, tree: &'a Tree) -> Result<Words<'a>, AllocError>
     ensures { IfOk result (λ words. words ≡ words_in (syntax tree.now)) }
 {
     let mut words = Words::new(alloc);
@@ -21,7 +21,7 @@ pub fn words(alloc: Global, tree: &Tree) -> Result<Words, AllocError>
 // Puts the words of a tree at the end.
 #[cycle(put)]
 #[tactic(auto, using(crate::proofs::Says::says))]
-fn put_words(alloc: Global, words: &mut Words, tree: &Tree) -> Result<(), AllocError>
+fn put_words<'a>(alloc: Global, words: &mut Words<'a>, tree: &'a Tree) -> Result<(), AllocError>
     ensures { IfOk result (λ _. words.new ≡ words.old ++ words_in (syntax tree.now)) }
 {
     match tree {
@@ -49,17 +49,21 @@ fn put_words(alloc: Global, words: &mut Words, tree: &Tree) -> Result<(), AllocE
 }
 
 // Puts a word at the end.
-fn put_word(alloc: Global, words: &mut Words, word: &Text, kind: WordKind) -> Result<(), AllocError>
+fn put_word<'a>(
+    alloc: Global,
+    words: &mut Words<'a>,
+    word: &'a Text,
+    kind: WordKind,
+) -> Result<(), AllocError>
     ensures { IfOk result (λ _. words.new ≡ words.old ++ record { text = word.now; kind = kind } ∷ []) }
 {
-    let text = word.copy(alloc)?;
-    words.push(alloc, WordUse { text, kind })
+    words.push(alloc, WordUse::new(word.as_bytes(), kind))
 }
 
 // Puts the words of trees side by side at the end.
 #[cycle(put)]
 #[tactic(auto, using(crate::proofs::Says::member_words))]
-fn put_members(alloc: Global, words: &mut Words, trees: &Trees) -> Result<(), AllocError>
+fn put_members<'a>(alloc: Global, words: &mut Words<'a>, trees: &'a Trees) -> Result<(), AllocError>
     ensures { IfOk result (λ _. words.new ≡ words.old ++ words_in_members (members (trees_of trees.now))) }
 {
     for tree in &trees.items {
@@ -71,7 +75,11 @@ fn put_members(alloc: Global, words: &mut Words, trees: &Trees) -> Result<(), Al
 // Puts the words of a product at the end.
 #[cycle(put)]
 #[tactic(auto, using(crate::proofs::Says::factor_words))]
-fn put_factors(alloc: Global, words: &mut Words, members: &Factors) -> Result<(), AllocError>
+fn put_factors<'a>(
+    alloc: Global,
+    words: &mut Words<'a>,
+    members: &'a Factors,
+) -> Result<(), AllocError>
     ensures { IfOk result (λ _. words.new ≡ words.old ++ words_in_factors (factors (factors_of members.now))) }
 {
     for member in &members.items {
@@ -83,7 +91,7 @@ fn put_factors(alloc: Global, words: &mut Words, members: &Factors) -> Result<()
 // Puts the words of a sum at the end.
 #[cycle(put)]
 #[tactic(auto, using(crate::proofs::Says::term_words))]
-fn put_terms(alloc: Global, words: &mut Words, members: &Terms) -> Result<(), AllocError>
+fn put_terms<'a>(alloc: Global, words: &mut Words<'a>, members: &'a Terms) -> Result<(), AllocError>
     ensures { IfOk result (λ _. words.new ≡ words.old ++ words_in_terms (terms (terms_of members.now))) }
 {
     for member in &members.items {

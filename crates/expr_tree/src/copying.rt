@@ -19,11 +19,11 @@ impl Tree {
             Tree::Word(word) => Ok(Tree::Word(word.copy(alloc)?)),
             Tree::Argument => Ok(Tree::Argument),
             Tree::Call(word, operand) => {
-                let word = word.copy(alloc)?;
+                let word = Box::new(alloc, word.copy(alloc)?)?;
                 Ok(Tree::Call(word, operand.boxed(alloc)?))
             }
             Tree::Inverse(word, operand) => {
-                let word = word.copy(alloc)?;
+                let word = Box::new(alloc, word.copy(alloc)?)?;
                 Ok(Tree::Inverse(word, operand.boxed(alloc)?))
             }
             Tree::Root(kind, operand) => Ok(Tree::Root(*kind, operand.boxed(alloc)?)),

@@ -55,7 +55,7 @@ pub(crate) fn call_tree(
     if is_binder(binder, word) {
         return product_with_argument(alloc, operand);
     }
-    let word = Text::from_bytes(alloc, word)?;
+    let word = Box::new(alloc, Text::from_bytes(alloc, word)?)?;
     Ok(Tree::Call(word, Box::new(alloc, operand)?))
 }
 
@@ -73,7 +73,7 @@ fn product_with_argument(alloc: Global, operand: Tree) -> Result<Tree, AllocErro
 pub(crate) fn inverse_tree(alloc: Global, word: &[u8], operand: Tree) -> Result<Tree, AllocError>
     ensures { IfOk result (λ e. syntax e ≡ tree.Inverse word.now (syntax operand)) }
 {
-    let word = Text::from_bytes(alloc, word)?;
+    let word = Box::new(alloc, Text::from_bytes(alloc, word)?)?;
     Ok(Tree::Inverse(word, Box::new(alloc, operand)?))
 }
 

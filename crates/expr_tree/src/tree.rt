@@ -13,6 +13,7 @@ use units_io::Text;
 const USUAL_MEMBERS: usize = 2;
 
 /// What an expression says.
+// What is rare is boxed, so that each tree is as small as a word.
 #[cycle(tree)]
 #[derive(Drop)]
 pub enum Tree {
@@ -25,9 +26,9 @@ pub enum Tree {
     /// What the function is applied to whose definition the expression is.
     Argument,
     /// A word directly before an operand in parentheses.
-    Call(Text, Box<Tree>),
+    Call(Box<Text>, Box<Tree>),
     /// The inverse of a function, and the operand in parentheses.
-    Inverse(Text, Box<Tree>),
+    Inverse(Box<Text>, Box<Tree>),
     /// A root of what stands in parentheses.
     Root(RootKind, Box<Tree>),
     /// What stands in parentheses.
