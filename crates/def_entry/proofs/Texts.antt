@@ -6,7 +6,7 @@ use Rattle.def_entry.specs.declared.key.Key.{Key}
 use Rattle.def_entry.specs.Entries.{Entry, What}
 use Rattle.def_entry.specs.Headings.{Heading, heading}
 use Rattle.def_entry.specs.Keys.{key}
-use Rattle.def_entry.specs.Reading.{SameTextLaw, entry_by, what_of}
+use Rattle.def_entry.specs.Reading.{EntryTextLaw, SameTextLaw, entry_by, what_of}
 
 abbrev value_or : {A : Type 0} → A → Result A EntryFault → A
 value_or x (Ok y) = y
@@ -29,6 +29,13 @@ told h k e is = go (what_of h) refl is
         let same : made ≡ (k, e) = ap (value_or made) is in
         ap (λ (p : Key × Entry). what_of (heading_by p.0 p.1.text)) (sym same) ∙ said ∙ ap (λ (p : Key × Entry). Ok p.1.what) same
     go (Err fault) said is = cc
+
+pub entry_text_is : EntryTextLaw
+entry_text_is line k e is = go (what_of (heading line)) is
+  where
+    go : (w : Result What EntryFault) → (w >>= entry_with (heading line)) ≡ Ok (k, e) → e.text ≡ (heading line).text
+    go (Ok what) said = ap (λ (r : Result (Key × Entry) EntryFault). (value_or (k, e) r).1.text) (sym said)
+    go (Err fault) said = cc
 
 pub same_text : SameTextLaw
 same_text k line other e f first second = (

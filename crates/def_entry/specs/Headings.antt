@@ -66,3 +66,7 @@ heading (b ∷ line) =
     if b == 33
     then list_heading line
     else (if b == 43 then definition_heading (after_blanks line) else definition_heading (b ∷ line))
+
+-- the text of the entry that a line gives
+abbrev pub entry_text : List ℕ → List ℕ
+entry_text line = (heading line).text

@@ -3,7 +3,6 @@ use Rattle.std.specs.Prelude.{◌≡◌, ℕ, List, [], ◌∷◌, refl, slice_i
 use Rattle.std.specs.Cmp.{IsTotalOrder}
 use Rattle.std.specs.Cmp.Lexicographic.{slice_cmp}
 use Rattle.std.specs.Coded.{Coded, code_by, coded×, coded_list, coded_ℕ}
-use Rattle.std.specs.FinSet as set
 use Rattle.std.specs.declared.cmp.Ordering.{Ordering}
 use Rattle.std.specs.declared.cmp.Ordering.TheVariants.{Equal}
 use Rattle.std.specs.Ordering.{nat_cmp, on, then_cmp}
@@ -24,10 +23,6 @@ kind_at n = slice_index_or (kind.Unit ∷ kind.Prefix ∷ kind.Func ∷ []) n ki
 -- in byte order of names, and then by kind
 abbrev pub key_cmp : Key → Key → Ordering
 key_cmp = then_cmp (on (λ k. k.name) (slice_cmp nat_cmp)) (on (λ k. kind_number k.kind) nat_cmp)
-
--- some keys in that order, each once
-abbrev pub keys_in_order : List Key → List Key
-keys_in_order keys = set.items (set.from_list {R = key_cmp} keys)
 
 abbrev pub kind_back : (k : Kind) → kind_at (kind_number k) ≡ k
 kind_back kind.Unit = refl

@@ -16,7 +16,7 @@ use Rattle.def_entry.specs.Cuts.{cut_at}
 use Rattle.def_entry.specs.Entries.{Entry, What, Primitive, Dimensionless, Body, Function, Alias, Table, ListOf}
 use Rattle.def_entry.specs.Outcomes.{named, or_fault, tree_in}
 use Rattle.def_entry.specs.Forms.{Form, form_of, some_text}
-use Rattle.def_entry.specs.Headings.{Heading, heading}
+use Rattle.def_entry.specs.Headings.{Heading, entry_text, heading}
 use Rattle.def_entry.specs.Keys.{key}
 use Rattle.def_entry.specs.Options.{Units}
 use Rattle.def_entry.specs.PointLists.{points_of, table_points}
@@ -184,6 +184,10 @@ abbrev pub has_entry : LineKind → Bool
 has_entry Definition = true
 has_entry UnitList = true
 has_entry _ = false
+
+-- law: the text of an entry is the one behind the name in the heading of its line
+abbrev pub EntryTextLaw : Type 0
+EntryTextLaw = (line : List ℕ) (k : Key) (e : Entry) → entry_of line ≡ Ok (k, e) → e.text ≡ entry_text line
 
 -- law: two entries of one key that lines give are equal exactly where their texts are
 abbrev pub SameTextLaw : Type 0

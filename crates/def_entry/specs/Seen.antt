@@ -5,7 +5,7 @@ use Rattle.std.specs.Option.{option_copied}
 use Rattle.expr_tree.specs.declared.tree.Tree.{Tree}
 use Rattle.expr_tree.specs.Syntax.{Syntax}
 use Rattle.expr_tree.specs.Trees.{syntax}
-use Rattle.def_entry.specs.declared.entry.Entry.{Entry as MadeEntry}
+use Rattle.def_entry.specs.declared.entry.What.{What as MadeWhat}
 use Rattle.def_entry.specs.declared.form.Form.{Form as CutForm}
 use Rattle.def_entry.specs.declared.heading.Heading.{Heading as CutHeading}
 use Rattle.def_entry.specs.declared.key.Key.{Key}
@@ -15,7 +15,7 @@ use Rattle.def_entry.specs.Entries.{Entry}
 use Rattle.def_entry.specs.Forms.{Form}
 use Rattle.def_entry.specs.Headings.{Heading}
 use Rattle.def_entry.specs.Options.{Options, Units}
-use Rattle.def_entry.specs.Views.{entry_view}
+use Rattle.def_entry.specs.Views.{said_by}
 
 -- a part
 abbrev pub seen_text : Bor (List ℕ) → List ℕ
@@ -74,6 +74,6 @@ seen_tree tree = option_map syntax tree
 abbrev pub seen_trees : Option Tree × Option Tree → Option Syntax × Option Syntax
 seen_trees trees = (seen_tree trees.0, seen_tree trees.1)
 
--- a key and its entry
-abbrev pub seen_entry : Key × MadeEntry → Key × Entry
-seen_entry p = (p.0, entry_view p.1)
+-- a key and its entry, by the line that gives it and what was read of that
+abbrev pub seen_entry : List ℕ → Key × MadeWhat → Key × Entry
+seen_entry line p = (p.0, said_by line p.1)

@@ -1,10 +1,10 @@
 -- Tables of definitions.
-use Rattle.std.specs.Prelude.{List, Bool, map, Option}
+use Rattle.std.specs.Prelude.{◌≡◌, ◌↔◌, List, Bool, true, map, Option}
 use Rattle.std.specs.Map.{lookup}
 use Rattle.std.specs.Option.{is_some}
 use Rattle.def_entry.specs.declared.key.Key.{Key}
 use Rattle.def_entry.specs.Entries.{Entry}
-use Rattle.def_entry.specs.SameKeys.{is_same}
+use Rattle.def_entry.specs.SameKeys.{is_among, is_same}
 
 -- keys with their entries, the last one first: a later one covers those of its key before it
 abbrev pub Table : Type 0
@@ -21,3 +21,7 @@ is_present table k = is_some (entry_at table k)
 -- the keys of all entries, of covered ones too
 abbrev pub keys_of : Table → List Key
 keys_of table = map (λ e. e.0) table
+
+-- a key is not among these exactly where its entry is the same before and after
+abbrev pub AreChanged : Table → Table → List Key → Type 0
+AreChanged before after keys = (k : Key) → (is_among keys k ≡ true → ⊥) ↔ (entry_at before k ≡ entry_at after k)

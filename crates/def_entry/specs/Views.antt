@@ -1,5 +1,5 @@
 -- What contracts see of an entry that the program makes.
-use Rattle.std.specs.Prelude.{option_map}
+use Rattle.std.specs.Prelude.{ℕ, List, option_map}
 use Rattle.expr_tree.specs.Trees.{syntax, trees_of}
 use Rattle.def_entry.specs.declared.entry.Entry.{Entry as MadeEntry}
 use Rattle.def_entry.specs.declared.entry.FunctionDef.{FunctionDef as MadeFunction}
@@ -7,6 +7,7 @@ use Rattle.def_entry.specs.declared.entry.TableDef.{TableDef as MadeTable}
 use Rattle.def_entry.specs.declared.entry.What.{What as MadeWhat}
 use Rattle.def_entry.specs.declared.entry.What.TheVariants as made
 use Rattle.def_entry.specs.Entries.{Entry, FunctionDef, TableDef, What}
+use Rattle.def_entry.specs.Headings.{entry_text}
 use Rattle.def_entry.specs.Entries.{Primitive, Dimensionless, Body, Function, Alias, Table, ListOf}
 
 abbrev pub function_view : MadeFunction → FunctionDef
@@ -31,5 +32,9 @@ what_view (made.Alias target) = Alias target
 what_view (made.Table t) = Table (table_view t.value)
 what_view (made.ListOf parts) = ListOf (trees_of parts)
 
+-- the entry that a line gives, by what was read of it
+abbrev pub said_by : List ℕ → MadeWhat → Entry
+said_by line what = record { text = entry_text line; what = what_view what }
+
 abbrev pub entry_view : MadeEntry → Entry
-entry_view e = record { text = e.text; what = what_view e.what }
+entry_view e = said_by e.line.now e.what.now

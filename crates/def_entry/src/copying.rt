@@ -1,27 +1,16 @@
-//! Copies of entries.
+//! Copies of what lines say of their keys.
 
 ghost use Rattle.std.specs.Prelude.{◌≡◌, IfOk, option_map};
 ghost use Rattle.expr_tree.specs.Trees.{syntax};
-ghost use Rattle.def_entry.specs.Views.{entry_view, function_view, table_view, what_view};
+ghost use Rattle.def_entry.specs.Views.{function_view, table_view, what_view};
 
-use crate::entry::{Entry, FunctionDef, TableDef, What};
+use crate::entry::{FunctionDef, TableDef, What};
 use expr_tree::Tree;
 use std::alloc::{AllocError, Global};
 
-impl Entry {
-    /// An equal entry. The only error is want of memory.
-    pub fn copy(&self, alloc: Global) -> Result<Entry, AllocError>
-        ensures { IfOk result (λ entry. entry_view entry ≡ entry_view self.now) }
-    {
-        let text = self.text.copy(alloc)?;
-        let what = self.what.copy(alloc)?;
-        Ok(Entry { text, what })
-    }
-}
-
 impl What {
-    // What is equal.
-    fn copy(&self, alloc: Global) -> Result<What, AllocError>
+    /// What is equal. The only error is want of memory.
+    pub fn copy(&self, alloc: Global) -> Result<What, AllocError>
         ensures { IfOk result (λ what. what_view what ≡ what_view self.now) }
     {
         match self {

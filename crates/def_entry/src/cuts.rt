@@ -14,8 +14,8 @@ pub(crate) fn behind_byte(text: &[u8], mark: u8) -> Option<&[u8]>
     if *first == mark { Some(behind) } else { None }
 }
 
-// What stands before the first such byte, and what stands behind it.
-pub(crate) fn cut_at(text: &[u8], mark: u8) -> Option<(&[u8], &[u8])>
+/// What stands before the first such byte, and what stands behind it, or `None` where there is none.
+pub fn cut_at(text: &[u8], mark: u8) -> Option<(&[u8], &[u8])>
     ensures { option_map seen_pair result ≡ cut_at_byte mark text.now }
 {
     match place_of(text, mark) {

@@ -1,17 +1,31 @@
 //! Entries: what definition lines say of their keys.
 
+ghost use Rattle.std.specs.Prelude.{◌≡◌};
+ghost use Rattle.def_entry.specs.Views.{entry_view};
+
+use crate::heading::heading_in;
 use expr_tree::{Tree, Trees};
 use frac128::Frac;
 use piecewise::Points;
 use units_io::Text;
 
-/// What a definition line says of its key.
-#[derive(Drop)]
-pub struct Entry {
-    /// The line behind the name, or for a prefix behind its `-`, trimmed.
-    pub text: Text,
+/// What a definition line says of its key. The text of an entry is part of its line, and is held with
+/// that alone.
+#[derive(Clone, Copy)]
+pub struct Entry<'a> {
+    /// The line.
+    pub line: &'a [u8],
     /// What it says.
-    pub what: What,
+    pub what: &'a What,
+}
+
+impl<'a> Entry<'a> {
+    /// The line behind the name, or for a prefix behind its `-`, trimmed.
+    pub fn text(self) -> &'a [u8]
+        ensures { result.now ≡ (entry_view self.entry).text }
+    {
+        heading_in(self.line).text
+    }
 }
 
 /// What a key stands for.

@@ -8,7 +8,7 @@ ghost use Rattle.def_entry.specs.KeyOrder.{KeyOrderLaw};
 ghost use Rattle.def_entry.specs.Keys.{KeyOfLaw, OneKeyLaw};
 ghost use Rattle.def_entry.specs.OptionGrammar.{AnyOrderLaw, OptionsLaw};
 ghost use Rattle.def_entry.specs.PointGrammar.{PointsLaw};
-ghost use Rattle.def_entry.specs.Reading.{SameTextLaw};
+ghost use Rattle.def_entry.specs.Reading.{EntryTextLaw, SameTextLaw};
 ghost use Rattle.def_entry.specs.SameKeys.{SameKeysLaw};
 
 /// A text is read as a key exactly where that key has a name and is written so.
@@ -24,6 +24,11 @@ pub fn one_key_law()
 /// Two entries of one key that lines give are equal exactly where their texts are.
 pub fn same_text_law()
     ensures { SameTextLaw }
+{}
+
+/// The text of an entry is that behind the name in the heading of its line.
+pub fn entry_text_law()
+    ensures { EntryTextLaw }
 {}
 
 /// A fault that a line has is never want of memory.

@@ -23,14 +23,16 @@ mod reading;
 mod spelling;
 mod what;
 
+pub use cuts::cut_at;
 pub use entry::{Bound, Entry, FunctionDef, Span, TableDef, What};
 pub use fault::EntryFault;
 pub use fault_text::{entry_fault_text, parse_fault_text};
 pub use key::{Key, Kind};
 pub use keys::Keys;
 pub use laws::{
-    any_order_law, entry_law, examples_law, heading_law, key_order_law, key_text_law,
-    one_entry_law, one_key_law, options_law, points_law, same_keys_law, same_text_law, told_law,
+    any_order_law, entry_law, entry_text_law, examples_law, heading_law, key_order_law,
+    key_text_law, one_entry_law, one_key_law, options_law, points_law, same_keys_law,
+    same_text_law, told_law,
 };
 pub use reading::read_entry;
 pub use spelling::{KeyFault, key_text, read_key};

@@ -6,9 +6,9 @@ ghost use Rattle.def_entry.specs.EntryGrammar.{HasFault, IsEntry};
 ghost use Rattle.def_entry.specs.Outcomes.{Gives};
 ghost use Rattle.def_entry.specs.Reading.{entry_by, entry_of, has_entry};
 ghost use Rattle.def_entry.specs.Seen.{seen_entry, seen_heading};
-ghost use Rattle.def_entry.specs.Views.{entry_view};
+ghost use Rattle.def_entry.specs.Views.{said_by, what_view};
 
-use crate::entry::Entry;
+use crate::entry::What;
 use crate::fault::EntryFault;
 use crate::heading::{Heading, heading_in};
 use crate::key::Key;
@@ -16,31 +16,31 @@ use crate::what::what_of;
 use std::alloc::Global;
 use units_io::Text;
 
-/// The key and the entry of a line that `classify` takes for a definition or a unit list.
+/// The key of a line, and what the line says of it, where it is one that `classify` takes for a definition or a unit list.
 ///
 /// The first fault in this order: `BadName` with the name, the parameter or the alias target that
 /// is no name; `BadForm` where the line has no form of a definition; `BadTable` where the points
 /// are no table; `Parse` with the first fault of its expressions.
-pub fn read_entry(alloc: Global, line: &[u8]) -> Result<(Key, Entry), EntryFault>
+pub fn read_entry(alloc: Global, line: &[u8]) -> Result<(Key, What), EntryFault>
     requires { has_entry (kind_of line.now) ≡ true }
     ensures exact { MatchResult result
-        (λ made. IsEntry line.now made.0 (entry_view made.1))
+        (λ made. IsEntry line.now made.0 (said_by line.now made.1))
         (λ fault. (fault ≡ EntryFault.OutOfMemory) ⊎ HasFault line.now fault) }
-    ensures computed { Gives seen_entry result (entry_of line.now) }
+    ensures computed { Gives (seen_entry line.now) result (entry_of line.now) }
 {
     entry_behind(alloc, &heading_in(line))
 }
 
-// The key and the entry of a line by its heading.
-fn entry_behind(alloc: Global, heading: &Heading) -> Result<(Key, Entry), EntryFault>
-    ensures { Gives seen_entry result (entry_by (seen_heading heading.now)) }
+// The key of a heading, and what its line says of it.
+fn entry_behind(alloc: Global, heading: &Heading) -> Result<(Key, What), EntryFault>
+    ensures { Gives (λ made. (made.0, record { text = heading.now.text.now; what = what_view made.1 }))
+        result (entry_by (seen_heading heading.now)) }
 {
     let what = what_of(alloc, heading)?;
     let name = Text::from_bytes(alloc, heading.name)?;
-    let text = Text::from_bytes(alloc, heading.text)?;
     let key = Key {
         kind: heading.kind,
         name,
     };
-    Ok((key, Entry { text, what }))
+    Ok((key, what))
 }

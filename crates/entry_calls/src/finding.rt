@@ -42,18 +42,25 @@ fn entry_finding(alloc: Global, text: &[u8]) -> Result<Finding, AllocError>
 {
     told_law();
     match read_entry(alloc, text) {
-        Ok((key, entry)) => found_entry(alloc, &key, &entry),
+        Ok((key, what)) => {
+            let entry = Entry {
+                line: text,
+                what: &what,
+            };
+            found_entry(alloc, &key, entry)
+        }
         Err(EntryFault::OutOfMemory) => Err(AllocError),
         Err(fault) => found_fault(alloc, &fault),
     }
 }
 
 // A key and its entry, of which a copy is shown.
-fn found_entry(alloc: Global, key: &Key, entry: &Entry) -> Result<Finding, AllocError>
-    ensures { IfOk result (λ finding. finding ≡ finding_by (Ok (key.now, entry_view entry.now))) }
+fn found_entry(alloc: Global, key: &Key, entry: Entry<'_>) -> Result<Finding, AllocError>
+    ensures { IfOk result (λ finding. finding ≡ finding_by (Ok (key.now, entry_view entry.entry))) }
 {
-    let copy = entry.copy(alloc)?;
-    let shown = entry_text(alloc, key, &copy)?;
+    let copy = entry.what.copy(alloc)?;
+    let line = entry.line;
+    let shown = entry_text(alloc, key, Entry { line, what: &copy })?;
     Ok(Finding::Entry(shown))
 }
 

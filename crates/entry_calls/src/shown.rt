@@ -11,14 +11,14 @@ use std::alloc::{AllocError, Global};
 use units_io::Text;
 
 // The text of a key, what its entry says, and the text of its entry, with bars between.
-pub(crate) fn entry_text(alloc: Global, key: &Key, entry: &Entry) -> Result<Text, AllocError>
-    ensures { IfOk result (λ text. text ≡ shown_entry key.now (entry_view entry.now)) }
+pub(crate) fn entry_text(alloc: Global, key: &Key, entry: Entry<'_>) -> Result<Text, AllocError>
+    ensures { IfOk result (λ text. text ≡ shown_entry key.now (entry_view entry.entry)) }
 {
     let mut shown = key_shown(alloc, key)?.into_bytes();
     shown.extend_from_slice(b" | ")?;
-    shown.extend_from_slice(what_text(alloc, &entry.what)?.as_bytes())?;
+    shown.extend_from_slice(what_text(alloc, entry.what)?.as_bytes())?;
     shown.extend_from_slice(b" | ")?;
-    shown.extend_from_slice(entry.text.as_bytes())?;
+    shown.extend_from_slice(entry.text())?;
     Ok(Text::from(shown))
 }
 
