@@ -1,2 +1,4 @@
+pub mod Finding
 pub mod Plans
+pub mod Prefixing
 pub mod Taking

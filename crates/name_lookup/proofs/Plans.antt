@@ -6,10 +6,9 @@ use Rattle.def_entry.specs.declared.key.Key.{Key}
 use Rattle.def_entry.specs.declared.key.Kind.{Kind}
 use Rattle.def_entry.specs.declared.key.Kind.TheVariants as kind
 use Rattle.def_entry.specs.Keys.{key}
-use Rattle.name_lookup.specs.declared.found.Found.{Found}
 use Rattle.name_lookup.specs.Laws.{SameLaw, TargetsLaw}
 use Rattle.name_lookup.specs.Order.{has_ending, plan, try_key, try_kinds, try_prefixes, try_stem, try_stem_if, try_stems, with_prefix, without}
-use Rattle.name_lookup.specs.Plans.{Plan, Gives, Asks, after, run}
+use Rattle.name_lookup.specs.Plans.{Found, Plan, Gives, Asks, after, run}
 
 -- the key is one of these, by recursion
 abbrev IsIn : Key → List Key → Type 0

@@ -3,3 +3,4 @@ pub mod Laws
 pub mod Order
 pub mod Plans
 pub mod Steps
+pub mod Targets

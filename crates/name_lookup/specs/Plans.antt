@@ -2,7 +2,12 @@
 -- where it is absent, and the keys that this leads to.
 use Rattle.std.specs.Prelude.{Bool, if◌then◌else◌, List, [], ◌∷◌}
 use Rattle.def_entry.specs.declared.key.Key.{Key}
-use Rattle.name_lookup.specs.declared.found.Found.{Found}
+
+-- the keys that a word stands for: one, or a prefix and a unit, or none where the word is unknown; and the keys
+-- that were looked at, in order, absent ones too
+pub record Found : Type 0 where
+  pub targets : List Key
+  pub looked : List Key
 
 pub data Plan : Type 0 where
   Gives : List Key → Plan

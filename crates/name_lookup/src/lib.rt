@@ -1,14 +1,16 @@
 //! Lookup: the keys that a word leads to, and the keys that are looked at on the way.
 #![tactic(auto)]
 
-mod found;
 mod laws;
+mod looking;
 mod present;
 mod resolving;
 mod searching;
 mod stems;
+mod targets;
 
-pub use found::Found;
 pub use laws::{order_examples, same_answers, targets_are_present};
+pub use looking::Looking;
 pub use present::Present;
 pub use resolving::resolve;
+pub use targets::Targets;

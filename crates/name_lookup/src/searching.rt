@@ -2,120 +2,116 @@
 
 ghost use Rattle.std.specs.Prelude.{◌≡◌, ◌++◌, ◌∷◌, [], ◌<◌, IfOk, length, take, drop};
 ghost use Rattle.def_entry.specs.Keys.{key};
-ghost use Rattle.def_entry.specs.declared.key.Kind.TheVariants as kinds;
-ghost use Rattle.name_lookup.specs.Order.{try_key as key_step, try_prefixes as prefix_steps, try_stem as stem_step, with_prefix};
-ghost use Rattle.name_lookup.specs.Plans.{Asks};
 ghost use Rattle.def_entry.specs.SameKeys.{is_among};
+ghost use Rattle.def_entry.specs.declared.key.Kind.TheVariants as kinds;
+ghost use Rattle.name_lookup.specs.Order.{try_key as key_step, try_prefixes as prefix_steps};
+ghost use Rattle.name_lookup.specs.Order.{try_stem as stem_step, with_prefix};
+ghost use Rattle.name_lookup.specs.Plans.{Asks};
 ghost use Rattle.name_lookup.specs.Steps.{IsTaken};
 
-use crate::found::Found;
+use crate::looking::Looking;
 use crate::present::Present;
-use def_entry::{Key, Keys, Kind};
+use crate::targets::Targets;
+use def_entry::Kind;
 use std::alloc::{AllocError, Global};
-use units_io::Text;
 
-impl Found {
-    // Whether the key is present, which is looked at.
-    pub(crate) fn ask<P: Present>(
-        &mut self,
-        alloc: Global,
-        table: &P,
+/// A search of a table.
+#[derive(Drop)]
+pub(crate) struct Search<'a, P> {
+    pub(crate) alloc: Global,
+    pub(crate) table: &'a P,
+}
+
+impl<'a, P: Present> Search<'a, P> {
+    // The key, where it is present.
+    pub(crate) fn try_key<L: Looking>(
+        &self,
+        looking: &mut L,
         kind: Kind,
         name: &[u8],
-    ) -> Result<bool, AllocError>
-        ensures answer { IfOk result (λ present. present ≡ is_among (P.keys table.now) (key kind name.now)) }
-        ensures looked { IfOk result (λ _. self.new.looked ≡ self.old.looked ++ key kind name.now ∷ []) }
-        ensures targets { IfOk result (λ _. self.new.targets ≡ self.old.targets) }
+    ) -> Result<Targets, AllocError>
+        requires { L.can_look (P.keys self.now.table.now) looking.old }
+        ensures taken { IfOk result (λ targets. IsTaken (is_among (P.keys self.now.table.now))
+            (key_step (key kind name.now)) (L.looked looking.old) (L.looked looking.new) targets) }
+        ensures ready { L.can_look (P.keys self.now.table.now) looking.new }
+        ensures kept { (start : L) → L.is_kept (P.keys self.now.table.now) start looking.old
+            → L.is_kept (P.keys self.now.table.now) start looking.new }
     {
-        put(alloc, &mut self.looked, kind, name)?;
-        Ok(table.has(kind, name))
-    }
-
-    // Whether the key is present, which is then the target.
-    pub(crate) fn try_key<P: Present>(
-        &mut self,
-        alloc: Global,
-        table: &P,
-        kind: Kind,
-        name: &[u8],
-    ) -> Result<bool, AllocError>
-        requires { self.old.targets ≡ [] }
-        ensures { IfOk result (λ ended. IsTaken (is_among (P.keys table.now)) (key_step (key kind name.now)) self.old self.new ended) }
-    {
-        let present = self.ask(alloc, table, kind, name)?;
-        if present {
-            put(alloc, &mut self.targets, kind, name)?;
+        if looking.look(self.alloc, self.table, kind, name)? {
+            return Ok(Targets::Last);
         }
-        Ok(present)
+        Ok(Targets::Nowhere)
     }
 
-    // Whether a prefix of the word leads to a target, the longest that does.
-    pub(crate) fn try_prefixes<P: Present>(
-        &mut self,
-        alloc: Global,
-        table: &P,
+    // The longest prefix of the word that leads to a target.
+    pub(crate) fn try_prefixes<L: Looking>(
+        &self,
+        looking: &mut L,
         word: &[u8],
-    ) -> Result<bool, AllocError>
-        requires { self.old.targets ≡ [] }
-        ensures { IfOk result (λ ended. IsTaken (is_among (P.keys table.now)) (prefix_steps (length word.now) word.now) self.old self.new ended) }
+    ) -> Result<Targets, AllocError>
+        requires { L.can_look (P.keys self.now.table.now) looking.old }
+        ensures taken { IfOk result (λ targets. IsTaken (is_among (P.keys self.now.table.now))
+            (prefix_steps (length word.now) word.now) (L.looked looking.old) (L.looked looking.new) targets) }
+        ensures ready { L.can_look (P.keys self.now.table.now) looking.new }
+        ensures kept { (start : L) → L.is_kept (P.keys self.now.table.now) start looking.old
+            → L.is_kept (P.keys self.now.table.now) start looking.new }
     {
         let mut len = word.len();
         while len > 0 {
             let (front, rest) = word.split_at(len);
-            if self.try_prefix(alloc, table, front, rest)? {
-                return Ok(true);
+            let targets = self.try_prefix(looking, front, rest)?;
+            if targets.are_some() {
+                return Ok(targets);
             }
             len -= 1;
         }
-        Ok(false)
+        Ok(Targets::Nowhere)
     }
 
-    // Whether a prefix is present and leads to a target, with the rest of the word as a unit.
-    fn try_prefix<P: Present>(
-        &mut self,
-        alloc: Global,
-        table: &P,
+    // A prefix that is present, with the rest of the word as a unit.
+    fn try_prefix<L: Looking>(
+        &self,
+        looking: &mut L,
         front: &[u8],
         rest: &[u8],
-    ) -> Result<bool, AllocError>
-        requires { self.old.targets ≡ [] }
-        ensures { IfOk result (λ ended. IsTaken (is_among (P.keys table.now))
-            (λ next. Asks (key kinds.Prefix front.now) (with_prefix (key kinds.Prefix front.now) rest.now next) next) self.old self.new ended) }
+    ) -> Result<Targets, AllocError>
+        requires { L.can_look (P.keys self.now.table.now) looking.old }
+        ensures taken { IfOk result (λ targets. IsTaken (is_among (P.keys self.now.table.now))
+            (λ next. Asks (key kinds.Prefix front.now) (with_prefix (key kinds.Prefix front.now) rest.now next) next)
+            (L.looked looking.old) (L.looked looking.new) targets) }
+        ensures ready { L.can_look (P.keys self.now.table.now) looking.new }
+        ensures kept { (start : L) → L.is_kept (P.keys self.now.table.now) start looking.old
+            → L.is_kept (P.keys self.now.table.now) start looking.new }
     {
-        if !self.ask(alloc, table, Kind::Prefix, front)? {
-            return Ok(false);
+        if !looking.look(self.alloc, self.table, Kind::Prefix, front)? {
+            return Ok(Targets::Nowhere);
         }
-        if !rest.is_empty() && !self.ask(alloc, table, Kind::Unit, rest)? {
-            return Ok(false);
+        if rest.is_empty() {
+            return Ok(Targets::Last);
         }
-        put(alloc, &mut self.targets, Kind::Prefix, front)?;
-        if !rest.is_empty() {
-            put(alloc, &mut self.targets, Kind::Unit, rest)?;
+        if looking.look(self.alloc, self.table, Kind::Unit, rest)? {
+            return Ok(Targets::LastTwo);
         }
-        Ok(true)
+        Ok(Targets::Nowhere)
     }
 
-    // Whether a stem is present as a unit, or a prefix of it leads to a target.
-    pub(crate) fn try_stem<P: Present>(
-        &mut self,
-        alloc: Global,
-        table: &P,
+    // A stem that is present as a unit, or the longest prefix of it that leads to a target.
+    pub(crate) fn try_stem<L: Looking>(
+        &self,
+        looking: &mut L,
         stem: &[u8],
-    ) -> Result<bool, AllocError>
-        requires { self.old.targets ≡ [] }
-        ensures { IfOk result (λ ended. IsTaken (is_among (P.keys table.now)) (stem_step stem.now) self.old self.new ended) }
+    ) -> Result<Targets, AllocError>
+        requires { L.can_look (P.keys self.now.table.now) looking.old }
+        ensures taken { IfOk result (λ targets. IsTaken (is_among (P.keys self.now.table.now))
+            (stem_step stem.now) (L.looked looking.old) (L.looked looking.new) targets) }
+        ensures ready { L.can_look (P.keys self.now.table.now) looking.new }
+        ensures kept { (start : L) → L.is_kept (P.keys self.now.table.now) start looking.old
+            → L.is_kept (P.keys self.now.table.now) start looking.new }
     {
-        if self.try_key(alloc, table, Kind::Unit, stem)? {
-            return Ok(true);
+        let targets = self.try_key(looking, Kind::Unit, stem)?;
+        if targets.are_some() {
+            return Ok(targets);
         }
-        self.try_prefixes(alloc, table, stem)
+        self.try_prefixes(looking, stem)
     }
-}
-
-// Puts a key at the end.
-fn put(alloc: Global, keys: &mut Keys, kind: Kind, name: &[u8]) -> Result<(), AllocError>
-    ensures { IfOk result (λ _. keys.new ≡ keys.old ++ key kind name.now ∷ []) }
-{
-    let name = Text::from_bytes(alloc, name)?;
-    keys.push(alloc, Key { kind, name })
 }

@@ -4,7 +4,7 @@ use Rattle.std.proofs.Common.{sym, ◌∙◌, ap, subst, inl, inr}
 use Rattle.expr_tree.specs.declared.word_list.WordUse.{WordUse}
 use Rattle.def_entry.specs.declared.key.Key.{Key}
 use Rattle.def_entry.specs.Tables.{Table, entry_at}
-use Rattle.name_lookup.specs.declared.found.Found.{Found}
+use Rattle.name_lookup.specs.Plans.{Found}
 use Rattle.tree_eval.specs.Outcomes.{outcome_of}
 use Rattle.table_names.specs.Affected.{IsAffected}
 use Rattle.table_names.specs.Closed.{IsClosed, LeadsInto}

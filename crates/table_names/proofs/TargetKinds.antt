@@ -8,9 +8,8 @@ use Rattle.def_entry.specs.declared.key.Kind.{Kind}
 use Rattle.def_entry.specs.declared.key.Kind.TheVariants as kind
 use Rattle.def_entry.specs.Keys.{key}
 use Rattle.def_entry.specs.Tables.{Table, is_present}
-use Rattle.name_lookup.specs.declared.found.Found.{Found}
 use Rattle.name_lookup.specs.Order.{has_ending, plan, try_kinds, try_prefixes, try_stem_if, try_stems, with_prefix, without}
-use Rattle.name_lookup.specs.Plans.{Asks, Gives, Plan, run}
+use Rattle.name_lookup.specs.Plans.{Found, Asks, Gives, Plan, run}
 use Rattle.tree_eval.specs.Expansion.{inverted_word}
 use Rattle.table_names.specs.Leads.{targets}
 

@@ -1,18 +1,14 @@
 -- What an edit leaves as it was.
-use Rattle.std.specs.Prelude.{◌≡◌, ◌↔◌, true, List, Contains}
+use Rattle.std.specs.Prelude.{◌≡◌, ◌↔◌, List, Contains}
 use Rattle.expr_tree.specs.declared.word_list.WordUse.{WordUse}
 use Rattle.def_entry.specs.declared.key.Key.{Key}
-use Rattle.def_entry.specs.SameKeys.{is_among}
 use Rattle.def_entry.specs.Tables.{Table, entry_at}
+pub use Rattle.def_entry.specs.Tables.{AreChanged}
 use Rattle.table_names.specs.Affected.{IsAffected}
 use Rattle.table_names.specs.Closed.{IsClosed}
 use Rattle.table_names.specs.Leads.{Reaches, word_lookup}
 use Rattle.table_names.specs.Meanings.{outcome}
 use Rattle.table_names.specs.Words.{key_words}
-
--- the changed keys: a key is not among them exactly where its entry is the same before and after
-abbrev pub AreChanged : Table → Table → List Key → Type 0
-AreChanged before after keys = (k : Key) → (is_among keys k ≡ true → ⊥) ↔ (entry_at before k ≡ entry_at after k)
 
 -- a closed key is closed still, with the same outcome, the same entry, the same lookup of each of its
 -- words, and the same keys that it reaches

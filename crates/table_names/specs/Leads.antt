@@ -4,9 +4,8 @@ use Rattle.expr_tree.specs.declared.word_list.WordUse.{WordUse}
 use Rattle.def_entry.specs.declared.key.Key.{Key}
 use Rattle.def_entry.specs.SameKeys.{is_among}
 use Rattle.def_entry.specs.Tables.{Table, is_present, keys_of}
-use Rattle.name_lookup.specs.declared.found.Found.{Found}
 use Rattle.name_lookup.specs.Order.{plan}
-use Rattle.name_lookup.specs.Plans.{run}
+use Rattle.name_lookup.specs.Plans.{Found, run}
 use Rattle.table_names.specs.Words.{key_words}
 
 -- the lookup of a word in a table

@@ -38,10 +38,10 @@ abbrev mutual
   terms_size NoTerm = 0
   terms_size (Term s e ts) = suc (size e + terms_size ts)
 
-pub of_call_size : (t : Tree) (w : List ℕ) (e : Box Tree Global) → t ≡ made.Call w e → size (syntax t) ≡ suc (size (syntax e.value))
+pub of_call_size : (t : Tree) (w : Box (List ℕ) Global) (e : Box Tree Global) → t ≡ made.Call w e → size (syntax t) ≡ suc (size (syntax e.value))
 of_call_size t w e is = ap (λ (x : Tree). size (syntax x)) is ∙ ap size (of_call w e)
 
-pub of_inverse_size : (t : Tree) (w : List ℕ) (e : Box Tree Global) → t ≡ made.Inverse w e → size (syntax t) ≡ suc (size (syntax e.value))
+pub of_inverse_size : (t : Tree) (w : Box (List ℕ) Global) (e : Box Tree Global) → t ≡ made.Inverse w e → size (syntax t) ≡ suc (size (syntax e.value))
 of_inverse_size t w e is = ap (λ (x : Tree). size (syntax x)) is ∙ ap size (of_inverse w e)
 
 pub of_root_size : (t : Tree) (n : RootKind) (e : Box Tree Global) → t ≡ made.Root n e → size (syntax t) ≡ suc (size (syntax e.value))

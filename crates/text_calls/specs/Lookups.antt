@@ -2,7 +2,7 @@
 use Rattle.std.specs.Prelude.{ℕ, List, [], ◌∷◌, ◌++◌, codes}
 use Rattle.def_entry.specs.declared.key.Key.{Key}
 use Rattle.def_entry.specs.Keys.{key_text}
-use Rattle.name_lookup.specs.declared.found.Found.{Found}
+use Rattle.name_lookup.specs.Plans.{Found}
 
 -- each key with a blank before it
 abbrev pub keys_text : List Key → List ℕ

@@ -97,12 +97,12 @@ fn words_of(alloc: Global, text: &[u8]) -> Result<Vec<u8>, AllocError>
 
 // Puts words at the end, each with how it stands.
 #[tactic(auto, using(crate::proofs::Written::words_written))]
-fn put_uses(out: &mut Vec<u8>, uses: &Words) -> Result<(), AllocError>
+fn put_uses(out: &mut Vec<u8>, uses: &Words<'_>) -> Result<(), AllocError>
     ensures { IfOk result (λ _. out.new.items ≡ out.old.items ++ uses_text uses.now) }
 {
     for word in uses.as_slice() {
-        out.extend_from_slice(kind_text(word.kind))?;
-        put_word(out, word.text.as_bytes())?;
+        out.extend_from_slice(kind_text(word.kind()))?;
+        put_word(out, word.text())?;
     }
     Ok(())
 }

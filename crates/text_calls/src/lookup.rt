@@ -5,13 +5,15 @@ ghost use Rattle.def_entry.specs.Keys.{key as key_named};
 ghost use Rattle.def_entry.specs.SameKeys.{is_among, is_same, is_same_kind};
 ghost use Rattle.name_lookup.specs.Order.{plan};
 ghost use Rattle.name_lookup.specs.Plans.{run};
+ghost use Rattle.name_lookup.specs.Targets.{count, last_keys};
 ghost use Rattle.text_calls.specs.Lookups.{found_text, keys_text};
 
 use crate::line::split_at_blank;
 use def_entry::{Key, KeyFault, Keys, Kind, key_text, read_key};
 use expr_tree::WordKind;
-use name_lookup::{Found, Present, resolve};
+use name_lookup::{Looking, Present, Targets, resolve};
 use std::alloc::{AllocError, Global};
+use units_io::Text;
 
 // A list of keys as a table.
 #[derive(Drop)]
@@ -73,6 +75,32 @@ pub(crate) fn lookup_answer(alloc: Global, text: &[u8]) -> Result<Vec<u8>, Alloc
     found_in(alloc, &table, word, kind)
 }
 
+// The keys that were looked at.
+#[derive(Drop)]
+struct Looked {
+    keys: Keys,
+}
+
+impl Looking for Looked {
+    ghost looked = { λ looked. looked.keys };
+
+    ghost can_look = { λ _ _. Unit {0} };
+
+    ghost is_kept = { λ _ _ _. Unit {0} };
+
+    fn look<P: Present>(
+        &mut self,
+        alloc: Global,
+        table: &P,
+        kind: Kind,
+        name: &[u8],
+    ) -> Result<bool, AllocError> {
+        let text = Text::from_bytes(alloc, name)?;
+        self.keys.push(alloc, Key { kind, name: text })?;
+        Ok(table.has(kind, name))
+    }
+}
+
 // The keys that a word leads to at its place, and the keys that are looked at.
 fn found_in(
     alloc: Global,
@@ -82,24 +110,40 @@ fn found_in(
 ) -> Result<Vec<u8>, AllocError>
     ensures { IfOk result (λ out. out.items ≡ found_text (run (is_among table.now.keys) (plan kind word.now))) }
 {
-    let found = resolve(alloc, table, word, kind)?;
+    let mut looked = Looked {
+        keys: Keys::new(alloc),
+    };
+    let targets = resolve(alloc, table, &mut looked, word, kind)?;
     let mut out = Vec::new(alloc);
-    put_found(alloc, &mut out, &found)?;
+    put_found(alloc, &mut out, looked.keys.as_slice(), targets)?;
     Ok(out)
 }
 
-// Puts what a word leads to at the end.
-fn put_found(alloc: Global, out: &mut Vec<u8>, found: &Found) -> Result<(), AllocError>
-    ensures { IfOk result (λ _. out.new.items ≡ out.old.items ++ found_text found.now) }
+// Puts the targets among the keys that were looked at, and all of these, at the end.
+fn put_found(
+    alloc: Global,
+    out: &mut Vec<u8>,
+    looked: &[Key],
+    targets: Targets,
+) -> Result<(), AllocError>
+    ensures { IfOk result (λ _. out.new.items ≡ out.old.items
+        ++ found_text (record { targets = last_keys (count targets) looked.now; looked = looked.now })) }
 {
-    put_named(alloc, out, b"found", &found.targets)?;
-    put_named(alloc, out, b"; looked at", &found.looked)?;
+    put_named(alloc, out, b"found", last_of(looked, targets))?;
+    put_named(alloc, out, b"; looked at", looked)?;
     Ok(())
+}
+
+// The targets among the keys that were looked at.
+fn last_of(looked: &[Key], targets: Targets) -> &[Key]
+    ensures { result.now ≡ last_keys (count targets) looked.now }
+{
+    &looked[looked.len().saturating_sub(targets.count())..]
 }
 
 // Puts what some keys are and their texts at the end.
 #[tactic(auto, using(crate::proofs::Written::appends))]
-fn put_named(alloc: Global, out: &mut Vec<u8>, what: &[u8], keys: &Keys) -> Result<(), AllocError>
+fn put_named(alloc: Global, out: &mut Vec<u8>, what: &[u8], keys: &[Key]) -> Result<(), AllocError>
     ensures { IfOk result (λ _. out.new.items ≡ out.old.items ++ (what.now ++ keys_text keys.now)) }
 {
     out.extend_from_slice(what)?;
@@ -108,10 +152,10 @@ fn put_named(alloc: Global, out: &mut Vec<u8>, what: &[u8], keys: &Keys) -> Resu
 
 // Puts the texts of keys at the end, each with a blank before it.
 #[tactic(auto, using(crate::proofs::Written::keys_written))]
-fn put_keys(alloc: Global, out: &mut Vec<u8>, keys: &Keys) -> Result<(), AllocError>
+fn put_keys(alloc: Global, out: &mut Vec<u8>, keys: &[Key]) -> Result<(), AllocError>
     ensures { IfOk result (λ _. out.new.items ≡ out.old.items ++ keys_text keys.now) }
 {
-    for key in keys.as_slice() {
+    for key in keys {
         out.extend_from_slice(b" ")?;
         out.extend_from_slice(key_text(alloc, key)?.as_bytes())?;
     }

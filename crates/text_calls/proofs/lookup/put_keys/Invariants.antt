@@ -4,4 +4,4 @@ use Rattle.text_calls.proofs.lookup.put_keys.Given as goal
 
 -- what is written and what is still to be written
 abbrev pub invariant-loop-key : goal.invariant-loop-key
-invariant-loop-key l = l.out.items ++ keys_text (drop l.key-index l.key-items) ≡ l.initial.out.items ++ keys_text l.keys
+invariant-loop-key l = l.out.items ++ keys_text (drop l.key-index l.keys) ≡ l.initial.out.items ++ keys_text l.keys

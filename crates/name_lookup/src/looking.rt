@@ -1,0 +1,37 @@
+//! What is looked at.
+
+ghost use Rattle.std.specs.Prelude.{◌≡◌, ◌++◌, ◌∷◌, [], IfOk, List};
+ghost use Rattle.def_entry.specs.Keys.{key};
+ghost use Rattle.def_entry.specs.declared.key.Key.{Key};
+ghost use Rattle.def_entry.specs.SameKeys.{is_among};
+
+use crate::present::Present;
+use def_entry::Kind;
+use std::alloc::{AllocError, Global};
+
+/// The keys that were looked at, in a form of their owner's.
+pub trait Looking {
+    // the keys that were looked at, in order
+    ghost looked: { Self → List Key };
+
+    // whether it may look at a table of these keys
+    ghost can_look: { List Key → Self → Type 0 };
+
+    // what its owner keeps while it looks at a table of these keys
+    ghost is_kept: { List Key → Self → Self → Type 0 };
+
+    /// Looks at the key of this kind and name: whether it is present. The only error is want of memory.
+    fn look<P: Present>(
+        &mut self,
+        alloc: Global,
+        table: &P,
+        kind: Kind,
+        name: &[u8],
+    ) -> Result<bool, AllocError>
+        requires { can_look (P.keys table.now) self.old }
+        ensures answer { IfOk result (λ present. present ≡ is_among (P.keys table.now) (key kind name.now)) }
+        ensures looked { IfOk result (λ _. looked self.new ≡ looked self.old ++ key kind name.now ∷ []) }
+        ensures ready { can_look (P.keys table.now) self.new }
+        ensures kept { (start : Self) → is_kept (P.keys table.now) start self.old
+            → is_kept (P.keys table.now) start self.new };
+}
