@@ -985,6 +985,87 @@ Overflow in each kind of step, and none in one that fits once it is reduced.
   100000000000000000000000000000000000000
   overflow
 
+Members that are numbers, before and behind names, and products of a number with what has names.
+
+  $ eval_calls <<END
+  > kg !
+  > m !
+  > s !
+  > big 170141183460469231731687303715884105727
+  > N 1|3 kg m / s^2
+  > eval 2 N * 3 N
+  > eval 2 N / 2 N
+  > eval 2 N / (2 N)
+  > eval 2 (3 N)
+  > eval 2 / (3 N)
+  > eval (3 N) 2
+  > eval 1 * (N N) * (1 / N)
+  > eval 2 / 3 * N
+  > eval N / 3 * 3 / N
+  > eval N / 0
+  > eval 0 N / N
+  > eval 0 / N
+  > eval N * 1|7 / 1|7
+  > eval N 1e2 / 1e-2
+  > eval N s^2 m / kg
+  > eval m s * s kg / m
+  > eval 2 + 3 - 4
+  > eval 2 - m
+  > eval m + 2
+  > eval m - 2
+  > eval m / m + 2 - 3
+  > eval (m + m) 2 / 2
+  > eval N + 2 N - N
+  > eval big m * 2
+  > eval m * 2 * big
+  > eval big m / 2 * 2
+  > eval m / big / 2
+  > eval m 1e39
+  > eval m / 1e39
+  > eval m^32767 * 2 * m
+  > eval m^32767 / 2 * m^-1
+  > eval 2 (m^32767 s) * m / 0
+  > eval m / 0 * m^32768
+  > END
+  1 kg
+  1 m
+  1 s
+  170141183460469231731687303715884105727
+  1|3 kg m / s^2
+  2|3 kg^2 m^2 / s^4
+  1
+  1
+  2 kg m / s^2
+  2 s^2 / kg m
+  2 kg m / s^2
+  1|3 kg m / s^2
+  2|9 kg m / s^2
+  1
+  division by zero
+  0
+  0 s^2 / kg m
+  1|3 kg m / s^2
+  10000|3 kg m / s^2
+  1|3 m^2
+  1 kg s^2
+  1
+  sum of unlike units: 2 and 1 m
+  sum of unlike units: 1 m and 2
+  sum of unlike units: 1 m and 2
+  0
+  2 m
+  2|3 kg m / s^2
+  overflow
+  overflow
+  170141183460469231731687303715884105727 m
+  overflow
+  overflow
+  overflow
+  exponent out of range
+  1|2 m^32766
+  exponent out of range
+  division by zero
+
 Words that are not known, functions that are none, and names that are defined twice.
 
   $ eval_calls <<END

@@ -13,7 +13,7 @@ use Rattle.tree_eval.specs.Answers.{Answers, Gives, amount_in}
 use Rattle.tree_eval.specs.Environment.{Stand}
 use Rattle.tree_eval.specs.Expanded.{Meaning}
 use Rattle.tree_eval.specs.Expansion.{expand}
-use Rattle.tree_eval.specs.Operands.{chain, links, words_of}
+use Rattle.tree_eval.specs.Operands.{chain, links, with_worth, words_of}
 use Rattle.units_io.specs.Outcomes.{◌>>=◌}
 use Rattle.tree_eval.specs.Steps.{Worth, joined, one}
 use Rattle.tree_eval.specs.Value.{chained, value}
@@ -27,110 +27,114 @@ get_drop (y ∷ xs) zero x e = let p : y ≡ x = cc in ap (λ z. z ∷ xs) p
 get_drop (y ∷ xs) (suc i) x e =
     let n : suc i + 1 ≡ suc (i + 1) = omega arith in get_drop xs i x e ∙ ap (λ k. x ∷ drop k (y ∷ xs)) (sym n)
 
-module _ (means : WordUse → Meaning) (us : List WordUse) (place : ℕ) (all : List (Step × Syntax)) (a : Option Amount) where
-  abbrev pub worth : Worth
-  worth = value (chain means all) a
+in_two : (r : Worth) (f g : Amount → Worth) → (r >>= (λ w. f w >>= g)) ≡ (r >>= f >>= g)
+in_two (Ok w) f g = refl
+in_two (Err e) f g = refl
 
-  -- what has been taken, and what is left from member i on
-  pub record IsRunning (i : ℕ) (held : Amount) (next : ℕ) : Type 0 where
-    pub goes_on : worth ≡ chained held (links means (drop i all)) a
-    pub places : next + length (words_of (drop i all)) ≡ place + length (words_of all)
-    pub stand : Stand us next (words_of (drop i all))
-    pub lighter : weight_links (links means (drop i all)) < weight (chain means all)
+module _ (means : WordUse → Meaning) (us : List WordUse) (place : ℕ) (all : List (Step × Syntax)) (a : Option Amount)
+  where
+    abbrev pub worth : Worth
+    worth = value (chain means all) a
 
-  -- the first member
-  module _ (o : Step × Syntax) (is : slice_get all 0 ≡ Some o) where
-    split_first : all ≡ o ∷ drop 1 all
-    split_first = get_drop all 0 o is
+    -- what has been taken, and what is left from member i on
+    pub record IsRunning (i : ℕ) (held : Amount) (next : ℕ) : Type 0 where
+      pub goes_on : worth ≡ chained held (links means (drop i all)) a
+      pub places : next + length (words_of (drop i all)) ≡ place + length (words_of all)
+      pub stand : Stand us next (words_of (drop i all))
+      pub lighter : weight_links (links means (drop i all)) < weight (chain means all)
 
-    words_first : words_of all ≡ words_in o.1 ++ words_of (drop 1 all)
-    words_first = ap words_of split_first
+    -- the first member
+    module _ (o : Step × Syntax) (is : slice_get all 0 ≡ Some o) where
+      split_first : all ≡ o ∷ drop 1 all
+      split_first = get_drop all 0 o is
 
-    worth_first : worth ≡ (value (expand means o.1) a >>= (λ v. chained v (links means (drop 1 all)) a))
-    worth_first = ap (λ y. value (chain means y) a) split_first
+      words_first : words_of all ≡ words_in o.1 ++ words_of (drop 1 all)
+      words_first = ap words_of split_first
 
-    weight_first : weight (chain means all) ≡ suc (weight (expand means o.1) + weight_links (links means (drop 1 all)))
-    weight_first = ap (λ y. weight (chain means y)) split_first
+      worth_first : worth ≡ (value (expand means o.1) a >>= (λ v. chained v (links means (drop 1 all)) a))
+      worth_first = ap (λ y. value (chain means y) a) split_first
 
-    pub first_stand : Stand us place (words_of all) → Stand us place (words_in o.1)
-    first_stand h = left_stands us place (words_in o.1) (words_of (drop 1 all)) (subst (Stand us place) words_first h)
+      weight_first : weight (chain means all) ≡ suc (weight (expand means o.1) + weight_links (links means (drop 1 all)))
+      weight_first = ap (λ y. weight (chain means y)) split_first
 
-    pub first_lighter : 4 * weight (expand means o.1) + 1 < 4 * weight (chain means all)
-    first_lighter = omega (arith, weight_first)
+      pub first_stand : Stand us place (words_of all) → Stand us place (words_in o.1)
+      first_stand h = left_stands us place (words_in o.1) (words_of (drop 1 all)) (subst (Stand us place) words_first h)
 
-    pub first_fault : (e : EvalFault) → Gives amount_in (Err e) (value (expand means o.1) a) → Gives amount_in (Err e) worth
-    first_fault e h =
-        fault_first amount_in amount_in e (value (expand means o.1) a) (λ v. chained v (links means (drop 1 all)) a)
-        worth worth_first h
+      pub first_lighter : 4 * weight (expand means o.1) + 1 < 4 * weight (chain means all)
+      first_lighter = omega (arith, weight_first)
 
-    pub begins : (held : Amount) (next : ℕ) → Stand us place (words_of all) → value (expand means o.1) a ≡ Ok held
-        → next ≡ place + length (words_in o.1) → IsRunning 1 held next
-    begins held next h v n =
-        let w : length (words_of all) ≡ length (words_in o.1) + length (words_of (drop 1 all)) =
-        ap length words_first ∙ length-append (words_in o.1) (words_of (drop 1 all)) in
-        record {
-          goes_on = worth_first ∙ ap (λ r. r >>= (λ x. chained x (links means (drop 1 all)) a)) v;
-          places = omega (arith, n, w);
-          stand = subst (λ k. Stand us k (words_of (drop 1 all))) (sym n)
-              (right_stands us place (words_in o.1) (words_of (drop 1 all)) (subst (Stand us place) words_first h));
-          lighter = omega (arith, weight_first);
-        }
+      pub first_fault : (e : EvalFault) → Gives amount_in (Err e) (value (expand means o.1) a)
+          → Gives amount_in (Err e) worth
+      first_fault e h =
+          fault_first amount_in amount_in e (value (expand means o.1) a) (λ v. chained v (links means (drop 1 all)) a)
+          worth worth_first h
 
-  -- a further member
-  module _ (i : ℕ) (held : Amount) (next : ℕ) (running : IsRunning i held next) (o : Step × Syntax) (is : slice_get all i ≡ Some o) where
-    split : drop i all ≡ o ∷ drop (i + 1) all
-    split = get_drop all i o is
+      pub begins : (held : Amount) (next : ℕ) → Stand us place (words_of all) → value (expand means o.1) a ≡ Ok held
+          → next ≡ place + length (words_in o.1) → IsRunning 1 held next
+      begins held next h v n =
+          let w : length (words_of all) ≡ length (words_in o.1) + length (words_of (drop 1 all)) =
+          ap length words_first ∙ length-append (words_in o.1) (words_of (drop 1 all)) in
+          record {
+            goes_on = worth_first ∙ ap (λ r. r >>= (λ x. chained x (links means (drop 1 all)) a)) v;
+            places = omega (arith, n, w);
+            stand = subst (λ k. Stand us k (words_of (drop 1 all))) (sym n)
+                (right_stands us place (words_in o.1) (words_of (drop 1 all)) (subst (Stand us place) words_first h));
+            lighter = omega (arith, weight_first);
+          }
 
-    words_here : words_of (drop i all) ≡ words_in o.1 ++ words_of (drop (i + 1) all)
-    words_here = ap words_of split
+    -- a further member
+    module _ (i : ℕ) (held : Amount) (next : ℕ) (running : IsRunning i held next) (o : Step × Syntax)
+        (is : slice_get all i ≡ Some o) where
+      split : drop i all ≡ o ∷ drop (i + 1) all
+      split = get_drop all i o is
 
-    weight_here : weight_links (links means (drop i all)) ≡ weight (expand means o.1) + weight_links (links means (drop (i + 1) all))
-    weight_here = ap (λ y. weight_links (links means y)) split
+      words_here : words_of (drop i all) ≡ words_in o.1 ++ words_of (drop (i + 1) all)
+      words_here = ap words_of split
 
-    pub member_stand : Stand us next (words_in o.1)
-    member_stand = left_stands us next (words_in o.1) (words_of (drop (i + 1) all)) (subst (Stand us next) words_here running.stand)
+      weight_here : weight_links (links means (drop i all)) ≡ weight (expand means o.1) + weight_links
+          (links means (drop (i + 1) all))
+      weight_here = ap (λ y. weight_links (links means y)) split
 
-    pub member_lighter : 4 * weight (expand means o.1) + 1 < 4 * weight (chain means all)
-    member_lighter = omega (arith, weight_here, running.lighter)
+      pub member_stand : Stand us next (words_in o.1)
+      member_stand = left_stands us next (words_in o.1) (words_of (drop (i + 1) all))
+          (subst (Stand us next) words_here running.stand)
 
-    abbrev others : Amount → Worth
-    others n = chained n (links means (drop (i + 1) all)) a
+      pub member_lighter : 4 * weight (expand means o.1) + 3 < 4 * weight (chain means all)
+      member_lighter = omega (arith, weight_here, running.lighter)
 
-    worth_here : worth ≡ (value (expand means o.1) a >>= (λ v. joined o.0 held v >>= others))
-    worth_here = running.goes_on ∙ ap (λ y. chained held (links means y) a) split
+      abbrev others : Amount → Worth
+      others n = chained n (links means (drop (i + 1) all)) a
 
-    pub member_fault : (e : EvalFault) → Gives amount_in (Err e) (value (expand means o.1) a) → Gives amount_in (Err e) worth
-    member_fault e h =
-        fault_first amount_in amount_in e (value (expand means o.1) a) (λ v. joined o.0 held v >>= others) worth worth_here h
+      abbrev here : Worth
+      here = with_worth o.0 held (value (expand means o.1) a)
 
-    pub step_fault : (v w : Amount) (e : EvalFault) → value (expand means o.1) a ≡ Ok v → w ≡ v
-        → Answers {A = Amount} (Err e) (joined o.0 held w) → Gives amount_in (Err e) worth
-    step_fault v w e p q h =
-        let r : worth ≡ (joined o.0 held v >>= others) =
-        worth_here ∙ ap (λ x. x >>= (λ z. joined o.0 held z >>= others)) p in
-        fault_first {A = Amount} (λ z. z) amount_in e (joined o.0 held v) others worth r
-        (subst (λ z. Answers {A = Amount} (Err e) (joined o.0 held z)) q h)
+      worth_here : worth ≡ (here >>= others)
+      worth_here = running.goes_on ∙ ap (λ y. chained held (links means y) a) split ∙ in_two (value (expand means o.1) a)
+          (joined o.0 held) others
 
-    pub goes : (v w x : Amount) (after : ℕ) → value (expand means o.1) a ≡ Ok v → w ≡ v → joined o.0 held w ≡ Ok x
-        → after ≡ next + length (words_in o.1) → IsRunning (i + 1) x after
-    goes v w x after p q j n =
-        let m : length (words_of (drop i all)) ≡ length (words_in o.1) + length (words_of (drop (i + 1) all)) =
-        ap length words_here ∙ length-append (words_in o.1) (words_of (drop (i + 1) all)) in
-        record {
-          goes_on = worth_here ∙ rw (p, ← q, j) refl;
-          places = omega (arith, n, m, running.places);
-          stand = subst (λ k. Stand us k (words_of (drop (i + 1) all))) (sym n)
-              (right_stands us next (words_in o.1) (words_of (drop (i + 1) all)) (subst (Stand us next) words_here running.stand));
-          lighter = omega (arith, weight_here, running.lighter);
-        }
+      pub member_fault : (e : EvalFault) → Answers {A = Amount} (Err e) here → Gives amount_in (Err e) worth
+      member_fault e h = fault_first {A = Amount} (λ z. z) amount_in e here others worth worth_here h
 
-  -- after the last member
-  pub ends : (i : ℕ) (held : Amount) (next : ℕ) → IsRunning i held next → length all ≤ i
-      → (worth ≡ Ok held) × (next ≡ place + length (words_of all))
-  ends i held next running h =
-      let e : drop i all ≡ [] = drop_of_length-le all h in
-      let z : length (words_of (drop i all)) ≡ 0 = ap (λ y. length (words_of y)) e in
-      (running.goes_on ∙ ap (λ y. chained held (links means y) a) e, omega (arith, running.places, z))
+      pub goes : (x : Amount) (after : ℕ) → here ≡ Ok x → after ≡ next + length (words_in o.1) → IsRunning (i + 1) x after
+      goes x after j n =
+          let m : length (words_of (drop i all)) ≡ length (words_in o.1) + length (words_of (drop (i + 1) all)) =
+          ap length words_here ∙ length-append (words_in o.1) (words_of (drop (i + 1) all)) in
+          record {
+            goes_on = worth_here ∙ ap (λ r. r >>= others) j;
+            places = omega (arith, n, m, running.places);
+            stand = subst (λ k. Stand us k (words_of (drop (i + 1) all))) (sym n)
+                (right_stands us next (words_in o.1) (words_of (drop (i + 1) all))
+                (subst (Stand us next) words_here running.stand));
+            lighter = omega (arith, weight_here, running.lighter);
+          }
+
+    -- after the last member
+    pub ends : (i : ℕ) (held : Amount) (next : ℕ) → IsRunning i held next → length all ≤ i
+        → (worth ≡ Ok held) × (next ≡ place + length (words_of all))
+    ends i held next running h =
+        let e : drop i all ≡ [] = drop_of_length-le all h in
+        let z : length (words_of (drop i all)) ≡ 0 = ap (λ y. length (words_of y)) e in
+        (running.goes_on ∙ ap (λ y. chained held (links means y) a) e, omega (arith, running.places, z))
 
 -- no members
 pub empty_worth : (means : WordUse → Meaning) (all : List (Step × Syntax)) (a : Option Amount) → length all ≡ 0

@@ -6,6 +6,8 @@ use Rattle.expr_tree.specs.declared.word_list.WordUse.{WordUse}
 use Rattle.expr_tree.specs.Syntax.{Syntax}
 use Rattle.expr_tree.specs.Trees.{factors_of, syntax, terms_of, trees_of}
 use Rattle.expr_tree.specs.Words.{words_in}
+use Rattle.quantity.specs.Amount.{Amount}
+use Rattle.units_io.specs.Outcomes.{◌>>=◌}
 use Rattle.tree_eval.specs.declared.operands.Operand.{Operand}
 use Rattle.tree_eval.specs.declared.operands.Operands.{Operands}
 use Rattle.tree_eval.specs.declared.operands.Operands.TheVariants.{Juxtaposed, Product, Sum}
@@ -13,6 +15,7 @@ use Rattle.tree_eval.specs.declared.step.Step.{Step}
 use Rattle.tree_eval.specs.declared.step.Step.TheVariants.{Multiply}
 use Rattle.tree_eval.specs.Expanded.{Dimensionless, Chain, Expanded, Link, Links, Meaning, NoLink}
 use Rattle.tree_eval.specs.Expansion.{expand, scaling, signing}
+use Rattle.tree_eval.specs.Steps.{Worth, joined}
 
 -- a member and its step
 abbrev pub operand : Operand → Step × Syntax
@@ -31,6 +34,10 @@ abbrev pub operands_of : Operands → List (Step × Syntax)
 operands_of (Juxtaposed trees) = map by_side (trees_of trees.now)
 operands_of (Product factors) = map scaled (factors_of factors.now)
 operands_of (Sum terms) = map signed (terms_of terms.now)
+
+-- a running value with a member that is worth this
+abbrev pub with_worth : Step → Amount → Worth → Worth
+with_worth step held worth = worth >>= joined step held
 
 -- the words of all members
 abbrev pub words_of : List (Step × Syntax) → List WordUse

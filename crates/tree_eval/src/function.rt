@@ -72,7 +72,7 @@ pub(crate) fn take<E: Env>(
     if env.rank(id) > MOST_RANK {
         return Err(Refusal::CallsTooDeep.by(alloc, env.function_name(id)));
     }
-    match &env.function(id).what {
+    match env.function(id) {
         What::Function(f) => match direction {
             Direction::Forward => apply_function(alloc, env, id, f, at),
             Direction::Inverse => unapply_function(alloc, env, id, f, at),

@@ -12,29 +12,29 @@ use crate::fault::EvalFault;
 use crate::holder::{Holder, Part};
 use crate::outcome::Outcome;
 use crate::scope::eval;
-use def_entry::{Entry, What};
+use def_entry::What;
 use quantity::Quantity;
 use std::alloc::{AllocError, Global};
 use std::sync::ledger::Ledger;
 use units_io::Steps;
 
-/// The outcome of the name with this number and this entry, in one step.
+/// The outcome of the name with this number, of which its line says this, in one step.
 pub fn reduce<E: Env, L: Ledger>(
     alloc: Global,
     env: &E,
     id: usize,
     name: &[u8],
-    entry: &Entry,
+    what: &What,
     steps: &mut Steps<L>,
 ) -> Result<Outcome, AllocError>
-    requires words { HoldsWords (E.words env.now) id (what_view entry.now.what) }
-    requires target { HasTarget (E.means env.now) (what_view entry.now.what) }
+    requires words { HoldsWords (E.words env.now) id (what_view what.now) }
+    requires target { HasTarget (E.means env.now) (what_view what.now) }
     ensures outcome { IfOk result (λ outcome. outcome
-        ≡ outcome_of (meaning_of (E.means env.now) name.now (what_view entry.now.what))) }
+        ≡ outcome_of (meaning_of (E.means env.now) name.now (what_view what.now))) }
     ensures steps { steps.new ≡ steps.old + 1 }
 {
     steps.tick();
-    match &entry.what {
+    match what {
         What::Primitive => Ok(Outcome::Value(Quantity::one(alloc, name)?)),
         What::Dimensionless | What::ListOf(_) => Ok(Outcome::Value(Quantity::unity(alloc))),
         What::Body(tree) => kept(eval(alloc, env, Holder::Of(id, Part::Body), tree, None)),

@@ -1,6 +1,6 @@
 //! What expressions are worth. Calls nest as deep as one expression and the functions that it calls.
 
-ghost use Rattle.std.specs.Prelude.{◌≡◌, ◌+◌, ◌<◌, OnOk, Some, length, slice_get};
+ghost use Rattle.std.specs.Prelude.{◌≡◌, ◌+◌, ◌++◌, ◌<◌, OnOk, Some, length, slice_get};
 ghost use Rattle.std.specs.Option.{option_copied};
 ghost use Rattle.expr_tree.specs.declared.word_list.WordUse.{WordUse};
 ghost use Rattle.expr_tree.specs.Trees.{syntax};
@@ -10,7 +10,7 @@ ghost use Rattle.tree_eval.specs.Directions.{operated};
 ghost use Rattle.tree_eval.specs.Environment.{IsTold, Stand};
 ghost use Rattle.tree_eval.specs.Expanded as expanded;
 ghost use Rattle.tree_eval.specs.Expansion.{expand};
-ghost use Rattle.tree_eval.specs.Operands.{chain, operands_of, words_of};
+ghost use Rattle.tree_eval.specs.Operands.{chain, operands_of, with_worth, words_of};
 ghost use Rattle.tree_eval.specs.Told.{IsUsable};
 ghost use Rattle.tree_eval.specs.Value as spec;
 
@@ -22,11 +22,11 @@ use crate::held::Held;
 use crate::holder::Holder;
 use crate::meaning::Meaning;
 use crate::numeral::{bar, numeral};
-use crate::operands::Operands;
+use crate::operands::{Operand, Operands};
 use crate::power::{power, root};
 use crate::step::Step;
 use crate::word::word_worth;
-use expr_tree::{Tree, view_law};
+use expr_tree::{RootKind, Tree, view_law};
 use quantity::Quantity;
 use std::alloc::Global;
 
@@ -80,7 +80,8 @@ struct Scope<'a, E> {
 }
 
 impl<'a, E: Env> Scope<'a, E> {
-    // What a tree is worth whose first word stands at the place, which moves behind its last word.
+    // What a tree is worth whose first word stands at the place, which moves behind its last word. It
+    // only leads on: what each kind of tree needs room for is not cleared for the others.
     #[cycle(eval)]
     fn worth(&self, tree: &Tree, place: &mut usize) -> Result<Held<'a>, EvalFault>
         requires { Stand (E.words self.now.env.now self.now.holder) place.old (words_in (syntax tree.now)) }
@@ -90,8 +91,8 @@ impl<'a, E: Env> Scope<'a, E> {
     {
         view_law();
         match tree {
-            Tree::Number(x) => Ok(Held::Own(numeral(self.alloc, x)?)),
-            Tree::Bar(quotient) => Ok(Held::Own(bar(self.alloc, &quotient.top, &quotient.bottom)?)),
+            Tree::Number(x) => numeral(self.alloc, x),
+            Tree::Bar(quotient) => bar(self.alloc, &quotient.top, &quotient.bottom),
             Tree::Argument => match self.arg {
                 Some(arg) => Ok(Held::Lent(arg)),
                 None => Ok(Held::Own(Quantity::unity(self.alloc))),
@@ -106,23 +107,56 @@ impl<'a, E: Env> Scope<'a, E> {
                 self.operated(Direction::Inverse, meaning, operand, place)
             }
             Tree::Group(operand) => self.worth(operand, place),
-            Tree::Root(kind, operand) => {
-                let base = self.worth(operand, place)?;
-                Ok(Held::Own(root(self.alloc, *kind, base)?))
-            }
-            Tree::Negate(operand) => {
-                let operand = self.worth(operand, place)?;
-                Ok(Held::Own(operand.own(self.alloc)?.negated()))
-            }
-            Tree::Power(base, exponent) => {
-                let base = self.worth(base, place)?;
-                let exponent = self.worth(exponent, place)?;
-                Ok(Held::Own(power(self.alloc, base, exponent.get())?))
-            }
+            Tree::Root(kind, operand) => self.root(*kind, operand, place),
+            Tree::Negate(operand) => self.negated(operand, place),
+            Tree::Power(base, exponent) => self.power(base, exponent, place),
             Tree::Juxtaposed(trees) => self.chain(Operands::Juxtaposed(trees), place),
             Tree::Product(factors) => self.chain(Operands::Product(factors), place),
             Tree::Sum(terms) => self.chain(Operands::Sum(terms), place),
         }
+    }
+
+    // What the root of a tree is worth.
+    #[cycle(eval)]
+    #[inline(never)]
+    fn root(&self, kind: RootKind, operand: &Tree, place: &mut usize) -> Result<Held<'a>, EvalFault>
+        requires { Stand (E.words self.now.env.now self.now.holder) place.old (words_in (syntax operand.now)) }
+        ensures worth { Gives amount_in result (spec.value
+            (expanded.Root kind (expand (E.means self.now.env.now) (syntax operand.now))) (option_copied self.now.arg)) }
+        ensures place { OnOk result (place.new ≡ place.old + length (words_in (syntax operand.now))) }
+    {
+        let base = self.worth(operand, place)?;
+        Ok(Held::Own(root(self.alloc, kind, base)?))
+    }
+
+    // What a tree is worth with the other sign.
+    #[cycle(eval)]
+    #[inline(never)]
+    fn negated(&self, operand: &Tree, place: &mut usize) -> Result<Held<'a>, EvalFault>
+        requires { Stand (E.words self.now.env.now self.now.holder) place.old (words_in (syntax operand.now)) }
+        ensures worth { Gives amount_in result (spec.value
+            (expanded.Negated (expand (E.means self.now.env.now) (syntax operand.now))) (option_copied self.now.arg)) }
+        ensures place { OnOk result (place.new ≡ place.old + length (words_in (syntax operand.now))) }
+    {
+        let operand = self.worth(operand, place)?;
+        Ok(Held::Own(operand.own(self.alloc)?.negated()))
+    }
+
+    // What a power is worth.
+    #[cycle(eval)]
+    #[inline(never)]
+    fn power(&self, base: &Tree, exponent: &Tree, place: &mut usize) -> Result<Held<'a>, EvalFault>
+        requires { Stand (E.words self.now.env.now self.now.holder) place.old
+            (words_in (syntax base.now) ++ words_in (syntax exponent.now)) }
+        ensures worth { Gives amount_in result (spec.value (expanded.Power
+            (expand (E.means self.now.env.now) (syntax base.now))
+            (expand (E.means self.now.env.now) (syntax exponent.now))) (option_copied self.now.arg)) }
+        ensures place { OnOk result (place.new ≡ place.old
+            + length (words_in (syntax base.now) ++ words_in (syntax exponent.now))) }
+    {
+        let base = self.worth(base, place)?;
+        let exponent = self.worth(exponent, place)?;
+        Ok(Held::Own(power(self.alloc, base, exponent.get())?))
     }
 
     // What the environment tells of the word at the place, which moves behind it.
@@ -177,10 +211,46 @@ impl<'a, E: Env> Scope<'a, E> {
         }
         let mut held = self.worth(operands.get(0).tree, place)?;
         for i in 1..operands.len() {
-            let operand = operands.get(i);
-            let next = self.worth(operand.tree, place)?;
-            held = Held::Own(operand.step.join(self.alloc, held, next.get())?);
+            held = Held::Own(self.with_member(held, operands.get(i), place)?);
         }
         Ok(held)
+    }
+
+    // A running value with one more member.
+    #[cycle(eval)]
+    fn with_member(
+        &self,
+        left: Held<'a>,
+        operand: Operand<'_>,
+        place: &mut usize,
+    ) -> Result<Quantity, EvalFault>
+        requires { Stand (E.words self.now.env.now self.now.holder) place.old (words_in (syntax operand.tree.now)) }
+        ensures worth { Answers result (with_worth operand.entry.step (amount_in left.entry)
+            (spec.value (expand (E.means self.now.env.now) (syntax operand.entry.tree.now)) (option_copied self.now.arg))) }
+        ensures place { OnOk result (place.new ≡ place.old + length (words_in (syntax operand.entry.tree.now))) }
+    {
+        view_law();
+        match operand.tree {
+            Tree::Number(x) => operand.step.join_number(self.alloc, left, &x.value()?),
+            _ => self.with_worth(left, operand, place),
+        }
+    }
+
+    // The same by what the member is worth.
+    #[cycle(eval)]
+    #[inline(never)]
+    fn with_worth(
+        &self,
+        left: Held<'a>,
+        operand: Operand<'_>,
+        place: &mut usize,
+    ) -> Result<Quantity, EvalFault>
+        requires { Stand (E.words self.now.env.now self.now.holder) place.old (words_in (syntax operand.tree.now)) }
+        ensures worth { Answers result (with_worth operand.entry.step (amount_in left.entry)
+            (spec.value (expand (E.means self.now.env.now) (syntax operand.entry.tree.now)) (option_copied self.now.arg))) }
+        ensures place { OnOk result (place.new ≡ place.old + length (words_in (syntax operand.entry.tree.now))) }
+    {
+        let member = self.worth(operand.tree, place)?;
+        operand.step.join_held(self.alloc, left, member)
     }
 }

@@ -9,6 +9,7 @@ ghost use Rattle.tree_eval.specs.Steps as spec;
 use crate::fault::EvalFault;
 use crate::held::Held;
 use expr_tree::{Scale, Sign};
+use frac128::Frac;
 use quantity::{Quantity, QuantityFault};
 use std::alloc::Global;
 
@@ -53,6 +54,40 @@ impl Step {
     {
         let left = left.own(alloc)?;
         Ok(self.join_owned(alloc, left, right)?)
+    }
+
+    // The same. It takes the names of a factor of its own over where it can.
+    pub(crate) fn join_held(
+        self,
+        alloc: Global,
+        left: Held<'_>,
+        right: Held<'_>,
+    ) -> Result<Quantity, EvalFault>
+        ensures { Answers result (spec.joined self (amount_in left.entry) (amount_in right.entry)) }
+    {
+        match self {
+            Step::Multiply => match right {
+                Held::Own(right) => Ok(left.own(alloc)?.times_all(alloc, right)?),
+                Held::Lent(right) => self.join(alloc, left, right),
+            },
+            _ => self.join(alloc, left, right.get()),
+        }
+    }
+
+    // The running value with a number as one more member.
+    pub(crate) fn join_number(
+        self,
+        alloc: Global,
+        left: Held<'_>,
+        right: &Frac,
+    ) -> Result<Quantity, EvalFault>
+        ensures { Answers result (spec.joined self (amount_in left.entry) (spec.plain_number right.now)) }
+    {
+        match self {
+            Step::Multiply => Ok(left.own(alloc)?.times_number(right)?),
+            Step::Divide => Ok(left.own(alloc)?.over_number(right)?),
+            _ => self.join(alloc, left, &Quantity::number(alloc, *right)),
+        }
     }
 
     fn join_owned(

@@ -16,11 +16,12 @@ use Rattle.tree_eval.specs.Expansion.{expand, plain_word}
 use Rattle.tree_eval.specs.Operands.{by_side, operand, operands_of, scaled, signed}
 use Rattle.tree_eval.specs.Told.{told_worth}
 use Rattle.tree_eval.specs.Value.{value}
-use Rattle.tree_eval.proofs.Arms.{base_part, chain_lighter, chain_stands, exponent_part, group_part, negate_part, operand_lighter}
-use Rattle.tree_eval.proofs.Arms.{operand_stands, power_place, root_part, use_expands, use_stands, word_of, word_stands}
+use Rattle.tree_eval.proofs.Arms.{base_lighter, base_stands, chain_lighter, chain_stands, exponent_lighter, exponent_stands}
+use Rattle.tree_eval.proofs.Arms.{group_part, negate_part, operand_lighter}
+use Rattle.tree_eval.proofs.Arms.{operand_stands, power_lighter, power_stands, root_part, use_expands, use_stands, word_of, word_stands}
 use Rattle.tree_eval.proofs.Calls.{told_plain, usable}
 use Rattle.tree_eval.proofs.Chains.{begins, ends, first_fault, first_lighter, first_stand, goes, member_fault, member_lighter}
-use Rattle.tree_eval.proofs.Chains.{member_stand, step_fault}
+use Rattle.tree_eval.proofs.Chains.{member_stand}
 use Rattle.tree_eval.proofs.Listed.{juxtaposed_is, product_is, sum_is}
 use Rattle.tree_eval.proofs.Places.{first_stands, first_within}
 use Rattle.tree_eval.proofs.Targets.{alias_target}
@@ -44,51 +45,51 @@ scope::Scope::worth-returns-in-Word-clause-worth g t c =
 
 pub scope::Scope::worth-next_meaning-meaning-requires : goal.scope::Scope::worth-next_meaning-meaning-requires
 scope::Scope::worth-next_meaning-meaning-requires g t c =
-    first_within (g.E.Env.words c.args.self.now.env.now c.args.self.now.holder) c.args.place.now (word_of Forward c.in-Call.field-0) (words_in (syntax c.in-Call.operand.value)) (use_stands (g.E.Env.means c.args.self.now.env.now) (g.E.Env.words c.args.self.now.env.now c.args.self.now.holder) c.args.place.now (syntax c.args.tree.now) Forward c.in-Call.field-0 (syntax c.in-Call.operand.value) (ap syntax c.in-Call.is ∙ c.view_law.ensures.call c.in-Call.field-0 c.in-Call.operand) c.requires)
+    first_within (g.E.Env.words c.args.self.now.env.now c.args.self.now.holder) c.args.place.now (word_of Forward c.in-Call.field-0.value) (words_in (syntax c.in-Call.operand.value)) (use_stands (g.E.Env.means c.args.self.now.env.now) (g.E.Env.words c.args.self.now.env.now c.args.self.now.holder) c.args.place.now (syntax c.args.tree.now) Forward c.in-Call.field-0.value (syntax c.in-Call.operand.value) (ap syntax c.in-Call.is ∙ c.view_law.ensures.call c.in-Call.field-0 c.in-Call.operand) c.requires)
 
 pub scope::Scope::worth-operated-requires : goal.scope::Scope::worth-operated-requires
 scope::Scope::worth-operated-requires g t c κs within =
-    let told = c.next_meaning-meaning.ensures.told (word_of Forward c.in-Call.field-0)
-    (first_stands (g.E.Env.words c.args.self.now.env.now c.args.self.now.holder) c.args.place.now (word_of Forward c.in-Call.field-0) (words_in (syntax c.in-Call.operand.value))
-    (use_stands (g.E.Env.means c.args.self.now.env.now) (g.E.Env.words c.args.self.now.env.now c.args.self.now.holder) c.args.place.now (syntax c.args.tree.now) Forward c.in-Call.field-0 (syntax c.in-Call.operand.value) (ap syntax c.in-Call.is ∙ c.view_law.ensures.call c.in-Call.field-0 c.in-Call.operand) c.requires)) in
-    let is = (ap syntax c.in-Call.is ∙ (c.view_law.ensures.call c.in-Call.field-0 c.in-Call.operand ∙ ap (λ y. tree.Call c.in-Call.field-0 (syntax y)) (sym c.deref-in-Call.ensures))) in
-    let lighter = operand_lighter (g.E.Env.means c.args.self.now.env.now) (g.E.Env.words c.args.self.now.env.now c.args.self.now.holder) c.args.place.now (syntax c.args.tree.now) Forward c.in-Call.field-0 (syntax c.deref-in-Call.result.now) is (g.E.Env.has c.args.self.now.env.now) (g.E.Env.callee c.args.self.now.env.now) c.next_meaning-meaning.result told in
-    let stand = operand_stands (g.E.Env.means c.args.self.now.env.now) (g.E.Env.words c.args.self.now.env.now c.args.self.now.holder) c.args.place.now (syntax c.args.tree.now) Forward c.in-Call.field-0 (syntax c.deref-in-Call.result.now) is c.next_meaning-meaning.new.place c.next_meaning-meaning.ensures.place c.requires in
-    let can = usable (g.E.Env.has c.args.self.now.env.now) (g.E.Env.callee c.args.self.now.env.now) ((g.E.Env.means c.args.self.now.env.now) (word_of Forward c.in-Call.field-0)) c.next_meaning-meaning.result told in
+    let told = c.next_meaning-meaning.ensures.told (word_of Forward c.in-Call.field-0.value)
+    (first_stands (g.E.Env.words c.args.self.now.env.now c.args.self.now.holder) c.args.place.now (word_of Forward c.in-Call.field-0.value) (words_in (syntax c.in-Call.operand.value))
+    (use_stands (g.E.Env.means c.args.self.now.env.now) (g.E.Env.words c.args.self.now.env.now c.args.self.now.holder) c.args.place.now (syntax c.args.tree.now) Forward c.in-Call.field-0.value (syntax c.in-Call.operand.value) (ap syntax c.in-Call.is ∙ c.view_law.ensures.call c.in-Call.field-0 c.in-Call.operand) c.requires)) in
+    let is = (ap syntax c.in-Call.is ∙ (c.view_law.ensures.call c.in-Call.field-0 c.in-Call.operand ∙ ap (λ y. tree.Call c.in-Call.field-0.value (syntax y)) (sym c.deref-in-Call.ensures))) in
+    let lighter = operand_lighter (g.E.Env.means c.args.self.now.env.now) (g.E.Env.words c.args.self.now.env.now c.args.self.now.holder) c.args.place.now (syntax c.args.tree.now) Forward c.in-Call.field-0.value (syntax c.deref-in-Call.result.now) is (g.E.Env.has c.args.self.now.env.now) (g.E.Env.callee c.args.self.now.env.now) c.next_meaning-meaning.result told in
+    let stand = operand_stands (g.E.Env.means c.args.self.now.env.now) (g.E.Env.words c.args.self.now.env.now c.args.self.now.holder) c.args.place.now (syntax c.args.tree.now) Forward c.in-Call.field-0.value (syntax c.deref-in-Call.result.now) is c.next_meaning-meaning.new.place c.next_meaning-meaning.ensures.place c.requires in
+    let can = usable (g.E.Env.has c.args.self.now.env.now) (g.E.Env.callee c.args.self.now.env.now) ((g.E.Env.means c.args.self.now.env.now) (word_of Forward c.in-Call.field-0.value)) c.next_meaning-meaning.result told in
     search (rules, arith)
 
 pub scope::Scope::worth-returns-in-Call-clause-worth : goal.scope::Scope::worth-returns-in-Call-clause-worth
 scope::Scope::worth-returns-in-Call-clause-worth g t c =
-    let told = c.next_meaning-meaning.ensures.told (word_of Forward c.in-Call.field-0)
-    (first_stands (g.E.Env.words c.args.self.now.env.now c.args.self.now.holder) c.args.place.now (word_of Forward c.in-Call.field-0) (words_in (syntax c.in-Call.operand.value))
-    (use_stands (g.E.Env.means c.args.self.now.env.now) (g.E.Env.words c.args.self.now.env.now c.args.self.now.holder) c.args.place.now (syntax c.args.tree.now) Forward c.in-Call.field-0 (syntax c.in-Call.operand.value) (ap syntax c.in-Call.is ∙ c.view_law.ensures.call c.in-Call.field-0 c.in-Call.operand) c.requires)) in
+    let told = c.next_meaning-meaning.ensures.told (word_of Forward c.in-Call.field-0.value)
+    (first_stands (g.E.Env.words c.args.self.now.env.now c.args.self.now.holder) c.args.place.now (word_of Forward c.in-Call.field-0.value) (words_in (syntax c.in-Call.operand.value))
+    (use_stands (g.E.Env.means c.args.self.now.env.now) (g.E.Env.words c.args.self.now.env.now c.args.self.now.holder) c.args.place.now (syntax c.args.tree.now) Forward c.in-Call.field-0.value (syntax c.in-Call.operand.value) (ap syntax c.in-Call.is ∙ c.view_law.ensures.call c.in-Call.field-0 c.in-Call.operand) c.requires)) in
     subst (λ y. Gives amount_in c.operated.result (value y (option_copied c.args.self.now.arg)))
-    (sym (use_expands (g.E.Env.means c.args.self.now.env.now) (g.E.Env.words c.args.self.now.env.now c.args.self.now.holder) c.args.place.now (syntax c.args.tree.now) Forward c.in-Call.field-0 (syntax c.deref-in-Call.result.now) (ap syntax c.in-Call.is ∙ (c.view_law.ensures.call c.in-Call.field-0 c.in-Call.operand ∙ ap (λ y. tree.Call c.in-Call.field-0 (syntax y)) (sym c.deref-in-Call.ensures)))))
-    (c.operated.ensures.worth ((g.E.Env.means c.args.self.now.env.now) (word_of Forward c.in-Call.field-0)) told)
+    (sym (use_expands (g.E.Env.means c.args.self.now.env.now) (g.E.Env.words c.args.self.now.env.now c.args.self.now.holder) c.args.place.now (syntax c.args.tree.now) Forward c.in-Call.field-0.value (syntax c.deref-in-Call.result.now) (ap syntax c.in-Call.is ∙ (c.view_law.ensures.call c.in-Call.field-0 c.in-Call.operand ∙ ap (λ y. tree.Call c.in-Call.field-0.value (syntax y)) (sym c.deref-in-Call.ensures)))))
+    (c.operated.ensures.worth ((g.E.Env.means c.args.self.now.env.now) (word_of Forward c.in-Call.field-0.value)) told)
 
 pub scope::Scope::worth-next_meaning-meaning-requires-in-Inverse : goal.scope::Scope::worth-next_meaning-meaning-requires-in-Inverse
 scope::Scope::worth-next_meaning-meaning-requires-in-Inverse g t c =
-    first_within (g.E.Env.words c.args.self.now.env.now c.args.self.now.holder) c.args.place.now (word_of Inverse c.in-Inverse.field-0) (words_in (syntax c.in-Inverse.operand.value)) (use_stands (g.E.Env.means c.args.self.now.env.now) (g.E.Env.words c.args.self.now.env.now c.args.self.now.holder) c.args.place.now (syntax c.args.tree.now) Inverse c.in-Inverse.field-0 (syntax c.in-Inverse.operand.value) (ap syntax c.in-Inverse.is ∙ c.view_law.ensures.inverse c.in-Inverse.field-0 c.in-Inverse.operand) c.requires)
+    first_within (g.E.Env.words c.args.self.now.env.now c.args.self.now.holder) c.args.place.now (word_of Inverse c.in-Inverse.field-0.value) (words_in (syntax c.in-Inverse.operand.value)) (use_stands (g.E.Env.means c.args.self.now.env.now) (g.E.Env.words c.args.self.now.env.now c.args.self.now.holder) c.args.place.now (syntax c.args.tree.now) Inverse c.in-Inverse.field-0.value (syntax c.in-Inverse.operand.value) (ap syntax c.in-Inverse.is ∙ c.view_law.ensures.inverse c.in-Inverse.field-0 c.in-Inverse.operand) c.requires)
 
 pub scope::Scope::worth-operated-requires-in-Inverse : goal.scope::Scope::worth-operated-requires-in-Inverse
 scope::Scope::worth-operated-requires-in-Inverse g t c κs within =
-    let told = c.next_meaning-meaning-in-Inverse.ensures.told (word_of Inverse c.in-Inverse.field-0)
-    (first_stands (g.E.Env.words c.args.self.now.env.now c.args.self.now.holder) c.args.place.now (word_of Inverse c.in-Inverse.field-0) (words_in (syntax c.in-Inverse.operand.value))
-    (use_stands (g.E.Env.means c.args.self.now.env.now) (g.E.Env.words c.args.self.now.env.now c.args.self.now.holder) c.args.place.now (syntax c.args.tree.now) Inverse c.in-Inverse.field-0 (syntax c.in-Inverse.operand.value) (ap syntax c.in-Inverse.is ∙ c.view_law.ensures.inverse c.in-Inverse.field-0 c.in-Inverse.operand) c.requires)) in
-    let is = (ap syntax c.in-Inverse.is ∙ (c.view_law.ensures.inverse c.in-Inverse.field-0 c.in-Inverse.operand ∙ ap (λ y. tree.Inverse c.in-Inverse.field-0 (syntax y)) (sym c.deref-in-Inverse.ensures))) in
-    let lighter = operand_lighter (g.E.Env.means c.args.self.now.env.now) (g.E.Env.words c.args.self.now.env.now c.args.self.now.holder) c.args.place.now (syntax c.args.tree.now) Inverse c.in-Inverse.field-0 (syntax c.deref-in-Inverse.result.now) is (g.E.Env.has c.args.self.now.env.now) (g.E.Env.callee c.args.self.now.env.now) c.next_meaning-meaning-in-Inverse.result told in
-    let stand = operand_stands (g.E.Env.means c.args.self.now.env.now) (g.E.Env.words c.args.self.now.env.now c.args.self.now.holder) c.args.place.now (syntax c.args.tree.now) Inverse c.in-Inverse.field-0 (syntax c.deref-in-Inverse.result.now) is c.next_meaning-meaning-in-Inverse.new.place c.next_meaning-meaning-in-Inverse.ensures.place c.requires in
-    let can = usable (g.E.Env.has c.args.self.now.env.now) (g.E.Env.callee c.args.self.now.env.now) ((g.E.Env.means c.args.self.now.env.now) (word_of Inverse c.in-Inverse.field-0)) c.next_meaning-meaning-in-Inverse.result told in
+    let told = c.next_meaning-meaning-in-Inverse.ensures.told (word_of Inverse c.in-Inverse.field-0.value)
+    (first_stands (g.E.Env.words c.args.self.now.env.now c.args.self.now.holder) c.args.place.now (word_of Inverse c.in-Inverse.field-0.value) (words_in (syntax c.in-Inverse.operand.value))
+    (use_stands (g.E.Env.means c.args.self.now.env.now) (g.E.Env.words c.args.self.now.env.now c.args.self.now.holder) c.args.place.now (syntax c.args.tree.now) Inverse c.in-Inverse.field-0.value (syntax c.in-Inverse.operand.value) (ap syntax c.in-Inverse.is ∙ c.view_law.ensures.inverse c.in-Inverse.field-0 c.in-Inverse.operand) c.requires)) in
+    let is = (ap syntax c.in-Inverse.is ∙ (c.view_law.ensures.inverse c.in-Inverse.field-0 c.in-Inverse.operand ∙ ap (λ y. tree.Inverse c.in-Inverse.field-0.value (syntax y)) (sym c.deref-in-Inverse.ensures))) in
+    let lighter = operand_lighter (g.E.Env.means c.args.self.now.env.now) (g.E.Env.words c.args.self.now.env.now c.args.self.now.holder) c.args.place.now (syntax c.args.tree.now) Inverse c.in-Inverse.field-0.value (syntax c.deref-in-Inverse.result.now) is (g.E.Env.has c.args.self.now.env.now) (g.E.Env.callee c.args.self.now.env.now) c.next_meaning-meaning-in-Inverse.result told in
+    let stand = operand_stands (g.E.Env.means c.args.self.now.env.now) (g.E.Env.words c.args.self.now.env.now c.args.self.now.holder) c.args.place.now (syntax c.args.tree.now) Inverse c.in-Inverse.field-0.value (syntax c.deref-in-Inverse.result.now) is c.next_meaning-meaning-in-Inverse.new.place c.next_meaning-meaning-in-Inverse.ensures.place c.requires in
+    let can = usable (g.E.Env.has c.args.self.now.env.now) (g.E.Env.callee c.args.self.now.env.now) ((g.E.Env.means c.args.self.now.env.now) (word_of Inverse c.in-Inverse.field-0.value)) c.next_meaning-meaning-in-Inverse.result told in
     search (rules, arith)
 
 pub scope::Scope::worth-returns-in-Inverse-clause-worth : goal.scope::Scope::worth-returns-in-Inverse-clause-worth
 scope::Scope::worth-returns-in-Inverse-clause-worth g t c =
-    let told = c.next_meaning-meaning-in-Inverse.ensures.told (word_of Inverse c.in-Inverse.field-0)
-    (first_stands (g.E.Env.words c.args.self.now.env.now c.args.self.now.holder) c.args.place.now (word_of Inverse c.in-Inverse.field-0) (words_in (syntax c.in-Inverse.operand.value))
-    (use_stands (g.E.Env.means c.args.self.now.env.now) (g.E.Env.words c.args.self.now.env.now c.args.self.now.holder) c.args.place.now (syntax c.args.tree.now) Inverse c.in-Inverse.field-0 (syntax c.in-Inverse.operand.value) (ap syntax c.in-Inverse.is ∙ c.view_law.ensures.inverse c.in-Inverse.field-0 c.in-Inverse.operand) c.requires)) in
+    let told = c.next_meaning-meaning-in-Inverse.ensures.told (word_of Inverse c.in-Inverse.field-0.value)
+    (first_stands (g.E.Env.words c.args.self.now.env.now c.args.self.now.holder) c.args.place.now (word_of Inverse c.in-Inverse.field-0.value) (words_in (syntax c.in-Inverse.operand.value))
+    (use_stands (g.E.Env.means c.args.self.now.env.now) (g.E.Env.words c.args.self.now.env.now c.args.self.now.holder) c.args.place.now (syntax c.args.tree.now) Inverse c.in-Inverse.field-0.value (syntax c.in-Inverse.operand.value) (ap syntax c.in-Inverse.is ∙ c.view_law.ensures.inverse c.in-Inverse.field-0 c.in-Inverse.operand) c.requires)) in
     subst (λ y. Gives amount_in c.operated-in-Inverse.result (value y (option_copied c.args.self.now.arg)))
-    (sym (use_expands (g.E.Env.means c.args.self.now.env.now) (g.E.Env.words c.args.self.now.env.now c.args.self.now.holder) c.args.place.now (syntax c.args.tree.now) Inverse c.in-Inverse.field-0 (syntax c.deref-in-Inverse.result.now) (ap syntax c.in-Inverse.is ∙ (c.view_law.ensures.inverse c.in-Inverse.field-0 c.in-Inverse.operand ∙ ap (λ y. tree.Inverse c.in-Inverse.field-0 (syntax y)) (sym c.deref-in-Inverse.ensures)))))
-    (c.operated-in-Inverse.ensures.worth ((g.E.Env.means c.args.self.now.env.now) (word_of Inverse c.in-Inverse.field-0)) told)
+    (sym (use_expands (g.E.Env.means c.args.self.now.env.now) (g.E.Env.words c.args.self.now.env.now c.args.self.now.holder) c.args.place.now (syntax c.args.tree.now) Inverse c.in-Inverse.field-0.value (syntax c.deref-in-Inverse.result.now) (ap syntax c.in-Inverse.is ∙ (c.view_law.ensures.inverse c.in-Inverse.field-0 c.in-Inverse.operand ∙ ap (λ y. tree.Inverse c.in-Inverse.field-0.value (syntax y)) (sym c.deref-in-Inverse.ensures)))))
+    (c.operated-in-Inverse.ensures.worth ((g.E.Env.means c.args.self.now.env.now) (word_of Inverse c.in-Inverse.field-0.value)) told)
 
 pub scope::Scope::worth-worth-requires : goal.scope::Scope::worth-worth-requires
 scope::Scope::worth-worth-requires g t c κs within =
@@ -97,38 +98,37 @@ scope::Scope::worth-worth-requires g t c κs within =
     let stand = part.stand c.requires in
     search (rules, arith)
 
-pub scope::Scope::worth-worth-requires-in-Root : goal.scope::Scope::worth-worth-requires-in-Root
-scope::Scope::worth-worth-requires-in-Root g t c κs within =
+pub scope::Scope::worth-root-requires : goal.scope::Scope::worth-root-requires
+scope::Scope::worth-root-requires g t c κs within =
     let part = root_part (g.E.Env.means c.args.self.now.env.now) (g.E.Env.words c.args.self.now.env.now c.args.self.now.holder) c.args.place.now (syntax c.args.tree.now) c.in-Root.kind (syntax c.deref-in-Root.result.now) (ap syntax c.in-Root.is ∙ (c.view_law.ensures.root c.in-Root.kind c.in-Root.operand ∙ ap (λ y. tree.Root c.in-Root.kind (syntax y)) (sym c.deref-in-Root.ensures))) in
     let lighter = part.lighter in
     let stand = part.stand c.requires in
     search (rules, arith)
 
-pub scope::Scope::worth-worth-requires-in-Negate : goal.scope::Scope::worth-worth-requires-in-Negate
-scope::Scope::worth-worth-requires-in-Negate g t c κs within =
+pub scope::Scope::worth-negated-requires : goal.scope::Scope::worth-negated-requires
+scope::Scope::worth-negated-requires g t c κs within =
     let part = negate_part (g.E.Env.means c.args.self.now.env.now) (g.E.Env.words c.args.self.now.env.now c.args.self.now.holder) c.args.place.now (syntax c.args.tree.now) (syntax c.deref-in-Negate.result.now) (ap syntax c.in-Negate.is ∙ (c.view_law.ensures.negate c.in-Negate.operand ∙ ap (λ y. tree.Negate (syntax y)) (sym c.deref-in-Negate.ensures))) in
     let lighter = part.lighter in
     let stand = part.stand c.requires in
     search (rules, arith)
 
-pub scope::Scope::worth-worth-requires-in-Power : goal.scope::Scope::worth-worth-requires-in-Power
-scope::Scope::worth-worth-requires-in-Power g t c κs within =
-    let part = base_part (g.E.Env.means c.args.self.now.env.now) (g.E.Env.words c.args.self.now.env.now c.args.self.now.holder) c.args.place.now (syntax c.args.tree.now) (syntax c.deref-in-Power.result.now) (syntax c.in-Power.exponent.value) (ap syntax c.in-Power.is ∙ (c.view_law.ensures.power c.in-Power.base c.in-Power.exponent ∙ ap (λ y. tree.Power (syntax y) (syntax c.in-Power.exponent.value)) (sym c.deref-in-Power.ensures))) in
-    let lighter = part.lighter in
-    let stand = part.stand c.requires in
+pub scope::Scope::worth-power-requires : goal.scope::Scope::worth-power-requires
+scope::Scope::worth-power-requires g t c κs within =
+    let lighter = power_lighter (g.E.Env.means c.args.self.now.env.now) (g.E.Env.words c.args.self.now.env.now c.args.self.now.holder) c.args.place.now (syntax c.args.tree.now) (syntax c.deref-in-Power.result.now) (syntax c.deref-in-Power-2.result.now) (ap syntax c.in-Power.is ∙ (c.view_law.ensures.power c.in-Power.base c.in-Power.exponent ∙ λ i. tree.Power (syntax (sym c.deref-in-Power.ensures i)) (syntax (sym c.deref-in-Power-2.ensures i)))) in
+    let stand = power_stands (g.E.Env.means c.args.self.now.env.now) (g.E.Env.words c.args.self.now.env.now c.args.self.now.holder) c.args.place.now (syntax c.args.tree.now) (syntax c.deref-in-Power.result.now) (syntax c.deref-in-Power-2.result.now) (ap syntax c.in-Power.is ∙ (c.view_law.ensures.power c.in-Power.base c.in-Power.exponent ∙ λ i. tree.Power (syntax (sym c.deref-in-Power.ensures i)) (syntax (sym c.deref-in-Power-2.ensures i)))) c.requires in
     search (rules, arith)
 
-pub scope::Scope::worth-worth-requires-in-Power-2 : goal.scope::Scope::worth-worth-requires-in-Power-2
-scope::Scope::worth-worth-requires-in-Power-2 g t c κs within =
-    let part = exponent_part (g.E.Env.means c.args.self.now.env.now) (g.E.Env.words c.args.self.now.env.now c.args.self.now.holder) c.args.place.now (syntax c.args.tree.now) (syntax c.deref-in-Power.result.now) (syntax c.deref-in-Power-2.result.now) (ap syntax c.in-Power.is ∙ (c.view_law.ensures.power c.in-Power.base c.in-Power.exponent ∙ λ i. tree.Power (syntax (sym c.deref-in-Power.ensures i)) (syntax (sym c.deref-in-Power-2.ensures i)))) c.worth-in-Power.new.place c.in_ok-base-in-Power.ensures.place in
-    let lighter = part.lighter in
-    let stand = part.stand c.requires in
+pub scope::Scope::power-worth-requires : goal.scope::Scope::power-worth-requires
+scope::Scope::power-worth-requires g t c κs within =
+    let lighter = base_lighter (g.E.Env.means c.args.self.now.env.now) (g.E.Env.words c.args.self.now.env.now c.args.self.now.holder) (syntax c.args.base.now) (syntax c.args.exponent.now) in
+    let stand = base_stands (g.E.Env.means c.args.self.now.env.now) (g.E.Env.words c.args.self.now.env.now c.args.self.now.holder) (syntax c.args.base.now) (syntax c.args.exponent.now) c.args.place.now c.requires in
     search (rules, arith)
 
-pub scope::Scope::worth-returns-in_ok-power-in-Power-clause-place : goal.scope::Scope::worth-returns-in_ok-power-in-Power-clause-place
-scope::Scope::worth-returns-in_ok-power-in-Power-clause-place g t c =
-    power_place (g.E.Env.means c.args.self.now.env.now) (g.E.Env.words c.args.self.now.env.now c.args.self.now.holder) c.args.place.now (syntax c.args.tree.now) (syntax c.deref-in-Power.result.now) (syntax c.deref-in-Power-2.result.now) (ap syntax c.in-Power.is ∙ (c.view_law.ensures.power c.in-Power.base c.in-Power.exponent ∙ λ i. tree.Power (syntax (sym c.deref-in-Power.ensures i)) (syntax (sym c.deref-in-Power-2.ensures i)))) c.worth-in-Power.new.place c.worth-in-Power-2.new.place
-    c.in_ok-base-in-Power.ensures.place c.in_ok-exponent-in-Power.ensures.place
+pub scope::Scope::power-worth-requires-2 : goal.scope::Scope::power-worth-requires-2
+scope::Scope::power-worth-requires-2 g t c κs within =
+    let lighter = exponent_lighter (g.E.Env.means c.args.self.now.env.now) (g.E.Env.words c.args.self.now.env.now c.args.self.now.holder) (syntax c.args.base.now) (syntax c.args.exponent.now) in
+    let stand = exponent_stands (g.E.Env.means c.args.self.now.env.now) (g.E.Env.words c.args.self.now.env.now c.args.self.now.holder) (syntax c.args.base.now) (syntax c.args.exponent.now) c.args.place.now c.worth.new.place c.in_ok-base.ensures.place c.requires in
+    search (rules, arith)
 
 pub scope::Scope::worth-chain-requires : goal.scope::Scope::worth-chain-requires
 scope::Scope::worth-chain-requires g t c κs within =
@@ -255,29 +255,22 @@ scope::Scope::chain-loop-i-init g t c =
     begins (g.E.Env.means c.args.self.now.env.now) (g.E.Env.words c.args.self.now.env.now c.args.self.now.holder) c.args.place.now (operands_of c.args.operands) (option_copied c.args.self.now.arg) (operand c.get.result) c.get.ensures (amount_in c.in_ok-held.held) c.worth.new.place c.requires
     c.in_ok-held.ensures.worth c.in_ok-held.ensures.place
 
-pub scope::Scope::chain-worth-requires-in-loop-i : goal.scope::Scope::chain-worth-requires-in-loop-i
-scope::Scope::chain-worth-requires-in-loop-i g t c κs within =
-    let lighter = member_lighter (g.E.Env.means c.args.self.now.env.now) (g.E.Env.words c.args.self.now.env.now c.args.self.now.holder) c.args.place.now (operands_of c.args.operands) (option_copied c.args.self.now.arg) c.loop-i.i (amount_in c.loop-i.held) c.loop-i.place c.loop-i.invariant (operand c.get-operand.result) c.get-operand.ensures in
-    let stand = member_stand (g.E.Env.means c.args.self.now.env.now) (g.E.Env.words c.args.self.now.env.now c.args.self.now.holder) c.args.place.now (operands_of c.args.operands) (option_copied c.args.self.now.arg) c.loop-i.i (amount_in c.loop-i.held) c.loop-i.place c.loop-i.invariant (operand c.get-operand.result) c.get-operand.ensures in
+pub scope::Scope::chain-with_member-requires : goal.scope::Scope::chain-with_member-requires
+scope::Scope::chain-with_member-requires g t c κs within =
+    let lighter = member_lighter (g.E.Env.means c.args.self.now.env.now) (g.E.Env.words c.args.self.now.env.now c.args.self.now.holder) c.args.place.now (operands_of c.args.operands) (option_copied c.args.self.now.arg) c.loop-i.i (amount_in c.loop-i.held) c.loop-i.place c.loop-i.invariant (operand c.get-in-loop-i.result) c.get-in-loop-i.ensures in
+    let stand = member_stand (g.E.Env.means c.args.self.now.env.now) (g.E.Env.words c.args.self.now.env.now c.args.self.now.holder) c.args.place.now (operands_of c.args.operands) (option_copied c.args.self.now.arg) c.loop-i.i (amount_in c.loop-i.held) c.loop-i.place c.loop-i.invariant (operand c.get-in-loop-i.result) c.get-in-loop-i.ensures in
     search (rules, arith)
 
-pub scope::Scope::chain-returns-in_err-next-clause-worth : goal.scope::Scope::chain-returns-in_err-next-clause-worth
-scope::Scope::chain-returns-in_err-next-clause-worth g t c =
-    let p = err_from_is_err_and c.from_residual-in_err-next.result c.from_residual-in_err-next.ensures.1 in
-    rw (p.1, p.2) (member_fault (g.E.Env.means c.args.self.now.env.now) (g.E.Env.words c.args.self.now.env.now c.args.self.now.holder) c.args.place.now (operands_of c.args.operands) (option_copied c.args.self.now.arg) c.loop-i.i (amount_in c.loop-i.held) c.loop-i.place c.loop-i.invariant (operand c.get-operand.result) c.get-operand.ensures
-    c.in_err-next.field-0.0 c.in_err-next.ensures.worth)
-
-pub scope::Scope::chain-returns-in_err-join-clause-worth : goal.scope::Scope::chain-returns-in_err-join-clause-worth
-scope::Scope::chain-returns-in_err-join-clause-worth g t c =
-    let p = err_from_is_err_and c.from_residual-in_err-join.result c.from_residual-in_err-join.ensures.1 in
-    rw (p.1, p.2) (step_fault (g.E.Env.means c.args.self.now.env.now) (g.E.Env.words c.args.self.now.env.now c.args.self.now.holder) c.args.place.now (operands_of c.args.operands) (option_copied c.args.self.now.arg) c.loop-i.i (amount_in c.loop-i.held) c.loop-i.place c.loop-i.invariant (operand c.get-operand.result) c.get-operand.ensures
-    (amount_in c.in_ok-next.next) c.get-in-loop-i.result.now c.in_err-join.field-0.0 c.in_ok-next.ensures.worth c.get-in-loop-i.ensures c.in_err-join.ensures)
+pub scope::Scope::chain-returns-in_err-with_member-clause-worth : goal.scope::Scope::chain-returns-in_err-with_member-clause-worth
+scope::Scope::chain-returns-in_err-with_member-clause-worth g t c =
+    let p = err_from_is_err_and c.from_residual-in_err-with_member.result c.from_residual-in_err-with_member.ensures.1 in
+    rw (p.1, p.2) (member_fault (g.E.Env.means c.args.self.now.env.now) (g.E.Env.words c.args.self.now.env.now c.args.self.now.holder) c.args.place.now (operands_of c.args.operands) (option_copied c.args.self.now.arg) c.loop-i.i (amount_in c.loop-i.held) c.loop-i.place c.loop-i.invariant (operand c.get-in-loop-i.result) c.get-in-loop-i.ensures
+    c.in_err-with_member.field-0.0 c.in_err-with_member.ensures.worth)
 
 pub scope::Scope::chain-loop-i-preserved : goal.scope::Scope::chain-loop-i-preserved
 scope::Scope::chain-loop-i-preserved g t c =
-    goes (g.E.Env.means c.args.self.now.env.now) (g.E.Env.words c.args.self.now.env.now c.args.self.now.holder) c.args.place.now (operands_of c.args.operands) (option_copied c.args.self.now.arg) c.loop-i.i (amount_in c.loop-i.held) c.loop-i.place c.loop-i.invariant (operand c.get-operand.result) c.get-operand.ensures
-    (amount_in c.in_ok-next.next) c.get-in-loop-i.result.now c.in_ok-join.field-0 c.worth-in-loop-i.new.place
-    c.in_ok-next.ensures.worth c.get-in-loop-i.ensures c.in_ok-join.ensures c.in_ok-next.ensures.place
+    goes (g.E.Env.means c.args.self.now.env.now) (g.E.Env.words c.args.self.now.env.now c.args.self.now.holder) c.args.place.now (operands_of c.args.operands) (option_copied c.args.self.now.arg) c.loop-i.i (amount_in c.loop-i.held) c.loop-i.place c.loop-i.invariant (operand c.get-in-loop-i.result) c.get-in-loop-i.ensures
+    c.in_ok-with_member.field-0 c.with_member.new.place c.in_ok-with_member.ensures.worth c.in_ok-with_member.ensures.place
 
 pub scope::Scope::chain-returns-clause-worth : goal.scope::Scope::chain-returns-clause-worth
 scope::Scope::chain-returns-clause-worth g t c =
@@ -292,4 +285,4 @@ scope::Scope::chain-returns-clause-place g t c =
 pub function::take-target_of-requires-clause-word : goal.function::take-target_of-requires-clause-word
 function::take-target_of-requires-clause-word g t c =
     alias_target (g.E.Env.words c.args.env.now) (g.E.Env.means c.args.env.now) c.args.id (g.E.Env.callee c.args.env.now c.args.id)
-    (what_view c.function.result.now.what) c.in-Alias.field-0 c.function.ensures (ap what_view c.in-Alias.is)
+    (what_view c.function.result.now) c.in-Alias.field-0 c.function.ensures (ap what_view c.in-Alias.is)

@@ -14,6 +14,17 @@ decreases-scope::tree_worth g l = 4 * weight (expand (g.E.Env.means l.env.now) (
 abbrev pub decreases-scope::Scope::worth : goal.decreases-scope::Scope::worth
 decreases-scope::Scope::worth g l = 4 * weight (expand (g.E.Env.means l.self.now.env.now) (syntax l.tree.now)) + 1
 
+abbrev pub decreases-scope::Scope::root : goal.decreases-scope::Scope::root
+decreases-scope::Scope::root g l = 4 * weight (expand (g.E.Env.means l.self.now.env.now) (syntax l.operand.now)) + 2
+
+abbrev pub decreases-scope::Scope::negated : goal.decreases-scope::Scope::negated
+decreases-scope::Scope::negated g l = 4 * weight (expand (g.E.Env.means l.self.now.env.now) (syntax l.operand.now)) + 2
+
+abbrev pub decreases-scope::Scope::power : goal.decreases-scope::Scope::power
+decreases-scope::Scope::power g l =
+    4 * (weight (expand (g.E.Env.means l.self.now.env.now) (syntax l.base.now))
+    + weight (expand (g.E.Env.means l.self.now.env.now) (syntax l.exponent.now))) + 2
+
 abbrev pub decreases-scope::Scope::operated : goal.decreases-scope::Scope::operated
 decreases-scope::Scope::operated g l =
     4 * (weight_told (g.E.Env.callee l.self.now.env.now) l.meaning
@@ -21,6 +32,12 @@ decreases-scope::Scope::operated g l =
 
 abbrev pub decreases-scope::Scope::chain : goal.decreases-scope::Scope::chain
 decreases-scope::Scope::chain g l = 4 * weight (chain (g.E.Env.means l.self.now.env.now) (operands_of l.operands))
+
+abbrev pub decreases-scope::Scope::with_member : goal.decreases-scope::Scope::with_member
+decreases-scope::Scope::with_member g l = 4 * weight (expand (g.E.Env.means l.self.now.env.now) (syntax l.operand.tree.now)) + 3
+
+abbrev pub decreases-scope::Scope::with_worth : goal.decreases-scope::Scope::with_worth
+decreases-scope::Scope::with_worth g l = 4 * weight (expand (g.E.Env.means l.self.now.env.now) (syntax l.operand.tree.now)) + 2
 
 abbrev pub decreases-function::take : goal.decreases-function::take
 decreases-function::take g l = 4 * weight_callable (g.E.Env.callee l.env.now l.id) + 2
