@@ -11,7 +11,7 @@ use Rattle.def_entry.specs.SameKeys.{is_among, is_same}
 use Rattle.deck_lines.specs.Edited.{Edited, store_after, store_before}
 use Rattle.deck_lines.specs.Names.{is_numbered, key_at}
 use Rattle.deck_lines.specs.Numbering.{IsNumbering}
-use Rattle.deck_lines.specs.Stores.{Store}
+use Rattle.deck_lines.specs.Stores.{Store, definition_at}
 use Rattle.deck_lines.specs.declared.key_number.KeyNumber.{KeyNumber}
 use Rattle.deck_lines.specs.declared.line.DeckLine.{DeckLine}
 use Rattle.deck.specs.Changes.{AreOnce, IsTableChange, is_same_entry}
@@ -46,13 +46,19 @@ changed_among t u keys once beside same = record {
         true≢false (sym m ∙ among_filter (differ t u) keys k ∙ ap (λ o. not (is_same_entry (entry_at t k) o) && is_among keys k) (sym equal)
         ∙ ap (λ s. not s && is_among keys k) (entry_itself (entry_at t k)))
 
--- an entry of a table of lines is one that a line gives
-pub from_line : (lines : List DeckLine) (ds : Definitions) → AreInPlace lines ds → (k : Key) (e : Entry) → entry_at (table_of ds) k ≡ Some e → (text : List ℕ) × (entry_of text ≡ Ok (k, e))
-from_line lines ds placed k e h = by (lookup (is_same k) ds) refl (sym (entry_found ds k) ∙ h)
+-- an entry of a table of lines is one that a line defines
+pub from_place : (lines : List DeckLine) (ds : Definitions) → AreInPlace lines ds → (k : Key) (e : Entry) → entry_at (table_of ds) k ≡ Some e → (place : ℕ) × (definition_at lines place ≡ Some (k, e))
+from_place lines ds placed k e h = by (lookup (is_same k) ds) refl (sym (entry_found ds k) ∙ h)
   where
-    by : (o : Option (ℕ × Entry)) → lookup (is_same k) ds ≡ o → option_map (λ v. v.1) o ≡ Some e → (text : List ℕ) × (entry_of text ≡ Ok (k, e))
+    by : (o : Option (ℕ × Entry)) → lookup (is_same k) ds ≡ o → option_map (λ v. v.1) o ≡ Some e → (place : ℕ) × (definition_at lines place ≡ Some (k, e))
     by None g f = cc
-    by (Some v) g f = read_at lines v.0 (k, e) (placed k v g ∙ ap (λ o. option_map (λ x. (k, x)) o) f)
+    by (Some v) g f = (v.0, placed k v g ∙ ap (λ o. option_map (λ x. (k, x)) o) f)
+
+-- and that it gives
+pub from_line : (lines : List DeckLine) (ds : Definitions) → AreInPlace lines ds → (k : Key) (e : Entry) → entry_at (table_of ds) k ≡ Some e → (text : List ℕ) × (entry_of text ≡ Ok (k, e))
+from_line lines ds placed k e h =
+    let at = from_place lines ds placed k e h in
+    read_at lines at.0 (k, e) at.1
 
 -- so the test by texts is right
 pub same_by_text : SameTextLaw → (lines others : List DeckLine) (ds es : Definitions) → AreInPlace lines ds → AreInPlace others es → (k : Key) →

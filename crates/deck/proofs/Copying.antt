@@ -1,12 +1,22 @@
 -- Lines copied one after another.
-use Rattle.std.proofs.Common.{◌≡◌, ◌++◌, ◌∷◌, ◌+◌, ◌-◌, ◌<◌, ◌≤◌, [], ℕ, zero, suc, List, Bool, false, length, take, drop, get_or, append_assoc, length-take, refl, sym, ap, subst, ◌∙◌, arith, Some, slice_get}
+use Rattle.std.proofs.Common.{◌≡◌, ◌++◌, ◌∷◌, ◌+◌, ◌-◌, ◌<◌, ◌≤◌, [], ℕ, zero, suc, List, Bool, false, length, take, drop, get_or, append_assoc, length-take, refl, sym, ap, subst, ◌∙◌, arith, Option, Some, None, option_map, slice_get}
 use Rattle.std.proofs.lemmas.Bool.Decides.{nat_tests}
 use Rattle.std.proofs.lemmas.List.Sums.{sum_by-take-drop}
 use Rattle.std.proofs.lemmas.Option.{same_Some}
+use Rattle.std.specs.Option.{option_and_then}
 use Rattle.def_lines.specs.declared.line.Line.{Line}
+use Rattle.def_entry.specs.Entries.{Entry}
+use Rattle.def_entry.specs.Headings.{entry_text}
+use Rattle.def_entry.specs.Seen.{seen_entry}
+use Rattle.def_entry.specs.Views.{what_view}
+use Rattle.def_entry.specs.declared.entry.What.{What as MadeWhat}
+use Rattle.def_entry.specs.declared.key.Key.{Key}
 use Rattle.deck_lines.specs.Limits.{pass_limit}
 use Rattle.deck_lines.specs.Marks.{with_mark, with_marks}
+use Rattle.deck_lines.specs.Readings.{entry_in}
+use Rattle.deck_lines.specs.Stores.{definition_at}
 use Rattle.deck_lines.specs.declared.line.DeckLine.{DeckLine}
+use Rattle.deck_lines.proofs.Entries.{text_in}
 use Rattle.deck.proofs.Marking.{marks_drop, marks_take}
 
 -- one more item
@@ -46,6 +56,24 @@ room_more lines copy i x e at within = subst (λ t. pass_limit t ≡ false) (fro
 
 pub copied_more : (lines copy now : List DeckLine) (i : ℕ) (x : DeckLine) → copy ≡ take i lines → slice_get lines i ≡ Some x → now ≡ copy ++ x ∷ [] → now ≡ take (i + 1) lines
 copied_more lines copy now i x e at h = h ∙ ap (λ t. t ++ x ∷ []) e ∙ sym (front_more lines i x at)
+
+-- what a line defines, by its parts
+pub defined_by_parts : (lines : List DeckLine) (place : ℕ) (x : DeckLine) (k : Key) (what : MadeWhat) (e : Entry) → slice_get lines place ≡ Some x →
+    Some (Some k) ≡ option_map (λ (d : Key × Entry). Some d.0) (definition_at lines place) → Some e ≡ option_map (λ (d : Key × Entry). d.1) (definition_at lines place) → what_view what ≡ e.what →
+    Some (seen_entry x.text (k, what)) ≡ entry_in x
+defined_by_parts lines place x k what e at keyed said same =
+    by (entry_in x) refl (keyed ∙ ap (option_map (λ (d : Key × Entry). Some d.0)) here) (said ∙ ap (option_map (λ (d : Key × Entry). d.1)) here)
+  where
+    here : definition_at lines place ≡ entry_in x
+    here = ap (option_and_then entry_in) at
+
+    by : (o : Option (Key × Entry)) → entry_in x ≡ o → Some (Some k) ≡ option_map (λ (d : Key × Entry). Some d.0) o → Some e ≡ option_map (λ (d : Key × Entry). d.1) o → Some (seen_entry x.text (k, what)) ≡ o
+    by None is keyed said = cc
+    by (Some d) is keyed said =
+        let one : k ≡ d.0 = same_Some k d.0 (same_Some (Some k) (Some d.0) keyed) in
+        let text : entry_text x.text ≡ d.1.text = sym (text_in x d is) in
+        let what : what_view what ≡ d.1.what = same ∙ ap (λ (f : Entry). f.what) (same_Some e d.1 said) in
+        ap Some (λ i. (one i, record { text = text i; what = what i }))
 
 -- so many lines from a place on
 pub length_within : (xs : List DeckLine) → pass_limit xs ≡ false → length xs ≤ 100000

@@ -13,38 +13,8 @@ use Rattle.deck_lines.specs.Marks.{plain_line}
 use Rattle.deck_lines.specs.Readings.{defined_by, entry_in, of_entry, reading_by, reading_of}
 use Rattle.deck_lines.specs.Stores.{definition_at}
 use Rattle.deck_lines.specs.declared.line.DeckLine.{DeckLine}
+use Rattle.deck_lines.proofs.Entries.{reads}
 use Rattle.deck.specs.Changes.{is_same_entry}
-
-of_definition : (e : Key × Entry) (r : Result (Key × Entry) EntryFault) → defined_by (of_entry r) ≡ Some e → r ≡ Ok e
-of_definition e (Ok x) h = ap Ok (same_Some x e h)
-of_definition e (Err f) h = cc
-
--- a line that defines an entry is read so
-reads_by : (text : List ℕ) (e : Key × Entry) (kind : LineKind) → defined_by (reading_by text kind) ≡ Some e → entry_of text ≡ Ok e
-reads_by text e line.Definition h = of_definition e (entry_of text) h
-reads_by text e line.UnitList h = of_definition e (entry_of text) h
-reads_by text e (line.Include n) h = cc
-reads_by text e line.UnknownDirective h = cc
-reads_by text e line.BadDirective h = cc
-reads_by text e (line.Locale l) h = cc
-reads_by text e (line.Var v vs) h = cc
-reads_by text e (line.VarNot v vs) h = cc
-reads_by text e line.Utf8 h = cc
-reads_by text e line.EndLocale h = cc
-reads_by text e line.EndVar h = cc
-reads_by text e line.EndUtf8 h = cc
-reads_by text e line.Blank h = cc
-reads_by text e (line.Set v x) h = cc
-reads_by text e (line.Message t) h = cc
-reads_by text e line.Prompt h = cc
-
-pub reads : (x : DeckLine) (e : Key × Entry) → entry_in x ≡ Some e → entry_of x.text ≡ Ok e
-unfolding entry_in reading_of
-reads x e h = by x.mark h
-  where
-    by : (m : Bool) → cond m None (defined_by (reading_by x.text (kind_of x.text))) ≡ Some e → entry_of x.text ≡ Ok e
-    by true g = cc
-    by false g = reads_by x.text e (kind_of x.text) g
 
 -- a definition is that of a line
 pub read_at : (lines : List DeckLine) (place : ℕ) (e : Key × Entry) → definition_at lines place ≡ Some e → (text : List ℕ) × (entry_of text ≡ Ok e)

@@ -21,5 +21,6 @@ mod Placing
 mod Pushing
 mod Sameness
 mod Splicing
+mod TableLines
 mod Telling
 mod Variables

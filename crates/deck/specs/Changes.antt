@@ -1,16 +1,13 @@
 -- The keys that an edit changes.
-use Rattle.std.specs.Prelude.{◌≡◌, ◌↔◌, ◌++◌, Bool, true, false, not, List, [], ◌∷◌, Option, Some, None, if◌then◌else◌, ⊤}
+use Rattle.std.specs.Prelude.{◌≡◌, ◌++◌, Bool, true, false, not, List, [], ◌∷◌, Option, Some, None, if◌then◌else◌, ⊤}
 use Rattle.std.specs.List.{filter}
 use Rattle.std.specs.Str.{bytes_eq}
 use Rattle.def_entry.specs.declared.key.Key.{Key}
 use Rattle.def_entry.specs.Entries.{Entry}
 use Rattle.def_entry.specs.SameKeys.{is_among}
+use Rattle.def_entry.specs.Tables.{AreChanged}
 use Rattle.deck.specs.Decks.{Contents}
 use Rattle.deck.specs.Tables.{Table, entry_at, keys_of, table}
-
--- a key is not among these exactly where its entry is the same before and after
-abbrev pub AreChanged : Table → Table → List Key → Type 0
-AreChanged before after keys = (k : Key) → (is_among keys k ≡ true → ⊥) ↔ (entry_at before k ≡ entry_at after k)
 
 -- no key stands in the list twice
 abbrev pub AreOnce : List Key → Type 0

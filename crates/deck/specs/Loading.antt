@@ -1,20 +1,23 @@
 -- What loading a file gives.
-use Rattle.std.specs.Prelude.{◌≡◌, ◌⊎◌, ◌≤◌, ℕ, List, [], Bool, true, false, Result, Ok, Err, MatchResult, IsErrOf}
-use Rattle.units_io.specs.Faults.{Rose}
+use Rattle.std.specs.Prelude.{◌≡◌, ◌⊎◌, ℕ, List, [], Bool, true, false, Option, Result, Ok, Err, MatchResult, ⊤}
+use Rattle.units_io.specs.Faults.{next}
 use Rattle.units_io.specs.FileMap.{FileMap, file_of}
 use Rattle.units_io.specs.Fetching.{answer_of}
 use Rattle.units_io.specs.declared.files.FetchFault.{FetchFault}
 use Rattle.units_io.specs.declared.files.FetchFault.TheVariants as fetch
 use Rattle.def_entry.specs.declared.key.Key.{Key}
-use Rattle.deck_lines.specs.Includes.{deck_of, lone_deck_of}
+use Rattle.deck_lines.specs.Excerpts.{Excerpt}
+use Rattle.deck_lines.specs.Includes.{deck_of, lone_deck_of, most_depth}
 use Rattle.deck_lines.specs.Limits.{pass_limit}
+use Rattle.deck_lines.specs.Steps.{AreStepsAbove, MayAnswer, Step, outcome_of}
 use Rattle.deck_lines.specs.declared.line.DeckLine.{DeckLine}
 use Rattle.deck_lines.specs.declared.draft.LoadFault.{LoadFault}
 use Rattle.deck_lines.specs.declared.draft.LoadFault.TheVariants as load
 use Rattle.deck.specs.Decks.{Contents}
 use Rattle.deck.specs.Edits.{with_excerpt, within}
 use Rattle.deck.specs.declared.fault.DeckFault.{DeckFault}
-use Rattle.deck.specs.declared.fault.DeckFault.TheVariants.{BadLine, NoSuchKey, DeckFull, Absent, TooLong, ReadFailed, OutOfMemory}
+use Rattle.deck.specs.declared.fault.DeckFault.TheVariants.{BadLine, NoSuchKey, DeckFull, Absent, TooLong, ReadFailed}
+use Rattle.deck.specs.declared.fault.DeckFault.TheVariants.{OutOfMemory}
 use Rattle.deck.specs.declared.settings.Settings.{Settings}
 
 -- why a deck has no first file
@@ -73,8 +76,10 @@ IsLoaded outcome result =
 
 -- the lines and the notices of the deck of this outcome were put behind the lines of a deck, if they
 -- are within the limits; or there is its reason, or a failure
-abbrev pub IsRead : {T : Type 0} → Result Contents DeckFault → Contents → List DeckLine → List (List ℕ) → Result T DeckFault → Type 0
-IsRead outcome d lines notices (Ok _) = pass_limit lines ≡ false → outcome ≡ Ok (record d { lines = lines; notices = notices })
+abbrev pub IsRead : {T : Type 0} → Result Contents DeckFault → Contents → List DeckLine → List (List ℕ)
+    → Result T DeckFault → Type 0
+IsRead outcome d lines notices (Ok _) = pass_limit lines ≡ false
+    → outcome ≡ Ok (record d { lines = lines; notices = notices })
 IsRead outcome d lines notices (Err fault) = MayFail fault ⊎ (outcome ≡ Err fault)
 
 -- an edit that reads files gives the deck of this outcome or its reason, or fails
@@ -82,7 +87,37 @@ abbrev pub IsAppended : Result Contents DeckFault → Contents → Result (List 
 IsAppended outcome new result =
     MatchResult result (λ _. outcome ≡ Ok new) (λ fault. MayFail fault ⊎ (outcome ≡ Err fault))
 
--- the count of failed fetches has not fallen, and it rose where a read failed
-pub record ReadsWithCause {T : Type 0} (before now : ℕ) (result : Result T DeckFault) : Type 0 where
-  pub later : before ≤ now
-  pub failed : IsErrOf result ReadFailed → Rose before now
+-- the lines and the notices of a deck
+abbrev pub excerpt_of : Contents → Excerpt
+excerpt_of d = record { lines = d.lines; notices = d.notices }
+
+-- lines with no notice, behind which a load reads
+abbrev pub lines_alone : List DeckLine → Excerpt
+lines_alone lines = record { lines = lines; notices = [] }
+
+-- what the steps of a load come to
+abbrev pub of_load : Result Excerpt LoadFault → Result Excerpt DeckFault
+of_load (Ok excerpt) = Ok excerpt
+of_load (Err fault) = Err (fault_of_load fault)
+
+-- a load behind what stands before comes to this where the file of this name is fetched with this answer
+abbrev pub ComesTo : Option FileMap → List ℕ → Excerpt → Result (List ℕ) FetchFault → Result Excerpt DeckFault → Type 0
+ComesTo files name before (Ok bytes) outcome =
+    (steps : List Step) × AreStepsAbove files most_depth name bytes steps
+    × (outcome ≡ of_load (outcome_of before steps))
+ComesTo files name before (Err fault) outcome = outcome ≡ Err (fault_of fault)
+
+-- a load comes to this by what fetches may answer: it ends with the first thing in the order of reading that ends it
+abbrev pub MayComeTo : Option FileMap → List ℕ → Excerpt → Result Excerpt DeckFault → Type 0
+MayComeTo files name before outcome =
+    (answer : Result (List ℕ) FetchFault) × MayAnswer files name answer × ComesTo files name before answer outcome
+
+-- the same of a load that fails, which may find no memory
+abbrev pub MayFailBy : Option FileMap → List ℕ → Excerpt → DeckFault → Type 0
+MayFailBy files name before OutOfMemory = ⊤
+MayFailBy files name before fault = MayComeTo files name before (Err fault)
+
+-- the count of failed fetches after a load, which ends with the first that fails
+abbrev pub faults_after_load : {T : Type 0} → ℕ → Result T DeckFault → ℕ
+faults_after_load faults (Err ReadFailed) = next faults
+faults_after_load faults _ = faults

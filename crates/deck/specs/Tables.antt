@@ -1,11 +1,12 @@
 -- The table of a deck.
-use Rattle.std.specs.Prelude.{◌+◌, ◌++◌, ℕ, List, [], ◌∷◌, Bool, if◌then◌else◌, map, reverse, Option, Some, None, option_map}
+use Rattle.std.specs.Prelude.{◌≡◌, ◌≤◌, ◌+◌, ◌++◌, ℕ, List, [], ◌∷◌, Bool, if◌then◌else◌, length, map, reverse, Option, Some, None, option_map}
 use Rattle.std.specs.Map.{lookup}
 use Rattle.def_entry.specs.declared.key.Key.{Key}
 use Rattle.def_entry.specs.Entries.{Entry}
 use Rattle.def_entry.specs.SameKeys.{is_same}
 pub use Rattle.def_entry.specs.Tables.{Table, entry_at, is_present, keys_of}
 use Rattle.deck_lines.specs.Readings.{entry_in}
+use Rattle.deck_lines.specs.Stores.{definition_at}
 use Rattle.deck_lines.specs.declared.line.DeckLine.{DeckLine}
 use Rattle.deck.specs.Active.{active_lines}
 use Rattle.deck.specs.Decks.{Contents}
@@ -48,3 +49,9 @@ table_of definitions = map (λ p. (p.0, p.1.1)) definitions
 -- the table of a deck
 abbrev pub table : Contents → Table
 table d = table_of (definitions d.settings d.lines)
+
+-- law: a table has no more entries than there are lines, and each is what a line defines
+pub record TableLaw : Type 0 where
+  pub short : (d : Contents) → length (table d) ≤ length d.lines
+  pub given : (d : Contents) (k : Key) (e : Entry) → entry_at (table d) k ≡ Some e
+      → (place : ℕ) × (definition_at d.lines place ≡ Some (k, e))

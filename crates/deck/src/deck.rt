@@ -1,11 +1,10 @@
 //! A deck, with its entries by key.
 
-ghost use Rattle.std.specs.Prelude.{◌≡◌, false, map, option_map, IfOk, OnOk};
-ghost use Rattle.std.specs.Option.{option_copied};
+ghost use Rattle.std.specs.Prelude.{◌≡◌, ◌≤◌, false, length, map, option_map, IfOk, OnOk};
 ghost use Rattle.def_entry.specs.Keys.{key as key_named};
 ghost use Rattle.def_entry.specs.Views.{entry_view};
 ghost use Rattle.deck_lines.specs.Closed.{IsClosed};
-ghost use Rattle.deck_lines.specs.Limits.{pass_limit};
+ghost use Rattle.deck_lines.specs.Limits.{most_lines, pass_limit};
 ghost use Rattle.deck_lines.specs.Marks.{unmarked};
 ghost use Rattle.deck.specs.KeyLists as lists;
 ghost use Rattle.deck.specs.Tables as tables;
@@ -73,8 +72,8 @@ impl Deck {
     }
 
     /// The entry of the last active line of a key. It takes no memory.
-    pub fn entry(&self, kind: Kind, name: &[u8]) -> Option<&Entry>
-        ensures { option_map entry_view (option_copied result)
+    pub fn entry(&self, kind: Kind, name: &[u8]) -> Option<Entry<'_>>
+        ensures { option_map entry_view result
             ≡ tables.entry_at (tables.table self.now) (key_named kind name.now) }
     {
         let Some(place) = self.place_of(kind, name) else {
@@ -95,6 +94,13 @@ impl Deck {
         ensures { result ≡ tables.last_place self.now.settings self.now.lines key.now }
     {
         self.place_of(key.kind, key.name.as_bytes())
+    }
+
+    /// A law of each deck: it has at most 100,000 lines.
+    pub fn lines_few(&self)
+        ensures { length self.now.lines ≤ most_lines }
+    {
+        self.store.lines_few();
     }
 
     /// The lines, without their marks.

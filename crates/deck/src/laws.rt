@@ -3,6 +3,7 @@
 ghost use Rattle.deck.specs.Changes.{ChangedLaw};
 ghost use Rattle.deck.specs.KeyLists.{KeyListLaw, WholeLaw};
 ghost use Rattle.deck.specs.Splices.{InverseLaw};
+ghost use Rattle.deck.specs.Tables.{TableLaw};
 
 use def_entry::same_text_law;
 
@@ -26,4 +27,9 @@ pub fn key_lists_are_one()
 /// The keys of a table are all that have an entry, and as many of each kind as there are.
 pub fn table_keys_are_whole()
     ensures { WholeLaw }
+{}
+
+/// A table has no more entries than there are lines, and each of its entries is that of a line.
+pub fn tables_are_of_lines()
+    ensures { TableLaw }
 {}

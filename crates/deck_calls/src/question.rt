@@ -1,7 +1,6 @@
 //! Questions on a deck, and their answers.
 
 ghost use Rattle.std.specs.Prelude.{◌≡◌, ◌++◌, IfOk, OnOk, option_map};
-ghost use Rattle.std.specs.Option.{option_copied};
 ghost use Rattle.std.specs.Fmt.{decimal};
 ghost use Rattle.def_entry.specs.Keys as keys;
 ghost use Rattle.def_entry.specs.Views.{entry_view};
@@ -49,11 +48,11 @@ fn entry_answer(alloc: Global, deck: &Deck, text: &[u8]) -> Result<Vec<u8>, Allo
 }
 
 // The text of an entry, where there is one.
-fn entry_text(alloc: Global, entry: Option<&Entry>) -> Result<Vec<u8>, AllocError>
-    ensures { IfOk result (λ line. line.items ≡ answers.entry_text (option_map entry_view (option_copied entry.entry))) }
+fn entry_text(alloc: Global, entry: Option<Entry<'_>>) -> Result<Vec<u8>, AllocError>
+    ensures { IfOk result (λ line. line.items ≡ answers.entry_text (option_map entry_view entry.entry)) }
 {
     match entry {
-        Some(entry) => line_of(alloc, entry.text.as_bytes()),
+        Some(entry) => line_of(alloc, entry.text()),
         None => line_of(alloc, b"none"),
     }
 }

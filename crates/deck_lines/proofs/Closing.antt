@@ -1,5 +1,5 @@
 -- The deck of a file is closed.
-use Rattle.std.proofs.Common.{◌≡◌, ◌++◌, ◌∷◌, [], ℕ, zero, suc, List, Bool, true, false, cond, map, filter, refl, ap, ◌∙◌, Option, Some, None, codes, Result, Ok, Err}
+use Rattle.std.proofs.Common.{◌≡◌, ◌++◌, ◌∷◌, [], ℕ, zero, suc, List, Bool, true, false, cond, map, refl, ap, ◌∙◌, Option, Some, None, codes, Result, Ok, Err}
 use Rattle.std.specs.Bool.{⊤}
 use Rattle.std.specs.Option.{option_and_then}
 use Rattle.units_io.specs.FileMap.{FileMap, file_of}
@@ -7,7 +7,7 @@ use Rattle.units_io.specs.Fetching.{answer_of}
 use Rattle.units_io.specs.declared.files.FetchFault.{FetchFault}
 use Rattle.units_io.specs.declared.files.FetchFault.TheVariants.{Absent, TooLong, Failed, OutOfMemory}
 use Rattle.def_lines.specs.declared.line.Line.{Line}
-use Rattle.def_lines.specs.Lines.{logical_lines}
+use Rattle.def_lines.specs.Lines.{logical_lines, shown}
 use Rattle.def_lines.specs.Kinds.{Kind, kind_of}
 use Rattle.def_lines.specs.Kinds as line
 use Rattle.def_entry.specs.declared.key.Key.{Key}
@@ -20,7 +20,7 @@ use Rattle.deck_lines.specs.Marks.{marked_line, plain_line}
 use Rattle.deck_lines.specs.Includes.{beside, deck_of, included_below, included_by, of_answer}
 use Rattle.deck_lines.specs.Loads.{endings}
 use Rattle.deck_lines.specs.Readings.{entry_in, Reading, Stands, of_entry, reading_by, reading_of}
-use Rattle.deck_lines.specs.Excerpts.{line_without_notice, line_with_notice, Included, Read, NotRead, line_excerpt, blocks_behind_line, rest_excerpt, is_shown, missing_end, include_excerpt}
+use Rattle.deck_lines.specs.Excerpts.{line_without_notice, line_with_notice, Included, Read, NotRead, line_excerpt, blocks_behind_line, rest_excerpt, missing_end, include_excerpt}
 use Rattle.deck_lines.specs.declared.line.Block.{Block}
 use Rattle.deck_lines.specs.declared.line.DeckLine.{DeckLine}
 use Rattle.deck_lines.specs.declared.line.Ending.{Ending}
@@ -144,7 +144,7 @@ rest_closed inc all name (x ∷ lines) blocks =
     ∙ rest_closed inc all name lines (blocks_behind_line blocks x (reading_by x.text (kind_of x.text)))
 
 answer_closed : (inc : List ℕ → Included) → ((file : List ℕ) → IsClosedInclude (inc file)) → (name : List ℕ) (r : Result (List ℕ) FetchFault) → IsClosedInclude (of_answer inc name r)
-answer_closed inc all name (Ok bytes) = rest_closed inc all name (filter is_shown (logical_lines bytes)) []
+answer_closed inc all name (Ok bytes) = rest_closed inc all name (shown (logical_lines bytes)) []
 answer_closed inc all name (Err Absent) = tt
 answer_closed inc all name (Err TooLong) = tt
 answer_closed inc all name (Err Failed) = tt
@@ -159,7 +159,7 @@ below_closed files (suc n) file = answer_closed (included_by files n file) (λ w
 pub deck_closed : ClosedLaw
 unfolding deck_of
 deck_closed files name bytes =
-    rest_closed (included_by files 16 name) (λ word. below_closed files 16 (beside name word)) name (filter is_shown (logical_lines bytes)) []
+    rest_closed (included_by files 16 name) (λ word. below_closed files 16 (beside name word)) name (shown (logical_lines bytes)) []
 
 -- an end line defines nothing
 pub end_defines : (number : ℕ) (e : Ending) → entry_in (plain_line number (end_text e)) ≡ None

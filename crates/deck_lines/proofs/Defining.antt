@@ -3,10 +3,10 @@ use Rattle.std.proofs.Common.{◌≡◌, ◌++◌, ◌∷◌, ◌+◌, ◌<◌, 
 use Rattle.std.specs.Option.{option_and_then}
 use Rattle.std.proofs.lemmas.List.{drop-map, map-append, take-map, take_more}
 use Rattle.std.proofs.lemmas.Option.{slice_get-map}
-use Rattle.def_entry.specs.Entries.{Entry}
+use Rattle.def_entry.specs.Entries.{Entry, What}
 use Rattle.def_entry.specs.Seen.{seen_entry}
-use Rattle.def_entry.specs.Views.{entry_view}
-use Rattle.def_entry.specs.declared.entry.Entry.{Entry as MadeEntry}
+use Rattle.def_entry.specs.Views.{said_by, what_view}
+use Rattle.def_entry.specs.declared.entry.What.{What as MadeWhat}
 use Rattle.def_entry.specs.declared.key.Key.{Key}
 use Rattle.deck_lines.specs.Kept.{IsDefined, keyed_definition, seen_definition}
 use Rattle.deck_lines.specs.Names.{IsExtended, Names, key_at, with_key}
@@ -24,8 +24,8 @@ module _ (names more : Names) (extended : IsExtended names more) where
   grown_one (Some d) None e = absurd (cc)
   grown_one (Some d) (Some said) e =
       let same : seen_definition names d ≡ keyed_definition said = cc in
-      let at : key_at names d.key ≡ Some said.0 = ap (λ (p : Option Key × Entry). p.0) same in
-      ap (λ k. Some (k, entry_view d.entry)) (extended d.key said.0 at) ∙ ap (λ (p : Option Key × Entry). Some (Some said.0, p.1)) same
+      let at : key_at names d.key ≡ Some said.0 = ap (λ (p : Option Key × What). p.0) same in
+      ap (λ k. Some (k, what_view d.what)) (extended d.key said.0 at) ∙ ap (λ (p : Option Key × What). Some (Some said.0, p.1)) same
 
   -- lines define the same where more keys have numbers
   pub grown : (ds : List (Option Definition)) (said : List (Option (Key × Entry))) → IsDefined names ds said → IsDefined more ds said
@@ -47,14 +47,14 @@ module _ (names more : Names) (extended : IsExtended names more) where
       ∙ sym (map-append (option_map keyed_definition) said (s ∷ []))
 
 -- a definition by the number of its key
-pub key_put : (names more : Names) (k : Key) (entry : MadeEntry) (n : KeyNumber) (made : Option (Key × MadeEntry)) (ds after : List (Option Definition)) (said : List (Option (Key × Entry))) →
-    made ≡ Some (k, entry) → more ≡ with_key names k → key_at more n ≡ Some k → after ≡ ds ++ Some (record { key = n; entry = entry }) ∷ [] →
-    IsDefined names ds said → IsDefined more after (said ++ option_map seen_entry made ∷ [])
-key_put names more k entry n made ds after said is grows at put are =
-    let wider : IsExtended names more = subst (IsExtended names) (sym grows) (extended names (Some (k, entry_view entry))) in
+pub key_put : (names more : Names) (k : Key) (what : MadeWhat) (n : KeyNumber) (made : Option (Key × MadeWhat)) (line : List ℕ) (ds after : List (Option Definition)) (said : List (Option (Key × Entry))) →
+    made ≡ Some (k, what) → more ≡ with_key names k → key_at more n ≡ Some k → after ≡ ds ++ Some (record { key = n; what = what }) ∷ [] →
+    IsDefined names ds said → IsDefined more after (said ++ option_map (seen_entry line) made ∷ [])
+key_put names more k what n made line ds after said is grows at put are =
+    let wider : IsExtended names more = subst (IsExtended names) (sym grows) (extended names (Some (k, said_by line what))) in
     ap (map (option_map (seen_definition more))) put
-    ∙ defined_put names more wider ds said (Some (record { key = n; entry = entry })) (Some (seen_entry (k, entry))) (ap (λ key. Some (key, entry_view entry)) at) are
-    ∙ ap (λ o. map (option_map keyed_definition) (said ++ option_map seen_entry o ∷ [])) (sym is)
+    ∙ defined_put names more wider ds said (Some (record { key = n; what = what })) (Some (seen_entry line (k, what))) (ap (λ key. Some (key, what_view what)) at) are
+    ∙ ap (λ o. map (option_map keyed_definition) (said ++ option_map (seen_entry line) o ∷ [])) (sym is)
 
 -- the first lines alone
 pub defined_take : (names : Names) (ds : List (Option Definition)) (said : List (Option (Key × Entry))) (n : ℕ) → IsDefined names ds said → IsDefined names (take n ds) (take n said)
@@ -106,12 +106,8 @@ module _ (names : Names) (ds : List (Option Definition)) (lines : List DeckLine)
       by None e = refl
       by (Some line) e = absurd (cc)
 
--- the parts of a definition with its key
-pub keyed_entry : (d : Option (Key × Entry)) → option_map (λ (p : Option Key × Entry). p.1) (option_map keyed_definition d) ≡ option_map (λ (p : Key × Entry). p.1) d
-keyed_entry None = refl
-keyed_entry (Some d) = refl
-
-pub keyed_key : (d : Option (Key × Entry)) → option_map (λ (p : Option Key × Entry). p.0) (option_map keyed_definition d) ≡ option_map (λ (p : Key × Entry). Some p.0) d
+-- the key of a definition
+pub keyed_key : (d : Option (Key × Entry)) → option_map (λ (p : Option Key × What). p.0) (option_map keyed_definition d) ≡ option_map (λ (p : Key × Entry). Some p.0) d
 keyed_key None = refl
 keyed_key (Some d) = refl
 

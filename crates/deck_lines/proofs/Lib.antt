@@ -1,6 +1,7 @@
 mod Closing
 mod Defining
 mod Drafting
+pub mod Entries
 mod Exchangeable
 mod Exchanging
 mod Finding
@@ -9,5 +10,7 @@ mod Keys
 mod Loading
 mod Numbering
 mod Replacing
+mod Stepping
 mod Storing
+mod Telling
 mod Turning

@@ -1,6 +1,5 @@
 -- Loads, part by part.
-use Rattle.std.proofs.Common.{◌≡◌, ◌==◌, ◌++◌, ◌∷◌, ◌-◌, [], ℕ, suc, List, Bool, true, false, not, cond, filter, length, refl, sym, ap, subst, ◌∙◌, arith, append_assoc, Result, Ok, Err, Option, Some, None, IfSome, OnErr, codes}
-use Rattle.std.proofs.lemmas.Bool.Decides.{nat_tests}
+use Rattle.std.proofs.Common.{◌≡◌, ◌++◌, ◌∷◌, ◌-◌, [], ℕ, suc, List, Bool, true, false, not, length, refl, sym, ap, subst, ◌∙◌, arith, append_assoc, Result, Ok, Err, Option, Some, None, IfSome, OnErr, codes}
 use Rattle.std.specs.Map.Iter.{TakesFirst}
 use Rattle.std.specs.Option.{option_and_then}
 use Rattle.units_io.specs.FileMap.{FileMap, file_of}
@@ -9,10 +8,9 @@ use Rattle.units_io.specs.declared.files.FetchFault.{FetchFault}
 use Rattle.def_lines.specs.declared.line.Line.{Line}
 use Rattle.def_lines.specs.Kinds.{Kind, kind_of}
 use Rattle.def_lines.specs.Kinds as line
-use Rattle.def_lines.specs.Words.{is_empty}
 use Rattle.deck_lines.specs.Blocks.{role_of}
 use Rattle.deck_lines.specs.Closed.{blocks_past_role}
-use Rattle.deck_lines.specs.Excerpts.{Excerpt, Included, NotRead, Read, blocks_behind_line, file_end, in_turn, include_excerpt, is_shown, line_excerpt, line_with_notice, line_without_notice, rest_excerpt}
+use Rattle.deck_lines.specs.Excerpts.{Excerpt, Included, NotRead, Read, blocks_behind_line, file_end, in_turn, include_excerpt, line_excerpt, line_with_notice, line_without_notice, rest_excerpt}
 use Rattle.deck_lines.specs.Includes.{deck_above, included_below, included_by, not_read, of_answer}
 use Rattle.deck_lines.specs.Limits.{pass_limit}
 use Rattle.deck_lines.specs.Loads.{Extends, IsLoad, Leads, MayEnd, endings, with_excerpt}
@@ -125,47 +123,37 @@ pub refused_leads : (file : List ℕ) (x : Line) (text : List ℕ) (before after
     Leads [] [] before.store after.store r
 refused_leads file x text before after r told err = one_leads [] [] before after (line_with_notice file x text) r (marked_one [] x) told err
 
--- what is blank of a line
-abbrev pub shown : List Line → List Line
-shown lines = filter is_shown lines
-
--- a line that is not blank
-rest_step : (inc : List ℕ → Included) (name : List ℕ) (blocks : List Block) (ys zs : List Line) (x : Line) → ys ≡ x ∷ zs → is_empty x.text ≡ false →
-    rest_excerpt inc name blocks (shown ys) ≡ in_turn (line_excerpt inc name blocks x (reading_of x.text)) (rest_excerpt inc name (blocks_behind_line blocks x (reading_of x.text)) (shown zs))
+-- the next line of a file
+rest_step : (inc : List ℕ → Included) (name : List ℕ) (blocks : List Block) (ys zs : List Line) (x : Line) → ys ≡ x ∷ zs →
+    rest_excerpt inc name blocks ys ≡ in_turn (line_excerpt inc name blocks x (reading_of x.text)) (rest_excerpt inc name (blocks_behind_line blocks x (reading_of x.text)) zs)
 unfolding rest_excerpt
-rest_step inc name blocks ys zs x h e =
-    ap (λ t. rest_excerpt inc name blocks (shown t)) h ∙ ap (λ b. rest_excerpt inc name blocks (cond (not b) (x ∷ shown zs) (shown zs))) e
+rest_step inc name blocks ys zs x h = ap (rest_excerpt inc name blocks) h
 
-module _ (inc : List ℕ → Included) (name : List ℕ) (blocks : List Block) (ys zs : List Line) (x : Line) (h : ys ≡ x ∷ zs) (mid before : Draft) (whole : Excerpt) (so_far : with_excerpt mid (rest_excerpt inc name blocks (shown ys)) ≡ with_excerpt before whole) where
+module _ (inc : List ℕ → Included) (name : List ℕ) (blocks : List Block) (ys zs : List Line) (x : Line) (h : ys ≡ x ∷ zs) (mid before : Draft) (whole : Excerpt) (so_far : with_excerpt mid (rest_excerpt inc name blocks ys) ≡ with_excerpt before whole) where
   -- a line that failed
-  pub line_failed : (fault : LoadFault) → is_empty x.text ≡ false → MayEnd (mid.store.lines ++ (line_excerpt inc name blocks x (reading_of x.text)).lines) fault → MayEnd (before.store.lines ++ whole.lines) fault
-  line_failed fault e told =
-      failed mid.store.lines _ (rest_excerpt inc name (blocks_behind_line blocks x (reading_of x.text)) (shown zs)).lines _ fault told
-      (ap (λ (w : Excerpt). mid.store.lines ++ w.lines) (sym (rest_step inc name blocks ys zs x h e)) ∙ ap (λ (d : Draft). d.store.lines) so_far)
+  pub line_failed : (fault : LoadFault) → MayEnd (mid.store.lines ++ (line_excerpt inc name blocks x (reading_of x.text)).lines) fault → MayEnd (before.store.lines ++ whole.lines) fault
+  line_failed fault told =
+      failed mid.store.lines _ (rest_excerpt inc name (blocks_behind_line blocks x (reading_of x.text)) zs).lines _ fault told
+      (ap (λ (w : Excerpt). mid.store.lines ++ w.lines) (sym (rest_step inc name blocks ys zs x h)) ∙ ap (λ (d : Draft). d.store.lines) so_far)
 
   -- a line that was put
-  pub line_put : (now : Draft) (blocks_now : List Block) → is_empty x.text ≡ false → now ≡ with_excerpt mid (line_excerpt inc name blocks x (reading_of x.text)) → blocks_now ≡ blocks_behind_line blocks x (reading_of x.text) →
-      with_excerpt now (rest_excerpt inc name blocks_now (shown zs)) ≡ with_excerpt before whole
-  line_put now blocks_now e told behind =
-      ap (λ bs. with_excerpt now (rest_excerpt inc name bs (shown zs))) behind
-      ∙ ap (λ (d : Draft). with_excerpt d (rest_excerpt inc name (blocks_behind_line blocks x (reading_of x.text)) (shown zs))) told
-      ∙ with_excerpt-in_turn mid (line_excerpt inc name blocks x (reading_of x.text)) (rest_excerpt inc name (blocks_behind_line blocks x (reading_of x.text)) (shown zs))
-      ∙ ap (with_excerpt mid) (sym (rest_step inc name blocks ys zs x h e)) ∙ so_far
-
-  -- a blank line
-  pub line_skipped : is_empty x.text ≡ true → with_excerpt mid (rest_excerpt inc name blocks (shown zs)) ≡ with_excerpt before whole
-  line_skipped e =
-      ap (λ t. with_excerpt mid (rest_excerpt inc name blocks t)) (sym (ap shown h ∙ ap (λ b. cond (not b) (x ∷ shown zs) (shown zs)) e)) ∙ so_far
+  pub line_put : (now : Draft) (blocks_now : List Block) → now ≡ with_excerpt mid (line_excerpt inc name blocks x (reading_of x.text)) → blocks_now ≡ blocks_behind_line blocks x (reading_of x.text) →
+      with_excerpt now (rest_excerpt inc name blocks_now zs) ≡ with_excerpt before whole
+  line_put now blocks_now told behind =
+      ap (λ bs. with_excerpt now (rest_excerpt inc name bs zs)) behind
+      ∙ ap (λ (d : Draft). with_excerpt d (rest_excerpt inc name (blocks_behind_line blocks x (reading_of x.text)) zs)) told
+      ∙ with_excerpt-in_turn mid (line_excerpt inc name blocks x (reading_of x.text)) (rest_excerpt inc name (blocks_behind_line blocks x (reading_of x.text)) zs)
+      ∙ ap (with_excerpt mid) (sym (rest_step inc name blocks ys zs x h)) ∙ so_far
 
 -- the end of a file
 pub file_put : (inc : List ℕ → Included) (name : List ℕ) (blocks : List Block) (xs : List Line) (draft mid after : Draft) (whole : Excerpt) (r : Result (Unit {0}) LoadFault) → xs ≡ [] →
-    with_excerpt mid (rest_excerpt inc name blocks (shown xs)) ≡ with_excerpt draft whole → IsLoad mid (file_end name blocks) r after → IsLoad draft whole r after
+    with_excerpt mid (rest_excerpt inc name blocks xs) ≡ with_excerpt draft whole → IsLoad mid (file_end name blocks) r after → IsLoad draft whole r after
 unfolding rest_excerpt
 file_put inc name blocks xs draft mid after whole (Ok u) h so_far told =
-    told ∙ ap (λ ls. with_excerpt mid (rest_excerpt inc name blocks (shown ls))) (sym h) ∙ so_far
+    told ∙ ap (λ ls. with_excerpt mid (rest_excerpt inc name blocks ls)) (sym h) ∙ so_far
 file_put inc name blocks xs draft mid after whole (Err fault) h so_far told =
     let lines : mid.store.lines ++ (file_end name blocks).lines ≡ draft.store.lines ++ whole.lines =
-    ap (λ ls. mid.store.lines ++ (rest_excerpt inc name blocks (shown ls)).lines) (sym h) ∙ ap (λ (d : Draft). d.store.lines) so_far in
+    ap (λ ls. mid.store.lines ++ (rest_excerpt inc name blocks ls).lines) (sym h) ∙ ap (λ (d : Draft). d.store.lines) so_far in
     subst (λ ls. MayEnd ls fault) lines told
 
 -- the end of a file closes its blocks
@@ -185,13 +173,3 @@ line_taken lines rest o l x h e same = (rw e at h) ∙ ap (λ y. y ∷ rest) (sy
 -- no line is left
 pub none_taken : (lines rest : List Line) (o : Option Line) → TakesFirst (λ y. y) lines o rest → o ≡ None → lines ≡ []
 none_taken lines rest o h e = (rw e at h).0
-
-length_test : (x : ℕ) (bytes : List ℕ) → (length (x ∷ bytes) == 0) ≡ false
-length_test x bytes = grind (arith, nat_tests)
-
--- what `is_empty` of a slice tells
-pub empty_by : (text bytes : List ℕ) (b : Bool) → b ≡ (length bytes == 0) → bytes ≡ text → is_empty text ≡ b
-empty_by text [] b e p = rw (← p) (sym e)
-empty_by text (x ∷ bytes) b e p =
-    let tested : (length (x ∷ bytes) == 0) ≡ false = length_test x bytes in
-    rw (← p) (sym tested ∙ sym e)

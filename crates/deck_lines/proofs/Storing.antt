@@ -2,9 +2,9 @@
 use Rattle.std.proofs.Common.{◌≡◌, ◌++◌, ◌∷◌, ◌+◌, [], ℕ, List, map, take, drop, true, refl, inl, inr, sym, ap, subst, ◌∙◌, Option, Some, None, option_map, slice_get, length}
 use Rattle.std.specs.Option.{option_and_then}
 use Rattle.std.proofs.lemmas.List.{drop-map, length-map, map-append, take-map}
-use Rattle.def_entry.specs.Entries.{Entry}
+use Rattle.def_entry.specs.Entries.{Entry, What}
 use Rattle.def_entry.specs.Seen.{seen_entry}
-use Rattle.def_entry.specs.declared.entry.Entry.{Entry as MadeEntry}
+use Rattle.def_entry.specs.declared.entry.What.{What as MadeWhat}
 use Rattle.def_entry.specs.declared.key.Key.{Key}
 use Rattle.deck_lines.specs.Edited.{Edited}
 use Rattle.deck_lines.specs.Kept.{AreDefined, IsDefined, IsKept, keyed_definition, seen_definition}
@@ -30,16 +30,16 @@ defined_same d room said items names are =
 
 module _ (lines : List DeckLine) (d : Definitions) (kept : IsKept lines d) where
   -- one line more
-  pub kept_push : (line : DeckLine) (room new : Definitions) (made : Option (Key × MadeEntry)) (after : List DeckLine) →
-      room.of_lines.items ≡ d.of_lines.items → names_in room.keys ≡ names_in d.keys → option_map seen_entry made ≡ entry_in line → after ≡ lines ++ line ∷ [] →
-      ((said : List (Option (Key × Entry))) → AreDefined room said → AreDefined new (said ++ option_map seen_entry made ∷ [])) →
-      names_in new.keys ≡ with_definition (names_in room.keys) (option_map seen_entry made) → IsKept after new
+  pub kept_push : (line : DeckLine) (room new : Definitions) (made : Option (Key × MadeWhat)) (after : List DeckLine) →
+      room.of_lines.items ≡ d.of_lines.items → names_in room.keys ≡ names_in d.keys → option_map (seen_entry line.text) made ≡ entry_in line → after ≡ lines ++ line ∷ [] →
+      ((said : List (Option (Key × Entry))) (text : List ℕ) → AreDefined room said → AreDefined new (said ++ option_map (seen_entry text) made ∷ [])) →
+      ((text : List ℕ) → names_in new.keys ≡ with_definition (names_in room.keys) (option_map (seen_entry text) made)) → IsKept after new
   kept_push line room new made after items names is e put grows = record {
     defined =
         subst (AreDefined new)
         (ap (λ o. map entry_in lines ++ o ∷ []) is ∙ sym (map-append entry_in lines (line ∷ [])) ∙ ap (map entry_in) (sym e))
-        (put (map entry_in lines) (defined_same d room (map entry_in lines) items names kept.defined));
-    unique = subst IsOneToOne (sym grows) (one_to_one (names_in room.keys) (option_map seen_entry made) (subst IsOneToOne (sym names) kept.unique));
+        (put (map entry_in lines) line.text (defined_same d room (map entry_in lines) items names kept.defined));
+    unique = subst IsOneToOne (sym (grows line.text)) (one_to_one (names_in room.keys) (option_map (seen_entry line.text) made) (subst IsOneToOne (sym names) kept.unique));
   }
 
   -- the first lines alone
@@ -102,7 +102,7 @@ numbered_at names (Some x) (Some line) d e is = by x (some_one (option_map (seen
   where
     by : (y : Option Definition) → option_map (seen_definition names) y ≡ Some (keyed_definition d) → is_numbered names d.0 ≡ true
     by None p = absurd (cc)
-    by (Some y) p = numbered names y.key d.0 (ap (λ (q : Option Key × Entry). q.0) (some_one (seen_definition names y) (keyed_definition d) p))
+    by (Some y) p = numbered names y.key d.0 (ap (λ (q : Option Key × What). q.0) (some_one (seen_definition names y) (keyed_definition d) p))
 
 -- the numbers of keys beside lines
 pub numbering_of : (lines : List DeckLine) (d : Definitions) (s : Store) → IsKept lines d → record { lines = lines; names = names_in d.keys } ≡ s → IsNumbering s

@@ -1,9 +1,8 @@
 -- The deck of a file, where it is told what each include gives.
-use Rattle.std.specs.Prelude.{◌++◌, ℕ, List, [], ◌∷◌, Bool, false, not, if◌then◌else◌, codes, map, reverse, filter}
+use Rattle.std.specs.Prelude.{◌++◌, ℕ, List, [], ◌∷◌, Bool, false, if◌then◌else◌, codes, map, reverse}
 use Rattle.std.specs.Fmt.{decimal}
 use Rattle.def_lines.specs.declared.line.Line.{Line}
-use Rattle.def_lines.specs.Lines.{logical_lines}
-use Rattle.def_lines.specs.Words.{is_empty}
+use Rattle.def_lines.specs.Lines.{logical_lines, shown}
 use Rattle.deck_lines.specs.Blocks.{end_text, same_ending}
 use Rattle.deck_lines.specs.Marks.{marked_line, plain_line}
 use Rattle.deck_lines.specs.Readings.{Reading, Stands, Defines, Includes, Faulty, reading_of}
@@ -74,7 +73,8 @@ outer_blocks (block ∷ blocks) = blocks
 -- the open blocks of a file behind a line of this number and role
 abbrev pub blocks_behind_role : List Block → ℕ → Role → List Block
 blocks_behind_role blocks number (Opens ending) = record { ending = ending; number = number } ∷ blocks
-blocks_behind_role blocks number (Closes ending) = if closes_innermost ending blocks then outer_blocks blocks else blocks
+blocks_behind_role blocks number (Closes ending) = if closes_innermost ending blocks then outer_blocks blocks else
+    blocks
 blocks_behind_role blocks number Inside = blocks
 
 -- the open blocks of a file behind a line; those of an included file are closed at its end
@@ -103,11 +103,7 @@ rest_excerpt included file blocks (line ∷ lines) =
     in_turn (line_excerpt included file blocks line (reading_of line.text))
     (rest_excerpt included file (blocks_behind_line blocks line (reading_of line.text)) lines)
 
--- the line is not blank
-abbrev pub is_shown : Line → Bool
-is_shown line = not (is_empty line.text)
-
 -- the deck of a file of this name and these bytes: its logical lines other than blank ones, each
 -- with what it gives
 abbrev pub file_excerpt : (List ℕ → Included) → List ℕ → List ℕ → Excerpt
-file_excerpt included file bytes = rest_excerpt included file [] (filter is_shown (logical_lines bytes))
+file_excerpt included file bytes = rest_excerpt included file [] (shown (logical_lines bytes))

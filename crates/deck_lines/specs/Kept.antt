@@ -1,9 +1,9 @@
 -- What is kept of lines beside their texts.
 use Rattle.std.specs.Prelude.{◌≡◌, ◌≤◌, ◌<◌, ◌+◌, List, map, vec_len, vec_capacity, Option, Some, None, option_map, ⊤}
-use Rattle.def_entry.specs.declared.entry.Entry.{Entry as MadeEntry}
+use Rattle.def_entry.specs.declared.entry.What.{What as MadeWhat}
 use Rattle.def_entry.specs.declared.key.Key.{Key}
-use Rattle.def_entry.specs.Entries.{Entry}
-use Rattle.def_entry.specs.Views.{entry_view}
+use Rattle.def_entry.specs.Entries.{Entry, What}
+use Rattle.def_entry.specs.Views.{what_view}
 use Rattle.deck_lines.specs.Names.{IsOneToOne, Names, key_at}
 use Rattle.deck_lines.specs.NumberedKeys.{names_in, spare_of}
 use Rattle.deck_lines.specs.Readings.{entry_in}
@@ -13,12 +13,12 @@ use Rattle.deck_lines.specs.declared.store.definitions.Definitions.{Definitions}
 use Rattle.deck_lines.specs.declared.store.key_numbers.KeyNumbers.{KeyNumbers}
 
 -- a definition, with the key that has its number
-abbrev pub seen_definition : Names → Definition → Option Key × Entry
-seen_definition names d = (key_at names d.key, entry_view d.entry)
+abbrev pub seen_definition : Names → Definition → Option Key × What
+seen_definition names d = (key_at names d.key, what_view d.what)
 
--- a definition, with its key
-abbrev pub keyed_definition : Key × Entry → Option Key × Entry
-keyed_definition d = (Some d.0, d.1)
+-- a definition without the text of its entry, which is part of its line
+abbrev pub keyed_definition : Key × Entry → Option Key × What
+keyed_definition d = (Some d.0, d.1.what)
 
 -- these are what lines define, where keys have these numbers
 abbrev pub IsDefined : Names → List (Option Definition) → List (Option (Key × Entry)) → Type 0
@@ -28,12 +28,12 @@ IsDefined names definitions said =
 abbrev pub AreDefined : Definitions → List (Option (Key × Entry)) → Type 0
 AreDefined definitions said = IsDefined (names_in definitions.keys) definitions.of_lines.items said
 
-abbrev pub HasRoomForKey : KeyNumbers → Option (Key × MadeEntry) → Type 0
+abbrev pub HasRoomForKey : KeyNumbers → Option (Key × MadeWhat) → Type 0
 HasRoomForKey keys None = ⊤
 HasRoomForKey keys (Some definition) = 0 < spare_of keys definition.0.kind
 
 -- what one more line defines needs no memory
-pub record HasRoomFor (definitions : Definitions) (definition : Option (Key × MadeEntry)) : Type 0 where
+pub record HasRoomFor (definitions : Definitions) (definition : Option (Key × MadeWhat)) : Type 0 where
   pub line : vec_len definitions.of_lines + 1 ≤ vec_capacity definitions.of_lines
   pub key : HasRoomForKey definitions.keys definition
 

@@ -15,6 +15,8 @@ pub mod NumberedNames
 pub mod Numbering
 pub mod Origins
 pub mod Readings
+pub mod StepLaws
+pub mod Steps
 pub mod Stores
 pub mod Views
 pub mod Within

@@ -1,6 +1,5 @@
 -- What a load leaves.
-use Rattle.std.specs.Prelude.{◌≡◌, ◌≤◌, ◌++◌, ℕ, List, [], ◌∷◌, true, map, Some, Result, Ok, Err, OnOk, IsErrOf, ⊤}
-use Rattle.units_io.specs.Faults.{Rose}
+use Rattle.std.specs.Prelude.{◌≡◌, ◌++◌, List, [], ◌∷◌, true, map, Some, Result, Ok, Err, OnOk, IsErrOf, ⊤}
 use Rattle.deck_lines.specs.Closed.{blocks_after}
 use Rattle.deck_lines.specs.Excerpts.{Excerpt}
 use Rattle.deck_lines.specs.Limits.{pass_limit}
@@ -44,11 +43,6 @@ IsLoad before excerpt (Err fault) after = MayEnd (before.store.lines ++ excerpt.
 -- no file is read, so that no read fails
 abbrev pub ReadsNone : Result (Unit {0}) LoadFault → Type 0
 ReadsNone result = IsErrOf result ReadFailed → ⊥
-
--- the count of failed fetches has not fallen, and it rose where a read failed
-pub record HasReadCause (before now : ℕ) (result : Result (Unit {0}) LoadFault) : Type 0 where
-  pub later : before ≤ now
-  pub failed : IsErrOf result ReadFailed → Rose before now
 
 -- which lines close open blocks
 abbrev pub endings : List Block → List Ending

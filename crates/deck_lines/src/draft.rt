@@ -1,15 +1,16 @@
 //! What a load has read so far.
 
-ghost use Rattle.std.specs.Prelude.{◌≡◌, ◌++◌, ◌∷◌, [], OnOk, OnErr, option_map};
+ghost use Rattle.std.specs.Prelude.{◌≡◌, ◌++◌, ◌∷◌, [], OnOk, OnErr, false, option_map};
 ghost use Rattle.def_entry.specs.Seen.{seen_entry};
 ghost use Rattle.deck_lines.specs.Excerpts.{line_with_notice, line_without_notice, notice};
+ghost use Rattle.deck_lines.specs.Limits.{pass_limit};
 ghost use Rattle.deck_lines.specs.Loads.{IsLoad, ReadsNone};
 ghost use Rattle.deck_lines.specs.Marks.{plain_line};
 ghost use Rattle.deck_lines.specs.Readings.{entry_in};
 ghost use Rattle.deck_lines.specs.Stores.{no_lines};
 
 use crate::store::LineStore;
-use def_entry::{Entry, Key};
+use def_entry::{Key, What};
 use def_lines::Line;
 use std::alloc::{AllocError, AllocFailed, Global};
 use units_io::{Text, Texts};
@@ -72,10 +73,11 @@ impl Draft {
         &mut self,
         alloc: Global,
         line: Line,
-        definition: Option<(Key, Entry)>,
+        definition: Option<(Key, What)>,
     ) -> Result<(), LoadFault>
-        requires { option_map seen_entry definition ≡ entry_in (plain_line line.number line.text) }
+        requires { option_map (seen_entry line.text) definition ≡ entry_in (plain_line line.number line.text) }
         ensures told { IsLoad self.old (line_without_notice line) result self.new }
+        ensures within { OnOk result (pass_limit self.new.store.lines ≡ false) }
         ensures err { OnErr result (self.new.store ≡ self.old.store) }
         ensures read { ReadsNone result }
     {
@@ -96,6 +98,7 @@ impl Draft {
         text: &[u8],
     ) -> Result<(), LoadFault>
         ensures told { IsLoad self.old (line_with_notice file.now line text.now) result self.new }
+        ensures within { OnOk result (pass_limit self.new.store.lines ≡ false) }
         ensures err { OnErr result (self.new.store ≡ self.old.store) }
         ensures read { ReadsNone result }
     {

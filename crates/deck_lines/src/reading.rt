@@ -1,6 +1,6 @@
 //! What a line means.
 
-ghost use Rattle.std.specs.Prelude.{◌≡◌, ℕ, IfOk, true};
+ghost use Rattle.std.specs.Prelude.{◌≡◌, ℕ, List, IfOk, true};
 ghost use Rattle.def_lines.specs.Kinds.{kind_of};
 ghost use Rattle.def_entry.specs.Reading.{entry_of, has_entry};
 ghost use Rattle.deck_lines.specs.Marks.{plain_line};
@@ -8,7 +8,7 @@ ghost use Rattle.deck_lines.specs.Readings as spec;
 ghost use Rattle.deck_lines.specs.Views.{seen_reading};
 
 use crate::line::{Ending, Role};
-use def_entry::{Entry, EntryFault, Key, entry_fault_text, read_entry, told_law};
+use def_entry::{EntryFault, Key, What, entry_fault_text, read_entry, told_law};
 use def_lines::{LineKind, classify};
 use std::alloc::{AllocError, Global};
 use units_io::Text;
@@ -17,8 +17,8 @@ use units_io::Text;
 pub enum Reading<'a> {
     /// It opens or closes a block, or does neither.
     Stands(Role),
-    /// It defines a key.
-    Defines(Key, Entry),
+    /// It defines a key, of which it says this.
+    Defines(Key, What),
     /// It includes the file of this name.
     Includes(&'a [u8]),
     /// It has the fault that this text tells.
@@ -28,9 +28,9 @@ pub enum Reading<'a> {
 /// What a line means. The only error is want of memory.
 #[tactic(auto, unfolding(crate::specs::Readings::reading_of, crate::specs::Readings::entry_in))]
 pub fn read_line(alloc: Global, line: &[u8]) -> Result<Reading<'_>, AllocError>
-    ensures means { IfOk result (λ reading. seen_reading reading ≡ spec.reading_of line.now) }
+    ensures means { IfOk result (λ reading. seen_reading line.now reading ≡ spec.reading_of line.now) }
     ensures defines { IfOk result (λ reading. (number : ℕ)
-        → spec.entry_in (plain_line number line.now) ≡ spec.defined_by (seen_reading reading)) }
+        → spec.entry_in (plain_line number line.now) ≡ spec.defined_by (seen_reading line.now reading)) }
 {
     let role = match classify(line) {
         LineKind::Definition | LineKind::UnitList => return read_definition(alloc, line),
@@ -51,7 +51,7 @@ pub fn read_line(alloc: Global, line: &[u8]) -> Result<Reading<'_>, AllocError>
 
 // A line with the fault that these words tell.
 fn faulty(alloc: Global, words: &[u8]) -> Result<Reading<'_>, AllocError>
-    ensures { IfOk result (λ reading. seen_reading reading ≡ spec.Faulty words.now) }
+    ensures { IfOk result (λ reading. (line : List ℕ) → seen_reading line reading ≡ spec.Faulty words.now) }
 {
     Ok(Reading::Faulty(Text::from_bytes(alloc, words)?))
 }
@@ -59,10 +59,10 @@ fn faulty(alloc: Global, words: &[u8]) -> Result<Reading<'_>, AllocError>
 // What a line that should define a key means.
 fn read_definition(alloc: Global, line: &[u8]) -> Result<Reading<'_>, AllocError>
     requires { has_entry (kind_of line.now) ≡ true }
-    ensures { IfOk result (λ reading. seen_reading reading ≡ spec.of_entry (entry_of line.now)) }
+    ensures { IfOk result (λ reading. seen_reading line.now reading ≡ spec.of_entry (entry_of line.now)) }
 {
     match read_entry(alloc, line) {
-        Ok((key, entry)) => Ok(Reading::Defines(key, entry)),
+        Ok((key, what)) => Ok(Reading::Defines(key, what)),
         Err(EntryFault::OutOfMemory) => Err(AllocError),
         Err(fault) => {
             told_law();

@@ -5,6 +5,7 @@ ghost use Rattle.units_io.specs.FileMap.{FileMap};
 ghost use Rattle.deck_lines.specs.Limits.{pass_limit};
 ghost use Rattle.deck_lines.specs.Loads.{Extends};
 ghost use Rattle.deck_lines.specs.Numbering.{IsNumbering};
+ghost use Rattle.deck_lines.specs.Steps.{excerpt_in};
 ghost use Rattle.deck.specs.Changes.{IsChange, IsTableChange};
 ghost use Rattle.deck.specs.Decks.{Contents};
 ghost use Rattle.deck.specs.LastPlaces.{IsIndexed};
@@ -33,13 +34,17 @@ impl Deck {
         name: &[u8],
     ) -> Result<Keys, DeckFault>
         ensures told { (m : FileMap) → F.files files.old ≡ Some m → loading.IsAppended (loading.after_append m name.now self.old) self.new result }
+        ensures ends { MatchResult result
+            (λ _. loading.MayComeTo (F.files files.old) name.now (loading.lines_alone self.old.lines)
+            (Ok (loading.excerpt_of self.new)))
+            (loading.MayFailBy (F.files files.old) name.now (loading.lines_alone self.old.lines)) }
         ensures changed { IfOk result (λ keys. IsChange self.old self.new keys) }
         ensures settings { self.new.settings ≡ self.old.settings }
         ensures err { OnErr result (self.new ≡ self.old) }
         ensures answers { IfErr result (λ fault. loading.is_load_fault fault ≡ true) }
         ensures kept { F.files files.new ≡ F.files files.old }
         ensures stores { F.store_faults files.new ≡ F.store_faults files.old }
-        ensures cause { loading.ReadsWithCause (F.faults files.old) (F.faults files.new) result }
+        ensures counted { F.faults files.new ≡ loading.faults_after_load (F.faults files.old) result }
     {
         let end = append_file(
             alloc,
@@ -78,6 +83,10 @@ fn append_file<F: Files>(
         MatchResult result
         (λ end. loading.after_append m name.now d ≡ Ok (record d { lines = store.new.lines; notices = end.notices }))
         (λ fault. loading.MayFail fault ⊎ (loading.after_append m name.now d ≡ Err fault)) }
+    ensures ends { MatchResult result
+        (λ end. loading.MayComeTo (F.files files.old) name.now (loading.lines_alone store.old.lines)
+        (Ok (record { lines = store.new.lines; notices = end.notices })))
+        (loading.MayFailBy (F.files files.old) name.now (loading.lines_alone store.old.lines)) }
     ensures indexed { IfOk result (λ end. IsIndexed store.new settings.now end.last) }
     ensures changed { IfOk result (λ end. IsTableChange
         (table_of (definitions settings.now store.old.lines)) (table_of (definitions settings.now store.new.lines)) end.keys) }
@@ -86,7 +95,7 @@ fn append_file<F: Files>(
     ensures answers { IfErr result (λ fault. loading.is_load_fault fault ≡ true) }
     ensures kept { F.files files.new ≡ F.files files.old }
     ensures stores { F.store_faults files.new ≡ F.store_faults files.old }
-    ensures cause { loading.ReadsWithCause (F.faults files.old) (F.faults files.new) result }
+    ensures counted { F.faults files.new ≡ loading.faults_after_load (F.faults files.old) result }
 {
     let len = store.len();
     let mut draft = Draft {
@@ -129,6 +138,10 @@ fn load_changes<F: Files>(
     requires numbering { IsNumbering draft.old.store }
     ensures told { (m : FileMap) (d : Contents) → F.files files.old ≡ Some m → d.lines ≡ draft.old.store.lines →
         loading.IsRead (loading.after_append m name.now d) d draft.new.store.lines draft.new.notices result }
+    ensures ends { MatchResult result
+        (λ _. loading.MayComeTo (F.files files.old) name.now (loading.lines_alone draft.old.store.lines)
+        (Ok (excerpt_in draft.new)))
+        (loading.MayFailBy (F.files files.old) name.now (loading.lines_alone draft.old.store.lines)) }
     ensures within { OnOk result (pass_limit draft.new.store.lines ≡ false) }
     ensures extends { Extends draft.old.store draft.new.store }
     ensures indexed { IfOk result (λ now. IsIndexed draft.new.store settings.now now.last) }
@@ -137,7 +150,7 @@ fn load_changes<F: Files>(
     ensures answers { IfErr result (λ fault. loading.is_load_fault fault ≡ true) }
     ensures kept { F.files files.new ≡ F.files files.old }
     ensures stores { F.store_faults files.new ≡ F.store_faults files.old }
-    ensures cause { loading.ReadsWithCause (F.faults files.old) (F.faults files.new) result }
+    ensures counted { F.faults files.new ≡ loading.faults_after_load (F.faults files.old) result }
 {
     load_file(alloc, files, draft, name)?;
     let now = LastPlaces::under(alloc, settings, &draft.store)?;

@@ -1,8 +1,9 @@
 //! A line put at the end.
 
-ghost use Rattle.std.specs.Prelude.{◌≡◌, ◌⊎◌, List, ℕ, Some, Err, not, false, IfOk, IfErr, OnErr, OnOk};
+ghost use Rattle.std.specs.Prelude.{◌≡◌, ◌⊎◌, Some, Err, not, false, IfOk, IfErr, OnErr, OnOk};
 ghost use Rattle.def_lines.specs.Blanks.{trimmed};
 ghost use Rattle.def_entry.specs.Seen.{seen_entry};
+ghost use Rattle.def_entry.specs.Views.{entry_view};
 ghost use Rattle.deck_lines.specs.Closed.{IsClosed};
 ghost use Rattle.deck_lines.specs.Limits.{pass_limit};
 ghost use Rattle.deck_lines.specs.Marks.{plain_line};
@@ -14,7 +15,7 @@ ghost use Rattle.deck.specs.declared.fault.DeckFault.TheVariants.{OutOfMemory};
 
 use super::Deck;
 use crate::fault::DeckFault;
-use def_entry::{Entry, EntryFault, Key, Keys, read_entry, same_text_law};
+use def_entry::{Entry, EntryFault, Key, Keys, What, read_entry, same_text_law};
 use def_lines::{Line, LineKind, classify, trim};
 use std::alloc::{AllocError, Global};
 use units_io::Text;
@@ -28,12 +29,12 @@ impl Deck {
         ensures { edit.IsEdit (edit.after_define (trimmed line.now) self.old) self.old self.new result }
     {
         let line = trim(line);
-        let (key, entry) = read_definition(alloc, line)?;
+        let (key, what) = read_definition(alloc, line)?;
         if !self.has_room(line) {
             return Err(DeckFault::DeckFull);
         }
-        let keys = self.changed_by(alloc, &key, &entry)?;
-        self.push_definition(alloc, line, key, entry)?;
+        let keys = self.changed_by(alloc, &key, Entry { line, what: &what })?;
+        self.push_definition(alloc, line, key, what)?;
         Ok(keys)
     }
 
@@ -46,15 +47,15 @@ impl Deck {
     }
 
     // The keys that a line changes at the end of the deck: its own, unless its entry is the same.
-    fn changed_by(&self, alloc: Global, key: &Key, entry: &Entry) -> Result<Keys, AllocError>
-        ensures { IfOk result (λ keys. (text : List ℕ) → IsClosed self.now.lines
-            → entry_in (plain_line 0 text) ≡ Some (seen_entry (key.now, entry.now))
-            → IsChange self.now (edit.with_line text self.now) keys) }
+    fn changed_by(&self, alloc: Global, key: &Key, entry: Entry<'_>) -> Result<Keys, AllocError>
+        ensures { IfOk result (λ keys. IsClosed self.now.lines
+            → entry_in (plain_line 0 entry.entry.line.now) ≡ Some (key.now, entry_view entry.entry)
+            → IsChange self.now (edit.with_line entry.entry.line.now self.now) keys) }
     {
         same_text_law();
         let mut keys = Keys::new(alloc);
         if let Some(old) = self.entry(key.kind, key.name.as_bytes()) {
-            if old.text.as_bytes() == entry.text.as_bytes() {
+            if old.text() == entry.text() {
                 return Ok(keys);
             }
         }
@@ -70,9 +71,9 @@ impl Deck {
         alloc: Global,
         text: &[u8],
         key: Key,
-        entry: Entry,
+        what: What,
     ) -> Result<(), AllocError>
-        requires defines { entry_in (plain_line 0 text.now) ≡ Some (seen_entry (key, entry)) }
+        requires defines { entry_in (plain_line 0 text.now) ≡ Some (seen_entry text.now (key, what)) }
         requires within { pass_limit (edit.with_line text.now self.old).lines ≡ false }
         ensures ok { OnOk result (self.new ≡ edit.with_line text.now self.old) }
         ensures err { OnErr result (self.new ≡ self.old) }
@@ -82,7 +83,7 @@ impl Deck {
         let kind = key.kind;
         self.last.make_room(kind, self.store.name_count(kind))?;
         let place = self.store.len();
-        self.store.push(alloc, line, false, Some((key, entry)))?;
+        self.store.push(alloc, line, false, Some((key, what)))?;
         let Some(number) = self.store.key_number(place) else {
             unreachable!()
         };
@@ -91,9 +92,9 @@ impl Deck {
     }
 }
 
-// The key and the entry of a line, or why an edit by it is refused.
-fn read_definition(alloc: Global, line: &[u8]) -> Result<(Key, Entry), DeckFault>
-    ensures entry { IfOk result (λ found. entry_in (plain_line 0 line.now) ≡ Some (seen_entry found)) }
+// The key of a line and what it says of that, or why an edit by it is refused.
+fn read_definition(alloc: Global, line: &[u8]) -> Result<(Key, What), DeckFault>
+    ensures entry { IfOk result (λ found. entry_in (plain_line 0 line.now) ≡ Some (seen_entry line.now found)) }
     ensures ok { OnOk result ((d : Contents) → edit.after_define line.now d ≡ edit.within (edit.with_line line.now d)) }
     ensures err { IfErr result (λ fault. (fault ≡ OutOfMemory)
         ⊎ ((d : Contents) → edit.after_define line.now d ≡ Err fault)) }

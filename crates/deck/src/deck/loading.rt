@@ -1,9 +1,10 @@
 //! Decks of files and of texts.
 
-ghost use Rattle.std.specs.Prelude.{◌≡◌, ◌≤◌, [], Some, true, length, IfOk, IfErr, OnOk};
+ghost use Rattle.std.specs.Prelude.{◌≡◌, ◌≤◌, [], Ok, Some, true, length, IfOk, IfErr, MatchResult, OnOk};
 ghost use Rattle.units_io.specs.FileMap.{FileMap, longest_file};
 ghost use Rattle.deck_lines.specs.Closed.{IsClosed};
 ghost use Rattle.deck_lines.specs.Loads.{Extends};
+ghost use Rattle.deck_lines.specs.Steps.{excerpt_in};
 ghost use Rattle.deck.specs.Decks.{Contents};
 ghost use Rattle.deck.specs.Loading as loading;
 
@@ -34,8 +35,8 @@ impl Deck {
     }
 
     /// The deck of the file of this name, with the files that it includes. `Absent` and `TooLong` as the
-    /// files answer for this name, `ReadFailed` only where their count rose, and `DeckFull` where the
-    /// lines read pass a limit.
+    /// files answer for this name. Else the first in the order of reading is the answer: `ReadFailed` where
+    /// the fetch of a file fails, which the files count, and `DeckFull` where a line has no room.
     pub fn load<F: Files>(
         alloc: Global,
         files: &mut F,
@@ -43,11 +44,14 @@ impl Deck {
         settings: Settings,
     ) -> Result<Deck, DeckFault>
         ensures told { (m : FileMap) → F.files files.old ≡ Some m → loading.IsLoaded (loading.after_load m name.now settings) result }
+        ensures ends { MatchResult result
+            (λ d. loading.MayComeTo (F.files files.old) name.now (loading.lines_alone []) (Ok (loading.excerpt_of d)))
+            (loading.MayFailBy (F.files files.old) name.now (loading.lines_alone [])) }
         ensures settings { IfOk result (λ d. d.settings ≡ settings) }
         ensures answers { IfErr result (λ fault. loading.is_load_fault fault ≡ true) }
         ensures kept { F.files files.new ≡ F.files files.old }
         ensures stores { F.store_faults files.new ≡ F.store_faults files.old }
-        ensures cause { loading.ReadsWithCause (F.faults files.old) (F.faults files.new) result }
+        ensures counted { F.faults files.new ≡ loading.faults_after_load (F.faults files.old) result }
     {
         let mut draft = Draft::new(alloc);
         load_file(alloc, files, &mut draft, name)?;
@@ -64,12 +68,15 @@ pub(crate) fn load_file<F: Files>(
 ) -> Result<(), DeckFault>
     requires { draft.old.notices ≡ [] }
     ensures told { (m : FileMap) (d : Contents) → F.files files.old ≡ Some m → d.lines ≡ draft.old.store.lines → loading.IsRead (loading.after_append m name.now d) d draft.new.store.lines draft.new.notices result }
+    ensures ends { MatchResult result
+        (λ _. loading.MayComeTo (F.files files.old) name.now (excerpt_in draft.old) (Ok (excerpt_in draft.new)))
+        (loading.MayFailBy (F.files files.old) name.now (excerpt_in draft.old)) }
     ensures extends { Extends draft.old.store draft.new.store }
     ensures closed { OnOk result (IsClosed draft.old.store.lines → IsClosed draft.new.store.lines) }
     ensures answers { IfErr result (λ fault. loading.is_load_fault fault ≡ true) }
     ensures kept { F.files files.new ≡ F.files files.old }
     ensures stores { F.store_faults files.new ≡ F.store_faults files.old }
-    ensures cause { loading.ReadsWithCause (F.faults files.old) (F.faults files.new) result }
+    ensures counted { F.faults files.new ≡ loading.faults_after_load (F.faults files.old) result }
 {
     let text = files.fetch(alloc, name)?;
     load_text(alloc, files, draft, name, text.as_bytes())?;

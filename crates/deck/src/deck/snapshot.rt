@@ -1,19 +1,20 @@
 //! Copies of decks.
 
-ghost use Rattle.std.specs.Prelude.{◌≡◌, IfOk, option_map};
+ghost use Rattle.std.specs.Prelude.{◌≡◌, IfOk, Some, option_map, slice_get};
 ghost use Rattle.def_entry.specs.Seen.{seen_entry};
-ghost use Rattle.deck_lines.specs.Stores.{definition_at};
+ghost use Rattle.deck_lines.specs.Readings.{entry_in};
+ghost use Rattle.deck_lines.specs.declared.line.DeckLine.{DeckLine};
 
 use super::Deck;
 use crate::settings::Settings;
 use deck_lines::{LineStore, MarkedLines};
-use def_entry::{Entry, Key};
+use def_entry::{Key, What};
 use def_lines::Line;
 use std::alloc::{AllocError, Global};
 use units_io::{Text, Texts};
 
 impl Deck {
-    /// An equal deck in memory of its own. No line is read again: entries are copied. The only error is
+    /// An equal deck in memory of its own. No line is read again: what lines say is copied. The only error is
     /// want of memory.
     pub fn snapshot(&self, alloc: Global) -> Result<Deck, AllocError>
         ensures { IfOk result (λ copy. copy ≡ self.now) }
@@ -47,8 +48,9 @@ fn copied_definition(
     alloc: Global,
     store: &LineStore,
     place: usize,
-) -> Result<Option<(Key, Entry)>, AllocError>
-    ensures { IfOk result (λ copy. option_map seen_entry copy ≡ definition_at store.now.lines place) }
+) -> Result<Option<(Key, What)>, AllocError>
+    ensures { IfOk result (λ copy. (line : DeckLine) → slice_get store.now.lines place ≡ Some line
+        → option_map (seen_entry line.text) copy ≡ entry_in line) }
 {
     let Some(number) = store.key_number(place) else {
         return Ok(None);
@@ -61,8 +63,8 @@ fn copied_definition(
     };
     let kind = number.kind;
     let name = Text::from_bytes(alloc, name)?;
-    let entry = entry.copy(alloc)?;
-    Ok(Some((Key { kind, name }, entry)))
+    let what = entry.what.copy(alloc)?;
+    Ok(Some((Key { kind, name }, what)))
 }
 
 // The same settings.

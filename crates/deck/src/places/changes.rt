@@ -2,7 +2,6 @@
 
 ghost use Rattle.std.specs.Prelude.{◌≡◌, ◌++◌, IfOk, OnOk, not, option_map};
 ghost use Rattle.std.specs.Bool.{OnTrue};
-ghost use Rattle.std.specs.Option.{option_copied};
 ghost use Rattle.def_entry.specs.Views.{entry_view};
 ghost use Rattle.deck_lines.specs.Edited.{store_after, store_before};
 ghost use Rattle.deck_lines.specs.Names.{key_at, names_of};
@@ -112,7 +111,7 @@ fn is_changed(edited: &EditedLines<'_>, before: Option<usize>, after: Option<usi
     }
     let unedited = edited.before();
     match (entry_at(&unedited, before), entry_at(edited, after)) {
-        (Some(old), Some(new)) => old.text.as_bytes() != new.text.as_bytes(),
+        (Some(old), Some(new)) => old.text() != new.text(),
         (None, None) => false,
         _ => true,
     }
@@ -129,8 +128,8 @@ fn is_one_line(edited: &EditedLines<'_>, before: Option<usize>, after: Option<us
 }
 
 // The entry at a place, if there is one.
-fn entry_at<'a>(edited: &'a EditedLines<'_>, place: Option<usize>) -> Option<&'a Entry>
-    ensures { option_map entry_view (option_copied result) ≡ entry_there edited.now.after place }
+fn entry_at<'a>(edited: &'a EditedLines<'_>, place: Option<usize>) -> Option<Entry<'a>>
+    ensures { option_map entry_view result ≡ entry_there edited.now.after place }
 {
     match place {
         Some(place) => edited.entry(place),

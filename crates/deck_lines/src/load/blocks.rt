@@ -1,8 +1,9 @@
 //! The blocks of a file.
 
-ghost use Rattle.std.specs.Prelude.{◌≡◌, ◌++◌, [], None, map, option_map, reverse, OnOk, OnErr};
+ghost use Rattle.std.specs.Prelude.{◌≡◌, ◌++◌, [], None, false, map, option_map, reverse, OnOk, OnErr};
 ghost use Rattle.deck_lines.specs.Blocks.{end_text};
 ghost use Rattle.deck_lines.specs.Excerpts.{blocks_behind_role, closes_innermost as closes_inner, file_end, missing_end, role_excerpt, unclosed_notice};
+ghost use Rattle.deck_lines.specs.Limits.{pass_limit};
 ghost use Rattle.deck_lines.specs.Loads.{Extends, IsLoad, ReadsNone};
 ghost use Rattle.deck_lines.specs.Marks.{plain_line};
 ghost use Rattle.deck_lines.specs.Readings.{entry_in};
@@ -25,6 +26,7 @@ pub(crate) fn push_role_line(
     requires { entry_in (plain_line line.number line.text) ≡ None }
     ensures told { IsLoad draft.old (role_excerpt name.now (reverse blocks.old.items) line role) result draft.new }
     ensures blocks { OnOk result (reverse blocks.new.items ≡ blocks_behind_role (reverse blocks.old.items) line.number role) }
+    ensures within { OnOk result (pass_limit draft.new.store.lines ≡ false) }
     ensures err { OnErr result (draft.new.store ≡ draft.old.store) }
     ensures read { ReadsNone result }
 {
@@ -63,6 +65,7 @@ pub(crate) fn push_file_end(
     blocks: Vec<Block>,
 ) -> Result<(), LoadFault>
     ensures told { IsLoad draft.old (file_end name.now (reverse blocks.items)) result draft.new }
+    ensures within { OnOk result (pass_limit draft.new.store.lines ≡ false) }
     ensures extends { Extends draft.old.store draft.new.store }
     ensures read { ReadsNone result }
 {
@@ -93,9 +96,11 @@ fn push_missing_ends(
     mut blocks: Vec<Block>,
 ) -> Result<(), LoadFault>
     ensures told { IsLoad draft.old (record { lines = map missing_end (reverse blocks.items); notices = [] }) result draft.new }
+    ensures within { OnOk result (pass_limit draft.new.store.lines ≡ false) }
     ensures extends { Extends draft.old.store draft.new.store }
     ensures read { ReadsNone result }
 {
+    let _ = draft.store.lines();
     while let Some(block) = blocks.pop() {
         let number = block.number;
         let text = Text::from_bytes(alloc, end_line_text(block.ending))?;

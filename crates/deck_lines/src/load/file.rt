@@ -1,15 +1,17 @@
 //! A file, line after line, with the files that it includes.
 
-ghost use Rattle.std.specs.Prelude.{◌≡◌, ◌++◌, [], ◌≤◌, None, Some, length, reverse, OnOk, OnErr};
+ghost use Rattle.std.specs.Prelude.{◌≡◌, ◌++◌, [], ◌≤◌, None, Some, false, length, reverse, OnOk, OnErr};
 ghost use Rattle.units_io.specs.FileMap.{FileMap, longest_file};
 ghost use Rattle.def_lines.specs.Kinds.{kind_of};
 ghost use Rattle.deck_lines.specs.Blocks.{role_of};
 ghost use Rattle.deck_lines.specs.Closed.{IsClosed};
 ghost use Rattle.deck_lines.specs.Excerpts.{blocks_behind_line, include_excerpt, line_excerpt, line_with_notice};
-ghost use Rattle.deck_lines.specs.Includes.{deck_above, deck_of, included_below, included_by};
-ghost use Rattle.deck_lines.specs.Loads.{Extends, HasReadCause, IsLoad, Leads, ReadsNone, endings};
+ghost use Rattle.deck_lines.specs.Includes.{beside, deck_above, deck_of, included_below, included_by, most_depth};
+ghost use Rattle.deck_lines.specs.Limits.{pass_limit};
+ghost use Rattle.deck_lines.specs.Loads.{Extends, IsLoad, Leads, ReadsNone, endings};
 ghost use Rattle.deck_lines.specs.Marks.{plain_line};
 ghost use Rattle.deck_lines.specs.Readings.{entry_in, reading_of};
+ghost use Rattle.deck_lines.specs.Steps.{AreStepsAbove, AreStepsBelow, AreStepsOfLine, EndsBy, faults_after_load};
 ghost use Rattle.deck_lines.specs.declared.line.Role.TheVariants.{Inside};
 
 use crate::draft::{Draft, LoadFault};
@@ -26,9 +28,10 @@ const MOST_DEPTH: u8 = 16;
 
 /// Puts the deck of a file of this name and these bytes behind what a draft holds: its logical lines
 /// other than blank ones, behind each include line the deck of the included file, and the missing end
-/// lines of blocks at the end of each file. `DeckFull` where all these lines pass a limit, `ReadFailed`
-/// only where the files' count of failed fetches rose. After a fault some of the lines may stand behind
-/// those before. It takes the memory of the texts of the files that stand one in another, and of the lines.
+/// lines of blocks at the end of each file. The first of these lines that has no room ends it with
+/// `DeckFull`, and the first include line whose fetch fails with `ReadFailed`, which the files count.
+/// After a fault some of the lines may stand behind those before. It takes the memory of the texts of the
+/// files that stand one in another, and of the lines.
 #[tactic(auto, unfolding(crate::specs::Includes::deck_of))]
 pub fn load_text<F: Files>(
     alloc: Global,
@@ -39,11 +42,12 @@ pub fn load_text<F: Files>(
 ) -> Result<(), LoadFault>
     requires { length bytes.now ≤ longest_file }
     ensures told { (m : FileMap) → F.files files.old ≡ Some m → IsLoad draft.old (deck_of m name.now bytes.now) result draft.new }
+    ensures ends { EndsBy (AreStepsAbove (F.files files.old) most_depth name.now bytes.now) draft.old result draft.new }
     ensures extends { Extends draft.old.store draft.new.store }
     ensures closed { OnOk result (IsClosed draft.old.store.lines → IsClosed draft.new.store.lines) }
     ensures kept { F.files files.new ≡ F.files files.old }
     ensures stores { F.store_faults files.new ≡ F.store_faults files.old }
-    ensures cause { HasReadCause (F.faults files.old) (F.faults files.new) result }
+    ensures counted { F.faults files.new ≡ faults_after_load (F.faults files.old) result }
 {
     load_file(alloc, files, draft, name, bytes, MOST_DEPTH)
 }
@@ -60,17 +64,15 @@ fn load_file<F: Files>(
 ) -> Result<(), LoadFault>
     requires { length bytes.now ≤ longest_file }
     ensures told { (m : FileMap) → F.files files.old ≡ Some m → IsLoad draft.old (deck_above m depth name.now bytes.now) result draft.new }
+    ensures ends { EndsBy (AreStepsAbove (F.files files.old) depth name.now bytes.now) draft.old result draft.new }
     ensures leads { Leads [] [] draft.old.store draft.new.store result }
     ensures kept { F.files files.new ≡ F.files files.old }
     ensures stores { F.store_faults files.new ≡ F.store_faults files.old }
-    ensures cause { HasReadCause (F.faults files.old) (F.faults files.new) result }
+    ensures counted { F.faults files.new ≡ faults_after_load (F.faults files.old) result }
 {
     let mut blocks: Vec<Block> = Vec::new(alloc);
     let mut lines = Cursor::new(bytes);
-    while let Some(line) = lines.take(alloc)? {
-        if line.text().is_empty() {
-            continue;
-        }
+    while let Some(line) = lines.take_shown(alloc)? {
         let line = line.into_line(alloc)?;
         load_line(alloc, files, draft, name, depth, &mut blocks, line)?;
     }
@@ -90,15 +92,20 @@ fn load_line<F: Files>(
 ) -> Result<(), LoadFault>
     ensures told { (m : FileMap) → F.files files.old ≡ Some m
         → IsLoad draft.old (line_excerpt (included_by m depth name.now) name.now (reverse blocks.old.items) line (reading_of line.text)) result draft.new }
+    ensures ends { EndsBy
+        (AreStepsOfLine
+        (λ word. AreStepsBelow (F.files files.old) depth name.now (beside name.now word))
+        name.now (reverse blocks.old.items) line (reading_of line.text))
+        draft.old result draft.new }
     ensures blocks { OnOk result (reverse blocks.new.items ≡ blocks_behind_line (reverse blocks.old.items) line (reading_of line.text)) }
     ensures leads { Leads (endings (reverse blocks.old.items)) (endings (blocks_behind_line (reverse blocks.old.items) line (reading_of line.text))) draft.old.store draft.new.store result }
     ensures kept { F.files files.new ≡ F.files files.old }
     ensures stores { F.store_faults files.new ≡ F.store_faults files.old }
-    ensures cause { HasReadCause (F.faults files.old) (F.faults files.new) result }
+    ensures counted { F.faults files.new ≡ faults_after_load (F.faults files.old) result }
 {
     match read_line(alloc, line.text.as_bytes())? {
         Reading::Stands(role) => push_role_line(alloc, draft, name, blocks, line, role),
-        Reading::Defines(key, entry) => draft.push_line(alloc, line, Some((key, entry))),
+        Reading::Defines(key, what) => draft.push_line(alloc, line, Some((key, what))),
         Reading::Includes(word) => {
             let file = name_beside(alloc, name, word)?;
             load_include(alloc, files, draft, name, depth, line, file)
@@ -122,10 +129,11 @@ fn load_include<F: Files>(
     requires role { role_of (kind_of line.text) ≡ Inside }
     requires entry { entry_in (plain_line line.number line.text) ≡ None }
     ensures told { (m : FileMap) → F.files files.old ≡ Some m → IsLoad draft.old (include_excerpt name.now line (included_below m depth file)) result draft.new }
+    ensures ends { EndsBy (AreStepsBelow (F.files files.old) depth name.now file line) draft.old result draft.new }
     ensures leads { Leads [] [] draft.old.store draft.new.store result }
     ensures kept { F.files files.new ≡ F.files files.old }
     ensures stores { F.store_faults files.new ≡ F.store_faults files.old }
-    ensures cause { HasReadCause (F.faults files.old) (F.faults files.new) result }
+    ensures counted { F.faults files.new ≡ faults_after_load (F.faults files.old) result }
 {
     let file = file.as_bytes();
     if depth == 0 {
@@ -163,6 +171,7 @@ fn refuse_include(
     file: &[u8],
 ) -> Result<(), LoadFault>
     ensures told { IsLoad draft.old (line_with_notice name.now line (text.now ++ file.now)) result draft.new }
+    ensures within { OnOk result (pass_limit draft.new.store.lines ≡ false) }
     ensures err { OnErr result (draft.new.store ≡ draft.old.store) }
     ensures read { ReadsNone result }
 {

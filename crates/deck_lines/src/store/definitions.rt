@@ -1,6 +1,6 @@
 //! What lines define, by the numbers of keys.
 
-ghost use Rattle.std.specs.Prelude.{◌≡◌, ◌++◌, ◌∷◌, ◌+◌, ◌<◌, [], List, Option, Some, length, map, take, drop, option_map, OnOk, ◌≤◌, vec_capacity, vec_len, IfOk};
+ghost use Rattle.std.specs.Prelude.{◌≡◌, ◌++◌, ◌∷◌, ◌+◌, ◌<◌, [], ℕ, List, Option, Some, length, map, take, drop, option_map, OnOk, ◌≤◌, vec_capacity, vec_len, IfOk};
 ghost use Rattle.std.specs.Option.{option_copied};
 ghost use Rattle.def_entry.specs.Entries.{Entry as Said};
 ghost use Rattle.def_entry.specs.Seen.{seen_entry};
@@ -16,14 +16,15 @@ use super::exchange::exchange;
 use super::key_numbers::KeyNumbers;
 use super::lists;
 use crate::key_number::KeyNumber;
-use def_entry::{Entry, Key};
+use def_entry::{Key, What};
 use std::alloc::{AllocError, Global};
 
-/// What a line defines: the number of its key, and the entry.
+/// What a line defines: the number of its key, and what it says of that. The text of its entry is part
+/// of the line.
 #[derive(Drop)]
 pub struct Definition {
     pub key: KeyNumber,
-    pub entry: Entry,
+    pub what: What,
 }
 
 /// What lines define, line by line, and the keys that have numbers.
@@ -61,7 +62,7 @@ impl Definitions {
     }
 
     /// Makes room for what one more line defines.
-    pub fn reserve_for(&mut self, definition: &Option<(Key, Entry)>) -> Result<(), AllocError>
+    pub fn reserve_for(&mut self, definition: &Option<(Key, What)>) -> Result<(), AllocError>
         ensures lines { self.new.of_lines.items ≡ self.old.of_lines.items }
         ensures names { names_in self.new.keys ≡ names_in self.old.keys }
         ensures ok { OnOk result (HasRoomFor self.new definition.now) }
@@ -75,17 +76,19 @@ impl Definitions {
 
     /// Puts what one more line defines at the end, and answers the number of its key, which is the
     /// next of its kind where it had none. It takes no memory.
-    pub fn put(&mut self, definition: Option<(Key, Entry)>) -> Option<KeyNumber>
+    pub fn put(&mut self, definition: Option<(Key, What)>) -> Option<KeyNumber>
         requires room { HasRoomFor self.old definition }
-        ensures lines { (said : List (Option (KeyValue × Said))) → AreDefined self.old said
-            → AreDefined self.new (said ++ option_map seen_entry definition ∷ []) }
-        ensures names { names_in self.new.keys ≡ with_definition (names_in self.old.keys) (option_map seen_entry definition) }
-        ensures number { option_map (key_at (names_in self.new.keys)) result ≡ option_map (λ d. Some d.0) (option_map seen_entry definition) }
+        ensures lines { (said : List (Option (KeyValue × Said))) (line : List ℕ) → AreDefined self.old said
+            → AreDefined self.new (said ++ option_map (seen_entry line) definition ∷ []) }
+        ensures names { (line : List ℕ)
+            → names_in self.new.keys ≡ with_definition (names_in self.old.keys) (option_map (seen_entry line) definition) }
+        ensures number { (line : List ℕ) → option_map (key_at (names_in self.new.keys)) result
+            ≡ option_map (λ d. Some d.0) (option_map (seen_entry line) definition) }
     {
         match definition {
-            Some((key, entry)) => {
+            Some((key, what)) => {
                 let key = self.keys.put(key);
-                lists::put_last(&mut self.of_lines, Some(Definition { key, entry }));
+                lists::put_last(&mut self.of_lines, Some(Definition { key, what }));
                 Some(key)
             }
             None => {
@@ -94,6 +97,7 @@ impl Definitions {
             }
         }
     }
+
     /// Keeps what the first lines define, so many.
     pub fn truncate(&mut self, len: usize)
         ensures lines { (said : List (Option (KeyValue × Said))) → AreDefined self.old said → AreDefined self.new (take len said) }
@@ -111,6 +115,7 @@ impl Definitions {
     {
         let _ = lists::remove_at(&mut self.of_lines, place);
     }
+
     /// Makes room for an exchange of so many lines for so many others, and gives an empty vector for
     /// what goes.
     pub fn room_for(

@@ -122,11 +122,14 @@ impl<'a> EditedLines<'a> {
     }
 
     /// The entry that the line at a place gives.
-    pub fn entry(&self, place: usize) -> Option<&Entry>
-        ensures { option_map entry_view (option_copied result) ≡ option_map (λ d. d.1) (definition_at self.now.after place) }
+    pub fn entry(&self, place: usize) -> Option<Entry<'_>>
+        ensures { option_map entry_view result ≡ option_map (λ d. d.1) (definition_at self.now.after place) }
     {
         match self.definition(place) {
-            Some(definition) => Some(&definition.entry),
+            Some(definition) => Some(Entry {
+                line: self.line(place).text,
+                what: &definition.what,
+            }),
             None => None,
         }
     }

@@ -7,7 +7,7 @@ ghost use Rattle.def_entry.specs.Seen.{seen_entry};
 ghost use Rattle.def_entry.specs.Views.{entry_view};
 ghost use Rattle.deck_lines.specs.Exchanges.{IsExchanged};
 ghost use Rattle.deck_lines.specs.Kept.{IsDefined, keyed_definition, seen_definition};
-ghost use Rattle.deck_lines.specs.Limits.{pass_limit};
+ghost use Rattle.deck_lines.specs.Limits.{most_lines, pass_limit};
 ghost use Rattle.deck_lines.specs.Marks.{unmarked, with_mark, with_marks};
 ghost use Rattle.deck_lines.specs.Names.{IsExtended, is_numbered, key_at, names_of};
 ghost use Rattle.deck_lines.specs.Numbering.{IsNumbering};
@@ -20,7 +20,7 @@ use super::line_list::LineList;
 use super::reads::read_definitions;
 use crate::key_number::KeyNumber;
 use crate::line::{DeckLine, DeckLines, MarkedLines};
-use def_entry::{Entry, Key, Kind};
+use def_entry::{Entry, Key, Kind, What};
 use def_lines::{Line, Lines};
 use std::alloc::{AllocError, AllocFailed, Global};
 use std::marker::Model;
@@ -65,6 +65,13 @@ impl LineStore {
         self.lines.len()
     }
 
+    /// There are no more lines than a deck holds.
+    pub fn lines_few(&self)
+        ensures { length self.now.lines ≤ most_lines }
+    {
+        let _ = self.lines();
+    }
+
     /// The lines, without their marks.
     pub fn lines(&self) -> &Lines
         ensures lines { result.now ≡ map unmarked self.now.lines }
@@ -96,9 +103,9 @@ impl LineStore {
         alloc: Global,
         line: Line,
         mark: bool,
-        definition: Option<(Key, Entry)>,
+        definition: Option<(Key, What)>,
     ) -> Result<Option<KeyNumber>, AllocError>
-        requires reads { option_map seen_entry definition ≡ entry_in (with_mark mark line) }
+        requires reads { option_map (seen_entry line.text) definition ≡ entry_in (with_mark mark line) }
         requires room { pass_limit (self.old.lines ++ with_mark mark line ∷ []) ≡ false }
         ensures ok { OnOk result (self.new ≡ with_line self.old (with_mark mark line)) }
         ensures number { IfOk result (λ n. option_map (key_at self.new.names) n ≡ option_map (λ d. Some d.0) (entry_in (with_mark mark line))) }
@@ -110,11 +117,14 @@ impl LineStore {
     }
 
     /// The entry that the line at a place gives.
-    pub fn entry(&self, place: usize) -> Option<&Entry>
-        ensures { option_map entry_view (option_copied result) ≡ option_map (λ d. d.1) (definition_at self.now.lines place) }
+    pub fn entry(&self, place: usize) -> Option<Entry<'_>>
+        ensures { option_map entry_view result ≡ option_map (λ d. d.1) (definition_at self.now.lines place) }
     {
         match self.definitions.at(place) {
-            Some(definition) => Some(&definition.entry),
+            Some(definition) => Some(Entry {
+                line: self.lines.marked().line(place).text,
+                what: &definition.what,
+            }),
             None => None,
         }
     }

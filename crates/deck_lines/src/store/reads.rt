@@ -1,7 +1,7 @@
 //! What lines define that are to be put into a store.
 
 ghost use Rattle.std.specs.Prelude.{◌≡◌, Some, map, option_map, IfOk};
-ghost use Rattle.def_entry.specs.Views.{entry_view};
+ghost use Rattle.def_entry.specs.Views.{what_view};
 ghost use Rattle.deck_lines.specs.Kept.{IsDefined, keyed_definition, seen_definition};
 ghost use Rattle.deck_lines.specs.Names.{IsExtended, IsOneToOne};
 ghost use Rattle.deck_lines.specs.NumberedKeys.{names_in};
@@ -11,7 +11,7 @@ use super::definitions::{Definition, PutDefinitions};
 use super::key_numbers::KeyNumbers;
 use crate::line::DeckLine;
 use crate::reading::{Reading, read_line};
-use def_entry::{Entry, Key};
+use def_entry::{Key, What};
 use std::alloc::{AllocError, Global};
 
 /// What lines define, by the numbers of their keys, which are given where there are none.
@@ -50,7 +50,7 @@ fn definition_of(
         return Ok(None);
     }
     match read_line(alloc, line.text.as_bytes())? {
-        Reading::Defines(key, entry) => Ok(Some(number_definition(keys, key, entry)?)),
+        Reading::Defines(key, what) => Ok(Some(number_definition(keys, key, what)?)),
         Reading::Stands(_) => Ok(None),
         Reading::Includes(_) => Ok(None),
         Reading::Faulty(_) => Ok(None),
@@ -58,16 +58,12 @@ fn definition_of(
 }
 
 // A definition by the number of its key.
-fn number_definition(
-    keys: &mut KeyNumbers,
-    key: Key,
-    entry: Entry,
-) -> Result<Definition, AllocError>
+fn number_definition(keys: &mut KeyNumbers, key: Key, what: What) -> Result<Definition, AllocError>
     ensures extended { IsExtended (names_in keys.old) (names_in keys.new) }
     ensures unique { IsOneToOne (names_in keys.old) → IsOneToOne (names_in keys.new) }
-    ensures ok { IfOk result (λ d. seen_definition (names_in keys.new) d ≡ (Some key, entry_view entry)) }
+    ensures ok { IfOk result (λ d. seen_definition (names_in keys.new) d ≡ (Some key, what_view what)) }
 {
     keys.reserve_one(key.kind)?;
     let key = keys.put(key);
-    Ok(Definition { key, entry })
+    Ok(Definition { key, what })
 }

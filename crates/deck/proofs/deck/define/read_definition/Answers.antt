@@ -13,4 +13,4 @@ either kind (inr u) = inr (ap seen_kind u)
 
 pub returns-in-Ok-clause-entry : goal.returns-in-Ok-clause-entry
 returns-in-Ok-clause-entry c =
-    defines_by c.args.line.now (seen_entry c.in-Ok.found) (seen_kind c.classify.result) (either c.classify.result c.in-Definition.is) (sym c.classify.ensures) c.in-Ok.ensures.computed
+    defines_by c.args.line.now (seen_entry c.args.line.now c.in-Ok.found) (seen_kind c.classify.result) (either c.classify.result c.in-Definition.is) (sym c.classify.ensures) c.in-Ok.ensures.computed

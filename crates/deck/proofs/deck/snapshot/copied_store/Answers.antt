@@ -1,7 +1,5 @@
 use Rattle.std.proofs.Common.{◌≡◌, Bool, false, ap, get_or, length, refl, ◌∙◌, arith, Some, slice_get}
-use Rattle.std.specs.Option.{option_and_then}
 use Rattle.std.proofs.lemmas.List.{take_all}
-use Rattle.deck_lines.specs.Readings.{entry_in}
 use Rattle.deck_lines.specs.Stores.{Store}
 use Rattle.deck_lines.specs.declared.line.DeckLine.{DeckLine}
 use Rattle.deck.proofs.Copying.{copied_more, line_there, room_more}
@@ -16,7 +14,7 @@ push-requires c =
     line_there c.marked.result.lines.now c.marked.result.marks.now c.args.store.now.lines c.loop-place.place c.index-lines-place.result mark c.in_ok-text.text c.marked.ensures.lines c.marked.ensures.each
     (omega (arith, c.loop-place-test.true)) c.index-lines-place.is refl c.in_ok-text.ensures in
     record {
-      reads = c.in_ok-definition.ensures ∙ ap (option_and_then entry_in) at;
+      reads = c.in_ok-definition.ensures x at;
       room = room_more c.args.store.now.lines c.loop-place.copy.lines c.loop-place.place x c.loop-place.invariant at c.marked.ensures.within;
     }
 

@@ -35,6 +35,7 @@ loop-block-preserved c =
           ∙ ap (λ ls. with_excerpt c.loop-block.draft (lone ls)) (sym all)
           ∙ c.loop-block.invariant.put;
       extends = then_extends _ _ _ c.loop-block.invariant.extends (extended c.loop-block.draft c.push_line.new.self _ c.in_ok-push_line.ensures.told);
+      within = c.in_ok-push_line.ensures.within;
     }
 
 pub returns-in_err-push_line-clause-told : goal.returns-in_err-push_line-clause-told

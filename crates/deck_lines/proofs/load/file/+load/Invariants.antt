@@ -1,8 +1,11 @@
-use Rattle.std.proofs.Common.{◌≡◌, ◌*◌, ◌+◌, ◌≤◌, [], Some, Ok, filter, length, reverse}
+use Rattle.std.proofs.Common.{◌≡◌, ◌*◌, ◌+◌, [], Some, Ok, length, reverse}
 use Rattle.units_io.specs.FileMap.{FileMap}
-use Rattle.deck_lines.specs.Excerpts.{is_shown, rest_excerpt}
-use Rattle.deck_lines.specs.Includes.{deck_above, included_by}
+use Rattle.def_lines.specs.Lines.{shown}
+use Rattle.deck_lines.specs.Excerpts.{rest_excerpt}
+use Rattle.deck_lines.specs.Includes.{beside, deck_above, included_by}
 use Rattle.deck_lines.specs.Loads.{Leads, endings, with_excerpt}
+use Rattle.deck_lines.specs.Steps.{AreStepsAbove, AreStepsBelow, AreStepsOfRest}
+use Rattle.deck_lines.proofs.Stepping.{LeadTo}
 use Rattle.deck_lines.proofs.load.file.+load.Given as goal
 
 abbrev pub decreases-load_file : goal.decreases-load_file
@@ -18,12 +21,15 @@ abbrev pub invariant-load_file-loop-blocks : goal.invariant-load_file-loop-block
 invariant-load_file-loop-blocks g l = record {
   kept : g.F.Files.files l.files ≡ g.F.Files.files l.initial.files;
   stores : g.F.Files.store_faults l.files ≡ g.F.Files.store_faults l.initial.files;
-  later : g.F.Files.faults l.initial.files ≤ g.F.Files.faults l.files;
+  counted : g.F.Files.faults l.files ≡ g.F.Files.faults l.initial.files;
   leads : Leads [] (endings (reverse l.blocks.items)) l.initial.draft.store l.draft.store (Ok tt);
   read : (m : FileMap) → g.F.Files.files l.initial.files ≡ Some m →
-      with_excerpt l.draft (rest_excerpt (included_by m l.depth l.name) l.name (reverse l.blocks.items) (filter is_shown l.lines))
+      with_excerpt l.draft (rest_excerpt (included_by m l.depth l.name) l.name (reverse l.blocks.items) (shown l.lines))
       ≡ with_excerpt l.initial.draft (deck_above m l.depth l.name l.bytes);
+  led : LeadTo (AreStepsAbove (g.F.Files.files l.initial.files) l.depth l.name l.bytes) l.initial.draft
+      (AreStepsOfRest (λ word. AreStepsBelow (g.F.Files.files l.initial.files) l.depth l.name (beside l.name word))
+      l.name (reverse l.blocks.items) (shown l.lines)) l.draft;
 }
 
 abbrev pub decreases-load_file-loop-blocks : goal.decreases-load_file-loop-blocks
-decreases-load_file-loop-blocks g l = length l.lines
+decreases-load_file-loop-blocks g l = length (shown l.lines)

@@ -1,18 +1,38 @@
-use Rattle.std.proofs.Common.{ap, ◌∙◌, option_map, Option}
+use Rattle.std.proofs.Common.{◌≡◌, ◌∙◌, ap, arith, length, List, option_map, slice_get, sym}
 use Rattle.def_entry.specs.Entries.{Entry}
 use Rattle.def_entry.specs.declared.key.Key.{Key}
+use Rattle.deck_lines.specs.NumberedKeys.{names_in}
 use Rattle.deck_lines.specs.Stores.{Store, definition_at}
-use Rattle.deck_lines.proofs.Defining.{keyed_entry}
+use Rattle.deck_lines.specs.declared.line.DeckLine.{DeckLine}
+use Rattle.deck_lines.proofs.Entries.{is_there, none_there, said_there}
+use Rattle.deck_lines.proofs.Keeping.{marks_len}
 use Rattle.deck_lines.proofs.store.line_store.LineStore.entry.Goals as goal
+
+pub line-requires-clause-inside : goal.line-requires-clause-inside
+line-requires-clause-inside c =
+    omega (
+      arith,
+      is_there c.self.inside.lines c.args.place (names_in c.self.inside.definitions.keys) c.in-Some.definition.now
+          (c.in-Some.ensures c.self.inside.lines c.self.invariant.defined),
+      ap length c.marked.ensures.lines,
+      marks_len c.marked.result.lines.now c.marked.result.marks.now c.marked.ensures.each,
+    )
 
 pub returns-in-Some : goal.returns-in-Some
 returns-in-Some c =
-    ap (option_map (λ (p : Option Key × Entry). p.1)) (c.in-Some.ensures c.self.inside.lines c.self.invariant.defined)
-    ∙ keyed_entry (definition_at c.self.inside.lines c.args.place)
+    let x : DeckLine = record {
+      number = c.line.result.number;
+      text = c.line.result.text.now;
+      mark =
+          c.line.result.mark;
+    } in
+    said_there c.self.inside.lines c.args.place (names_in c.self.inside.definitions.keys) c.in-Some.definition.now
+    (c.in-Some.ensures c.self.inside.lines c.self.invariant.defined) x
+    (ap (λ (ls : List DeckLine). slice_get ls c.args.place) (sym c.marked.ensures.lines) ∙ c.line.ensures)
     ∙ ap (λ (s : Store). option_map (λ (p : Key × Entry). p.1) (definition_at s.lines c.args.place)) c.self.view_is
 
 pub returns-in-None : goal.returns-in-None
 returns-in-None c =
-    ap (option_map (λ (p : Option Key × Entry). p.1)) (c.in-None.ensures c.self.inside.lines c.self.invariant.defined)
-    ∙ keyed_entry (definition_at c.self.inside.lines c.args.place)
+    none_there (definition_at c.self.inside.lines c.args.place)
+    (c.in-None.ensures c.self.inside.lines c.self.invariant.defined)
     ∙ ap (λ (s : Store). option_map (λ (p : Key × Entry). p.1) (definition_at s.lines c.args.place)) c.self.view_is
