@@ -22,7 +22,8 @@ use Rattle.deck.specs.Tables.{table_of}
 use Rattle.table_names.specs.Kinds.{FitsKinds, may_say}
 use Rattle.table_names.proofs.KeyLists.{one_key}
 use Rattle.table_names.proofs.LineKinds.{line_says}
-use Rattle.live_table.proofs.Places.{all_append, some_same}
+use Rattle.name_walk.proofs.Lists.{all_append}
+use Rattle.live_table.proofs.Places.{some_same}
 
 -- ---- a line that defines a key has its entry
 of_line : (r : Result (Key × Entry) EntryFault) (p : Key × Entry) → defined_by (of_entry r) ≡ Some p → r ≡ Ok p

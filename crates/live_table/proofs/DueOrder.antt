@@ -1,5 +1,6 @@
 -- In the order of a walk each name is due once those before it are settled.
-use Rattle.std.proofs.Common.{◌≡◌, ◌⊎◌, ◌<◌, ℕ, zero, suc, Bool, true, false, List, [], ◌∷◌, ◌++◌, set, length, Option, Some, None, nat_eq, option_map, refl, sym, ◌∙◌, ap, subst, inl, inr, arith}
+use Rattle.std.proofs.Common.{◌≡◌, ◌⊎◌, ◌<◌, ℕ, zero, suc, Bool, true, false, List, [], ◌∷◌, ◌++◌, set, length, Option}
+use Rattle.std.proofs.Common.{Some, None, nat_eq, option_map, refl, sym, ◌∙◌, ap, subst, inl, inr, arith}
 use Rattle.std.specs.List.{IsDistinct, slice_get}
 use Rattle.std.proofs.lemmas.Bool.{cases_eq, eq-eqb}
 use Rattle.std.proofs.lemmas.List.{length-set}
@@ -29,20 +30,22 @@ use Rattle.live_table.specs.declared.dead_end.DeadEnd.{DeadEnd}
 use Rattle.live_table.specs.Callees.{HasStarts}
 use Rattle.live_table.specs.Due.{AreDue, IsDue, with_outcome}
 use Rattle.live_table.specs.Explored.{AreExplored, fault_at}
-use Rattle.live_table.specs.Sound.{AreNodes, HasStartsOf, IsFaithful}
-use Rattle.live_table.specs.Stored.{Listed, key_at}
-use Rattle.live_table.proofs.Growing.{get_some}
+use Rattle.live_table.specs.Looks.{AreLooks}
+use Rattle.live_table.specs.Sound.{AreNodes, HasLooksOf, HasStartsOf, IsFaithful}
+use Rattle.live_table.specs.Stored.{Listed, Looks, key_at, looks_of}
 use Rattle.live_table.proofs.Places.{some_same}
 
 -- ---- steps that all lead somewhere are those of their words, whatever the dead ends are
 module _ (t : Table) (key : ℕ → Key) (one other : ℕ → Option Key → NameFault) where
-  any_word : (u : WordUse) (x y : Step) → ((b : ℕ) → x ≡ Nowhere b → ⊥) → IsWord t key one u x y → IsWord t key other u x y
+  any_word : (u : WordUse) (x y : Step) → ((b : ℕ) → x ≡ Nowhere b → ⊥) → IsWord t key one u x y
+      → IsWord t key other u x y
   any_word u x y h (ForRefused b is e) = absurd (h b refl)
   any_word u x y h (ForUnknown b fine none e) = absurd (h b refl)
   any_word u x y h (ForOne n fine e) = ForOne n fine e
   any_word u x y h (ForTwo n m fine e) = ForTwo n m fine e
 
-  pub any_words : (us : List WordUse) (xs : List Step) → ((b : ℕ) → In (Nowhere b) xs → ⊥) → AreWords t key one us xs → AreWords t key other us xs
+  pub any_words : (us : List WordUse) (xs : List Step) → ((b : ℕ) → In (Nowhere b) xs → ⊥) → AreWords t key one us xs
+      → AreWords t key other us xs
   any_words [] [] h w = w
   any_words [] (x ∷ xs) h w = absurd w
   any_words (u ∷ us) [] h w = absurd w
@@ -62,11 +65,13 @@ record IsReady (t : Table) (l : Listed) (n : ℕ) : Type 0 where
   pub ends : walk.IsClosed l.graph n
   pub faithful : IsFaithful t l n
   pub starts : HasStartsOf t l n
+  pub looks : HasLooksOf t l n
 
 -- some names of an order are settled, in the same nodes
 record AreSettledFirst (l now : Listed) (before later : List ℕ) : Type 0 where
   pub keys : now.keys ≡ l.keys
   pub graph : now.graph ≡ l.graph
+  pub looks : now.looks ≡ l.looks
   pub size : length now.settled ≡ length l.keys
   pub done : (m : ℕ) → IsDone l.settled before m → IsSettled now.settled m
   pub fresh : (m : ℕ) → In m later → IsSettled now.settled m → ⊥
@@ -83,7 +88,8 @@ module _ (t : Table) (l : Listed) where
       → ((m : ℕ) → LeadsTo l.graph n m → IsDone l.settled before m) → IsDue t now n
   one_due now before ns n r s below = record {
     within = inside;
-    fresh = unsettled now.settled n (let a : length now.settled ≡ length l.keys = s.size in let b : n < length l.keys = r.within in omega arith) (s.fresh n (inl refl));
+    fresh = unsettled now.settled n (let a : length now.settled ≡ length l.keys = s.size in
+        let b : n < length l.keys = r.within in omega arith) (s.fresh n (inl refl));
     present = subst (λ (ks : List Key). is_present t (key_at ks n) ≡ true) (sym s.keys) r.present;
     closed = subst (λ (ks : List Key). IsClosed t (key_at ks n)) (sym s.keys) r.closed;
     ends = subst (λ (g : Graph). walk.IsClosed g n) (sym s.graph) r.ends;
@@ -91,18 +97,28 @@ module _ (t : Table) (l : Listed) where
     faithful = λ ends.
         subst (λ (p : List Key × Graph). AreWords t (key_at p.0) ends (key_words t (key_at p.0 n)) (steps p.1 n))
         (λ j. (sym s.keys j, sym s.graph j)) (r.faithful ends);
-    starts = λ e c at is. r.starts e c (ap (λ (ks : List Key). entry_at t (key_at ks n)) (sym s.keys) ∙ at) (sym (s.callees n (inl refl)) ∙ is);
+    starts = λ e c at is. r.starts e c (ap (λ (ks : List Key). entry_at t (key_at ks n)) (sym s.keys) ∙ at)
+        (sym (s.callees n (inl refl)) ∙ is);
+    looks = record {
+      looks = subst (λ (p : List Key × (Graph × Looks)). AreLooks t p.0 (key_words t (key_at p.0 n)) (steps p.1.0 n)
+          (looks_of p.1.1 n))
+          (λ j. (sym s.keys j, (sym s.graph j, sym s.looks j))) r.looks.looks;
+      once = subst (λ (g : Looks). IsDistinct nat_eq (looks_of g n)) (sym s.looks) r.looks.once;
+    };
   }
     where
       inside : n < length now.keys
-      inside = let a : length now.keys ≡ length l.keys = ap length s.keys in let b : n < length l.keys = r.within in omega arith
+      inside = let a : length now.keys ≡ length l.keys = ap length s.keys in let b : n < length l.keys = r.within in
+          omega arith
 
   -- one more is settled
-  next : (now : Listed) (before ns : List ℕ) (n : ℕ) (o : Outcome) (c : Callee) → n < length l.keys → AreSettledFirst l now before (n ∷ ns)
+  next : (now : Listed) (before ns : List ℕ) (n : ℕ) (o : Outcome) (c : Callee) → n < length l.keys
+      → AreSettledFirst l now before (n ∷ ns)
       → ((m : ℕ) → In m ns → m ≡ n → ⊥) → AreSettledFirst l (with_outcome n o c now) (before ++ n ∷ []) ns
   next now before ns n o c h s apart = record {
     keys = s.keys;
     graph = s.graph;
+    looks = s.looks;
     size = length-set now.settled n true ∙ s.size;
     done = done;
     fresh = λ m i e. s.fresh m (inr i) (sym (get_set_other now.settled n m true (apart m i)) ∙ e);
@@ -136,7 +152,8 @@ module _ (t : Table) (l : Listed) where
   unfolding IsDistinct
   later_once n ns d = d.1
 
-  due_from : (ns before : List ℕ) (now : Listed) → ((n : ℕ) → In n ns → IsReady t l n) → AreOrdered l.graph l.settled before ns
+  due_from : (ns before : List ℕ) (now : Listed) → ((n : ℕ) → In n ns → IsReady t l n)
+      → AreOrdered l.graph l.settled before ns
       → IsDistinct nat_eq ns → AreSettledFirst l now before ns → AreDue t now ns
   due_from [] before now r o d s = tt
   due_from (n ∷ ns) before now r o d s = (
@@ -145,7 +162,8 @@ module _ (t : Table) (l : Listed) where
         (next now before ns n out c (r n (inl refl)).within s (apart_from n ns d)),
   )
 
-module _ (law : NumberedFaultLaw) (t : Table) (l : Listed) (ends : List DeadEnd) (known : ℕ → Bool) (query : List Step) (order : List ℕ)
+module _ (law : NumberedFaultLaw) (t : Table) (l : Listed) (ends : List DeadEnd) (known : ℕ → Bool) (query : List Step)
+    (order : List ℕ)
     (nodes : AreNodes t l) (explored : AreExplored t l ends known) (targets : LeadToKnown known query)
     (closing : AreNewlyClosed l.graph l.settled query order) where
   known_below : {n m : ℕ} → known n ≡ true → Reaches l.graph n m → known m ≡ true
@@ -172,6 +190,7 @@ module _ (law : NumberedFaultLaw) (t : Table) (l : Listed) (ends : List DeadEnd)
         any_words t (key_at l.keys) (fault_at ends) other (key_words t (key_at l.keys n)) (steps l.graph n)
         (λ b j. no_end l.graph (length l.graph) n b is_closed j) (explored.numbered.faithful n is_known);
     starts = explored.starts n is_known;
+    looks = explored.looks n is_known (λ b j. no_end l.graph (length l.graph) n b is_closed j);
   }
     where
       is_known : known n ≡ true
@@ -181,12 +200,14 @@ module _ (law : NumberedFaultLaw) (t : Table) (l : Listed) (ends : List DeadEnd)
       is_closed = closing.closed n i
 
       inside : n < length l.keys
-      inside = let a : n < length l.graph = explored.numbered.within n is_known in let b : length l.graph ≡ length l.keys = nodes.step_count in omega arith
+      inside = let a : n < length l.graph = explored.numbered.within n is_known in
+          let b : length l.graph ≡ length l.keys = nodes.step_count in omega arith
 
   pub are_due : AreDue t l order
   are_due = due_from t l order [] l ready closing.ordered closing.once (record {
     keys = refl;
     graph = refl;
+    looks = refl;
     size = nodes.net.size ∙ nodes.step_count;
     done = λ m e. elim e [ inl q ↦ q | inr i ↦ absurd i ];
     fresh = λ m i. ((closing.exactly m).0 i).1;

@@ -40,7 +40,8 @@ module _ (t : Table) where
   words_whole words e = record {
     present = λ n i. reach_law.present t words n ((reach_law.listed t words e n).0 i);
     closed = λ n i. closed_law.below t words e n ((reach_law.listed t words e n).0 i);
-    below = λ n m i r. (reach_law.listed t words e m).1 (reach_law.further t words n m ((reach_law.listed t words e n).0 i) r);
+    below = λ n m i r. (reach_law.listed t words e m).1
+        (reach_law.further t words n m ((reach_law.listed t words e n).0 i) r);
   }
 
   key_whole : (n : Key) → is_present t n ≡ true → IsClosed t n → AreWhole t (n ∷ key_reach t n)
@@ -93,7 +94,8 @@ module _ (s : State) (keys : List Key) (whole : AreWhole s.table keys) (h : IsRi
   grown_right = record {
     present = λ n i. elim (old_or_new n i) [ inl j ↦ whole.present n j | inr j ↦ h.present n j ];
     closed = λ n i. elim (old_or_new n i) [ inl j ↦ whole.closed n j | inr j ↦ h.closed n j ];
-    below = λ n m i r. elim (old_or_new n i) [ inl j ↦ new_in m (whole.below n m j r) | inr j ↦ old_in m (h.below n m j r) ];
+    below = λ n m i r. elim (old_or_new n i)
+        [ inl j ↦ new_in m (whole.below n m j r) | inr j ↦ old_in m (h.below n m j r) ];
     right = λ n o e. elim (either n) [
       | inl j ↦ some_same (outcome s.table n) o (sym (put_in s.table keys s.kept n (inl j)) ∙ e)
       | inr q ↦ h.right n o (sym q ∙ e)
@@ -103,7 +105,8 @@ module _ (s : State) (keys : List Key) (whole : AreWhole s.table keys) (h : IsRi
       some_same : (p o : Outcome) → Some p ≡ Some o → o ≡ p
       some_same p o e = cc
 
-query_right : (s : State) (keys : List Key) (b : Bool) → (b ≡ true → AreWhole s.table keys) → IsRight s → IsRight (after_query b keys s)
+query_right : (s : State) (keys : List Key) (b : Bool) → (b ≡ true → AreWhole s.table keys) → IsRight s
+    → IsRight (after_query b keys s)
 query_right s keys true whole h = grown_right s keys (whole refl) h
 query_right s keys false whole h = h
 
@@ -132,13 +135,15 @@ module _ (s : State) (table : Table) (keys : List Key) (changed : AreChanged s.t
 
   free : (n : Key) → IsSettled left n → IsAffected s.table keys n → ⊥
   free n i a =
-      true≢false (sym ((affected_law.computed s.table keys n (h.closed n (parts n i).1)).1 a) ∙ not-true (is_affected s.table keys n) (parts n i).0)
+      true≢false (sym ((affected_law.computed s.table keys n (h.closed n (parts n i).1)).1 a)
+      ∙ not-true (is_affected s.table keys n) (parts n i).0)
 
   stays_in : (m : Key) → IsSettled s m → (IsAffected s.table keys m → ⊥) → IsSettled left m
   stays_in m i f =
       let e : stays m ≡ true =
       not_from_false (is_affected s.table keys m)
-      (false_from_ne_true (is_affected s.table keys m) (λ q. f ((affected_law.computed s.table keys m (h.closed m i)).0 q))) in
+      (false_from_ne_true (is_affected s.table keys m)
+      (λ q. f ((affected_law.computed s.table keys m (h.closed m i)).0 q))) in
       ap is_some (left_in s.kept stays m ∙ cond-true (stays m) (map_of.get s.kept m) None e) ∙ i
 
   as_before : (n : Key) → IsSettled left n → IsAsBefore s.table table n
@@ -155,7 +160,8 @@ module _ (s : State) (table : Table) (keys : List Key) (changed : AreChanged s.t
     closed = λ n i. (as_before n i).closed;
     below = below_still;
     right = λ n o e.
-        h.right n o (left_is (stays n) (map_of.get s.kept n) o (sym (left_in s.kept stays n) ∙ e)) ∙ (as_before n (ap is_some e)).outcome;
+        h.right n o (left_is (stays n) (map_of.get s.kept n) o (sym (left_in s.kept stays n) ∙ e))
+        ∙ (as_before n (ap is_some e)).outcome;
   }
 
 -- ---- one event, and a list of them

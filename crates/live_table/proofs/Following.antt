@@ -1,5 +1,6 @@
 -- Queries one behind another.
-use Rattle.std.proofs.Common.{◌≡◌, ◌≤◌, ℕ, Bool, true, false, List, [], ◌∷◌, ◌++◌, map, filter, take, length, refl, sym, ◌∙◌, ap, subst, arith}
+use Rattle.std.proofs.Common.{◌≡◌, ◌≤◌, ℕ, Bool, true, false, List, [], ◌∷◌, ◌++◌, map, filter, take, length, refl, sym}
+use Rattle.std.proofs.Common.{◌∙◌, ap, subst, arith}
 use Rattle.std.specs.Prelude.{Result, Ok, Err}
 use Rattle.std.specs.declared.alloc.AllocError.{AllocError}
 use Rattle.quantity.specs.Amount.{Amount}
@@ -34,14 +35,16 @@ steps_rise (e ∷ es) s =
 pub follows_none : (s : Shown) (n : ℕ) → IsRightTable s → Follows [] s s n n
 follows_none s n right = record { stands = refl; right = right }
 
-pub follows_both : (es fs : List Event) (a b c : Shown) (o n m : ℕ) → Follows es a b o n → Follows fs b c n m → Follows (es ++ fs) a c o m
+pub follows_both : (es fs : List Event) (a b c : Shown) (o n m : ℕ) → Follows es a b o n → Follows fs b c n m
+    → Follows (es ++ fs) a c o m
 follows_both es fs a b c o n m f g = record {
   stands = g.stands ∙ (ap (after_all fs) f.stands ∙ sym (order_law es fs (state a o)));
   right = g.right;
 }
 
 -- cut off in the midst of others
-pub cut_both : (es fs gs : List Event) (a b c : Shown) (o n m : ℕ) → b.deck ≡ a.deck → Follows es a b o n → IsCutOff fs b c n m → IsCutOff (es ++ (fs ++ gs)) a c o m
+pub cut_both : (es fs gs : List Event) (a b c : Shown) (o n m : ℕ) → b.deck ≡ a.deck → Follows es a b o n
+    → IsCutOff fs b c n m → IsCutOff (es ++ (fs ++ gs)) a c o m
 cut_both es fs gs a b c o n m same f g = record {
   deck = g.deck ∙ same;
   right = g.right;
@@ -51,14 +54,18 @@ cut_both es fs gs a b c o n m same f g = record {
       let z : n ≤ m = g.least in omega arith;
   most =
       let x : m ≤ (after_all fs (state b n)).steps = g.most in
-      let y : (after_all fs (state b n)).steps ≤ (after_all gs (after_all fs (state b n))).steps = steps_rise gs (after_all fs (state b n)) in
+      let y : (after_all fs (state b n)).steps ≤ (after_all gs (after_all fs (state b n))).steps =
+      steps_rise gs (after_all fs (state b n)) in
       let z : (after_all (es ++ (fs ++ gs)) (state a o)).steps ≡ (after_all gs (after_all fs (state b n))).steps =
-      ap (λ (s : State). s.steps) (order_law es (fs ++ gs) (state a o) ∙ (ap (after_all (fs ++ gs)) (sym f.stands) ∙ order_law fs gs (state b n))) in
+      ap (λ (s : State). s.steps)
+      (order_law es (fs ++ gs) (state a o)
+      ∙ (ap (after_all (fs ++ gs)) (sym f.stands) ∙ order_law fs gs (state b n))) in
       omega arith;
 }
 
 -- an answer that is no want of memory, or is told as want of memory after all
-pub query_answer : (e : Event) (r : Result Amount QueryFault) (a b : Shown) (o n : ℕ) → b.deck ≡ a.deck → Follows (e ∷ []) a b o n → IsQuery e r a b o n
+pub query_answer : (e : Event) (r : Result Amount QueryFault) (a b : Shown) (o n : ℕ) → b.deck ≡ a.deck
+    → Follows (e ∷ []) a b o n → IsQuery e r a b o n
 query_answer e (Ok q) a b o n same f = f
 query_answer e (Err (Name x)) a b o n same f = f
 query_answer e (Err (Value v)) a b o n same f = f

@@ -1,5 +1,6 @@
 -- What was written of words stays so where names, listed numbers and dead ends are added.
-use Rattle.std.proofs.Common.{◌≡◌, ◌⊎◌, ◌<◌, ◌≤◌, ℕ, zero, suc, true, List, [], ◌∷◌, ◌++◌, take, length, Option, Some, None, refl, sym, ◌∙◌, ap, subst, inl, inr, arith}
+use Rattle.std.proofs.Common.{◌≡◌, ◌⊎◌, ◌<◌, ◌≤◌, ℕ, zero, suc, true, List, [], ◌∷◌, ◌++◌, take, length, Option, Some}
+use Rattle.std.proofs.Common.{None, refl, sym, ◌∙◌, ap, subst, inl, inr, arith}
 use Rattle.std.specs.List.{slice_get}
 use Rattle.std.proofs.lemmas.List.{length-map}
 use Rattle.std.proofs.lemmas.Option.{slice_get-get_or}
@@ -18,18 +19,14 @@ use Rattle.live_table.specs.Explored.{fault_at, fault_of}
 use Rattle.live_table.specs.Exploring.{AreAdded, AreGrown, AreListed, AreSame, AreWritten, IsKnown, IsMore}
 use Rattle.live_table.specs.Sound.{AreNodes}
 use Rattle.live_table.specs.Stored.{Listed, key_at}
-use Rattle.live_table.proofs.Places.{get_lt, some_same}
+use Rattle.live_table.proofs.Places.{element, get_lt, some_same}
 
 -- ---- lists that grow
-pub get_some : {A : Type 0} (xs : List A) (i : ℕ) → i < length xs → (x : A) × (slice_get xs i ≡ Some x)
-get_some [] i h = absurd (omega arith)
-get_some (x ∷ xs) zero h = (x, refl)
-get_some (x ∷ xs) (suc i) h = get_some xs i (omega arith)
-
 pub more_length : {A : Type 0} (xs ys : List A) → IsMore xs ys → length xs ≤ length ys
 more_length [] ys m = omega arith
 more_length (x ∷ xs) [] m = let e : None ≡ Some x = m 0 x refl in cc
-more_length (x ∷ xs) (y ∷ ys) m = let h : length xs ≤ length ys = more_length xs ys (λ i z e. m (suc i) z e) in omega arith
+more_length (x ∷ xs) (y ∷ ys) m = let h : length xs ≤ length ys = more_length xs ys (λ i z e. m (suc i) z e) in
+    omega arith
 
 pub take_more : {A : Type 0} (xs ys : List A) (k : ℕ) → IsMore xs ys → k ≤ length xs → take k ys ≡ take k xs
 take_more xs ys zero m h = refl
@@ -60,9 +57,10 @@ key_found ks n k e = (get_lt ks n k e, some_same k (key_at ks n) (sym e ∙ key_
 pub key_same : (ks ls : List Key) (n : ℕ) → IsMore ks ls → n < length ks → key_at ls n ≡ key_at ks n
 key_same ks ls n m h = sym (key_found ls n (key_at ks n) (m n (key_at ks n) (key_read ks n h))).1
 
-pub fault_same : (ends more : List DeadEnd) (t : ℕ) → IsMore ends more → t < length ends → (holder : Option Key) → fault_at more t holder ≡ fault_at ends t holder
+pub fault_same : (ends more : List DeadEnd) (t : ℕ) → IsMore ends more → t < length ends → (holder : Option Key)
+    → fault_at more t holder ≡ fault_at ends t holder
 fault_same ends more t m h holder =
-    let s : (x : DeadEnd) × (slice_get ends t ≡ Some x) = get_some ends t h in
+    let s : (x : DeadEnd) × (slice_get ends t ≡ Some x) = element ends t h in
     ap (λ (w : Option DeadEnd). fault_of w holder) (m t s.0 s.1 ∙ sym s.1)
 
 -- ---- steps say the same where keys and dead ends do
@@ -99,12 +97,14 @@ settled_within t l nodes n e =
     let b : length l.settled ≡ length l.outcomes = ap length nodes.marked ∙ length-map l.outcomes _ in
     let c : length l.outcomes ≡ length l.keys = nodes.outcome_count in omega arith
 
-pub known_within : (t : Table) (l : Listed) (list : List ℕ) → AreNodes t l → AreListed t l list → (n : ℕ) → IsKnown l list n → n < length l.keys
+pub known_within : (t : Table) (l : Listed) (list : List ℕ) → AreNodes t l → AreListed t l list → (n : ℕ)
+    → IsKnown l list n → n < length l.keys
 known_within t l list nodes right n (inl e) = settled_within t l nodes n e
 known_within t l list nodes right n (inr i) = right.within n i
 
 -- ---- what was written stays written
-module _ (t : Table) (l m : Listed) (here there : List ℕ) (ends more : List DeadEnd) (nodes : AreNodes t l) (right : AreListed t l here)
+module _ (t : Table) (l m : Listed) (here there : List ℕ) (ends more : List DeadEnd) (nodes : AreNodes t l)
+    (right : AreListed t l here)
     (grown : AreGrown t l m here there ends more) where
   pub known_still : (n : ℕ) → IsKnown l here n → IsKnown m there n
   known_still n (inl e) = inl (grown.settled_still n e)
@@ -113,7 +113,8 @@ module _ (t : Table) (l m : Listed) (here there : List ℕ) (ends more : List De
   pub keys_same : (n : ℕ) → n < length l.keys → key_at m.keys n ≡ key_at l.keys n
   keys_same n h = key_same l.keys m.keys n grown.keys_more h
 
-  pub written_more : (us : List WordUse) (xs : List Step) → AreWritten t l here ends us xs → AreWritten t m there more us xs
+  pub written_more : (us : List WordUse) (xs : List Step) → AreWritten t l here ends us xs
+      → AreWritten t m there more us xs
   written_more us xs w = record {
     words = same_words t (key_at l.keys) (key_at m.keys) (fault_at ends) (fault_at more) us xs
         (λ n i. keys_same n (known_within t l here nodes right n (w.targets n i)))
@@ -125,7 +126,8 @@ module _ (t : Table) (l m : Listed) (here there : List ℕ) (ends more : List De
   }
 
 -- ---- what is added behind what was added
-pub grown_none : (t : Table) (l : Listed) (list : List ℕ) (ends more : List DeadEnd) → AreNodes t l → AreListed t l list → IsMore ends more
+pub grown_none : (t : Table) (l : Listed) (list : List ℕ) (ends more : List DeadEnd) → AreNodes t l → AreListed t l list
+    → IsMore ends more
     → AreGrown t l l list list ends more
 grown_none t l list ends more nodes right growing = record {
   nodes = nodes;
@@ -149,11 +151,12 @@ grown_both t l m k here list there xs ys zs a b = record {
   ends_more = λ i x e. b.ends_more i x (a.ends_more i x e);
 }
 
-pub added_none : (t : Table) (l : Listed) (list : List ℕ) (ends more : List DeadEnd) → AreNodes t l → AreListed t l list → IsMore ends more
+pub added_none : (t : Table) (l : Listed) (list : List ℕ) (ends more : List DeadEnd) → AreNodes t l → AreListed t l list
+    → IsMore ends more
     → AreAdded t l l list list ends more
 added_none t l list ends more nodes right growing = record {
   grown = grown_none t l list ends more nodes right growing;
-  same = record { steps = λ n h o. refl; callees = λ n h o. refl };
+  same = record { steps = λ n h o. refl; callees = λ n h o. refl; looks = λ n h o. refl };
 }
 
 pub added_both : (t : Table) (l m k : Listed) (here list there : List ℕ) (xs ys zs : List DeadEnd)
@@ -163,6 +166,7 @@ added_both t l m k here list there xs ys zs a b = record {
   same = record {
     steps = λ n h o. b.same.steps n (longer n h) tt ∙ a.same.steps n h tt;
     callees = λ n h o. b.same.callees n (longer n h) tt ∙ a.same.callees n h tt;
+    looks = λ n h o. b.same.looks n (longer n h) tt ∙ a.same.looks n h tt;
   };
 }
   where
@@ -171,4 +175,5 @@ added_both t l m k here list there xs ys zs a b = record {
 
 pub none_listed : (t : Table) (l : Listed) (list : List ℕ) → list ≡ [] → AreListed t l list
 none_listed t l list e =
-    subst (AreListed t l) (sym e) (record { within = λ n i. absurd i; fresh = λ n i. absurd i; present = λ n i. absurd i; once = nothing_twice })
+    subst (AreListed t l) (sym e)
+    (record { within = λ n i. absurd i; fresh = λ n i. absurd i; present = λ n i. absurd i; once = nothing_twice })

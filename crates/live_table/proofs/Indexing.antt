@@ -1,5 +1,7 @@
 -- Keys by number and numbers by key, as an index holds them.
-use Rattle.std.proofs.Common.{◌≡◌, ◌⊎◌, ◌+◌, ◌<◌, ◌||◌, ℕ, zero, suc, Bool, true, false, cond, List, [], ◌∷◌, ◌++◌, map, length, get_or, Option, Some, None, is_some, option_map, refl, sym, ◌∙◌, ap, subst, inl, inr, arith, length-append}
+use Rattle.std.proofs.Common.{◌≡◌, ◌⊎◌, ◌+◌, ◌<◌, ◌||◌, ℕ, zero, suc, Bool, true, false, cond, List, [], ◌∷◌, ◌++◌, map}
+use Rattle.std.proofs.Common.{length, get_or, Option, Some, None, is_some, option_map, refl, sym, ◌∙◌, ap, subst, inl}
+use Rattle.std.proofs.Common.{inr, arith, length-append}
 use Rattle.std.specs.Prelude.{MatchOption}
 use Rattle.std.specs.List.{list_any, slice_get}
 use Rattle.std.specs.Str.{bytes_eq}
@@ -18,19 +20,11 @@ use Rattle.deck_lines.specs.declared.key_number.KeyNumber.{KeyNumber}
 use Rattle.live_table.specs.declared.key_index.Numbers.{Numbers}
 use Rattle.live_table.specs.Indexed.{AreSameNumbers, IsIndexed, IsPushed, key_or, keys_by, numbers_of}
 use Rattle.live_table.specs.Stored.{key_at}
+use Rattle.live_table.proofs.Places.{element, get_lt}
 
 -- ---- lists
-get_lt : {A : Type 0} (xs : List A) (n : ℕ) (x : A) → slice_get xs n ≡ Some x → n < length xs
-get_lt [] n x e = cc
-get_lt (y ∷ xs) zero x e = omega arith
-get_lt (y ∷ xs) (suc n) x e = let a : n < length xs = get_lt xs n x e in omega arith
-
-get_some : {A : Type 0} (xs : List A) (i : ℕ) → i < length xs → (x : A) × (slice_get xs i ≡ Some x)
-get_some [] i h = absurd (omega arith)
-get_some (x ∷ xs) zero h = (x, refl)
-get_some (x ∷ xs) (suc i) h = get_some xs i (omega arith)
-
-get_push : {A : Type 0} (xs : List A) (x : A) (n : ℕ) (y : A) → slice_get (xs ++ x ∷ []) n ≡ Some y → (slice_get xs n ≡ Some y) ⊎ ((n ≡ length xs) × (y ≡ x))
+get_push : {A : Type 0} (xs : List A) (x : A) (n : ℕ) (y : A) → slice_get (xs ++ x ∷ []) n ≡ Some y
+    → (slice_get xs n ≡ Some y) ⊎ ((n ≡ length xs) × (y ≡ x))
 get_push [] x zero y e = inr (refl, cc)
 get_push [] x (suc n) y e = cc
 get_push (z ∷ xs) x zero y e = inl e
@@ -45,7 +39,8 @@ get_last : {A : Type 0} (xs : List A) (x : A) → slice_get (xs ++ x ∷ []) (le
 get_last [] x = refl
 get_last (y ∷ xs) x = get_last xs x
 
-map_at : {A B : Type 0} (f g : A → B) (xs : List A) → ((n : ℕ) (x : A) → slice_get xs n ≡ Some x → f x ≡ g x) → map f xs ≡ map g xs
+map_at : {A B : Type 0} (f g : A → B) (xs : List A) → ((n : ℕ) (x : A) → slice_get xs n ≡ Some x → f x ≡ g x)
+    → map f xs ≡ map g xs
 map_at f g [] h = refl
 map_at f g (x ∷ xs) h = λ i. h 0 x refl i ∷ map_at f g xs (λ n y e. h (suc n) y e) i
 
@@ -68,16 +63,19 @@ place_of (x ∷ ks) k e = elim (cases_Bool (is_same k x)) [
   | inr q ↦ let r = place_of ks k (sym (ap (λ b. b || is_among ks k) q) ∙ e) in (suc r.0, r.1)
 ]
 
-name_place : (names : List (List ℕ)) (w : List ℕ) → list_any (bytes_eq w) names ≡ true → (n : ℕ) × (slice_get names n ≡ Some w)
+name_place : (names : List (List ℕ)) (w : List ℕ) → list_any (bytes_eq w) names ≡ true
+    → (n : ℕ) × (slice_get names n ≡ Some w)
 name_place [] w e = cc
 name_place (x ∷ names) w e = elim (cases_Bool (bytes_eq w x)) [
   | inl q ↦ (0, ap Some (sym ((bytes_decides w x).0 q)))
   | inr q ↦ let r = name_place names w (sym (ap (λ b. b || list_any (bytes_eq w) names) q) ∙ e) in (suc r.0, r.1)
 ]
 
-name_any : (names : List (List ℕ)) (w : List ℕ) (n : ℕ) → slice_get names n ≡ Some w → list_any (bytes_eq w) names ≡ true
+name_any : (names : List (List ℕ)) (w : List ℕ) (n : ℕ) → slice_get names n ≡ Some w
+    → list_any (bytes_eq w) names ≡ true
 name_any [] w n e = cc
-name_any (x ∷ names) w zero e = let q : w ≡ x = cc in ap (λ b. b || list_any (bytes_eq w) names) ((bytes_decides w x).1 q)
+name_any (x ∷ names) w zero e = let q : w ≡ x = cc in
+    ap (λ b. b || list_any (bytes_eq w) names) ((bytes_decides w x).1 q)
 name_any (x ∷ names) w (suc n) e = or_right (bytes_eq w x) (list_any (bytes_eq w) names) (name_any names w n e)
   where
     or_right : (a b : Bool) → b ≡ true → (a || b) ≡ true
@@ -109,7 +107,8 @@ names_put names kind.Prefix these = refl
 names_put names kind.Func these = refl
 names_put names kind.List these = refl
 
-names_kept : (names : Names) (k q : Kind) (these : List (List ℕ)) → (q ≡ k → ⊥) → names_of (with_names names k these) q ≡ names_of names q
+names_kept : (names : Names) (k q : Kind) (these : List (List ℕ)) → (q ≡ k → ⊥)
+    → names_of (with_names names k these) q ≡ names_of names q
 names_kept names kind.Unit kind.Unit these ne = absurd (ne refl)
 names_kept names kind.Unit kind.Prefix these ne = refl
 names_kept names kind.Unit kind.Func these ne = refl
@@ -132,45 +131,53 @@ named_as : (o : Option (List ℕ)) (q : Kind) (k : Key) → option_map (key q) o
 named_as None q k e = cc
 named_as (Some w) q k e = let s : key q w ≡ k = cc in (ap (λ (x : Key). x.kind) s, ap (λ (x : Key). Some x.name) s)
 
-pub name_there : (names : Names) (m : KeyNumber) (k : Key) → key_of names m ≡ Some k → slice_get (names_of names m.kind) m.number ≡ Some k.name
+pub name_there : (names : Names) (m : KeyNumber) (k : Key) → key_of names m ≡ Some k
+    → slice_get (names_of names m.kind) m.number ≡ Some k.name
 name_there names m k e = (named_as (slice_get (names_of names m.kind) m.number) m.kind k e).1
 
-pub key_parts : (names : Names) (m : KeyNumber) (k : Key) → key_of names m ≡ Some k → (m.kind ≡ k.kind) × (slice_get (names_of names k.kind) m.number ≡ Some k.name)
+pub key_parts : (names : Names) (m : KeyNumber) (k : Key) → key_of names m ≡ Some k
+    → (m.kind ≡ k.kind) × (slice_get (names_of names k.kind) m.number ≡ Some k.name)
 key_parts names m k e =
     let s = named_as (slice_get (names_of names m.kind) m.number) m.kind k e in
     (s.0, subst (λ (q : Kind). slice_get (names_of names q) m.number ≡ Some k.name) s.0 s.1)
 
-key_there : (names : Names) (k : Key) (i : ℕ) → slice_get (names_of names k.kind) i ≡ Some k.name → key_of names (record { kind = k.kind; number = i }) ≡ Some k
+key_there : (names : Names) (k : Key) (i : ℕ) → slice_get (names_of names k.kind) i ≡ Some k.name
+    → key_of names (record { kind = k.kind; number = i }) ≡ Some k
 key_there names k i e = ap (option_map (key k.kind)) e
 
 -- ---- what is found
 module _ (names : Names) (numbers : Numbers) (order : List KeyNumber) (h : IsIndexed names numbers order) where
-  pub has_number : (k : Key) (i : ℕ) → slice_get (names_of names k.kind) i ≡ Some k.name → i < length (numbers_of numbers k.kind)
+  pub has_number : (k : Key) (i : ℕ) → slice_get (names_of names k.kind) i ≡ Some k.name
+      → i < length (numbers_of numbers k.kind)
   has_number k i e =
       let a : i < length (names_of names k.kind) = get_lt (names_of names k.kind) i k.name e in
       let b : length (numbers_of numbers k.kind) ≡ length (names_of names k.kind) = h.count k.kind in omega arith
 
-  pub key_found : (k : Key) (i n : ℕ) → slice_get (names_of names k.kind) i ≡ Some k.name → slice_get (numbers_of numbers k.kind) i ≡ Some n
+  pub key_found : (k : Key) (i n : ℕ) → slice_get (names_of names k.kind) i ≡ Some k.name
+      → slice_get (numbers_of numbers k.kind) i ≡ Some n
       → slice_get (keys_by names order) n ≡ Some k
   key_found k i n e at =
       slice_get-map (λ m. key_or (key_of names m)) order n
       ∙ ap (option_map (λ m. key_or (key_of names m))) (h.back k.kind i n at)
       ∙ ap (λ o. Some (key_or o)) (key_there names k i e)
 
-  pub found_in : (k : Key) (i : ℕ) (r : Option ℕ) → r ≡ slice_get (numbers_of numbers k.kind) i → slice_get (names_of names k.kind) i ≡ Some k.name
+  pub found_in : (k : Key) (i : ℕ) (r : Option ℕ) → r ≡ slice_get (numbers_of numbers k.kind) i
+      → slice_get (names_of names k.kind) i ≡ Some k.name
       → MatchOption r (is_among (keys_by names order) k ≡ false) (λ n. slice_get (keys_by names order) n ≡ Some k)
   found_in k i None e at =
-      let n = get_some (numbers_of numbers k.kind) i (has_number k i at) in
+      let n = element (numbers_of numbers k.kind) i (has_number k i at) in
       let z : None ≡ Some n.0 = e ∙ n.1 in cc
   found_in k i (Some n) e at = key_found k i n at (sym e)
 
   -- the key of a number, by its place in the order
-  pub order_key : (keys : List Key) → keys_by names order ≡ keys → (n : ℕ) → n < length keys → (m : KeyNumber) → m ≡ get_or order n m
+  pub order_key : (keys : List Key) → keys_by names order ≡ keys → (n : ℕ) → n < length keys → (m : KeyNumber)
+      → m ≡ get_or order n m
       → key_of names m ≡ Some (key_at keys n)
   order_key keys is n within m e = by (key_of names m) refl (h.there n m at)
     where
       inside : n < length order
-      inside = let a : length order ≡ length keys = sym (length-map order (λ q. key_or (key_of names q))) ∙ ap length is in omega arith
+      inside = let a : length order ≡ length keys = sym (length-map order (λ q. key_or (key_of names q)))
+          ∙ ap length is in omega arith
 
       at : slice_get order n ≡ Some m
       at = slice_get-get_or order n m inside ∙ ap Some (sym e)
@@ -187,17 +194,19 @@ module _ (names : Names) (numbers : Numbers) (order : List KeyNumber) (h : IsInd
   pub numbered_among : (k : Key) → is_numbered names k ≡ true → is_among (keys_by names order) k ≡ true
   numbered_among k e =
       let p = name_place (names_of names k.kind) k.name e in
-      let n = get_some (numbers_of numbers k.kind) p.0 (has_number k p.0 p.1) in
+      let n = element (numbers_of numbers k.kind) p.0 (has_number k p.0 p.1) in
       among_at (keys_by names order) k n.0 (key_found k p.0 n.0 p.1 n.1)
 
-  order_at : (n : ℕ) (k : Key) → slice_get (keys_by names order) n ≡ Some k → (m : KeyNumber) × (slice_get order n ≡ Some m) × (key_of names m ≡ Some k)
+  order_at : (n : ℕ) (k : Key) → slice_get (keys_by names order) n ≡ Some k
+      → (m : KeyNumber) × (slice_get order n ≡ Some m) × (key_of names m ≡ Some k)
   order_at n k e = by (slice_get order n) refl (sym (slice_get-map (λ m. key_or (key_of names m)) order n) ∙ e)
     where
       or_is : (o : Option Key) → is_some o ≡ true → Some (key_or o) ≡ Some k → o ≡ Some k
       or_is None t q = cc
       or_is (Some x) t q = q
 
-      by : (o : Option KeyNumber) → slice_get order n ≡ o → option_map (λ m. key_or (key_of names m)) o ≡ Some k → (m : KeyNumber) × (slice_get order n ≡ Some m) × (key_of names m ≡ Some k)
+      by : (o : Option KeyNumber) → slice_get order n ≡ o → option_map (λ m. key_or (key_of names m)) o ≡ Some k
+          → (m : KeyNumber) × (slice_get order n ≡ Some m) × (key_of names m ≡ Some k)
       by None q r = cc
       by (Some m) q r = (m, q, or_is (key_of names m) (h.there n m q) r)
 
@@ -208,25 +217,32 @@ module _ (names : Names) (numbers : Numbers) (order : List KeyNumber) (h : IsInd
       name_any (names_of names k.kind) k.name m.0.number (key_parts names m.0 k m.2).1
 
   pub not_numbered : (k : Key) → is_among (keys_by names order) k ≡ false → is_numbered names k ≡ false
-  not_numbered k e = false_from_ne_true (is_numbered names k) (λ t. let z : true ≡ false = sym (numbered_among k t) ∙ e in cc)
+  not_numbered k e = false_from_ne_true (is_numbered names k) (λ t. let z : true ≡ false = sym (numbered_among k t)
+      ∙ e in cc)
 
   pub not_among : (k : Key) → is_numbered names k ≡ false → is_among (keys_by names order) k ≡ false
-  not_among k e = false_from_ne_true (is_among (keys_by names order) k) (λ t. let z : true ≡ false = sym (among_numbered k t) ∙ e in cc)
+  not_among k e = false_from_ne_true (is_among (keys_by names order) k)
+      (λ t. let z : true ≡ false = sym (among_numbered k t) ∙ e in cc)
 
 -- ---- one more key
-module _ (names more : Names) (numbers later : Numbers) (order : List KeyNumber) (k : Key) (m : KeyNumber) (h : IsIndexed names numbers order)
-    (new : is_among (keys_by names order) k ≡ false) (is : more ≡ with_key names k) (pushed : IsPushed k.kind (length order) numbers later)
+module _ (names more : Names) (numbers later : Numbers) (order : List KeyNumber) (k : Key) (m : KeyNumber)
+    (h : IsIndexed names numbers order)
+    (new : is_among (keys_by names order) k ≡ false) (is : more ≡ with_key names k)
+    (pushed : IsPushed k.kind (length order) numbers later)
     (at : key_of more m ≡ Some k) where
   own : names_of more k.kind ≡ names_of names k.kind ++ k.name ∷ []
   own =
       ap (λ (x : Names). names_of x k.kind) is
       ∙ (names_put names k.kind (with_name k.name (names_of names k.kind))
-      ∙ cond-false (list_any (bytes_eq k.name) (names_of names k.kind)) (names_of names k.kind) (names_of names k.kind ++ k.name ∷ []) (not_numbered names numbers order h k new))
+      ∙ cond-false (list_any (bytes_eq k.name) (names_of names k.kind)) (names_of names k.kind)
+      (names_of names k.kind ++ k.name ∷ []) (not_numbered names numbers order h k new))
 
   elsewhere : (q : Kind) → (q ≡ k.kind → ⊥) → names_of more q ≡ names_of names q
-  elsewhere q ne = ap (λ (x : Names). names_of x q) is ∙ names_kept names k.kind q (with_name k.name (names_of names k.kind)) ne
+  elsewhere q ne = ap (λ (x : Names). names_of x q) is
+      ∙ names_kept names k.kind q (with_name k.name (names_of names k.kind)) ne
 
-  name_still : (q : Kind) (i : ℕ) (w : List ℕ) → slice_get (names_of names q) i ≡ Some w → slice_get (names_of more q) i ≡ Some w
+  name_still : (q : Kind) (i : ℕ) (w : List ℕ) → slice_get (names_of names q) i ≡ Some w
+      → slice_get (names_of more q) i ≡ Some w
   name_still q i w e = elim (kind_cases q k.kind) [
     | inl s ↦
         subst (λ (x : Kind). slice_get (names_of names x) i ≡ Some w → slice_get (names_of more x) i ≡ Some w) (sym s)
@@ -237,7 +253,8 @@ module _ (names more : Names) (numbers later : Numbers) (order : List KeyNumber)
   key_still : (q : KeyNumber) (x : Key) → key_of names q ≡ Some x → key_of more q ≡ Some x
   key_still q x e = by (slice_get (names_of names q.kind) q.number) refl e
     where
-      by : (o : Option (List ℕ)) → slice_get (names_of names q.kind) q.number ≡ o → option_map (key q.kind) o ≡ Some x → key_of more q ≡ Some x
+      by : (o : Option (List ℕ)) → slice_get (names_of names q.kind) q.number ≡ o → option_map (key q.kind) o ≡ Some x
+          → key_of more q ≡ Some x
       by None g r = cc
       by (Some w) g r = ap (option_map (key q.kind)) (name_still q.kind q.number w g) ∙ r
 
@@ -246,19 +263,22 @@ module _ (names more : Names) (numbers later : Numbers) (order : List KeyNumber)
 
   -- the new name stands behind the others of its kind
   place : m.number ≡ length (names_of names k.kind)
-  place = elim (get_push (names_of names k.kind) k.name m.number k.name (ap (λ (ns : List (List ℕ)). slice_get ns m.number) (sym own) ∙ parts.1)) [
-    | inl e ↦
-        let t : is_numbered names k ≡ true = name_any (names_of names k.kind) k.name m.number e in
-        let z : true ≡ false = sym t ∙ not_numbered names numbers order h k new in cc
-    | inr e ↦ e.0
-  ]
+  place = elim (get_push (names_of names k.kind) k.name m.number k.name
+      (ap (λ (ns : List (List ℕ)). slice_get ns m.number) (sym own) ∙ parts.1)) [
+        | inl e ↦
+            let t : is_numbered names k ≡ true = name_any (names_of names k.kind) k.name m.number e in
+            let z : true ≡ false = sym t ∙ not_numbered names numbers order h k new in cc
+        | inr e ↦ e.0
+      ]
 
   count : (q : Kind) → length (numbers_of later q) ≡ length (names_of more q)
   count q = elim (kind_cases q k.kind) [
     | inl s ↦
         subst (λ (x : Kind). length (numbers_of later x) ≡ length (names_of more x)) (sym s)
-        (let a : length (numbers_of later k.kind) ≡ length (numbers_of numbers k.kind) + 1 = ap length pushed.here ∙ length-append (numbers_of numbers k.kind) (length order ∷ []) in
-        let b : length (names_of more k.kind) ≡ length (names_of names k.kind) + 1 = ap length own ∙ length-append (names_of names k.kind) (k.name ∷ []) in
+        (let a : length (numbers_of later k.kind) ≡ length (numbers_of numbers k.kind) + 1 = ap length pushed.here
+        ∙ length-append (numbers_of numbers k.kind) (length order ∷ []) in
+        let b : length (names_of more k.kind) ≡ length (names_of names k.kind) + 1 = ap length own
+        ∙ length-append (names_of names k.kind) (k.name ∷ []) in
         let c : length (numbers_of numbers k.kind) ≡ length (names_of names k.kind) = h.count k.kind in omega arith)
     | inr ne ↦ ap length (pushed.elsewhere q ne) ∙ (h.count q ∙ ap length (sym (elsewhere q ne)))
   ]
@@ -266,20 +286,26 @@ module _ (names more : Names) (numbers later : Numbers) (order : List KeyNumber)
   m_is : m ≡ record { kind = k.kind; number = length (numbers_of numbers k.kind) }
   m_is = λ i. record { kind = parts.0 i; number = (place ∙ sym (h.count k.kind)) i }
 
-  back_own : (i n : ℕ) → slice_get (numbers_of later k.kind) i ≡ Some n → slice_get (order ++ m ∷ []) n ≡ Some (record { kind = k.kind; number = i })
-  back_own i n e = elim (get_push (numbers_of numbers k.kind) (length order) i n (ap (λ (ns : List ℕ). slice_get ns i) (sym pushed.here) ∙ e)) [
-    | inl g ↦ get_front order (m ∷ []) n (record { kind = k.kind; number = i }) (h.back k.kind i n g)
-    | inr g ↦
-        ap (slice_get (order ++ m ∷ [])) g.1
-        ∙ (get_last order m ∙ ap Some (m_is ∙ (λ j. record { kind = k.kind; number = sym g.0 j })))
-  ]
+  back_own : (i n : ℕ) → slice_get (numbers_of later k.kind) i ≡ Some n → slice_get (order ++ m ∷ []) n ≡ Some
+      (record { kind = k.kind; number = i })
+  back_own i n e = elim
+      (get_push (numbers_of numbers k.kind) (length order) i n (ap (λ (ns : List ℕ). slice_get ns i) (sym pushed.here)
+      ∙ e)) [
+        | inl g ↦ get_front order (m ∷ []) n (record { kind = k.kind; number = i }) (h.back k.kind i n g)
+        | inr g ↦
+            ap (slice_get (order ++ m ∷ [])) g.1
+            ∙ (get_last order m ∙ ap Some (m_is ∙ (λ j. record { kind = k.kind; number = sym g.0 j })))
+      ]
 
-  back : (q : Kind) (i n : ℕ) → slice_get (numbers_of later q) i ≡ Some n → slice_get (order ++ m ∷ []) n ≡ Some (record { kind = q; number = i })
+  back : (q : Kind) (i n : ℕ) → slice_get (numbers_of later q) i ≡ Some n → slice_get (order ++ m ∷ []) n ≡ Some
+      (record { kind = q; number = i })
   back q i n e = elim (kind_cases q k.kind) [
     | inl s ↦
-        subst (λ (x : Kind). slice_get (numbers_of later x) i ≡ Some n → slice_get (order ++ m ∷ []) n ≡ Some (record { kind = x; number = i })) (sym s)
+        subst (λ (x : Kind). slice_get (numbers_of later x) i ≡ Some n → slice_get (order ++ m ∷ []) n ≡ Some
+        (record { kind = x; number = i })) (sym s)
         (back_own i n) e
-    | inr ne ↦ get_front order (m ∷ []) n (record { kind = q; number = i }) (h.back q i n (ap (λ (ns : List ℕ). slice_get ns i) (sym (pushed.elsewhere q ne)) ∙ e))
+    | inr ne ↦ get_front order (m ∷ []) n (record { kind = q; number = i })
+        (h.back q i n (ap (λ (ns : List ℕ). slice_get ns i) (sym (pushed.elsewhere q ne)) ∙ e))
   ]
 
   still_some : (q : KeyNumber) → is_some (key_of names q) ≡ true → key_of more q ≡ key_of names q
@@ -302,10 +328,12 @@ module _ (names more : Names) (numbers later : Numbers) (order : List KeyNumber)
   pub keys_more : keys_by more (order ++ m ∷ []) ≡ keys_by names order ++ k ∷ []
   keys_more =
       map-append (λ q. key_or (key_of more q)) order (m ∷ [])
-      ∙ (λ i. map_at (λ q. key_or (key_of more q)) (λ q. key_or (key_of names q)) order (λ n q e. ap key_or (still_some q (h.there n q e))) i ++ ap key_or at i ∷ [])
+      ∙ (λ i. map_at (λ q. key_or (key_of more q)) (λ q. key_or (key_of names q)) order
+      (λ n q e. ap key_or (still_some q (h.there n q e))) i ++ ap key_or at i ∷ [])
 
 -- ---- numbers in other memory
-pub indexed_same : (names : Names) (numbers other : Numbers) (order : List KeyNumber) → AreSameNumbers numbers other → IsIndexed names numbers order → IsIndexed names other order
+pub indexed_same : (names : Names) (numbers other : Numbers) (order : List KeyNumber) → AreSameNumbers numbers other
+    → IsIndexed names numbers order → IsIndexed names other order
 indexed_same names numbers other order s h = record {
   count = λ k. ap length (s k) ∙ h.count k;
   back = λ k i n e. h.back k i n (sym (ap (λ (ns : List ℕ). slice_get ns i) (s k)) ∙ e);

@@ -4,10 +4,14 @@ pub mod Counted
 pub mod DeckTables
 pub mod DueOrder
 pub mod Events
+pub mod Flags
 pub mod Following
+pub mod Gathering
 pub mod Growing
 pub mod Indexing
 pub mod Kept
+pub mod KeyNumbers
+pub mod Looking
 pub mod Marking
 pub mod NameQueries
 pub mod Named
@@ -22,6 +26,7 @@ pub mod Reached
 pub mod SettleAll
 pub mod SettleOne
 pub mod Starting
+pub mod Targets
 pub mod Telling
 pub mod ToldWords
 pub mod Written

@@ -1,5 +1,6 @@
 -- A query of each name, one behind another.
-use Rattle.std.proofs.Common.{◌≡◌, ◌+◌, ◌≤◌, ℕ, zero, suc, Bool, true, false, List, [], ◌∷◌, ◌++◌, map, take, drop, length, if◌then◌else◌}
+use Rattle.std.proofs.Common.{◌≡◌, ◌+◌, ◌≤◌, ℕ, zero, suc, Bool, true, false, List, [], ◌∷◌, ◌++◌, map, take, drop}
+use Rattle.std.proofs.Common.{length, if◌then◌else◌}
 use Rattle.std.proofs.Common.{Option, Some, refl, sym, ◌∙◌, ap, subst, arith, ◌||◌}
 use Rattle.std.specs.Prelude.{Result, Ok, Err, OnErr, OnOk}
 use Rattle.std.specs.List.{slice_get}
@@ -19,13 +20,14 @@ use Rattle.live_table.specs.Calls.{AreQueries, is_name_kind, names_among, querie
 use Rattle.live_table.specs.Shown.{Follows, IsCutOff, IsRightTable, Shown, state}
 use Rattle.live_table.specs.States.{AsksKey, Event}
 use Rattle.live_table.proofs.Following.{cut_both, follows_both, follows_none, steps_rise}
-use Rattle.live_table.proofs.Places.{drop_at, take_at}
+use Rattle.name_walk.proofs.Lists.{drop_at, take_at}
 
 -- ---- one key
 pub list_asks_nothing : (k : Key) → k.kind ≡ kind.List → queries_of (k ∷ []) ≡ []
 list_asks_nothing k e = ap (λ (c : Kind). map AsksKey (if is_name_kind c then k ∷ [] else [])) e
 
-name_asks : (k : Key) (c : Kind) → (c ≡ kind.List → ⊥) → map AsksKey (if is_name_kind c then k ∷ [] else []) ≡ AsksKey k ∷ []
+name_asks : (k : Key) (c : Kind) → (c ≡ kind.List → ⊥) → map AsksKey (if is_name_kind c then k ∷ [] else []) ≡ AsksKey k
+    ∷ []
 name_asks k kind.Unit h = refl
 name_asks k kind.Prefix h = refl
 name_asks k kind.Func h = refl
@@ -34,7 +36,8 @@ name_asks k kind.List h = absurd (h refl)
 pub asks_once : (k : Key) → (k.kind ≡ kind.List → ⊥) → queries_of (k ∷ []) ≡ AsksKey k ∷ []
 asks_once k h = name_asks k k.kind h
 
-module _ {A : Type 0} (event : Event) (fault : Option NameFault) (Given : A → Type 0) (before now : Shown) (old new : ℕ) where
+module _ {A : Type 0} (event : Event) (fault : Option NameFault) (Given : A → Type 0) (before now : Shown)
+    (old new : ℕ) where
   pub asked_cut : (r : Result A QueryFault) → r ≡ Err OutOfMemory → IsAsked event fault Given r before now old new
       → IsCutOff (event ∷ []) before now old new
   asked_cut r e a = subst (λ (r : Result A QueryFault). IsAsked event fault Given r before now old new) e a
@@ -102,7 +105,8 @@ module _ (keys : List Key) (i : ℕ) (before now : Shown) (old new : ℕ) (s : I
           (follows_both (queries_of (take i keys)) (queries_of (k ∷ [])) before now later old new last s.follows f);
     }
 
-    pub asking_cut : IsCutOff (queries_of (k ∷ [])) now later new last → IsCutOff (queries_of keys) before later old last
+    pub asking_cut : IsCutOff (queries_of (k ∷ [])) now later new last
+        → IsCutOff (queries_of keys) before later old last
     asking_cut f =
         subst (λ (es : List Event). IsCutOff es before later old last) (sym all)
         (cut_both (queries_of (take i keys)) (queries_of (k ∷ [])) (queries_of (drop (i + 1) keys)) before now later old

@@ -1,7 +1,9 @@
 -- One more name at the end changes nothing of the others.
-use Rattle.std.proofs.Common.{◌≡◌, ◌⊎◌, ◌+◌, ◌<◌, ◌≤◌, ℕ, zero, suc, Bool, true, false, List, [], ◌∷◌, ◌++◌, map, length, Vec, Option, Some, None, refl, sym, ◌∙◌, ap, subst, inl, inr, arith, length-append}
+use Rattle.std.proofs.Common.{◌≡◌, ◌⊎◌, ◌+◌, ◌<◌, ◌≤◌, ℕ, zero, suc, Bool, true, false, List, [], ◌∷◌, ◌++◌, map}
+use Rattle.std.proofs.Common.{length, Vec, Option, Some, None, nat_eq, refl, sym, ◌∙◌, ap, subst, inl, inr, arith}
+use Rattle.std.proofs.Common.{length-append}
 use Rattle.std.specs.declared.alloc.Global.{Global}
-use Rattle.std.specs.List.{slice_get}
+use Rattle.std.specs.List.{IsDistinct, slice_get}
 use Rattle.std.specs.Option.{is_some}
 use Rattle.std.proofs.lemmas.Bool.{cases_lt}
 use Rattle.std.proofs.lemmas.List.{map-append}
@@ -26,12 +28,16 @@ use Rattle.live_table.specs.declared.callee.Callee.{Callee}
 use Rattle.live_table.specs.declared.dead_end.DeadEnd.{DeadEnd}
 use Rattle.live_table.specs.Callees.{HasRank, HasStarts}
 use Rattle.live_table.specs.Exploring.{AreAdded, AreListed, with_name}
-use Rattle.live_table.specs.Sound.{AreNodes, HasRankOf, HasStartsOf, IsFaithful}
-use Rattle.live_table.specs.Stored.{Listed, kept_of, key_at, onto}
+use Rattle.live_table.specs.Looks.{AreLooks}
+use Rattle.live_table.specs.Sound.{AreNodes, HasLooksOf, HasRankOf, HasStartsOf, IsFaithful}
+use Rattle.live_table.specs.Stored.{Listed, Looks, kept_of, key_at, looks_of, onto}
+use Rattle.live_table.proofs.Flags.{count_push}
 use Rattle.live_table.proofs.Growing.{key_read, key_same, push_more, same_words, settled_within}
+use Rattle.live_table.proofs.Looking.{looks_more}
 use Rattle.live_table.proofs.Places.{get_lt, some_same}
 
-nothing_kept : (ks : List Key) (os : List (Option Outcome)) (k : Key) → length os ≡ length ks → kept_of (ks ++ k ∷ []) (os ++ None ∷ []) ≡ kept_of ks os
+nothing_kept : (ks : List Key) (os : List (Option Outcome)) (k : Key) → length os ≡ length ks
+    → kept_of (ks ++ k ∷ []) (os ++ None ∷ []) ≡ kept_of ks os
 nothing_kept [] [] k e = refl
 nothing_kept [] (o ∷ os) k e = absurd (omega arith)
 nothing_kept (x ∷ ks) [] k e = absurd (omega arith)
@@ -53,6 +59,12 @@ steps_front [] v (suc n) e = refl
 steps_front (w ∷ g) v zero e = refl
 steps_front (w ∷ g) v (suc n) e = steps_front g v n e
 
+looks_front : (g : Looks) (v : Vec ℕ Global) (n : ℕ) → v.items ≡ [] → looks_of (g ++ v ∷ []) n ≡ looks_of g n
+looks_front [] v zero e = e
+looks_front [] v (suc n) e = refl
+looks_front (w ∷ g) v zero e = refl
+looks_front (w ∷ g) v (suc n) e = looks_front g v n e
+
 get_front : {A : Type 0} (xs : List A) (x : A) (n : ℕ) → n < length xs → slice_get (xs ++ x ∷ []) n ≡ slice_get xs n
 get_front [] x n h = absurd (omega arith)
 get_front (y ∷ xs) x zero h = refl
@@ -67,10 +79,12 @@ not_there ks k e n h q =
     let t : is_among ks k ≡ true = among_member ks k (member_at ks n k (key_read ks n h ∙ ap Some q)) in
     let z : true ≡ false = sym t ∙ e in cc
 
-module _ (t : Table) (l : Listed) (k : Key) (c : Callee) (v : Vec Step Global) (empty : v.items ≡ []) (nodes : AreNodes t l)
+module _ (t : Table) (l : Listed) (k : Key) (b : Bool) (c : Callee) (v : Vec Step Global) (w : Vec ℕ Global)
+    (empty : v.items ≡ []) (none : w.items ≡ [])
+    (flag : b ≡ is_present t k) (nodes : AreNodes t l)
     (new : (n : ℕ) → n < length l.keys → key_at l.keys n ≡ k → ⊥) where
   abbrev m : Listed
-  m = with_name k c v l
+  m = with_name k b c v w l
 
   key_front : (n : ℕ) → n < length l.keys → key_at m.keys n ≡ key_at l.keys n
   key_front n h = key_same l.keys m.keys n (push_more l.keys (k ∷ [])) h
@@ -93,6 +107,9 @@ module _ (t : Table) (l : Listed) (k : Key) (c : Callee) (v : Vec Step Global) (
         ]
       ]
 
+  same_looks : (n : ℕ) → looks_of m.looks n ≡ looks_of l.looks n
+  same_looks n = looks_front l.looks w n none
+
   same_graph : (n : ℕ) → steps m.graph n ≡ steps l.graph n
   same_graph n = steps_front l.graph v n empty
 
@@ -109,7 +126,8 @@ module _ (t : Table) (l : Listed) (k : Key) (c : Callee) (v : Vec Step Global) (
   in_old n e = settled_within t l nodes n (was n e)
 
   same_callee : (n : ℕ) → n < length l.keys → slice_get m.callees n ≡ slice_get l.callees n
-  same_callee n h = get_front l.callees c n (let q : length l.callees ≡ length l.keys = nodes.callee_count in omega arith)
+  same_callee n h = get_front l.callees c n (let q : length l.callees ≡ length l.keys = nodes.callee_count in
+      omega arith)
 
   faithful : (n : ℕ) → IsSettled m.settled n → IsFaithful t m n
   faithful n e ends =
@@ -121,33 +139,53 @@ module _ (t : Table) (l : Listed) (k : Key) (c : Callee) (v : Vec Step Global) (
 
   starts : (n : ℕ) → IsSettled m.settled n → HasStartsOf t m n
   starts n e entry callee at is =
-      nodes.starts n (was n e) entry callee (ap (entry_at t) (sym (key_front n (in_old n e))) ∙ at) (sym (same_callee n (in_old n e)) ∙ is)
+      nodes.starts n (was n e) entry callee (ap (entry_at t) (sym (key_front n (in_old n e))) ∙ at)
+      (sym (same_callee n (in_old n e)) ∙ is)
 
   ranks : (n : ℕ) → IsSettled m.settled n → HasRankOf t m n
   ranks n e callee is =
       subst (λ (q : Key). HasRank (key_meaning t q) callee) (sym (key_front n (in_old n e)))
       (nodes.ranks n (was n e) callee (sym (same_callee n (in_old n e)) ∙ is))
 
+  looked : (n : ℕ) → IsSettled m.settled n → HasLooksOf t m n
+  looked n e =
+      let h = nodes.looked n (was n e) in
+      record {
+        looks = subst (λ (p : Key × (List Step × List ℕ)). AreLooks t m.keys (key_words t p.0) p.1.0 p.1.1)
+            (λ j. (sym (key_front n (in_old n e)) j, (sym (same_graph n) j, sym (same_looks n) j)))
+            (looks_more t l.keys m.keys (key_words t (key_at l.keys n)) (steps l.graph n) (looks_of l.looks n)
+            (push_more l.keys (k ∷ []))
+            (λ q i. settled_within t l nodes q ((nodes.net.settled n (was n e)).1 q i)) h.looks);
+        once = subst (IsDistinct nat_eq) (sym (same_looks n)) h.once;
+      }
+
   named_nodes : AreNodes t m
   named_nodes = record {
     step_count = one_more l.graph v ∙ (ap suc nodes.step_count ∙ sym (one_more l.keys k));
     outcome_count = one_more l.outcomes None ∙ (ap suc nodes.outcome_count ∙ sym (one_more l.keys k));
     callee_count = one_more l.callees c ∙ (ap suc nodes.callee_count ∙ sym (one_more l.keys k));
+    look_count = one_more l.looks w ∙ (ap suc nodes.look_count ∙ sym (one_more l.keys k));
+    flagged =
+        (λ i. nodes.flagged i ++ flag i ∷ []) ∙ sym (map-append (is_present t) l.keys (k ∷ []));
+    counted = nodes.counted ∙ sym (count_push l.settled);
     marked = ap (λ (bs : List Bool). bs ++ false ∷ []) nodes.marked ∙ sym (map-append is_some l.outcomes (None ∷ []));
     apart = apart;
     net = record {
       range = λ a b i.
-          let h : b < length l.graph = nodes.net.range a b (subst (λ (xs : List Step). In (To b) xs) (same_graph a) i) in
+          let h : b < length l.graph = nodes.net.range a b (subst (λ (xs : List Step). In (To b) xs) (same_graph a) i)
+          in
           let s : length m.graph ≡ suc (length l.graph) = graph_size in omega arith;
       size = one_more l.settled false ∙ (ap suc nodes.net.size ∙ sym graph_size);
       settled = settled_law_holds.elsewhere l.graph m.graph l.settled m.settled nodes.net.settled
           (let s : length m.graph ≡ suc (length l.graph) = graph_size in omega arith)
           (λ n. (was n, still n)) (λ n e. same_graph n);
     };
-    present = λ n e. subst (λ (q : Key). is_present t q ≡ true) (sym (key_front n (in_old n e))) (nodes.present n (was n e));
+    present = λ n e. subst (λ (q : Key). is_present t q ≡ true) (sym (key_front n (in_old n e)))
+        (nodes.present n (was n e));
     faithful = faithful;
     starts = starts;
     ranks = ranks;
+    looked = looked;
   }
 
   pub named_added : (list : List ℕ) (ends : List DeadEnd) → AreListed t l list → AreAdded t l m list list ends ends
@@ -156,9 +194,11 @@ module _ (t : Table) (l : Listed) (k : Key) (c : Callee) (v : Vec Step Global) (
       nodes = named_nodes;
       kept = nothing_kept l.keys l.outcomes k nodes.outcome_count;
       listed = record {
-        within = λ n i. let h : n < length l.keys = right.within n i in let s : length m.keys ≡ suc (length l.keys) = one_more l.keys k in omega arith;
+        within = λ n i. let h : n < length l.keys = right.within n i in
+            let s : length m.keys ≡ suc (length l.keys) = one_more l.keys k in omega arith;
         fresh = λ n i e. right.fresh n i (was n e);
-        present = λ n i. subst (λ (q : Key). is_present t q ≡ true) (sym (key_front n (right.within n i))) (right.present n i);
+        present = λ n i. subst (λ (q : Key). is_present t q ≡ true) (sym (key_front n (right.within n i)))
+            (right.present n i);
         once = right.once;
       };
       keys_more = push_more l.keys (k ∷ []);
@@ -166,8 +206,5 @@ module _ (t : Table) (l : Listed) (k : Key) (c : Callee) (v : Vec Step Global) (
       list_more = λ i x e. e;
       ends_more = λ i x e. e;
     };
-    same = record { steps = λ n h o. same_graph n; callees = λ n h o. same_callee n h };
+    same = record { steps = λ n h o. same_graph n; callees = λ n h o. same_callee n h; looks = λ n h o. same_looks n };
   }
-
-pub named_number : (l : Listed) (k : Key) (c : Callee) (v : Vec Step Global) → (length l.keys < length (with_name k c v l).keys) × (k ≡ key_at (with_name k c v l).keys (length l.keys))
-named_number l k c v = (let s : length (l.keys ++ k ∷ []) ≡ suc (length l.keys) = one_more l.keys k in omega arith, sym (last_key l.keys k))

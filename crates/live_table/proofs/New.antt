@@ -33,25 +33,30 @@ count table [] kept once new = omega arith
 count table (k ∷ names) kept once new =
     let here : map_of.len (map_of.insert kept k (outcome table k)) ≡ map_of.len kept + 1 =
     map_of.len-insert key_order.total kept k (outcome table k)
-    ∙ cond-false (is_some (map_of.get kept k)) (map_of.len kept) (map_of.len kept + 1) (new k (member_first k k names refl)) in
+    ∙ cond-false (is_some (map_of.get kept k)) (map_of.len kept) (map_of.len kept + 1)
+    (new k (member_first k k names refl)) in
     let rest : map_of.len (with_outcomes table names (map_of.insert kept k (outcome table k)))
     ≡ map_of.len (map_of.insert kept k (outcome table k)) + length names =
     count table names (map_of.insert kept k (outcome table k)) once.1 still in
     omega (arith, here, rest)
   where
     apart : (n : Key) → Contains names n → is_same k n ≡ false
-    apart n i = All-contains (λ y. is_same k y ≡ false) names n (All-from_recursion (λ y. is_same k y ≡ false) names once.0) i
+    apart n i = All-contains (λ y. is_same k y ≡ false) names n
+        (All-from_recursion (λ y. is_same k y ≡ false) names once.0) i
 
     other : (n : Key) → Contains names n → eq_by_cmp key_cmp n k ≡ false
-    other n i = false_from_ne_true (eq_by_cmp key_cmp n k) (λ e. true≢false (sym ((same_keys k n).1 (sym (one_key n k e))) ∙ apart n i))
+    other n i = false_from_ne_true (eq_by_cmp key_cmp n k)
+        (λ e. true≢false (sym ((same_keys k n).1 (sym (one_key n k e))) ∙ apart n i))
 
     still : (n : Key) → Contains names n → is_some (map_of.get (map_of.insert kept k (outcome table k)) n) ≡ false
     still n i =
-        ap is_some (inserted table kept k n ∙ cond-false (eq_by_cmp key_cmp n k) (Some (outcome table k)) (map_of.get kept n) (other n i))
+        ap is_some (inserted table kept k n ∙ cond-false (eq_by_cmp key_cmp n k) (Some (outcome table k))
+        (map_of.get kept n) (other n i))
         ∙ new n (member_later n k names i)
 
 module _ (s : State) (reached names : List Key) (h : IsRight s) (new : AreNew s reached names) where
-  kept_by : (n : Key) → map_of.get (with_outcomes s.table names s.kept) n ≡ map_of.get (with_outcomes s.table reached s.kept) n
+  kept_by : (n : Key) → map_of.get (with_outcomes s.table names s.kept) n ≡ map_of.get
+      (with_outcomes s.table reached s.kept) n
   kept_by n = elim (cases_Bool (is_among names n)) [
     | inl e ↦
         let i : Contains names n = member_among names n e in
@@ -70,8 +75,10 @@ module _ (s : State) (reached names : List Key) (h : IsRight s) (new : AreNew s 
         | inr e ↦ absurd (out ((new.exactly n).1 (i, λ q. true≢false (sym q ∙ e))))
       ]
 
-      settled_before : Contains reached n → IsSettled s n → map_of.get s.kept n ≡ map_of.get (with_outcomes s.table reached s.kept) n
-      settled_before i e = some_of (map_of.get s.kept n) (outcome s.table n) e (h.right n) ∙ sym (put_in s.table reached s.kept n (inl i))
+      settled_before : Contains reached n → IsSettled s n → map_of.get s.kept n ≡ map_of.get
+          (with_outcomes s.table reached s.kept) n
+      settled_before i e = some_of (map_of.get s.kept n) (outcome s.table n) e (h.right n)
+          ∙ sym (put_in s.table reached s.kept n (inl i))
 
   same_kept : with_outcomes s.table names s.kept ≡ with_outcomes s.table reached s.kept
   same_kept = map_of.same_map key_order.total key_order.exact _ _ kept_by

@@ -1,5 +1,6 @@
 -- What is kept of each name where outcomes are put in, or some are taken out.
-use Rattle.std.proofs.Common.{◌≡◌, ◌⊎◌, Bool, true, false, cond, List, [], ◌∷◌, Contains, Some, None, refl, sym, ◌∙◌, ap, subst, inl, inr}
+use Rattle.std.proofs.Common.{◌≡◌, ◌⊎◌, Bool, true, false, cond, List, [], ◌∷◌, Contains, Some, None, refl, sym, ◌∙◌}
+use Rattle.std.proofs.Common.{ap, subst, inl, inr}
 use Rattle.std.specs.Cmp.{Equal-is, tied_itself}
 use Rattle.std.specs.FinMap as map_of
 use Rattle.std.specs.Ordering.{eq_by_cmp, is_eq}
@@ -18,11 +19,14 @@ pub one_key : (k l : Key) → eq_by_cmp key_cmp k l ≡ true → k ≡ l
 one_key k l e = key_order.exact k l ((Equal-is (key_cmp k l)).0 e)
 
 module _ (table : Table) where
-  pub inserted : (kept : Kept) (k n : Key) → map_of.get (map_of.insert kept k (outcome table k)) n ≡ cond (eq_by_cmp key_cmp n k) (Some (outcome table k)) (map_of.get kept n)
+  pub inserted : (kept : Kept) (k n : Key) → map_of.get (map_of.insert kept k (outcome table k)) n ≡ cond
+      (eq_by_cmp key_cmp n k) (Some (outcome table k)) (map_of.get kept n)
   inserted kept k n = map_of.get-insert key_order.total kept k (outcome table k) n
 
   -- a key that is put in has its outcome, any other what it had
-  pub put_in : (keys : List Key) (kept : Kept) (n : Key) → Contains keys n ⊎ (map_of.get kept n ≡ Some (outcome table n)) → map_of.get (with_outcomes table keys kept) n ≡ Some (outcome table n)
+  pub put_in : (keys : List Key) (kept : Kept) (n : Key)
+      → Contains keys n ⊎ (map_of.get kept n ≡ Some (outcome table n))
+      → map_of.get (with_outcomes table keys kept) n ≡ Some (outcome table n)
   put_in [] kept n (inl i) = absurd (no_member n i)
   put_in [] kept n (inr e) = e
   put_in (k ∷ keys) kept n h = put_in keys (map_of.insert kept k (outcome table k)) n (here h)
@@ -30,26 +34,32 @@ module _ (table : Table) where
       own : n ≡ k → map_of.get (map_of.insert kept k (outcome table k)) n ≡ Some (outcome table n)
       own e =
           inserted kept k n
-          ∙ (ap (λ b. cond b (Some (outcome table k)) (map_of.get kept n)) (tied n k e) ∙ ap (λ (x : Key). Some (outcome table x)) (sym e))
+          ∙ (ap (λ b. cond b (Some (outcome table k)) (map_of.get kept n)) (tied n k e)
+          ∙ ap (λ (x : Key). Some (outcome table x)) (sym e))
 
-      had : (b : Bool) → eq_by_cmp key_cmp n k ≡ b → map_of.get kept n ≡ Some (outcome table n) → cond b (Some (outcome table k)) (map_of.get kept n) ≡ Some (outcome table n)
+      had : (b : Bool) → eq_by_cmp key_cmp n k ≡ b → map_of.get kept n ≡ Some (outcome table n)
+          → cond b (Some (outcome table k)) (map_of.get kept n) ≡ Some (outcome table n)
       had true q e = ap (λ (x : Key). Some (outcome table x)) (sym (one_key n k q))
       had false q e = e
 
-      here : Contains (k ∷ keys) n ⊎ (map_of.get kept n ≡ Some (outcome table n)) → Contains keys n ⊎ (map_of.get (map_of.insert kept k (outcome table k)) n ≡ Some (outcome table n))
+      here : Contains (k ∷ keys) n ⊎ (map_of.get kept n ≡ Some (outcome table n))
+          → Contains keys n ⊎ (map_of.get (map_of.insert kept k (outcome table k)) n ≡ Some (outcome table n))
       here (inl i) = elim (member_cases n k keys i) [ inl e ↦ inr (own e) | inr j ↦ inl j ]
       here (inr e) = inr (inserted kept k n ∙ had (eq_by_cmp key_cmp n k) refl e)
 
-  pub left_out : (keys : List Key) (kept : Kept) (n : Key) → (Contains keys n → ⊥) → map_of.get (with_outcomes table keys kept) n ≡ map_of.get kept n
+  pub left_out : (keys : List Key) (kept : Kept) (n : Key) → (Contains keys n → ⊥)
+      → map_of.get (with_outcomes table keys kept) n ≡ map_of.get kept n
   left_out [] kept n out = refl
   left_out (k ∷ keys) kept n out =
       left_out keys (map_of.insert kept k (outcome table k)) n (λ i. out (member_later n k keys i))
       ∙ (inserted kept k n ∙ by (eq_by_cmp key_cmp n k) refl)
     where
-      by : (b : Bool) → eq_by_cmp key_cmp n k ≡ b → cond b (Some (outcome table k)) (map_of.get kept n) ≡ map_of.get kept n
+      by : (b : Bool) → eq_by_cmp key_cmp n k ≡ b → cond b (Some (outcome table k)) (map_of.get kept n) ≡ map_of.get
+          kept n
       by true q = absurd (out (member_first n k keys (one_key n k q)))
       by false q = refl
 
 -- what a test of keys leaves
-pub left_in : (kept : Kept) (p : Key → Bool) (n : Key) → map_of.get (map_of.retain_keys kept p) n ≡ cond (p n) (map_of.get kept n) None
+pub left_in : (kept : Kept) (p : Key → Bool) (n : Key) → map_of.get (map_of.retain_keys kept p) n ≡ cond (p n)
+    (map_of.get kept n) None
 left_in kept p n = map_of.get-retain_keys kept p n (λ x e. ap p (sym (key_order.exact n x e)))

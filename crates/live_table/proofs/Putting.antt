@@ -1,5 +1,6 @@
 -- A number that is put on the agenda.
-use Rattle.std.proofs.Common.{◌≡◌, ◌⊎◌, ◌<◌, ◌++◌, ◌∷◌, [], ℕ, Bool, true, false, cond, List, Some, nat_eq, length, get_or, sym, ◌∙◌, ap, subst, inl, inr, arith}
+use Rattle.std.proofs.Common.{◌≡◌, ◌⊎◌, ◌<◌, ◌++◌, ◌∷◌, [], ℕ, Bool, true, false, cond, List, Some, nat_eq, length}
+use Rattle.std.proofs.Common.{get_or, sym, ◌∙◌, ap, subst, inl, inr, arith}
 use Rattle.std.specs.List.{slice_get}
 use Rattle.std.proofs.lemmas.Bool.{cases_Bool, cond-false, cond-true}
 use Rattle.std.proofs.lemmas.Cmp.{nat_eq_equiv}
@@ -19,7 +20,8 @@ use Rattle.live_table.proofs.Growing.{push_more}
 pub sizes : (t : Table) (l : Listed) → AreNodes t l → length l.settled ≡ length l.keys
 sizes t l nodes = nodes.net.size ∙ nodes.step_count
 
-pub unsettled : (t : Table) (l : Listed) → AreNodes t l → (n : ℕ) (b : Bool) → n < length l.keys → b ≡ get_or l.settled n b → b ≡ false → IsSettled l.settled n → ⊥
+pub unsettled : (t : Table) (l : Listed) → AreNodes t l → (n : ℕ) (b : Bool) → n < length l.keys
+    → b ≡ get_or l.settled n b → b ≡ false → IsSettled l.settled n → ⊥
 unsettled t l nodes n b h e f s =
     let size : length l.settled ≡ length l.keys = sizes t l nodes in
     let z : Some true ≡ Some false = sym s ∙ (slice_get-get_or l.settled n b (omega arith) ∙ ap Some (sym e ∙ f)) in cc
@@ -30,29 +32,40 @@ put_there list there n e = elim (cases_Bool (on list n)) [
   | inr q ↦ subst (λ (ns : List ℕ). In n ns) (sym (e ∙ cond-false (on list n) list (list ++ n ∷ []) q)) (In-last list n)
 ]
 
-pub listed_push : (t : Table) (l : Listed) (list : List ℕ) (n : ℕ) → AreListed t l list → n < length l.keys → is_present t (key_at l.keys n) ≡ true
+pub listed_push : (t : Table) (l : Listed) (list : List ℕ) (n : ℕ) → AreListed t l list → n < length l.keys
+    → is_present t (key_at l.keys n) ≡ true
     → (IsSettled l.settled n → ⊥) → on list n ≡ false → AreListed t l (list ++ n ∷ [])
 listed_push t l list n right h present fresh new = record {
-  within = λ m i. elim (In-push list n m i) [ inl j ↦ right.within m j | inr e ↦ subst (λ (x : ℕ). x < length l.keys) (sym e) h ];
-  fresh = λ m i. elim (In-push list n m i) [ inl j ↦ right.fresh m j | inr e ↦ subst (λ (x : ℕ). IsSettled l.settled x → ⊥) (sym e) fresh ];
-  present = λ m i. elim (In-push list n m i) [ inl j ↦ right.present m j | inr e ↦ subst (λ (x : ℕ). is_present t (key_at l.keys x) ≡ true) (sym e) present ];
+  within = λ m i. elim (In-push list n m i) [
+    | inl j ↦ right.within m j
+    | inr e ↦ subst (λ (x : ℕ). x < length l.keys)
+        (sym e) h
+  ];
+  fresh = λ m i. elim (In-push list n m i)
+      [ inl j ↦ right.fresh m j | inr e ↦ subst (λ (x : ℕ). IsSettled l.settled x → ⊥) (sym e) fresh ];
+  present = λ m i. elim (In-push list n m i)
+      [ inl j ↦ right.present m j | inr e ↦ subst (λ (x : ℕ). is_present t (key_at l.keys x) ≡ true) (sym e) present ];
   once = IsDistinct-push nat_eq_equiv list n right.once new;
 }
 
-pub put_added : (t : Table) (l m : Listed) (list there : List ℕ) (ends : List DeadEnd) (n : ℕ) → AreAdded t l m list list ends ends → n < length m.keys
-    → is_present t (key_at m.keys n) ≡ true → (IsSettled m.settled n → ⊥) → there ≡ cond (on list n) list (list ++ n ∷ []) → AreAdded t l m list there ends ends
+pub put_added : (t : Table) (l m : Listed) (list there : List ℕ) (ends : List DeadEnd) (n : ℕ)
+    → AreAdded t l m list list ends ends → n < length m.keys
+    → is_present t (key_at m.keys n) ≡ true → (IsSettled m.settled n → ⊥)
+    → there ≡ cond (on list n) list (list ++ n ∷ []) → AreAdded t l m list there ends ends
 put_added t l m list there ends n a h present fresh e = elim (cases_Bool (on list n)) [
-  | inl q ↦ subst (λ (ns : List ℕ). AreAdded t l m list ns ends ends) (sym (e ∙ cond-true (on list n) list (list ++ n ∷ []) q)) a
-  | inr q ↦ subst (λ (ns : List ℕ). AreAdded t l m list ns ends ends) (sym (e ∙ cond-false (on list n) list (list ++ n ∷ []) q)) (record {
-    grown = record {
-      nodes = a.grown.nodes;
-      kept = a.grown.kept;
-      listed = listed_push t m list n a.grown.listed h present fresh q;
-      keys_more = a.grown.keys_more;
-      settled_still = a.grown.settled_still;
-      list_more = push_more list (n ∷ []);
-      ends_more = a.grown.ends_more;
-    };
-    same = a.same;
-  })
+  | inl q ↦ subst (λ (ns : List ℕ). AreAdded t l m list ns ends ends)
+      (sym (e ∙ cond-true (on list n) list (list ++ n ∷ []) q)) a
+  | inr q ↦ subst (λ (ns : List ℕ). AreAdded t l m list ns ends ends)
+      (sym (e ∙ cond-false (on list n) list (list ++ n ∷ []) q)) (record {
+        grown = record {
+          nodes = a.grown.nodes;
+          kept = a.grown.kept;
+          listed = listed_push t m list n a.grown.listed h present fresh q;
+          keys_more = a.grown.keys_more;
+          settled_still = a.grown.settled_still;
+          list_more = push_more list (n ∷ []);
+          ends_more = a.grown.ends_more;
+        };
+        same = a.same;
+      })
 ]

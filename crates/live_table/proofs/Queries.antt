@@ -1,5 +1,7 @@
 -- What a query owes, from what its walk found and what was settled.
-use Rattle.std.proofs.Common.{◌≡◌, ◌⊎◌, ◌↔◌, ◌+◌, ◌-◌, ◌^◌, ◌<◌, ◌≤◌, min, ℕ, Bool, true, false, List, [], ◌∷◌, map, take, length, Contains, Option, Some, None, is_none, is_some, option_map, refl, sym, ◌∙◌, ap, subst, inl, inr, arith}
+use Rattle.std.proofs.Common.{◌≡◌, ◌⊎◌, ◌↔◌, ◌+◌, ◌-◌, ◌^◌, ◌<◌, ◌≤◌, min, ℕ, Bool, true, false, List, [], ◌∷◌, map}
+use Rattle.std.proofs.Common.{take, length, Contains, Option, Some, None, is_none, is_some, option_map, refl, sym, ◌∙◌}
+use Rattle.std.proofs.Common.{ap, subst, inl, inr, arith}
 use Rattle.std.specs.Prelude.{Result, Ok, Err}
 use Rattle.std.specs.FinMap as map_of
 use Rattle.std.specs.List.{slice_get}
@@ -26,7 +28,8 @@ use Rattle.name_numbers.specs.SettlingLaws.{AreMarks, AreNewKeys}
 use Rattle.live_table.specs.declared.dead_end.DeadEnd.{DeadEnd}
 use Rattle.live_table.specs.declared.fault.QueryFault.{QueryFault}
 use Rattle.live_table.specs.declared.fault.QueryFault.TheVariants.{Name, Value, OutOfMemory}
-use Rattle.live_table.specs.Asked.{AreAllSettled, AreSomeSettled, IsAnswered, IsAsked, IsClosing, IsFaulty, IsStill, put_in}
+use Rattle.live_table.specs.Asked.{AreAllSettled, AreSomeSettled, IsAnswered, IsAsked, IsClosing, IsFaulty, IsStill}
+use Rattle.live_table.specs.Asked.{put_in}
 use Rattle.live_table.specs.Explored.{AreExplored, fault_at}
 use Rattle.live_table.specs.New.{AreNew}
 use Rattle.live_table.specs.Right as right_of
@@ -52,7 +55,8 @@ query_rises false keys s = omega arith
 pub record IsQueryOf (event : Event) (t : Table) (fault : Option NameFault) (reached : List Key) : Type 0 where
   pub after : (s : State) → s.table ≡ t → after event s ≡ after_query (is_none fault) reached s
 
-module _ (event : Event) (fault : Option NameFault) (reached : List Key) (before : Shown) (old : ℕ) (right : IsRightTable before)
+module _ (event : Event) (fault : Option NameFault) (reached : List Key) (before : Shown) (old : ℕ)
+    (right : IsRightTable before)
     (is : IsQueryOf event (table before.deck) fault reached) where
   abbrev was : State
   was = state before old
@@ -103,7 +107,8 @@ module _ (event : Event) (fault : Option NameFault) (reached : List Key) (before
 abbrev pub is_kept : Kept → Key → Bool
 is_kept kept k = is_some (map_of.get kept k)
 
-pub are_new : (before : Shown) (old : ℕ) (Asked : Key → Type 0) (reached keys : List Key) → ((n : Key) → Contains reached n ↔ Asked n)
+pub are_new : (before : Shown) (old : ℕ) (Asked : Key → Type 0) (reached keys : List Key)
+    → ((n : Key) → Contains reached n ↔ Asked n)
     → AreNewKeys (is_kept before.kept) Asked keys → AreNew (state before old) reached keys
 are_new before old Asked reached keys same new = record {
   exactly = λ n. (
@@ -113,31 +118,38 @@ are_new before old Asked reached keys same new = record {
   once = new.once;
 }
 
-pub are_marks : (deck : Contents) (l : Listed) (r : ℕ) (ends : List DeadEnd) (known : ℕ → Bool) → AreNodes (table deck) l → AreExplored (table deck) l ends known
+pub are_marks : (deck : Contents) (l : Listed) (r : ℕ) (ends : List DeadEnd) (known : ℕ → Bool)
+    → AreNodes (table deck) l → AreExplored (table deck) l ends known
     → AreMarks (key_at l.keys) known l.settled (is_kept (shown deck l r).kept)
 are_marks deck l r ends known nodes explored n k = (
   λ e. key_settled deck l r nodes n e,
-  λ e. number_settled deck l r nodes n (let a : n < length l.graph = explored.numbered.within n k in let b : length l.graph ≡ length l.keys = nodes.step_count in omega arith) e,
+  λ e. number_settled deck l r nodes n (let a : n < length l.graph = explored.numbered.within n k in
+      let b : length l.graph ≡ length l.keys = nodes.step_count in omega arith) e,
 )
 
 -- ---- from the answer by number to that by name
-module _ (event : Event) (fault : Option NameFault) (reached : List Key) (Asked : Key → Type 0) (deck : Contents) (l : Listed) (r : ℕ) (ends : List DeadEnd)
+module _ (event : Event) (fault : Option NameFault) (reached : List Key) (Asked : Key → Type 0) (deck : Contents)
+    (l : Listed) (r : ℕ) (ends : List DeadEnd)
     (query : List Step) (sound : IsSound deck l r) (is : IsQueryOf event (table deck) fault reached)
     (by_name : option_map (named (table deck) (key_at l.keys) (fault_at ends)) (walk.fault l.graph [] query) ≡ fault)
     (same : fault ≡ None → (n : Key) → Contains reached n ↔ Asked n)
-    (new : fault ≡ None → (order : List ℕ) → AreNewlyClosed l.graph l.settled query order → AreNewKeys (is_kept (shown deck l r).kept) Asked (map (key_at l.keys) order)) where
+    (new : fault ≡ None → (order : List ℕ) → AreNewlyClosed l.graph l.settled query order
+    → AreNewKeys (is_kept (shown deck l r).kept) Asked (map (key_at l.keys) order)) where
   abbrev start : Shown
   start = shown deck l r
 
   no_fault : walk.fault l.graph [] query ≡ None → fault ≡ None
   no_fault e = sym by_name ∙ ap (option_map (named (table deck) (key_at l.keys) (fault_at ends))) e
 
-  new_names : (old : ℕ) (order : List ℕ) → IsClosing l query order → AreNew (state start old) reached (map (key_at l.keys) order)
-  new_names old order c = are_new start old Asked reached (map (key_at l.keys) order) (same (no_fault c.none)) (new (no_fault c.none) order c.closes)
+  new_names : (old : ℕ) (order : List ℕ) → IsClosing l query order → AreNew (state start old) reached
+      (map (key_at l.keys) order)
+  new_names old order c = are_new start old Asked reached (map (key_at l.keys) order) (same (no_fault c.none))
+      (new (no_fault c.none) order c.closes)
 
   -- with a part for what is given where there is no fault
   module _ {A : Type 0} (Given : A → Type 0) (now : Shown) (old then : ℕ) (right_now : IsRightTable now) where
-    pub asked_fault : (q : QueryFault) → IsAnswered (table deck) l ends query (Err q) start now old then → IsAsked event fault Given (Err q) start now old then
+    pub asked_fault : (q : QueryFault) → IsAnswered (table deck) l ends query (Err q) start now old then
+        → IsAsked event fault Given (Err q) start now old then
     asked_fault (Name f) (faulty, still) = (
       some,
       subst (λ (p : Shown × ℕ). Follows (event ∷ []) start p.0 old p.1) (λ i. (sym still.shown i, sym still.steps i))
@@ -145,20 +157,24 @@ module _ (event : Event) (fault : Option NameFault) (reached : List Key) (Asked 
     )
       where
         some : fault ≡ Some f
-        some = sym by_name ∙ (ap (option_map (named (table deck) (key_at l.keys) (fault_at ends))) faulty.some ∙ ap Some (sym faulty.by_name))
+        some = sym by_name ∙ (ap (option_map (named (table deck) (key_at l.keys) (fault_at ends))) faulty.some
+            ∙ ap Some (sym faulty.by_name))
     asked_fault (Value v) a = a
     asked_fault OutOfMemory (inl still) =
         subst (λ (p : Shown × ℕ). IsCutOff (event ∷ []) start p.0 old p.1) (λ i. (sym still.shown i, sym still.steps i))
         (cut_off event fault reached start old sound.right is)
     asked_fault OutOfMemory (inr (order, c, some)) =
-        some_cut_off event fault reached start old sound.right is (no_fault c.none) (map (key_at l.keys) order) (new_names old order c) now then some right_now
+        some_cut_off event fault reached start old sound.right is (no_fault c.none) (map (key_at l.keys) order)
+        (new_names old order c) now then some right_now
 
-    pub asked_none : (x : A) (order : List ℕ) → IsClosing l query order → AreAllSettled (map (key_at l.keys) order) start now old then → Given x
+    pub asked_none : (x : A) (order : List ℕ) → IsClosing l query order
+        → AreAllSettled (map (key_at l.keys) order) start now old then → Given x
         → IsAsked event fault Given (Ok x) start now old then
     asked_none x order c all given = (
       no_fault c.none,
       given,
-      all_follow event fault reached start old sound.right is (no_fault c.none) (map (key_at l.keys) order) (new_names old order c) now then all right_now,
+      all_follow event fault reached start old sound.right is (no_fault c.none) (map (key_at l.keys) order)
+          (new_names old order c) now then all right_now,
     )
 
 -- ---- what is reached is settled afterwards
@@ -167,23 +183,30 @@ in_map f [] n i = absurd i
 in_map f (m ∷ ns) n (inl e) = member_first (f n) (f m) (map f ns) (ap f e)
 in_map f (m ∷ ns) n (inr i) = member_later (f n) (f m) (map f ns) (in_map f ns n i)
 
-pub reached_settled : (deck : Contents) (l now : Listed) (r count old then : ℕ) (query : List Step) (order : List ℕ) → IsSound deck l r → AreNodes (table deck) now
+pub reached_settled : (deck : Contents) (l now : Listed) (r count old then : ℕ) (query : List Step) (order : List ℕ)
+    → IsSound deck l r → AreNodes (table deck) now
     → now.keys ≡ l.keys → AreNewlyClosed l.graph l.settled query order
     → AreAllSettled (map (key_at l.keys) order) (shown deck l r) (shown deck now count) old then
     → (n : ℕ) → n < length l.keys → IsReached l.graph query n → IsSettled now.settled n
 reached_settled deck l now r count old then query order sound nodes keys closing all n h reached =
-    number_settled deck now count nodes n (let a : length now.keys ≡ length l.keys = ap length keys in omega arith) kept_now
+    number_settled deck now count nodes n (let a : length now.keys ≡ length l.keys = ap length keys in
+    omega arith) kept_now
   where
-    place : Contains (map (key_at l.keys) order) (key_at l.keys n) ⊎ (map_of.get (shown deck l r).kept (key_at l.keys n) ≡ Some (outcome (table deck) (key_at l.keys n)))
+    place : Contains (map (key_at l.keys) order) (key_at l.keys n) ⊎
+        (map_of.get (shown deck l r).kept (key_at l.keys n) ≡ Some (outcome (table deck) (key_at l.keys n)))
     place = elim (settled_law_holds.asked l.graph l.settled query order closing n reached) [
-      | inl e ↦ inr (some_of (map_of.get (shown deck l r).kept (key_at l.keys n)) (key_settled deck l r sound.numbers n e) (sound.right.right (key_at l.keys n)))
+      | inl e ↦ inr (some_of (map_of.get (shown deck l r).kept (key_at l.keys n))
+          (key_settled deck l r sound.numbers n e) (sound.right.right (key_at l.keys n)))
       | inr i ↦ inl (in_map (key_at l.keys) order n i)
     ]
       where
-        some_of : (o : Option Outcome) → is_some o ≡ true → ((y : Outcome) → o ≡ Some y → y ≡ outcome (table deck) (key_at l.keys n)) → o ≡ Some (outcome (table deck) (key_at l.keys n))
+        some_of : (o : Option Outcome) → is_some o ≡ true
+            → ((y : Outcome) → o ≡ Some y → y ≡ outcome (table deck) (key_at l.keys n))
+            → o ≡ Some (outcome (table deck) (key_at l.keys n))
         some_of None e f = cc
         some_of (Some y) e f = ap Some (f y refl)
 
     kept_now : is_some (map_of.get (shown deck now count).kept (key_at now.keys n)) ≡ true
     kept_now =
-        ap is_some ((λ i. map_of.get (all.shown i).kept (key_at (keys i) n)) ∙ outcomes.put_in (table deck) (map (key_at l.keys) order) (shown deck l r).kept (key_at l.keys n) place)
+        ap is_some ((λ i. map_of.get (all.shown i).kept (key_at (keys i) n))
+        ∙ outcomes.put_in (table deck) (map (key_at l.keys) order) (shown deck l r).kept (key_at l.keys n) place)

@@ -1,5 +1,6 @@
 -- The names below a query get their steps, one name after another.
-use Rattle.std.proofs.Common.{◌≡◌, ◌⊎◌, ◌+◌, ◌<◌, ◌≤◌, ◌||◌, ℕ, zero, suc, Bool, true, false, List, [], ◌∷◌, ◌++◌, set, take, length, Vec, Option, Some, None, nat_eq, refl, sym, ◌∙◌, ap, subst, inl, inr, arith}
+use Rattle.std.proofs.Common.{◌≡◌, ◌⊎◌, ◌+◌, ◌<◌, ◌≤◌, ◌||◌, ℕ, zero, suc, Bool, true, false, List, [], ◌∷◌, ◌++◌, set}
+use Rattle.std.proofs.Common.{take, length, Vec, Option, Some, None, nat_eq, refl, sym, ◌∙◌, ap, subst, inl, inr, arith}
 use Rattle.std.specs.declared.alloc.Global.{Global}
 use Rattle.std.specs.List.{IsDistinct, slice_get}
 use Rattle.std.proofs.lemmas.Bool.{cases_eq, cases_lt, eq-eqb, or_cases}
@@ -22,10 +23,14 @@ use Rattle.live_table.specs.declared.callee.Callee.{Callee}
 use Rattle.live_table.specs.declared.dead_end.DeadEnd.{DeadEnd}
 use Rattle.live_table.specs.Callees.{HasStarts}
 use Rattle.live_table.specs.Explored.{AreExplored, fault_at}
-use Rattle.live_table.specs.Exploring.{AreAdded, AreGrown, AreListed, AreSame, AreWritten, IsKnown, IsWritten, is_known, is_marked, with_steps}
-use Rattle.live_table.specs.Sound.{AreNodes, HasRankOf, HasStartsOf, IsFaithful}
-use Rattle.live_table.specs.Stored.{Listed, key_at}
-use Rattle.live_table.proofs.Growing.{grown_both, grown_none, in_more, key_same, known_within, more_length, take_more, written_more}
+use Rattle.live_table.specs.Exploring.{AreAdded, AreGrown, AreListed, AreSame, AreWritten, IsKnown, IsWritten, is_known}
+use Rattle.live_table.specs.Exploring.{is_marked, with_steps}
+use Rattle.live_table.specs.Looks.{AllLead, AreLooks}
+use Rattle.live_table.specs.Sound.{AreNodes, HasLooksOf}
+use Rattle.live_table.specs.Stored.{Listed, Looks, key_at, looks_of, numbers_in}
+use Rattle.live_table.proofs.Growing.{grown_both, grown_none, in_more, key_same, known_within, more_length, take_more}
+use Rattle.live_table.proofs.Growing.{written_more}
+use Rattle.live_table.proofs.Looking.{looks_more}
 use Rattle.live_table.proofs.Places.{get_lt, some_same}
 
 -- ---- other steps of a name that is not settled
@@ -35,15 +40,22 @@ steps_other g n m v ne = ap items_of (get_set_other g n m v ne)
 steps_same : (g : Graph) (n : ℕ) (v : Vec Step Global) → n < length g → steps (set g n v) n ≡ v.items
 steps_same g n v h = ap items_of (get_set_same g n v h)
 
+looks_other : (g : Looks) (n m : ℕ) (w : Vec ℕ Global) → (m ≡ n → ⊥) → looks_of (set g n w) m ≡ looks_of g m
+looks_other g n m w ne = ap numbers_in (get_set_other g n m w ne)
+
+looks_same : (g : Looks) (n : ℕ) (w : Vec ℕ Global) → n < length g → looks_of (set g n w) n ≡ w.items
+looks_same g n w h = ap numbers_in (get_set_same g n w h)
+
 no_steps : (g : Graph) (x : ℕ) (s : Step) → length g ≤ x → In s (steps g x) → ⊥
 no_steps [] x s h j = j
 no_steps (w ∷ g) zero s h j = absurd (omega arith)
 no_steps (w ∷ g) (suc x) s h j = no_steps g x s (omega arith) j
 
-module _ (t : Table) (l : Listed) (n : ℕ) (c : Callee) (v : Vec Step Global) (nodes : AreNodes t l) (fresh : IsSettled l.settled n → ⊥)
+module _ (t : Table) (l : Listed) (n : ℕ) (c : Callee) (v : Vec Step Global) (w : Vec ℕ Global) (nodes : AreNodes t l)
+    (fresh : IsSettled l.settled n → ⊥)
     (inside : (m : ℕ) → In (To m) v.items → m < length l.keys) where
   abbrev later : Listed
-  later = with_steps n c v l
+  later = with_steps n c v w l
 
   count : length (set l.graph n v) ≡ length l.graph
   count = length-set l.graph n v
@@ -53,18 +65,23 @@ module _ (t : Table) (l : Listed) (n : ℕ) (c : Callee) (v : Vec Step Global) (
 
   range : (a b : ℕ) → In (To b) (steps (set l.graph n v) a) → b < length (set l.graph n v)
   range a b i = elim (cases_eq a n) [
-    | inl q ↦ let z : b < length l.graph = at_n q i in let s : length (set l.graph n v) ≡ length l.graph = count in omega arith
+    | inl q ↦ let z : b < length l.graph = at_n q i in let s : length (set l.graph n v) ≡ length l.graph = count in
+        omega arith
     | inr ne ↦
-        let z : b < length l.graph = nodes.net.range a b (subst (λ (xs : List Step). In (To b) xs) (steps_other l.graph n a v ne) i) in
+        let z : b < length l.graph =
+        nodes.net.range a b (subst (λ (xs : List Step). In (To b) xs) (steps_other l.graph n a v ne) i) in
         let s : length (set l.graph n v) ≡ length l.graph = count in omega arith
   ]
     where
       at_n : a ≡ n → In (To b) (steps (set l.graph n v) a) → b < length l.graph
       at_n q j = elim (cases_lt n (length l.graph)) [
         | inl h ↦
-            let z : b < length l.keys = inside b (subst (λ (xs : List Step). In (To b) xs) (ap (steps (set l.graph n v)) q ∙ steps_same l.graph n v h) j) in
+            let z : b < length l.keys =
+            inside b (subst (λ (xs : List Step). In (To b) xs)
+            (ap (steps (set l.graph n v)) q ∙ steps_same l.graph n v h) j) in
             let s : length l.graph ≡ length l.keys = nodes.step_count in omega arith
-        | inr h ↦ absurd (no_steps (set l.graph n v) a (To b) (let s : length (set l.graph n v) ≡ length l.graph = count in omega (arith, q)) j)
+        | inr h ↦ absurd (no_steps (set l.graph n v) a (To b)
+            (let s : length (set l.graph n v) ≡ length l.graph = count in omega (arith, q)) j)
       ]
 
   pub stepped_nodes : AreNodes t later
@@ -72,6 +89,9 @@ module _ (t : Table) (l : Listed) (n : ℕ) (c : Callee) (v : Vec Step Global) (
     step_count = count ∙ nodes.step_count;
     outcome_count = nodes.outcome_count;
     callee_count = length-set l.callees n c ∙ nodes.callee_count;
+    look_count = length-set l.looks n w ∙ nodes.look_count;
+    flagged = nodes.flagged;
+    counted = nodes.counted;
     marked = nodes.marked;
     apart = nodes.apart;
     net = record {
@@ -82,14 +102,25 @@ module _ (t : Table) (l : Listed) (n : ℕ) (c : Callee) (v : Vec Step Global) (
           (λ m. ((λ e. e), (λ e. e))) (λ m e. steps_other l.graph n m v (not_n m e));
     };
     present = nodes.present;
-    faithful = λ m e ends. subst (λ (xs : List Step). AreWords t (key_at l.keys) ends (key_words t (key_at l.keys m)) xs)
+    faithful = λ m e ends.
+        subst (λ (xs : List Step). AreWords t (key_at l.keys) ends (key_words t (key_at l.keys m)) xs)
         (sym (steps_other l.graph n m v (not_n m e))) (nodes.faithful m e ends);
-    starts = λ m e entry callee at is. nodes.starts m e entry callee at (sym (get_set_other l.callees n m c (not_n m e)) ∙ is);
+    starts = λ m e entry callee at is. nodes.starts m e entry callee at
+        (sym (get_set_other l.callees n m c (not_n m e)) ∙ is);
     ranks = λ m e callee is. nodes.ranks m e callee (sym (get_set_other l.callees n m c (not_n m e)) ∙ is);
+    looked = λ m e.
+        let h = nodes.looked m e in
+        record {
+          looks = subst (λ (p : List Step × List ℕ). AreLooks t l.keys (key_words t (key_at l.keys m)) p.0 p.1)
+              (λ i. (sym (steps_other l.graph n m v (not_n m e)) i, sym (looks_other l.looks n m w (not_n m e)) i))
+              h.looks;
+          once = subst (IsDistinct nat_eq) (sym (looks_other l.looks n m w (not_n m e))) h.once;
+        };
   }
 
 -- a name on the list gets its steps, behind what was added for its words
-module _ (t : Table) (l m : Listed) (here there : List ℕ) (ends more : List DeadEnd) (n : ℕ) (c : Callee) (v : Vec Step Global)
+module _ (t : Table) (l m : Listed) (here there : List ℕ) (ends more : List DeadEnd) (n : ℕ) (c : Callee)
+    (v : Vec Step Global) (w : Vec ℕ Global)
     (added : AreAdded t l m here there ends more) (right : AreListed t l here) (is_listed : In n here)
     (written : AreWritten t m there more (key_words t (key_at l.keys n)) v.items) where
   in_there : In n there
@@ -104,9 +135,9 @@ module _ (t : Table) (l m : Listed) (here there : List ℕ) (ends more : List De
   longer : length l.keys ≤ length m.keys
   longer = more_length l.keys m.keys added.grown.keys_more
 
-  pub stepped_grown : AreGrown t l (with_steps n c v m) here there ends more
+  pub stepped_grown : AreGrown t l (with_steps n c v w m) here there ends more
   stepped_grown = record {
-    nodes = stepped_nodes t m n c v added.grown.nodes (added.grown.listed.fresh n in_there) inside;
+    nodes = stepped_nodes t m n c v w added.grown.nodes (added.grown.listed.fresh n in_there) inside;
     kept = added.grown.kept;
     listed = record {
       within = added.grown.listed.within;
@@ -120,34 +151,52 @@ module _ (t : Table) (l m : Listed) (here there : List ℕ) (ends more : List De
     ends_more = added.grown.ends_more;
   }
 
-  pub stepped_same : AreSame (λ q. q ≡ n → ⊥) l (with_steps n c v m)
+  pub stepped_same : AreSame (λ q. q ≡ n → ⊥) l (with_steps n c v w m)
   stepped_same = record {
     steps = λ q h ne. steps_other m.graph n q v ne ∙ added.same.steps q h tt;
     callees = λ q h ne. get_set_other m.callees n q c ne ∙ added.same.callees q h tt;
+    looks = λ q h ne. looks_other m.looks n q w ne ∙ added.same.looks q h tt;
   }
 
   same_key : key_at m.keys n ≡ key_at l.keys n
   same_key = key_same l.keys m.keys n added.grown.keys_more in_keys
 
   in_graph : n < length m.graph
-  in_graph = let a : length m.graph ≡ length m.keys = added.grown.nodes.step_count in let b : length l.keys ≤ length m.keys = longer in let h : n < length l.keys = in_keys in omega arith
+  in_graph = let a : length m.graph ≡ length m.keys = added.grown.nodes.step_count in
+      let b : length l.keys ≤ length m.keys = longer in let h : n < length l.keys = in_keys in omega arith
 
   in_callees : n < length m.callees
-  in_callees = let a : length m.callees ≡ length m.keys = added.grown.nodes.callee_count in let b : length l.keys ≤ length m.keys = longer in let h : n < length l.keys = in_keys in omega arith
+  in_callees = let a : length m.callees ≡ length m.keys = added.grown.nodes.callee_count in
+      let b : length l.keys ≤ length m.keys = longer in let h : n < length l.keys = in_keys in omega arith
 
-  pub stepped_written : ((e : Entry) → entry_at t (key_at l.keys n) ≡ Some e → HasStarts e.what c) → IsWritten t (with_steps n c v m) there more n
-  stepped_written starts = record {
-    steps = subst (λ (p : Key × List Step). AreWritten t (with_steps n c v m) there more (key_words t p.0) p.1)
+  in_looks : n < length m.looks
+  in_looks = let a : length m.looks ≡ length m.keys = added.grown.nodes.look_count in
+      let b : length l.keys ≤ length m.keys = longer in let h : n < length l.keys = in_keys in omega arith
+
+  pub stepped_written : ((e : Entry) → entry_at t (key_at l.keys n) ≡ Some e → HasStarts e.what c)
+      → (AllLead v.items → AreLooks t m.keys (key_words t (key_at l.keys n)) v.items w.items)
+      → IsDistinct nat_eq w.items
+      → IsWritten t (with_steps n c v w m) there more n
+  stepped_written starts looks once = record {
+    steps = subst (λ (p : Key × List Step). AreWritten t (with_steps n c v w m) there more (key_words t p.0) p.1)
         (λ i. (sym same_key i, sym (steps_same m.graph n v in_graph) i))
         (record { words = written.words; targets = written.targets; nowhere = written.nowhere });
-    starts = λ e callee at is. subst (HasStarts e.what) (own callee is) (starts e (ap (entry_at t) (sym same_key) ∙ at));
+    starts = λ e callee at is. subst (HasStarts e.what) (own callee is)
+        (starts e (ap (entry_at t) (sym same_key) ∙ at));
+    looks = λ all. record {
+      looks = subst (λ (p : Key × (List Step × List ℕ)). AreLooks t m.keys (key_words t p.0) p.1.0 p.1.1)
+          (λ i. (sym same_key i, (sym (steps_same m.graph n v in_graph) i, sym (looks_same m.looks n w in_looks) i)))
+          (looks (subst AllLead (steps_same m.graph n v in_graph) all));
+      once = subst (IsDistinct nat_eq) (sym (looks_same m.looks n w in_looks)) once;
+    };
   }
     where
       own : (callee : Callee) → slice_get (set m.callees n c) n ≡ Some callee → c ≡ callee
       own callee is = some_same c callee (sym (get_set_same m.callees n c in_callees) ∙ is)
 
 -- ---- where the loop stands
-pub record IsExploring (t : Table) (old now : Listed) (here list : List ℕ) (ends more : List DeadEnd) (place : ℕ) : Type 0 where
+pub record IsExploring (t : Table) (old now : Listed) (here list : List ℕ) (ends more : List DeadEnd) (place : ℕ) : Type
+    0 where
   pub grown : AreGrown t old now here list ends more
   pub gone : (n : ℕ) → In n (take place list) → IsWritten t now list more n
   pub within : place ≤ length list
@@ -178,19 +227,40 @@ distinct_at (x ∷ ns) (suc i) n d e (inl q) =
 
 module _ (t : Table) (old now m : Listed) (here list there : List ℕ) (ends more most : List DeadEnd) (place n : ℕ)
     (is : slice_get list place ≡ Some n) (s : IsExploring t old now here list ends more place)
-    (grown : AreGrown t now m list there more most) (same : AreSame (λ q. q ≡ n → ⊥) now m) (written : IsWritten t m there most n) where
+    (grown : AreGrown t now m list there more most) (same : AreSame (λ q. q ≡ n → ⊥) now m)
+    (written : IsWritten t m there most n) where
   pub listed_now : In n list
   listed_now = get_In list place n is
 
+  looks_still : (x : ℕ) → In x (take place list) → x < length now.keys → (x ≡ n → ⊥) → HasLooksOf t now x
+      → HasLooksOf t m x
+  looks_still x i h ne own = record {
+    looks = subst (λ (p : Key × (List Step × List ℕ)). AreLooks t m.keys (key_words t p.0) p.1.0 p.1.1)
+        (λ j. (
+          sym (key_same now.keys m.keys x grown.keys_more h)
+              j,
+          (sym (same.steps x h ne) j, sym (same.looks x h ne) j),
+        ))
+        (looks_more t now.keys m.keys (key_words t (key_at now.keys x)) (steps now.graph x) (looks_of now.looks x)
+        grown.keys_more
+        (λ q j. known_within t now list s.grown.nodes s.grown.listed q ((s.gone x i).steps.targets q j)) own.looks);
+    once = subst (IsDistinct nat_eq) (sym (same.looks x h ne)) own.once;
+  }
+
   gone_old : (x : ℕ) → In x (take place list) → IsWritten t m there most x
   gone_old x i =
-      let ne : x ≡ n → ⊥ = (λ q. distinct_at list place n s.grown.listed.once is (subst (λ (y : ℕ). In y (take place list)) q i)) in
+      let ne : x ≡ n → ⊥ = (λ q. distinct_at list place n s.grown.listed.once is
+      (subst (λ (y : ℕ). In y (take place list)) q i)) in
       let h : x < length now.keys = s.grown.listed.within x (in_take place list x i) in
       record {
         steps = subst (λ (p : Key × List Step). AreWritten t m there most (key_words t p.0) p.1)
             (λ j. (sym (key_same now.keys m.keys x grown.keys_more h) j, sym (same.steps x h ne) j))
-            (written_more t now m list there more most s.grown.nodes s.grown.listed grown (key_words t (key_at now.keys x)) (steps now.graph x) (s.gone x i).steps);
-        starts = λ e callee at is. (s.gone x i).starts e callee (ap (entry_at t) (sym (key_same now.keys m.keys x grown.keys_more h)) ∙ at) (sym (same.callees x h ne) ∙ is);
+            (written_more t now m list there more most s.grown.nodes s.grown.listed grown
+            (key_words t (key_at now.keys x)) (steps now.graph x) (s.gone x i).steps);
+        starts = λ e callee at is.
+            (s.gone x i).starts e callee (ap (entry_at t) (sym (key_same now.keys m.keys x grown.keys_more h)) ∙ at)
+            (sym (same.callees x h ne) ∙ is);
+        looks = λ all. looks_still x i h ne ((s.gone x i).looks (subst AllLead (same.steps x h ne) all));
       }
 
   enough : place < length list
@@ -199,7 +269,8 @@ module _ (t : Table) (old now m : Listed) (here list there : List ℕ) (ends mor
   taken : take (place + 1) there ≡ take place list ++ n ∷ []
   taken =
       take_at there place n (grown.list_more place n is)
-      ∙ ap (λ (xs : List ℕ). xs ++ n ∷ []) (take_more list there place grown.list_more (let e : place < length list = enough in omega arith))
+      ∙ ap (λ (xs : List ℕ). xs ++ n ∷ [])
+      (take_more list there place grown.list_more (let e : place < length list = enough in omega arith))
 
   pub exploring_next : IsExploring t old m here there ends most (place + 1)
   exploring_next = record {
@@ -250,19 +321,23 @@ module _ (t : Table) (old now : Listed) (here list : List ℕ) (ends more : List
   pub explored_all : AreExplored t now more known
   explored_all = record {
     numbered = record {
-      within = λ n k. let h : n < length now.keys = is_within n k in let c : length now.graph ≡ length now.keys = s.grown.nodes.step_count in omega arith;
+      within = λ n k. let h : n < length now.keys = is_within n k in
+          let c : length now.graph ≡ length now.keys = s.grown.nodes.step_count in omega arith;
       below = λ n q k i. elim (from_known now list n k) [
         | inl e ↦ to_known now list q (inl ((s.grown.nodes.net.settled n e).1 q i))
         | inr j ↦ to_known now list q ((is_gone n j).steps.targets q i)
       ];
       apart = λ n q k j e. s.grown.nodes.apart n q (is_within n k) (is_within q j) e;
-      present = λ n k. elim (from_known now list n k) [ inl e ↦ s.grown.nodes.present n e | inr j ↦ s.grown.listed.present n j ];
+      present = λ n k. elim (from_known now list n k)
+          [ inl e ↦ s.grown.nodes.present n e | inr j ↦ s.grown.listed.present n j ];
       faithful = λ n k. elim (from_known now list n k) [
         | inl e ↦ s.grown.nodes.faithful n e (fault_at more)
         | inr j ↦ (is_gone n j).steps.words
       ];
     };
     starts = λ n k. elim (from_known now list n k) [ inl e ↦ s.grown.nodes.starts n e | inr j ↦ (is_gone n j).starts ];
+    looks = λ n k all. elim (from_known now list n k)
+        [ inl e ↦ s.grown.nodes.looked n e | inr j ↦ (is_gone n j).looks all ];
   }
 
 -- after the last place there is nothing

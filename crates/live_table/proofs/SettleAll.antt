@@ -16,7 +16,7 @@ use Rattle.live_table.specs.Shown.{Shown}
 use Rattle.live_table.specs.Sound.{IsSound}
 use Rattle.live_table.specs.States.{Kept, with_outcomes}
 use Rattle.live_table.specs.Stored.{Listed, key_at, shown}
-use Rattle.live_table.proofs.Places.{drop_at, take_at}
+use Rattle.name_walk.proofs.Lists.{drop_at, take_at}
 
 -- ---- outcomes put in one behind another
 with_more : (t : Table) (ks : List Key) (k : Key) (m : Kept)

@@ -40,14 +40,16 @@ use Rattle.live_table.specs.Right.{IsRight}
 use Rattle.live_table.specs.Right as right_of
 use Rattle.live_table.specs.Scenes.{IsLed}
 use Rattle.live_table.specs.Shown.{IsRightTable, Shown, state}
-use Rattle.live_table.specs.Sound.{AreNodes, HasRankOf, HasStartsOf, IsFaithful, IsSound}
+use Rattle.live_table.specs.Sound.{AreNodes, HasLooksOf, HasRankOf, HasStartsOf, IsFaithful, IsSound}
 use Rattle.live_table.specs.States.{AsksKey, State, after_query, with_settled}
 use Rattle.live_table.specs.Stored.{Listed, kept_of, key_at, shown}
 use Rattle.live_table.specs.Surrounded.{IsSurrounding, scene}
+use Rattle.live_table.proofs.Flags.{count_set}
 use Rattle.live_table.proofs.Kept.{key_settled, no_outcome, number_settled, put_at}
 use Rattle.live_table.proofs.New.{new_law}
 use Rattle.live_table.proofs.Events.{one_step}
-use Rattle.live_table.proofs.Places.{element, get_lt, get_set_other, get_set_same, some_same}
+use Rattle.name_walk.proofs.Marks.{get_set_other, get_set_same}
+use Rattle.live_table.proofs.Places.{element, get_lt, some_same}
 use Rattle.live_table.proofs.Telling.{at_hand_settled, key_settled_words, led_by}
 use Rattle.live_table.proofs.ToldWords.{IsLedBy}
 
@@ -233,11 +235,18 @@ module _ (deck : Contents) (l : Listed) (r n : ℕ) (sound : IsSound deck l r) (
         (λ d at. subst (HasRank (key_meaning (table deck) the_key)) (some_same c d (sym callee_there ∙ at)) rank)
     rank_of m (inr e) = λ d at. sound.numbers.ranks m e.1 d (sym (get_set_other l.callees n m c e.0) ∙ at)
 
+    looked_of : (m : ℕ) → Known m → HasLooksOf (table deck) l m
+    looked_of m (inl e) = subst (HasLooksOf (table deck) l) (sym e) due.looks
+    looked_of m (inr e) = sound.numbers.looked m e.1
+
     nodes_after : AreNodes (table deck) (with_outcome n o c l)
     nodes_after = record {
       step_count = sound.numbers.step_count;
       outcome_count = length-set l.outcomes n (Some o) ∙ sound.numbers.outcome_count;
       callee_count = length-set l.callees n c ∙ sound.numbers.callee_count;
+      look_count = sound.numbers.look_count;
+      flagged = sound.numbers.flagged;
+      counted = ap (λ k. k + 1) sound.numbers.counted ∙ sym (count_set l.settled n due.fresh);
       marked =
           ap (λ (bs : List Bool). set bs n true) sound.numbers.marked ∙ sym (map-set is_some l.outcomes n (Some o));
       apart = sound.numbers.apart;
@@ -250,6 +259,9 @@ module _ (deck : Contents) (l : Listed) (r n : ℕ) (sound : IsSound deck l r) (
       faithful = λ m e. faithful_of m (set_from m e);
       starts = λ m e. starts_of m (set_from m e);
       ranks = λ m e. rank_of m (set_from m e);
+      looked = λ m e.
+          let h = looked_of m (set_from m e) in
+          record { looks = h.looks; once = h.once };
     }
 
     pub sound_after : IsSound deck (with_outcome n o c l) now

@@ -21,6 +21,9 @@ module _ (deck : Contents) where
       step_count = refl;
       outcome_count = refl;
       callee_count = refl;
+      look_count = refl;
+      flagged = refl;
+      counted = refl;
       marked = refl;
       apart = λ n m h k e. absurd (omega arith);
       net = record { range = λ n m i. absurd i; size = refl; settled = λ n e. cc };
@@ -28,6 +31,7 @@ module _ (deck : Contents) where
       faithful = λ n e. cc;
       starts = λ n e. cc;
       ranks = λ n e. cc;
+      looked = λ n e. cc;
     };
     right = record {
       present = λ n e. absurd (none_settled n e);

@@ -52,7 +52,8 @@ use Rattle.live_table.specs.Surrounded.{scene, words_of}
 use Rattle.live_table.proofs.DeckTables.{fits_kinds}
 use Rattle.live_table.proofs.Kept.{key_settled, right_outcome, settled_within}
 use Rattle.live_table.proofs.Parts.{IsStepped, part_stands, word_at}
-use Rattle.live_table.proofs.Places.{element, get_In, get_lt, some_same}
+use Rattle.name_walk.proofs.Lists.{get_In}
+use Rattle.live_table.proofs.Places.{element, get_lt, some_same}
 use Rattle.live_table.proofs.ToldWords.{IsLedBy, callee_from, callee_name, callee_when, is_its_callee, settled_from}
 use Rattle.live_table.proofs.ToldWords.{settled_to, to_first}
 

@@ -1,5 +1,6 @@
 -- Steps of words, one word behind another.
-use Rattle.std.proofs.Common.{◌≡◌, ◌⊎◌, ◌+◌, ◌<◌, ℕ, true, false, List, [], ◌∷◌, ◌++◌, take, length, Option, Some, refl, sym, ◌∙◌, ap, subst, inl, inr, arith, length-append}
+use Rattle.std.proofs.Common.{◌≡◌, ◌⊎◌, ◌+◌, ◌<◌, ℕ, true, false, List, [], ◌∷◌, ◌++◌, take, length, Option, Some, refl}
+use Rattle.std.proofs.Common.{sym, ◌∙◌, ap, subst, inl, inr, arith, length-append}
 use Rattle.std.specs.Prelude.{Contains, IfOk, Result, Ok, Err}
 use Rattle.std.specs.List.{slice_get}
 use Rattle.std.proofs.lemmas.List.{append_assoc}
@@ -21,15 +22,13 @@ use Rattle.live_table.specs.Explored.{fault_at, fault_of}
 use Rattle.live_table.specs.Exploring.{AreAdded, AreListed, AreWritten, AreWrittenBehind, IsKnown}
 use Rattle.live_table.specs.Sound.{AreNodes}
 use Rattle.live_table.specs.Stored.{Listed, key_at}
-use Rattle.live_table.proofs.Growing.{added_both, written_more}
+use Rattle.live_table.specs.Looks.{AllLead, AreLooks}
+use Rattle.live_table.proofs.Growing.{added_both, known_within, written_more}
+use Rattle.live_table.proofs.Looking.{in_both, lead_left, lead_right, looks_behind, looks_more}
 
 -- ---- one word behind others
-in_both : (xs ys : List Step) (s : Step) → In s (xs ++ ys) → In s xs ⊎ In s ys
-in_both [] ys s i = inr i
-in_both (x ∷ xs) ys s (inl e) = inl (inl e)
-in_both (x ∷ xs) ys s (inr i) = elim (in_both xs ys s i) [ inl j ↦ inl (inr j) | inr j ↦ inr j ]
-
-words_behind : (t : Table) (key : ℕ → Key) (ends : ℕ → Option Key → NameFault) (us vs : List WordUse) (xs ys : List Step)
+words_behind : (t : Table) (key : ℕ → Key) (ends : ℕ → Option Key → NameFault) (us vs : List WordUse)
+    (xs ys : List Step)
     → AreWords t key ends us xs → AreWords t key ends vs ys → AreWords t key ends (us ++ vs) (xs ++ ys)
 words_behind t key ends [] vs [] ys w v = v
 words_behind t key ends [] vs (x ∷ xs) ys w v = absurd w
@@ -37,7 +36,8 @@ words_behind t key ends (u ∷ us) vs [] ys w v = absurd w
 words_behind t key ends (u ∷ us) vs (x ∷ []) ys w v = absurd w
 words_behind t key ends (u ∷ us) vs (x ∷ y ∷ xs) ys w v = (w.0, words_behind t key ends us vs xs ys w.1 v)
 
-pub written_behind : (t : Table) (l : Listed) (list : List ℕ) (ends : List DeadEnd) (us vs : List WordUse) (xs ys : List Step)
+pub written_behind : (t : Table) (l : Listed) (list : List ℕ) (ends : List DeadEnd) (us vs : List WordUse)
+    (xs ys : List Step)
     → AreWritten t l list ends us xs → AreWritten t l list ends vs ys → AreWritten t l list ends (us ++ vs) (xs ++ ys)
 written_behind t l list ends us vs xs ys a b = record {
   words = words_behind t (key_at l.keys) (fault_at ends) us vs xs ys a.words b.words;
@@ -45,28 +45,47 @@ written_behind t l list ends us vs xs ys a b = record {
   nowhere = λ n i. elim (in_both xs ys (Nowhere n) i) [ inl j ↦ a.nowhere n j | inr j ↦ b.nowhere n j ];
 }
 
-pub written_none : (t : Table) (l : Listed) (list : List ℕ) (ends : List DeadEnd) (xs : List Step) → xs ≡ [] → AreWritten t l list ends [] xs
+pub written_none : (t : Table) (l : Listed) (list : List ℕ) (ends : List DeadEnd) (xs : List Step) → xs ≡ []
+    → AreWritten t l list ends [] xs
 written_none t l list ends xs e =
-    subst (AreWritten t l list ends []) (sym e) (record { words = tt; targets = λ n i. absurd i; nowhere = λ n i. absurd i })
+    subst (AreWritten t l list ends []) (sym e)
+    (record { words = tt; targets = λ n i. absurd i; nowhere = λ n i. absurd i })
 
 -- ---- where the loop over words stands
-pub record IsPutting (t : Table) (old now : Listed) (here list : List ℕ) (ends more : List DeadEnd) (us : List WordUse) (xs : List Step) (i : ℕ) : Type 0 where
+pub record IsPutting (t : Table) (old now : Listed) (here list : List ℕ) (ends more : List DeadEnd) (gathered : List ℕ)
+    (us : List WordUse) (xs : List Step) (i : ℕ) : Type 0 where
   pub added : AreAdded t old now here list ends more
   pub written : AreWritten t now list more (take i us) xs
+  pub looks : AllLead xs → AreLooks t now.keys (take i us) xs gathered
 
-pub putting_next : (t : Table) (old now m : Listed) (here list there : List ℕ) (ends more most : List DeadEnd) (us : List WordUse) (xs ys : List Step) (i : ℕ) (u : WordUse)
-    → slice_get us i ≡ Some u → IsPutting t old now here list ends more us xs i → AreAdded t now m list there more most
-    → AreWrittenBehind t m there most u xs ys → IsPutting t old m here there ends most us ys (i + 1)
-putting_next t old now m here list there ends more most us xs ys i u at s a (zs, e, w) = record {
+pub putting_next : (t : Table) (old now m : Listed) (here list there : List ℕ) (ends more most : List DeadEnd)
+    (before after : List ℕ) (us : List WordUse) (xs ys : List Step) (i : ℕ) (u : WordUse)
+    → slice_get us i ≡ Some u → IsPutting t old now here list ends more before us xs i
+    → AreAdded t now m list there more most
+    → AreWrittenBehind t m there most before after u xs ys → IsPutting t old m here there ends most after us ys (i + 1)
+putting_next t old now m here list there ends more most before after us xs ys i u at s a w = record {
   added = added_both t old now m here list there ends more most s.added a;
-  written = subst (λ (p : List WordUse × List Step). AreWritten t m there most p.0 p.1) (λ j. (sym (take_at us i u at) j, sym e j))
-      (written_behind t m there most (take i us) (u ∷ []) xs zs
-      (written_more t now m list there more most s.added.grown.nodes s.added.grown.listed a.grown (take i us) xs s.written) w);
+  written = subst (λ (p : List WordUse × List Step). AreWritten t m there most p.0 p.1)
+      (λ j. (sym (take_at us i u at) j, sym w.behind j))
+      (written_behind t m there most (take i us) (u ∷ []) xs w.own
+      (written_more t now m list there more most s.added.grown.nodes s.added.grown.listed a.grown
+      (take i us) xs s.written) w.written);
+  looks = λ all.
+      let led : AllLead (xs ++ w.own) = subst AllLead w.behind all in
+      subst (λ (p : List WordUse × List Step). AreLooks t m.keys p.0 p.1 after)
+      (λ j. (sym (take_at us i u at) j, sym w.behind j))
+      (looks_behind t m.keys (take i us) u xs w.own before after
+      (looks_more t now.keys m.keys (take i us) xs before a.grown.keys_more inside (s.looks (lead_left xs w.own led)))
+      (w.looks (lead_right xs w.own led)));
 }
+  where
+    inside : (q : ℕ) → In (To q) xs → q < length now.keys
+    inside q j = known_within t now list s.added.grown.nodes s.added.grown.listed q (s.written.targets q j)
 
 -- ---- the steps of one word
 module _ (t : Table) (l : Listed) (list : List ℕ) (u : WordUse) where
-  last_end : (ends : List DeadEnd) (b : DeadEnd) (holder : Option Key) → fault_at (ends ++ b ∷ []) (length ends) holder ≡ fault_of (Some b) holder
+  last_end : (ends : List DeadEnd) (b : DeadEnd) (holder : Option Key)
+      → fault_at (ends ++ b ∷ []) (length ends) holder ≡ fault_of (Some b) holder
   last_end [] b holder = refl
   last_end (x ∷ ends) b holder = last_end ends b holder
 
@@ -83,7 +102,8 @@ module _ (t : Table) (l : Listed) (list : List ℕ) (u : WordUse) where
   place_is b c (inr (inl e)) = same_place b c e
   place_is b c (inr (inr i)) = absurd i
 
-  dead_written : (ends : List DeadEnd) (b : DeadEnd) → IsWord t (key_at l.keys) (fault_at (ends ++ b ∷ [])) u (Nowhere (length ends)) (Nowhere (length ends))
+  dead_written : (ends : List DeadEnd) (b : DeadEnd) → IsWord t (key_at l.keys) (fault_at (ends ++ b ∷ [])) u
+      (Nowhere (length ends)) (Nowhere (length ends))
       → AreWritten t l list (ends ++ b ∷ []) (u ∷ []) (Nowhere (length ends) ∷ Nowhere (length ends) ∷ [])
   dead_written ends b s = record {
     words = (s, tt);
@@ -93,30 +113,36 @@ module _ (t : Table) (l : Listed) (list : List ℕ) (u : WordUse) where
         let h : length (ends ++ b ∷ []) ≡ length ends + 1 = length-append ends (b ∷ []) in omega arith;
   }
 
-  moved : (ends more : List DeadEnd) (b : DeadEnd) (x y : Step) → more ≡ ends ++ b ∷ [] → x ≡ Nowhere (length ends) → y ≡ Nowhere (length ends)
+  moved : (ends more : List DeadEnd) (b : DeadEnd) (x y : Step) → more ≡ ends ++ b ∷ [] → x ≡ Nowhere (length ends)
+      → y ≡ Nowhere (length ends)
       → AreWritten t l list (ends ++ b ∷ []) (u ∷ []) (Nowhere (length ends) ∷ Nowhere (length ends) ∷ [])
       → AreWritten t l list more (u ∷ []) (x ∷ y ∷ [])
   moved ends more b x y e p q w =
-      subst (λ (s : List DeadEnd × List Step). AreWritten t l list s.0 (u ∷ []) s.1) (λ i. (sym e i, sym p i ∷ sym q i ∷ [])) w
+      subst (λ (s : List DeadEnd × List Step). AreWritten t l list s.0 (u ∷ []) s.1)
+      (λ i. (sym e i, sym p i ∷ sym q i ∷ [])) w
 
   pub refused_written : (ends more : List DeadEnd) (x y : Step) → is_refused u.text ≡ true
-      → more ≡ ends ++ record { text = u.text; is_refused = true } ∷ [] → x ≡ Nowhere (length ends) → y ≡ Nowhere (length ends)
+      → more ≡ ends ++ record { text = u.text; is_refused = true } ∷ [] → x ≡ Nowhere (length ends)
+      → y ≡ Nowhere (length ends)
       → AreWritten t l list more (u ∷ []) (x ∷ y ∷ [])
   refused_written ends more x y is e p q =
       let b : DeadEnd = record { text = u.text; is_refused = true } in
       moved ends more b x y e p q (dead_written ends b (ForRefused (length ends) is (λ holder. last_end ends b holder)))
 
   pub unknown_written : (ends more : List DeadEnd) (x y : Step) → is_refused u.text ≡ false → targets t u ≡ []
-      → more ≡ ends ++ record { text = u.text; is_refused = false } ∷ [] → x ≡ Nowhere (length ends) → y ≡ Nowhere (length ends)
+      → more ≡ ends ++ record { text = u.text; is_refused = false } ∷ [] → x ≡ Nowhere (length ends)
+      → y ≡ Nowhere (length ends)
       → AreWritten t l list more (u ∷ []) (x ∷ y ∷ [])
   unknown_written ends more x y fine none e p q =
       let b : DeadEnd = record { text = u.text; is_refused = false } in
-      moved ends more b x y e p q (dead_written ends b (ForUnknown (length ends) fine none (λ holder. last_end ends b holder)))
+      moved ends more b x y e p q
+      (dead_written ends b (ForUnknown (length ends) fine none (λ holder. last_end ends b holder)))
 
   same_number : (n m : ℕ) → To n ≡ To m → n ≡ m
   same_number n m q = cc
 
-  targets_known : (n m : ℕ) → IsKnown l list n → IsKnown l list m → (r : ℕ) → In (To r) (To n ∷ To m ∷ []) → IsKnown l list r
+  targets_known : (n m : ℕ) → IsKnown l list n → IsKnown l list m → (r : ℕ) → In (To r) (To n ∷ To m ∷ [])
+      → IsKnown l list r
   targets_known n m a b r (inl e) = subst (IsKnown l list) (sym (same_number r n e)) a
   targets_known n m a b r (inr (inl e)) = subst (IsKnown l list) (sym (same_number r m e)) b
   targets_known n m a b r (inr (inr i)) = absurd i
@@ -139,12 +165,16 @@ pub one_present : (t : Table) (u : WordUse) (k : Key) → targets t u ≡ k ∷ 
 one_present t u k e = target_present t u k (subst (λ (ks : List Key). Contains ks k) (sym e) (member_first k k [] refl))
 
 pub first_present : (t : Table) (u : WordUse) (k l : Key) → targets t u ≡ k ∷ l ∷ [] → is_present t k ≡ true
-first_present t u k l e = target_present t u k (subst (λ (ks : List Key). Contains ks k) (sym e) (member_first k k (l ∷ []) refl))
+first_present t u k l e =
+    target_present t u k (subst (λ (ks : List Key). Contains ks k) (sym e) (member_first k k (l ∷ []) refl))
 
 pub second_present : (t : Table) (u : WordUse) (k l : Key) → targets t u ≡ k ∷ l ∷ [] → is_present t l ≡ true
-second_present t u k l e = target_present t u l (subst (λ (ks : List Key). Contains ks l) (sym e) (member_later l k (l ∷ []) (member_first l l [] refl)))
+second_present t u k l e =
+    target_present t u l (subst (λ (ks : List Key). Contains ks l) (sym e)
+    (member_later l k (l ∷ []) (member_first l l [] refl)))
 
 -- ---- facts of an answer
-pub all_ok : {A E : Type 0} (r : Result A E) (P Q R S : A → Type 0) → IfOk r P → IfOk r Q → IfOk r R → ((x : A) → P x → Q x → R x → S x) → IfOk r S
+pub all_ok : {A E : Type 0} (r : Result A E) (P Q R S : A → Type 0) → IfOk r P → IfOk r Q → IfOk r R
+    → ((x : A) → P x → Q x → R x → S x) → IfOk r S
 all_ok (Ok x) P Q R S p q r f = f x p q r
 all_ok (Err e) P Q R S p q r f = p

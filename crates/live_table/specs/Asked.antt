@@ -1,5 +1,6 @@
 -- What asking for names does to a live table.
-use Rattle.std.specs.Prelude.{◌≡◌, ◌⊎◌, ◌+◌, ◌^◌, ◌-◌, ◌≤◌, ℕ, min, List, [], ◌∷◌, map, take, length, Option, Some, None, Result, Ok, Err}
+use Rattle.std.specs.Prelude.{◌≡◌, ◌⊎◌, ◌+◌, ◌^◌, ◌-◌, ◌≤◌, ℕ, min, List, [], ◌∷◌, map, take, length, Option, Some}
+use Rattle.std.specs.Prelude.{None, Result, Ok, Err}
 use Rattle.std.specs.declared.alloc.AllocError.{AllocError}
 use Rattle.def_entry.specs.declared.key.Key.{Key}
 use Rattle.deck.specs.Tables.{table}
@@ -44,7 +45,8 @@ AreSettledBy keys (Ok _) before now old new = AreAllSettled keys before now old 
 AreSettledBy keys (Err _) before now old new = AreSomeSettled keys before now old new
 
 -- names were asked for that have this name fault: none, and they are settled; or it; or want of memory
-abbrev pub IsAsked : {A : Type 0} → Event → Option NameFault → (A → Type 0) → Result A QueryFault → Shown → Shown → ℕ → ℕ → Type 0
+abbrev pub IsAsked : {A : Type 0} → Event → Option NameFault → (A → Type 0) → Result A QueryFault → Shown → Shown → ℕ
+    → ℕ → Type 0
 IsAsked event fault Given (Ok x) before now old new = (fault ≡ None) × Given x × Follows (event ∷ []) before now old new
 IsAsked event fault Given (Err (Name f)) before now old new = (fault ≡ Some f) × Follows (event ∷ []) before now old new
 IsAsked event fault Given (Err (Value _)) before now old new = ⊥
@@ -56,10 +58,11 @@ pub record IsClosing (l : Listed) (query : List Step) (order : List ℕ) : Type 
   pub closes : AreNewlyClosed l.graph l.settled query order
 
 -- the fault of a walk, by name
-pub record IsFaulty (table : Table) (l : Listed) (ends : List DeadEnd) (query : List Step) (f : NameFault) : Type 0 where
-  pub fault : walk.NameFault
-  pub some : walk.fault l.graph [] query ≡ Some fault
-  pub by_name : f ≡ named table (key_at l.keys) (fault_at ends) fault
+pub record IsFaulty (table : Table) (l : Listed) (ends : List DeadEnd) (query : List Step) (f : NameFault) : Type 0
+  where
+    pub fault : walk.NameFault
+    pub some : walk.fault l.graph [] query ≡ Some fault
+    pub by_name : f ≡ named table (key_at l.keys) (fault_at ends) fault
 
 -- nothing changes
 pub record IsStill (before now : Shown) (old new : ℕ) : Type 0 where
@@ -67,10 +70,12 @@ pub record IsStill (before now : Shown) (old new : ℕ) : Type 0 where
   pub steps : new ≡ old
 
 -- a query by number: the names that it newly closes are settled; or it has a fault; or want of memory
-abbrev pub IsAnswered : Table → Listed → List DeadEnd → List Step → Result (Unit {0}) QueryFault → Shown → Shown → ℕ → ℕ → Type 0
+abbrev pub IsAnswered : Table → Listed → List DeadEnd → List Step → Result (Unit {0}) QueryFault → Shown → Shown → ℕ → ℕ
+    → Type 0
 IsAnswered table l ends query (Ok _) before now old new =
     (order : List ℕ) × IsClosing l query order × AreAllSettled (map (key_at l.keys) order) before now old new
-IsAnswered table l ends query (Err (Name f)) before now old new = IsFaulty table l ends query f × IsStill before now old new
+IsAnswered table l ends query (Err (Name f)) before now old new = IsFaulty table l ends query f × IsStill before now old
+    new
 IsAnswered table l ends query (Err (Value _)) before now old new = ⊥
 IsAnswered table l ends query (Err OutOfMemory) before now old new =
     IsStill before now old new

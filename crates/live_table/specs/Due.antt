@@ -1,5 +1,5 @@
 -- Names that are to be settled next.
-use Rattle.std.specs.Prelude.{◌≡◌, ◌<◌, ⊤, ℕ, true, false, List, [], ◌∷◌, length, Some, slice_get, slice_set}
+use Rattle.std.specs.Prelude.{◌≡◌, ◌+◌, ◌<◌, ⊤, ℕ, true, false, List, [], ◌∷◌, length, Some, slice_get, slice_set}
 use Rattle.def_entry.specs.Tables.{Table, is_present}
 use Rattle.name_walk.specs.Closed.{IsSettled}
 use Rattle.name_walk.specs.Closed as walk
@@ -7,10 +7,11 @@ use Rattle.name_walk.specs.Steps.{LeadsTo}
 use Rattle.table_names.specs.Closed.{IsClosed}
 use Rattle.tree_eval.specs.declared.outcome.Outcome.{Outcome}
 use Rattle.live_table.specs.declared.callee.Callee.{Callee}
-use Rattle.live_table.specs.Sound.{HasStartsOf, IsFaithful}
+use Rattle.live_table.specs.Sound.{HasLooksOf, HasStartsOf, IsFaithful}
 use Rattle.live_table.specs.Stored.{Listed, key_at}
 
--- it has an entry, no name fault, and the steps of its words; it is not settled, what it leads to is
+-- it has an entry, no name fault, the steps of its words and the keys at which they look; it is not settled, what
+-- it leads to is
 pub record IsDue (table : Table) (l : Listed) (n : ℕ) : Type 0 where
   pub within : n < length l.keys
   pub fresh : slice_get l.settled n ≡ Some false
@@ -20,6 +21,7 @@ pub record IsDue (table : Table) (l : Listed) (n : ℕ) : Type 0 where
   pub below : (m : ℕ) → LeadsTo l.graph n m → IsSettled l.settled m
   pub faithful : IsFaithful table l n
   pub starts : HasStartsOf table l n
+  pub looks : HasLooksOf table l n
 
 -- with its outcome, and what is kept of a function
 abbrev pub with_outcome : ℕ → Outcome → Callee → Listed → Listed
@@ -27,6 +29,7 @@ with_outcome n o c l = record l {
   callees = slice_set l.callees n c;
   outcomes = slice_set l.outcomes n (Some o);
   settled = slice_set l.settled n true;
+  count = l.count + 1;
 }
 
 -- names in an order in which each is due once those before it are settled

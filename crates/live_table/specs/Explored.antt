@@ -8,7 +8,7 @@ use Rattle.table_names.specs.declared.fault.NameFault.{NameFault}
 use Rattle.table_names.specs.declared.fault.NameFault.TheVariants.{Refused, Unknown}
 use Rattle.name_numbers.specs.Numbered.{AreNumbered, AreWords, LeadToKnown}
 use Rattle.live_table.specs.declared.dead_end.DeadEnd.{DeadEnd}
-use Rattle.live_table.specs.Sound.{HasStartsOf}
+use Rattle.live_table.specs.Sound.{HasLooksIfLed, HasStartsOf}
 use Rattle.live_table.specs.Stored.{Listed, key_at}
 
 -- the fault of a word that leads nowhere, by the key in whose entry it stands
@@ -23,9 +23,11 @@ fault_at dead_ends n = fault_of (slice_get dead_ends n)
 pub record AreExplored (table : Table) (l : Listed) (dead_ends : List DeadEnd) (known : ℕ → Bool) : Type 0 where
   pub numbered : AreNumbered table (key_at l.keys) (fault_at dead_ends) l.graph known
   pub starts : (n : ℕ) → known n ≡ true → HasStartsOf table l n
+  pub looks : (n : ℕ) → known n ≡ true → HasLooksIfLed table l n
 
 -- the words of a query are explored
-pub record IsQuery (table : Table) (l : Listed) (dead_ends : List DeadEnd) (us : List WordUse) (query : List Step) : Type 0 where
+pub record IsQuery (table : Table) (l : Listed) (dead_ends : List DeadEnd) (us : List WordUse)
+    (query : List Step) : Type 0 where
   pub known : ℕ → Bool
   pub explored : AreExplored table l dead_ends known
   pub words : AreWords table (key_at l.keys) (fault_at dead_ends) us query

@@ -1,5 +1,6 @@
 -- Where an exploring of names stands: names that are still to be gone through are on an agenda.
-use Rattle.std.specs.Prelude.{◌≡◌, ◌⊎◌, ◌||◌, ◌++◌, ◌∷◌, [], ◌<◌, ℕ, Bool, true, false, List, length, Option, Some, None, Vec, nat_eq, slice_get, slice_set}
+use Rattle.std.specs.Prelude.{◌≡◌, ◌⊎◌, ◌||◌, ◌++◌, ◌∷◌, [], ◌<◌, ℕ, Bool, true, false, List, length, Option, Some}
+use Rattle.std.specs.Prelude.{None, Vec, nat_eq, slice_get, slice_set}
 use Rattle.std.specs.declared.alloc.Global.{Global}
 use Rattle.std.specs.List.{IsDistinct}
 use Rattle.expr_tree.specs.declared.word_list.WordUse.{WordUse}
@@ -16,8 +17,9 @@ use Rattle.name_numbers.specs.Numbered.{AreWords}
 use Rattle.live_table.specs.declared.callee.Callee.{Callee}
 use Rattle.live_table.specs.declared.dead_end.DeadEnd.{DeadEnd}
 use Rattle.live_table.specs.Explored.{fault_at}
-use Rattle.live_table.specs.Sound.{AreNodes, HasStartsOf}
-use Rattle.live_table.specs.Stored.{Listed, kept_of, key_at}
+use Rattle.live_table.specs.Looks.{AllLead, AreLooksPut}
+use Rattle.live_table.specs.Sound.{AreNodes, HasLooksIfLed, HasStartsOf}
+use Rattle.live_table.specs.Stored.{Listed, kept_of, key_at, looks_of}
 
 -- numbers of names that have an entry and are not settled, each once
 pub record AreListed (table : Table) (l : Listed) (list : List ℕ) : Type 0 where
@@ -40,10 +42,11 @@ pub record AreGrown (table : Table) (l m : Listed) (here there : List ℕ) (ends
   pub list_more : IsMore here there
   pub ends_more : IsMore ends more
 
--- the names before have the same steps, but perhaps one
+-- the names before have the same steps and looks, but perhaps one
 pub record AreSame (Other : ℕ → Type 0) (l m : Listed) : Type 0 where
   pub steps : (n : ℕ) → n < length l.keys → Other n → steps m.graph n ≡ steps l.graph n
   pub callees : (n : ℕ) → n < length l.keys → Other n → slice_get m.callees n ≡ slice_get l.callees n
+  pub looks : (n : ℕ) → n < length l.keys → Other n → looks_of m.looks n ≡ looks_of l.looks n
 
 -- they are added, and nothing else changes
 pub record AreAdded (table : Table) (l m : Listed) (here there : List ℕ) (ends more : List DeadEnd) : Type 0 where
@@ -63,33 +66,51 @@ abbrev pub is_known : List Bool → List ℕ → ℕ → Bool
 is_known settled list n = is_marked (slice_get settled n) || on list n
 
 -- these are the steps of the words, each to a name that is settled or listed
-pub record AreWritten (table : Table) (l : Listed) (list : List ℕ) (ends : List DeadEnd) (us : List WordUse) (xs : List Step) : Type 0 where
+pub record AreWritten (table : Table) (l : Listed) (list : List ℕ) (ends : List DeadEnd) (us : List WordUse)
+    (xs : List Step) : Type 0 where
   pub words : AreWords table (key_at l.keys) (fault_at ends) us xs
   pub targets : (n : ℕ) → In (To n) xs → IsKnown l list n
   pub nowhere : (t : ℕ) → In (Nowhere t) xs → t < length ends
 
--- behind other steps those of one more word
-abbrev pub AreWrittenBehind : Table → Listed → List ℕ → List DeadEnd → WordUse → List Step → List Step → Type 0
-AreWrittenBehind table l list ends u xs ys = (zs : List Step) × (ys ≡ xs ++ zs) × AreWritten table l list ends (u ∷ []) zs
+-- behind other steps those of one more word, whose looks are put in
+pub record AreWrittenBehind (table : Table) (l : Listed) (list : List ℕ) (ends : List DeadEnd) (old new : List ℕ)
+    (u : WordUse) (xs ys : List Step) : Type 0 where
+  pub own : List Step
+  pub behind : ys ≡ xs ++ own
+  pub written : AreWritten table l list ends (u ∷ []) own
+  pub looks : AllLead own → AreLooksPut table l.keys u own old new
 
--- the steps of a number are those of its words
+-- the steps of a number are those of its words, and where all lead somewhere so are the keys at which they look
 pub record IsWritten (table : Table) (l : Listed) (list : List ℕ) (ends : List DeadEnd) (n : ℕ) : Type 0 where
   pub steps : AreWritten table l list ends (key_words table (key_at l.keys n)) (steps l.graph n)
   pub starts : HasStartsOf table l n
+  pub looks : HasLooksIfLed table l n
 
 -- one more name, with no steps yet
-abbrev pub with_name : Key → Callee → Vec Step Global → Listed → Listed
-with_name k c v l = record {
+abbrev pub with_name : Key → Bool → Callee → Vec Step Global → Vec ℕ Global → Listed → Listed
+with_name k b c v w l = record {
   keys = l.keys ++ k ∷ [];
+  present = l.present ++ b ∷ [];
   callees = l.callees ++ c ∷ [];
   outcomes = l.outcomes ++ None ∷ [];
   graph = l.graph ++ v ∷ [];
+  looks = l.looks ++ w ∷ [];
   settled = l.settled ++ false ∷ [];
+  count = l.count;
 }
 
-abbrev pub IsNamed : Key → Listed → Listed → Type 0
-IsNamed k l m = (c : Callee) × (v : Vec Step Global) × (v.items ≡ []) × (m ≡ with_name k c v l)
+pub record IsNamed (k : Key) (b : Bool) (l m : Listed) : Type 0 where
+  pub callee : Callee
+  pub steps : Vec Step Global
+  pub looks : Vec ℕ Global
+  pub no_steps : steps.items ≡ []
+  pub no_looks : looks.items ≡ []
+  pub named : m ≡ with_name k b callee steps looks l
 
--- other steps of one name, with where its trees begin
-abbrev pub with_steps : ℕ → Callee → Vec Step Global → Listed → Listed
-with_steps n c v l = record l { callees = slice_set l.callees n c; graph = slice_set l.graph n v }
+-- other steps and looks of one name, with where its trees begin
+abbrev pub with_steps : ℕ → Callee → Vec Step Global → Vec ℕ Global → Listed → Listed
+with_steps n c v w l = record l {
+  callees = slice_set l.callees n c;
+  graph = slice_set l.graph n v;
+  looks = slice_set l.looks n w;
+}

@@ -1,21 +1,37 @@
--- What a word leads to, as the program gives it.
-use Rattle.std.specs.Prelude.{◌≡◌, true, false, List, [], ◌∷◌}
+-- What a word leads to, and the keys at which it looks, by number.
+use Rattle.std.specs.Prelude.{◌≡◌, ◌⊎◌, ◌↔◌, ◌<◌, ℕ, true, false, List, [], ◌∷◌, length, map, Contains}
 use Rattle.expr_tree.specs.declared.word_list.WordUse.{WordUse}
 use Rattle.expr_tree.specs.Names.{is_refused}
 use Rattle.def_entry.specs.declared.key.Key.{Key}
 use Rattle.def_entry.specs.Tables.{Table}
-use Rattle.table_names.specs.Leads.{targets}
+use Rattle.name_walk.specs.Lists.{In}
+use Rattle.table_names.specs.Leads.{looked_keys, targets}
 use Rattle.live_table.specs.declared.leading.Lead.{Lead}
 use Rattle.live_table.specs.declared.leading.Lead.TheVariants.{Refused, Nowhere, One, Two}
+use Rattle.live_table.specs.Stored.{key_at}
 
--- it leads to these keys
-abbrev pub LeadsTo : List Key → Lead → Type 0
-LeadsTo keys Refused = ⊥
-LeadsTo keys Nowhere = keys ≡ []
-LeadsTo keys (One k) = keys ≡ k ∷ []
-LeadsTo keys (Two k l) = keys ≡ k ∷ l ∷ []
+-- the numbers of the targets
+abbrev pub numbers : Lead → List ℕ
+numbers Refused = []
+numbers Nowhere = []
+numbers (One n) = n ∷ []
+numbers (Two n m) = n ∷ m ∷ []
 
--- of a word: it is a refused name, or leads to its targets
-abbrev pub IsLead : Table → WordUse → Lead → Type 0
-IsLead table u Refused = is_refused u.text ≡ true
-IsLead table u lead = (is_refused u.text ≡ false) × LeadsTo (targets table u) lead
+-- it leads to the targets of these numbers
+abbrev pub LeadsTo : List ℕ → Lead → Type 0
+LeadsTo ns Refused = ⊥
+LeadsTo ns lead = numbers lead ≡ ns
+
+-- these are the numbers of the targets of a word, and those of the other keys at which it looks are put in
+pub record AreTargets (table : Table) (keys : List Key) (u : WordUse) (ns old new : List ℕ) : Type 0 where
+  pub targets : targets table u ≡ map (key_at keys) ns
+  pub inside : (m : ℕ) → In m ns → m < length keys
+  pub own : List ℕ
+  pub put : (m : ℕ) → In m new ↔ (In m old ⊎ In m own)
+  pub within : (m : ℕ) → In m own → m < length keys
+  pub exactly : (k : Key) → Contains (looked_keys table u) k ↔ ((m : ℕ) × (In m ns ⊎ In m own) × (k ≡ key_at keys m))
+
+-- it is a refused name, or leads to its targets
+abbrev pub IsLead : Table → List Key → WordUse → List ℕ → List ℕ → Lead → Type 0
+IsLead table keys u old new Refused = is_refused u.text ≡ true
+IsLead table keys u old new lead = (is_refused u.text ≡ false) × AreTargets table keys u (numbers lead) old new

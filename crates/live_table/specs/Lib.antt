@@ -8,7 +8,9 @@ pub mod Explored
 pub mod Exploring
 pub mod Indexed
 pub mod Leading
+pub mod Looks
 pub mod New
+pub mod Numbering
 pub mod Ranks
 pub mod Right
 pub mod Scenes

@@ -1,5 +1,6 @@
 -- What the nodes of a live table owe at any time.
-use Rattle.std.specs.Prelude.{◌≡◌, ◌<◌, ◌≤◌, ◌^◌, ◌-◌, ℕ, true, Option, map, length, Some, slice_get}
+use Rattle.std.specs.Prelude.{◌≡◌, ◌<◌, ◌≤◌, ◌^◌, ◌-◌, ℕ, true, Option, count_by, map, length, Some, nat_eq, slice_get}
+use Rattle.std.specs.List.{IsDistinct}
 use Rattle.std.specs.Option.{is_some}
 use Rattle.def_entry.specs.declared.key.Key.{Key}
 use Rattle.def_entry.specs.Entries.{Entry}
@@ -15,8 +16,9 @@ use Rattle.table_names.specs.Words.{key_words}
 use Rattle.name_numbers.specs.Numbered.{AreWords}
 use Rattle.live_table.specs.declared.callee.Callee.{Callee}
 use Rattle.live_table.specs.Callees.{HasRank, HasStarts}
+use Rattle.live_table.specs.Looks.{AllLead, AreLooks}
 use Rattle.live_table.specs.Shown.{IsRightTable}
-use Rattle.live_table.specs.Stored.{Listed, key_at, shown}
+use Rattle.live_table.specs.Stored.{Listed, key_at, looks_of, shown}
 
 -- the steps of a number are those of the words of its key, whatever the words that lead nowhere are
 abbrev pub IsFaithful : Table → Listed → ℕ → Type 0
@@ -35,19 +37,33 @@ abbrev pub HasRankOf : Table → Listed → ℕ → Type 0
 HasRankOf table l n =
     (c : Callee) → slice_get l.callees n ≡ Some c → HasRank (key_meaning table (key_at l.keys n)) c
 
--- each number has a key of its own, and steps; what a settled name leads to is settled, it has an entry, and
--- its steps are those of its words in the present table. Of any other name the steps may be stale.
+-- so are the keys at which its words look, each once beside their targets
+pub record HasLooksOf (table : Table) (l : Listed) (n : ℕ) : Type 0 where
+  pub looks : AreLooks table l.keys (key_words table (key_at l.keys n)) (steps l.graph n) (looks_of l.looks n)
+  pub once : IsDistinct nat_eq (looks_of l.looks n)
+
+-- the same where all its steps lead somewhere
+abbrev pub HasLooksIfLed : Table → Listed → ℕ → Type 0
+HasLooksIfLed table l n = AllLead (steps l.graph n) → HasLooksOf table l n
+
+-- each number has a key of its own, of which it is known whether it has an entry, and steps; what a settled name
+-- leads to is settled, it has an entry, and its steps and the keys at which it looks are those of its words in the
+-- present table. Of any other name the steps may be stale.
 pub record AreNodes (table : Table) (l : Listed) : Type 0 where
   pub step_count : length l.graph ≡ length l.keys
   pub outcome_count : length l.outcomes ≡ length l.keys
   pub callee_count : length l.callees ≡ length l.keys
+  pub look_count : length l.looks ≡ length l.keys
+  pub flagged : l.present ≡ map (is_present table) l.keys
   pub marked : l.settled ≡ map is_some l.outcomes
+  pub counted : l.count ≡ count_by (λ b. b) l.settled
   pub apart : (n m : ℕ) → n < length l.keys → m < length l.keys → key_at l.keys n ≡ key_at l.keys m → n ≡ m
   pub net : IsNet l.graph l.settled
   pub present : (n : ℕ) → IsSettled l.settled n → is_present table (key_at l.keys n) ≡ true
   pub faithful : (n : ℕ) → IsSettled l.settled n → IsFaithful table l n
   pub starts : (n : ℕ) → IsSettled l.settled n → HasStartsOf table l n
   pub ranks : (n : ℕ) → IsSettled l.settled n → HasRankOf table l n
+  pub looked : (n : ℕ) → IsSettled l.settled n → HasLooksOf table l n
 
 -- a live table: its nodes, and of each settled name the right outcome
 pub record IsSound (deck : Contents) (l : Listed) (reductions : ℕ) : Type 0 where

@@ -1,5 +1,6 @@
 -- What a live table holds, and what of it contracts see.
-use Rattle.std.specs.Prelude.{ℕ, Bool, List, [], ◌∷◌, Option, Some, None, slice_index_or}
+use Rattle.std.specs.Prelude.{ℕ, Bool, List, [], ◌∷◌, Option, Some, None, Vec, slice_get, slice_index_or}
+use Rattle.std.specs.declared.alloc.Global.{Global}
 use Rattle.std.specs.FinMap as map_of
 use Rattle.def_entry.specs.declared.key.Key.{Key}
 use Rattle.def_entry.specs.declared.key.Kind.TheVariants as kind
@@ -27,25 +28,54 @@ kept_of [] outcomes = map_of.empty
 kept_of (k ∷ keys) [] = map_of.empty
 kept_of (k ∷ keys) (o ∷ outcomes) = onto k o (kept_of keys outcomes)
 
--- nodes as lists, whatever their places in memory: of each number the key, what is kept of a function, the
--- outcome of a settled name, the steps of its words, and whether it is settled
+-- of each name the numbers of the keys at which its words look beside their targets
+abbrev pub Looks : Type 0
+Looks = List (Vec ℕ Global)
+
+abbrev pub numbers_in : Option (Vec ℕ Global) → List ℕ
+numbers_in None = []
+numbers_in (Some v) = v.items
+
+-- those of one name, none where no name has the number
+abbrev pub looks_of : Looks → ℕ → List ℕ
+looks_of looks n = numbers_in (slice_get looks n)
+
+-- nodes as lists, whatever their places in memory: of each number the key, whether it has an entry, what is kept
+-- of a function, the outcome of a settled name, the steps of its words, the keys at which they look beside their
+-- targets, and whether it is settled; and how many are
 pub record Listed : Type 0 where
   pub keys : List Key
+  pub present : List Bool
   pub callees : List Callee
   pub outcomes : List (Option Outcome)
   pub graph : Graph
+  pub looks : Looks
   pub settled : List Bool
+  pub count : ℕ
 
 abbrev pub no_names : Listed
-no_names = record { keys = []; callees = []; outcomes = []; graph = []; settled = [] }
+no_names = record {
+  keys = [];
+  present = [];
+  callees = [];
+  outcomes = [];
+  graph = [];
+  looks = [];
+  settled = [];
+  count =
+      0;
+}
 
 abbrev pub listed : Nodes → Listed
 listed nodes = record {
   keys = nodes.keys;
+  present = nodes.present.items;
   callees = nodes.callees.items;
   outcomes = nodes.outcomes.items;
   graph = nodes.steps.items;
+  looks = nodes.looks.items;
   settled = nodes.settled.items;
+  count = nodes.settled_count;
 }
 
 abbrev pub shown : Contents → Listed → ℕ → Shown

@@ -1,7 +1,10 @@
 //! Numbers that are to be gone through.
 
-ghost use Rattle.std.specs.Prelude.{◌≡◌, ◌+◌, ◌^◌, ◌<◌, ◌++◌, ◌∷◌, [], length, if◌then◌else◌, IfSome, OnOk, OnErr, slice_get};
+ghost use Rattle.std.specs.Prelude.{◌≡◌, ◌⊎◌, ◌↔◌, ◌+◌, ◌^◌, ◌<◌, ◌++◌, ◌∷◌, [], ℕ, length, if◌then◌else◌, nat_eq};
+ghost use Rattle.std.specs.Prelude.{IfOk, IfSome, OnOk, OnErr, slice_get};
+ghost use Rattle.std.specs.List.{IsDistinct};
 ghost use Rattle.name_walk.specs.Faults.{on};
+ghost use Rattle.name_walk.specs.Lists.{In};
 ghost use Rattle.live_table.specs.Agendas.{AreSameMarks};
 
 use std::alloc::{AllocError, Global};
@@ -58,6 +61,26 @@ impl Agenda {
         self.numbers.push(n)?;
         self.marks[n] = true;
         Ok(())
+    }
+
+    /// Puts numbers, which are below `end`, behind the others, each that is not there. After a refusal some of
+    /// them may be there.
+    pub(crate) fn put_all(&mut self, numbers: &[usize], end: usize) -> Result<(), AllocError>
+        requires { (m : ℕ) → In m numbers.now → m < end }
+        ensures { OnOk result ((m : ℕ) → In m self.new ↔ (In m self.old ⊎ In m numbers.now)) }
+    {
+        for n in numbers {
+            self.put(*n, end)?;
+        }
+        Ok(())
+    }
+
+    /// A copy of the numbers. The only error is want of memory.
+    pub(crate) fn to_vec(&self, alloc: Global) -> Result<Vec<usize>, AllocError>
+        ensures copy { IfOk result (λ numbers. numbers.items ≡ self.now) }
+        ensures once { IsDistinct nat_eq self.now }
+    {
+        Vec::from_slice(alloc, &self.numbers)
     }
 
     /// Takes all numbers out, at the cost of how many there are.

@@ -20,17 +20,17 @@ use crate::exploring::explore;
 use crate::fault::QueryFault;
 use crate::naming::named_fault;
 use crate::nodes::Nodes;
-use crate::numbering::put_target;
+use crate::numbering::put_key;
 use crate::settling::settle;
 use crate::stepping::put_words;
 use deck::Deck;
-use def_entry::{Key, Kind};
+use def_entry::Kind;
 use expr_tree::Words;
 use name_numbers::{numbered_fault_law, settling_law};
 use name_walk::{Net, Step, Walker};
 use std::alloc::Global;
 use std::sync::ledger::Ledger;
-use units_io::{Steps, Text};
+use units_io::Steps;
 
 /// Asks for the names of words: they have a name fault, or what they reach is settled, and their steps are
 /// given. After want of memory some of it may be settled.
@@ -41,7 +41,7 @@ pub(crate) fn ask_words<L: Ledger>(
     agenda: &mut Agenda,
     walker: &mut Walker,
     reductions: &mut u64,
-    words: &Words,
+    words: &Words<'_>,
     steps: &mut Steps<L>,
 ) -> Result<Vec<Step>, QueryFault>
     requires sound { IsSound deck.now (listed nodes.old) reductions.old }
@@ -86,8 +86,7 @@ pub(crate) fn ask_key<L: Ledger>(
     numbered_fault_law();
     settling_law();
     agenda.clear();
-    let name = Text::from_bytes(alloc, name)?;
-    let n = put_target(alloc, nodes, agenda, Key { kind, name })?;
+    let n = put_key(alloc, deck, nodes, agenda, kind, name)?;
     let mut dead_ends = Vec::new(alloc);
     explore(alloc, deck, nodes, agenda, &mut dead_ends)?;
     settle_query(

@@ -17,13 +17,13 @@ use units_io::Text;
 
 /// The words of an entry, one tree after another, and where the trees of a function begin among them.
 #[derive(Drop)]
-pub(crate) struct EntryWords {
-    pub(crate) words: Words,
+pub(crate) struct EntryWords<'a> {
+    pub(crate) words: Words<'a>,
     pub(crate) starts: PartStarts,
 }
 
 /// The words of what an entry says. The only error is want of memory.
-pub(crate) fn entry_words(alloc: Global, what: &What) -> Result<EntryWords, AllocError>
+pub(crate) fn entry_words<'a>(alloc: Global, what: &'a What) -> Result<EntryWords<'a>, AllocError>
     ensures { IfOk result (λ made. AreEntryWords (what_view what.now) made) }
 {
     match what {
@@ -36,8 +36,8 @@ pub(crate) fn entry_words(alloc: Global, what: &What) -> Result<EntryWords, Allo
 }
 
 // The words of one tree, which stands alone.
-fn alone(words: Words) -> EntryWords
-    ensures words { result.words ≡ words }
+fn alone<'a>(words: Words<'a>) -> EntryWords<'a>
+    ensures words { result.words ≡ words.entry }
     ensures starts { result.starts ≡ record { out_unit = 0; forward = 0; inverse = 0 } }
 {
     let starts = PartStarts {
@@ -49,18 +49,19 @@ fn alone(words: Words) -> EntryWords
 }
 
 // The word of an alias.
-fn alias_words(alloc: Global, target: &Text) -> Result<Words, AllocError>
+fn alias_words<'a>(alloc: Global, target: &'a Text) -> Result<Words<'a>, AllocError>
     ensures { IfOk result (λ words. words ≡ inverted_word target.now ∷ []) }
 {
     let mut words = Words::new(alloc);
-    let text = target.copy(alloc)?;
-    let kind = WordKind::Inverse;
-    words.push(alloc, WordUse { text, kind })?;
+    words.push(alloc, WordUse::new(target.as_bytes(), WordKind::Inverse))?;
     Ok(words)
 }
 
 // The words of the trees of a function.
-fn function_words(alloc: Global, function: &FunctionDef) -> Result<EntryWords, AllocError>
+fn function_words<'a>(
+    alloc: Global,
+    function: &'a FunctionDef,
+) -> Result<EntryWords<'a>, AllocError>
     ensures { IfOk result (λ made. AreEntryWords (Function (function_view function.now)) made) }
 {
     let mut words = Vec::new(alloc);
@@ -83,7 +84,11 @@ fn function_words(alloc: Global, function: &FunctionDef) -> Result<EntryWords, A
 }
 
 // Puts the words of a tree, where there is one, behind others.
-fn put_words(alloc: Global, all: &mut Vec<WordUse>, tree: Option<&Tree>) -> Result<(), AllocError>
+fn put_words<'a>(
+    alloc: Global,
+    all: &mut Vec<WordUse<'a>>,
+    tree: Option<&'a Tree>,
+) -> Result<(), AllocError>
     ensures { OnOk result (all.new.items
         ≡ all.old.items ++ words_if (option_map syntax (option_copied tree.entry))) }
 {

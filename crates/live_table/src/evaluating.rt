@@ -26,12 +26,12 @@ use std::alloc::Global;
 use tree_eval::{EvalFault, Holder, eval, unapply};
 
 /// The value of a tree with these words and their steps, or its first fault.
-pub(crate) fn worth<'a>(
+pub(crate) fn worth<'a, 'w>(
     alloc: Global,
     deck: &'a Deck,
     nodes: &'a Nodes,
     tree: &Tree,
-    words: &'a Words,
+    words: &'a Words<'w>,
     query: &'a [Step],
 ) -> Result<Quantity, QueryFault>
     requires sound { (reductions : ℕ) × IsSound deck.now (listed nodes.now) reductions }

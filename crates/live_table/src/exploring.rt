@@ -42,7 +42,7 @@ pub(crate) fn explore(
     Ok(())
 }
 
-// Gives a name on the agenda its steps.
+// Gives a name on the agenda its steps and its looks.
 fn explore_name(
     alloc: Global,
     deck: &Deck,
@@ -57,28 +57,31 @@ fn explore_name(
     ensures grown { AreGrown (table deck.now) (listed nodes.old) (listed nodes.new) agenda.old agenda.new
         dead_ends.old.items dead_ends.new.items }
     ensures same { AreSame (λ m. m ≡ n → ⊥) (listed nodes.old) (listed nodes.new) }
-    ensures written { IfOk result (λ _. IsWritten (table deck.now) (listed nodes.new) agenda.new dead_ends.new.items n) }
+    ensures written { IfOk result (λ _. IsWritten (table deck.now) (listed nodes.new) agenda.new
+        dead_ends.new.items n) }
 {
     let entry = words_of_key(alloc, deck, nodes, n)?;
     let steps = put_words(alloc, deck, nodes, agenda, dead_ends, &entry.words)?;
+    let looks = nodes.gathered.to_vec(alloc)?;
     nodes.callees[n].starts = entry.starts;
     nodes.steps[n] = steps;
+    nodes.looks[n] = looks;
     Ok(())
 }
 
 // The words of the entry of a name.
-fn words_of_key(
+fn words_of_key<'a>(
     alloc: Global,
-    deck: &Deck,
+    deck: &'a Deck,
     nodes: &Nodes,
     n: usize,
-) -> Result<EntryWords, AllocError>
+) -> Result<EntryWords<'a>, AllocError>
     requires within { n < length nodes.now.keys }
     requires present { is_present (table deck.now) (key_at nodes.now.keys n) ≡ true }
     ensures { IfOk result (λ made. AreKeyWords (table deck.now) (key_at nodes.now.keys n) made) }
 {
     match deck.entry(nodes.keys.kind(n), nodes.keys.name(n)) {
-        Some(entry) => entry_words(alloc, &entry.what),
+        Some(entry) => entry_words(alloc, entry.what),
         None => unreachable!(),
     }
 }

@@ -1,6 +1,7 @@
 //! Keys by number, and numbers by key.
 
-ghost use Rattle.std.specs.Prelude.{◌≡◌, ◌<◌, ◌++◌, ◌∷◌, [], Some, false, length, slice_get, IfOk, MatchOption, OnOk, OnErr};
+ghost use Rattle.std.specs.Prelude.{◌≡◌, ◌<◌, ◌++◌, ◌∷◌, [], Some, false, length, slice_get};
+ghost use Rattle.std.specs.Prelude.{IfOk, MatchOption, OnOk, OnErr};
 ghost use Rattle.def_entry.specs.Keys.{key as key_named};
 ghost use Rattle.def_entry.specs.SameKeys.{is_among};
 ghost use Rattle.live_table.specs.Indexed.{AreSameNumbers, IsPushed, numbers_of};

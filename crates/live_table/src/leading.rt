@@ -1,56 +1,67 @@
 //! What a word leads to.
 
-ghost use Rattle.std.specs.Prelude.{IfOk};
+ghost use Rattle.std.specs.Prelude.{◌≡◌, ◌≤◌, ℕ, List, IfOk, length};
 ghost use Rattle.deck.specs.Tables.{table};
-ghost use Rattle.name_numbers.specs.LookupLaws.{AreFew};
+ghost use Rattle.live_table.specs.declared.dead_end.DeadEnd.{DeadEnd};
+ghost use Rattle.live_table.specs.Exploring.{AreAdded, AreListed};
 ghost use Rattle.live_table.specs.Leading.{IsLead, LeadsTo};
+ghost use Rattle.live_table.specs.Sound.{AreNodes};
+ghost use Rattle.live_table.specs.Stored.{listed};
 
 use crate::deck_table::DeckTable;
+use crate::nodes::Nodes;
 use deck::Deck;
-use def_entry::{Key, Keys};
 use expr_tree::{WordUse, is_refused};
 use name_lookup::resolve;
-use name_numbers::few_targets_law;
 use std::alloc::{AllocError, Global};
 use table_names::lookup_law;
 
 /// What a word leads to.
-#[derive(Drop)]
+#[derive(Clone, Copy, Drop)]
 pub(crate) enum Lead {
     /// It is a name that is refused.
     Refused,
     /// Nowhere.
     Nowhere,
-    /// A unit, a prefix or a function.
-    One(Key),
+    /// A unit, a prefix or a function, by number.
+    One(usize),
     /// A prefix, and a unit.
-    Two(Key, Key),
+    Two(usize, usize),
 }
 
-/// What a word leads to in the table of a deck. The only error is want of memory.
-pub(crate) fn lead_of(alloc: Global, deck: &Deck, u: &WordUse) -> Result<Lead, AllocError>
-    ensures { IfOk result (λ lead. IsLead (table deck.now) u.now lead) }
+/// What a word leads to in the table of a deck. Each key at which it looks gets a number, and those that are no
+/// targets of it are gathered. The only error is want of memory.
+pub(crate) fn lead_of(
+    alloc: Global,
+    deck: &Deck,
+    nodes: &mut Nodes,
+    u: &WordUse<'_>,
+) -> Result<Lead, AllocError>
+    requires { AreNodes (table deck.now) (listed nodes.old) }
+    ensures added { (list : List ℕ) (ends : List DeadEnd) → AreListed (table deck.now) (listed nodes.old) list
+        → AreAdded (table deck.now) (listed nodes.old) (listed nodes.new) list list ends ends }
+    ensures lead { IfOk result (λ lead. IsLead (table deck.now) nodes.new.keys u.now
+        nodes.old.gathered nodes.new.gathered lead) }
 {
-    if is_refused(u.text.as_bytes()) {
+    if is_refused(u.text()) {
         return Ok(Lead::Refused);
     }
     lookup_law();
-    few_targets_law();
-    let found = resolve(alloc, &DeckTable(deck), u.text.as_bytes(), u.kind)?;
-    Ok(lead_to(found.targets))
+    nodes.looked.clear();
+    let targets = resolve(alloc, &DeckTable(deck), nodes, u.text(), u.kind())?;
+    let (others, targets) = nodes.looked.split_at(nodes.looked.len() - targets.count());
+    nodes.gathered.put_all(others, nodes.keys.len())?;
+    Ok(lead_to(targets))
 }
 
 // The same by the targets, of which there are two at most.
-fn lead_to(targets: Keys) -> Lead
-    requires { AreFew targets }
-    ensures { LeadsTo targets result }
+fn lead_to(targets: &[usize]) -> Lead
+    requires { length targets.now ≤ 2 }
+    ensures { LeadsTo targets.now result }
 {
-    let mut targets = targets.into_vec();
-    let Some(last) = targets.pop() else {
-        return Lead::Nowhere;
-    };
-    match targets.pop() {
-        Some(first) => Lead::Two(first, last),
-        None => Lead::One(last),
+    match targets {
+        [] => Lead::Nowhere,
+        [n] => Lead::One(*n),
+        [n, m, ..] => Lead::Two(*n, *m),
     }
 }

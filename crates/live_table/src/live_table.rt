@@ -197,7 +197,7 @@ impl LiveTable {
         only_memory(&answer)
     }
 
-    /// What was counted. The settled names are counted anew, in one pass over the names that were reached.
+    /// What was counted.
     pub fn counts(&self) -> Counts
         ensures settled { result.settled ≡ map_of.len self.now.kept }
         ensures names { result.names ≡ length (names_in (table self.now.deck)) }
@@ -210,7 +210,7 @@ impl LiveTable {
         let prefixes = self.deck.key_count(Kind::Prefix);
         let functions = self.deck.key_count(Kind::Func);
         Counts {
-            settled: self.nodes.settled_count(),
+            settled: self.nodes.settled_count,
             names: units + prefixes + functions,
             reductions: self.reductions,
         }

@@ -1,10 +1,11 @@
 //! Names by number.
 
-ghost use Rattle.std.specs.Prelude.{◌≡◌, false, count_by, OnOk, OnErr};
+ghost use Rattle.std.specs.Prelude.{◌≡◌, false, OnOk, OnErr};
 ghost use Rattle.def_entry.specs.SameKeys.{is_among};
 ghost use Rattle.live_table.specs.Exploring.{IsNamed};
 ghost use Rattle.live_table.specs.Stored.{listed, no_names};
 
+use crate::agenda::Agenda;
 use crate::callee::{Callee, PartStarts};
 use crate::key_index::KeyIndex;
 use def_entry::Key;
@@ -12,15 +13,23 @@ use name_walk::Step;
 use std::alloc::{AllocError, Global};
 use tree_eval::Outcome;
 
-/// Names by number: the key of each, what is kept of a function, its outcome where it is settled, the steps
-/// of its words, and whether it is settled.
+/// Names by number, absent ones too: the key of each, whether it has an entry, what is kept of a function, its
+/// outcome where it is settled, the steps of its words, the numbers of the keys at which they look beside their
+/// targets, and whether it is settled; and how many are.
 #[derive(Drop)]
 pub(crate) struct Nodes {
     pub(crate) keys: KeyIndex,
+    pub(crate) present: Vec<bool>,
     pub(crate) callees: Vec<Callee>,
     pub(crate) outcomes: Vec<Option<Outcome>>,
     pub(crate) steps: Vec<Vec<Step>>,
+    pub(crate) looks: Vec<Vec<usize>>,
     pub(crate) settled: Vec<bool>,
+    pub(crate) settled_count: usize,
+    // at which the word that is resolved has looked, in order
+    pub(crate) looked: Vec<usize>,
+    // at which the words of a name have looked so far beside their targets
+    pub(crate) gathered: Agenda,
 }
 
 impl Nodes {
@@ -30,39 +39,45 @@ impl Nodes {
     {
         Nodes {
             keys: KeyIndex::new(alloc),
+            present: Vec::new(alloc),
             callees: Vec::new(alloc),
             outcomes: Vec::new(alloc),
             steps: Vec::new(alloc),
+            looks: Vec::new(alloc),
             settled: Vec::new(alloc),
+            settled_count: 0,
+            looked: Vec::new(alloc),
+            gathered: Agenda::new(alloc),
         }
     }
 
     /// One more name, which is not settled and has no steps yet. A refusal changes nothing.
-    pub(crate) fn add(&mut self, alloc: Global, key: Key) -> Result<(), AllocError>
+    pub(crate) fn add(
+        &mut self,
+        alloc: Global,
+        key: Key,
+        is_present: bool,
+    ) -> Result<(), AllocError>
         requires { is_among self.old.keys key ≡ false }
-        ensures ok { OnOk result (IsNamed key (listed self.old) (listed self.new)) }
+        ensures ok { OnOk result (IsNamed key is_present (listed self.old) (listed self.new)) }
         ensures err { OnErr result (listed self.new ≡ listed self.old) }
+        ensures looked { self.new.looked.items ≡ self.old.looked.items }
+        ensures gathered { self.new.gathered ≡ self.old.gathered }
     {
+        self.present.reserve(1)?;
         self.callees.reserve(1)?;
         self.outcomes.reserve(1)?;
         self.steps.reserve(1)?;
+        self.looks.reserve(1)?;
         self.settled.reserve(1)?;
         self.keys.push(key)?;
+        self.present.push(is_present)?;
         self.callees.push(no_callee())?;
         self.outcomes.push(None)?;
         self.steps.push(Vec::new(alloc))?;
+        self.looks.push(Vec::new(alloc))?;
         self.settled.push(false)?;
         Ok(())
-    }
-
-    /// How many names are settled.
-    pub(crate) fn settled_count(&self) -> usize
-        ensures { result ≡ count_by (λ b. b) self.now.settled.items }
-    {
-        self.settled
-            .iter()
-            .filter(|is_settled| **is_settled)
-            .count()
     }
 }
 

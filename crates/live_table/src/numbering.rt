@@ -1,50 +1,108 @@
 //! Numbers for keys.
 
 ghost use Rattle.std.specs.Prelude.{◌≡◌, ◌<◌, ℕ, true, List, IfOk, length};
+ghost use Rattle.def_entry.specs.Keys.{key as key_named};
 ghost use Rattle.def_entry.specs.Tables.{Table, is_present};
+ghost use Rattle.deck.specs.Tables.{table};
 ghost use Rattle.live_table.specs.declared.dead_end.DeadEnd.{DeadEnd};
-ghost use Rattle.live_table.specs.Exploring.{AreAdded, AreListed, IsKnown};
+ghost use Rattle.live_table.specs.Exploring.{AreAdded, AreListed, IsKnown, IsMore};
+ghost use Rattle.live_table.specs.Numbering.{AreFlagged, IsKept};
 ghost use Rattle.live_table.specs.Sound.{AreNodes};
 ghost use Rattle.live_table.specs.Stored.{key_at, listed};
 
 use crate::agenda::Agenda;
+use crate::deck_table::DeckTable;
 use crate::nodes::Nodes;
-use def_entry::Key;
+use deck::Deck;
+use def_entry::{Key, Kind};
+use name_lookup::{Looking, Present};
 use std::alloc::{AllocError, Global};
+use units_io::Text;
+
+impl Looking for Nodes {
+    ghost use Rattle.live_table.specs.Numbering.{CanLook, IsKept, looked_by};
+
+    ghost looked = { looked_by };
+
+    ghost can_look = { CanLook };
+
+    ghost is_kept = { IsKept };
+
+    fn look<P: Present>(
+        &mut self,
+        alloc: Global,
+        table: &P,
+        kind: Kind,
+        name: &[u8],
+    ) -> Result<bool, AllocError> {
+        let n = number(alloc, table, self, kind, name)?;
+        self.looked.push(n)?;
+        Ok(self.present[n])
+    }
+}
 
 /// The number of a key that has an entry, a new one where it has none. Where it is not settled, it is put
 /// on the agenda. The only error is want of memory.
-pub(crate) fn put_target(
+pub(crate) fn put_key(
     alloc: Global,
+    deck: &Deck,
     nodes: &mut Nodes,
     agenda: &mut Agenda,
-    key: Key,
+    kind: Kind,
+    name: &[u8],
 ) -> Result<usize, AllocError>
-    requires { (table : Table) × AreNodes table (listed nodes.old) }
-    ensures added { (table : Table) (ends : List DeadEnd) → AreNodes table (listed nodes.old)
-        → AreListed table (listed nodes.old) agenda.old → is_present table key ≡ true
-        → AreAdded table (listed nodes.old) (listed nodes.new) agenda.old agenda.new ends ends }
-    ensures target { IfOk result (λ n. (key ≡ key_at nodes.new.keys n) × IsKnown (listed nodes.new) agenda.new n) }
+    requires nodes { AreNodes (table deck.now) (listed nodes.old) }
+    requires listed { AreListed (table deck.now) (listed nodes.old) agenda.old }
+    requires present { is_present (table deck.now) (key_named kind name.now) ≡ true }
+    ensures added { (ends : List DeadEnd)
+        → AreAdded (table deck.now) (listed nodes.old) (listed nodes.new) agenda.old agenda.new ends ends }
+    ensures target { IfOk result (λ n. (key_named kind name.now ≡ key_at nodes.new.keys n)
+        × IsKnown (listed nodes.new) agenda.new n) }
 {
-    let n = number(alloc, nodes, key)?;
-    if nodes.settled[n] {
-        return Ok(n);
-    }
-    agenda.put(n, nodes.keys.len())?;
+    let n = number(alloc, &DeckTable(deck), nodes, kind, name)?;
+    put_target(nodes, agenda, n)?;
     Ok(n)
 }
 
-// The number of a key, a new one where it has none.
-fn number(alloc: Global, nodes: &mut Nodes, key: Key) -> Result<usize, AllocError>
-    ensures added { (table : Table) (list : List ℕ) (ends : List DeadEnd) → AreNodes table (listed nodes.old)
-        → AreListed table (listed nodes.old) list
-        → AreAdded table (listed nodes.old) (listed nodes.new) list list ends ends }
-    ensures number { IfOk result (λ n. (n < length nodes.new.keys) × (key ≡ key_at nodes.new.keys n)) }
+/// Puts the number of a key that has an entry on the agenda, where it is not settled. The only error is want of
+/// memory.
+pub(crate) fn put_target(nodes: &Nodes, agenda: &mut Agenda, n: usize) -> Result<(), AllocError>
+    requires nodes { (table : Table) × AreNodes table (listed nodes.now) }
+    requires within { n < length nodes.now.keys }
+    ensures added { (table : Table) (ends : List DeadEnd) → AreNodes table (listed nodes.now)
+        → AreListed table (listed nodes.now) agenda.old → is_present table (key_at nodes.now.keys n) ≡ true
+        → AreAdded table (listed nodes.now) (listed nodes.now) agenda.old agenda.new ends ends }
+    ensures known { IfOk result (λ _. IsKnown (listed nodes.now) agenda.new n) }
 {
-    if let Some(n) = nodes.keys.number_of(key.kind, key.name.as_bytes()) {
+    if nodes.settled[n] {
+        return Ok(());
+    }
+    agenda.put(n, nodes.keys.len())?;
+    Ok(())
+}
+
+// The number of a key, a new one where it has none. Only for a new one the table is asked whether it is there.
+fn number<P: Present>(
+    alloc: Global,
+    table: &P,
+    nodes: &mut Nodes,
+    kind: Kind,
+    name: &[u8],
+) -> Result<usize, AllocError>
+    requires { AreFlagged (P.keys table.now) nodes.old }
+    ensures flagged { AreFlagged (P.keys table.now) nodes.new }
+    ensures kept { IsKept (P.keys table.now) nodes.old nodes.new }
+    ensures more { IsMore nodes.old.keys nodes.new.keys }
+    ensures looked { nodes.new.looked.items ≡ nodes.old.looked.items }
+    ensures number { IfOk result (λ n. (n < length nodes.new.keys)
+        × (key_named kind name.now ≡ key_at nodes.new.keys n)) }
+{
+    if let Some(n) = nodes.keys.number_of(kind, name) {
         return Ok(n);
     }
+    let is_present = table.has(kind, name);
+    let name = Text::from_bytes(alloc, name)?;
     let n = nodes.keys.len();
-    nodes.add(alloc, key)?;
+    nodes.add(alloc, Key { kind, name }, is_present)?;
     Ok(n)
 }

@@ -1,6 +1,6 @@
 //! The outcomes of names, in the order of a walk.
 
-ghost use Rattle.std.specs.Prelude.{◌≡◌, ◌+◌, ◌<◌, ◌∷◌, [], ℕ, map, IfOk, OnErr, OnOk, Some, length, slice_get};
+ghost use Rattle.std.specs.Prelude.{◌≡◌, ◌+◌, ◌^◌, ◌<◌, ◌∷◌, [], ℕ, map, IfOk, OnErr, OnOk, Some, length, slice_get};
 ghost use Rattle.live_table.specs.declared.callee.Callee.{Callee};
 ghost use Rattle.name_walk.specs.Lists.{In};
 ghost use Rattle.deck.specs.Tables.{table};
@@ -77,6 +77,7 @@ fn put(nodes: &mut Nodes, n: usize, outcome: Outcome, rank: u32)
     requires callees { n < length (listed nodes.old).callees }
     requires outcomes { n < length (listed nodes.old).outcomes }
     requires settled { n < length (listed nodes.old).settled }
+    requires room { (listed nodes.old).count + 1 < 2 ^ 64 }
     ensures { (c : Callee) → slice_get (listed nodes.old).callees n ≡ Some c
         → listed nodes.new ≡ with_outcome n outcome (ranks.ranked rank c) (listed nodes.old) }
 {
@@ -84,6 +85,7 @@ fn put(nodes: &mut Nodes, n: usize, outcome: Outcome, rank: u32)
     nodes.callees[n] = Callee { rank, starts };
     nodes.outcomes[n] = Some(outcome);
     nodes.settled[n] = true;
+    nodes.settled_count += 1;
 }
 
 // The outcome of a name, in one step.
@@ -109,7 +111,7 @@ fn outcome_of<'a, L: Ledger>(
         &surroundings,
         n,
         nodes.keys.name(n),
-        entry(deck, nodes, n),
+        entry(deck, nodes, n).what,
         steps,
     )
 }

@@ -3,6 +3,7 @@
 ghost use Rattle.std.specs.Prelude.{◌≡◌, ◌++◌, ◌∷◌, [], IfOk, length};
 ghost use Rattle.deck.specs.Tables.{table};
 ghost use Rattle.live_table.specs.Exploring.{AreAdded, AreListed, AreWritten, AreWrittenBehind, IsMore};
+ghost use Rattle.live_table.specs.Looks.{AllLead, AreLooks, AreLooksPut};
 ghost use Rattle.live_table.specs.Sound.{AreNodes};
 ghost use Rattle.live_table.specs.Stored.{listed};
 
@@ -17,15 +18,15 @@ use name_walk::Step;
 use std::alloc::{AllocError, Global};
 use units_io::Text;
 
-/// The steps of words, two for each. A name that is met for the first time gets a number, and one that is
-/// not settled is put on the agenda. The only error is want of memory.
+/// The steps of words, two for each. A key that is looked at for the first time gets a number, and a target that is
+/// not settled is put on the agenda. The other looked-at keys are gathered. The only error is want of memory.
 pub(crate) fn put_words(
     alloc: Global,
     deck: &Deck,
     nodes: &mut Nodes,
     agenda: &mut Agenda,
     dead_ends: &mut Vec<DeadEnd>,
-    words: &Words,
+    words: &Words<'_>,
 ) -> Result<Vec<Step>, AllocError>
     requires nodes { AreNodes (table deck.now) (listed nodes.old) }
     requires listed { AreListed (table deck.now) (listed nodes.old) agenda.old }
@@ -33,7 +34,10 @@ pub(crate) fn put_words(
         agenda.old agenda.new dead_ends.old.items dead_ends.new.items }
     ensures written { IfOk result (λ steps. AreWritten (table deck.now) (listed nodes.new) agenda.new
         dead_ends.new.items words.now steps.items) }
+    ensures looks { IfOk result (λ steps. AllLead steps.items
+        → AreLooks (table deck.now) nodes.new.keys words.now steps.items nodes.new.gathered) }
 {
+    nodes.gathered.clear();
     let mut steps = Vec::new(alloc);
     for u in words.as_slice() {
         put_word(alloc, deck, nodes, agenda, dead_ends, u, &mut steps)?;
@@ -48,7 +52,7 @@ fn put_word(
     nodes: &mut Nodes,
     agenda: &mut Agenda,
     dead_ends: &mut Vec<DeadEnd>,
-    u: &WordUse,
+    u: &WordUse<'_>,
     steps: &mut Vec<Step>,
 ) -> Result<(), AllocError>
     requires nodes { AreNodes (table deck.now) (listed nodes.old) }
@@ -56,7 +60,7 @@ fn put_word(
     ensures added { AreAdded (table deck.now) (listed nodes.old) (listed nodes.new)
         agenda.old agenda.new dead_ends.old.items dead_ends.new.items }
     ensures written { IfOk result (λ _. AreWrittenBehind (table deck.now) (listed nodes.new) agenda.new
-        dead_ends.new.items u.now steps.old.items steps.new.items) }
+        dead_ends.new.items nodes.old.gathered nodes.new.gathered u.now steps.old.items steps.new.items) }
 {
     let word = word_steps(alloc, deck, nodes, agenda, dead_ends, u)?;
     steps.push(word.first)?;
@@ -78,7 +82,7 @@ fn word_steps(
     nodes: &mut Nodes,
     agenda: &mut Agenda,
     dead_ends: &mut Vec<DeadEnd>,
-    u: &WordUse,
+    u: &WordUse<'_>,
 ) -> Result<WordSteps, AllocError>
     requires nodes { AreNodes (table deck.now) (listed nodes.old) }
     requires listed { AreListed (table deck.now) (listed nodes.old) agenda.old }
@@ -86,20 +90,23 @@ fn word_steps(
         agenda.old agenda.new dead_ends.old.items dead_ends.new.items }
     ensures written { IfOk result (λ steps. AreWritten (table deck.now) (listed nodes.new) agenda.new
         dead_ends.new.items (u.now ∷ []) (steps.first ∷ steps.second ∷ [])) }
+    ensures looks { IfOk result (λ steps. AllLead (steps.first ∷ steps.second ∷ [])
+        → AreLooksPut (table deck.now) nodes.new.keys u.now (steps.first ∷ steps.second ∷ [])
+        nodes.old.gathered nodes.new.gathered) }
 {
-    match lead_of(alloc, deck, u)? {
-        Lead::Refused => put_dead_end(alloc, &u.text, true, dead_ends),
-        Lead::Nowhere => put_dead_end(alloc, &u.text, false, dead_ends),
-        Lead::One(key) => {
-            let n = put_target(alloc, nodes, agenda, key)?;
+    match lead_of(alloc, deck, nodes, u)? {
+        Lead::Refused => put_dead_end(alloc, u, true, dead_ends),
+        Lead::Nowhere => put_dead_end(alloc, u, false, dead_ends),
+        Lead::One(n) => {
+            put_target(nodes, agenda, n)?;
             Ok(WordSteps {
                 first: Step::To(n),
                 second: Step::To(n),
             })
         }
-        Lead::Two(prefix, unit) => {
-            let n = put_target(alloc, nodes, agenda, prefix)?;
-            let m = put_target(alloc, nodes, agenda, unit)?;
+        Lead::Two(n, m) => {
+            put_target(nodes, agenda, n)?;
+            put_target(nodes, agenda, m)?;
             Ok(WordSteps {
                 first: Step::To(n),
                 second: Step::To(m),
@@ -111,17 +118,17 @@ fn word_steps(
 // The steps of a word that leads nowhere.
 fn put_dead_end(
     alloc: Global,
-    text: &Text,
+    u: &WordUse<'_>,
     is_refused: bool,
     dead_ends: &mut Vec<DeadEnd>,
 ) -> Result<WordSteps, AllocError>
     ensures more { IsMore dead_ends.old.items dead_ends.new.items }
     ensures put { IfOk result (λ _. dead_ends.new.items
-        ≡ dead_ends.old.items ++ record { text = text.now; is_refused = is_refused } ∷ []) }
+        ≡ dead_ends.old.items ++ record { text = u.now.text; is_refused = is_refused } ∷ []) }
     ensures first { IfOk result (λ steps. steps.first ≡ Step.Nowhere (length dead_ends.old.items)) }
     ensures second { IfOk result (λ steps. steps.second ≡ Step.Nowhere (length dead_ends.old.items)) }
 {
-    let text = text.copy(alloc)?;
+    let text = Text::from_bytes(alloc, u.text())?;
     let step = Step::Nowhere(dead_ends.len());
     dead_ends.push(DeadEnd { text, is_refused })?;
     Ok(WordSteps {

@@ -11,7 +11,7 @@ ghost use Rattle.live_table.specs.Stored.{key_at};
 
 use crate::nodes::Nodes;
 use deck::Deck;
-use def_entry::Entry;
+use def_entry::{Entry, What};
 use expr_tree::Words;
 use name_walk::Step;
 use std::marker::Model;
@@ -19,22 +19,22 @@ use tree_eval::{Env, Holder, Meaning, Outcome, Part};
 
 /// What is asked for.
 #[derive(Clone, Copy, Drop)]
-pub(crate) enum Asked<'a> {
+pub(crate) enum Asked<'a, 'w> {
     /// An expression with these words and their steps.
-    Expression(&'a Words, &'a [Step]),
+    Expression(&'a Words<'w>, &'a [Step]),
     /// The name of this number.
     Name(usize),
 }
 
 /// A deck and its nodes as an evaluation sees them.
 #[derive(Drop)]
-pub(crate) struct Surroundings<'a> {
+pub(crate) struct Surroundings<'a, 'w> {
     pub(crate) deck: &'a Deck,
     pub(crate) nodes: &'a Nodes,
-    pub(crate) asked: Asked<'a>,
+    pub(crate) asked: Asked<'a, 'w>,
 }
 
-impl<'a> Model for Surroundings<'a> {
+impl<'a, 'w> Model for Surroundings<'a, 'w> {
     ghost use Rattle.live_table.specs.Scenes.{Scene};
 
     ghost Value = { Scene };
@@ -47,7 +47,7 @@ impl<'a> Model for Surroundings<'a> {
     ghost invariant = { λ s. IsSurrounding s.deck.now (listed s.nodes.now) s.asked };
 }
 
-impl<'a> Env for Surroundings<'a> {
+impl<'a, 'w> Env for Surroundings<'a, 'w> {
     ghost use Rattle.live_table.specs.Scenes as scenes;
 
     ghost words = { scenes.holder_words };
@@ -62,8 +62,8 @@ impl<'a> Env for Surroundings<'a> {
         self.told(self.targets(holder, place))
     }
 
-    fn function(&self, id: usize) -> &Entry {
-        entry(self.deck, self.nodes, id)
+    fn function(&self, id: usize) -> &What {
+        entry(self.deck, self.nodes, id).what
     }
 
     fn function_name(&self, id: usize) -> &[u8] {
@@ -82,7 +82,7 @@ struct Targets {
     second: usize,
 }
 
-impl<'a> Surroundings<'a> {
+impl<'a, 'w> Surroundings<'a, 'w> {
     ghost use Rattle.expr_tree.specs.declared.word_list.WordUse.{WordUse};
     ghost use Rattle.tree_eval.specs.Environment.{IsTold};
     ghost use Rattle.table_names.specs.Meanings as names;
@@ -140,10 +140,10 @@ impl<'a> Surroundings<'a> {
 }
 
 /// The entry of the key of a number.
-pub(crate) fn entry<'a>(deck: &'a Deck, nodes: &'a Nodes, n: usize) -> &'a Entry
+pub(crate) fn entry<'a>(deck: &'a Deck, nodes: &'a Nodes, n: usize) -> Entry<'a>
     requires within { n < length nodes.now.keys }
     requires present { is_present (table deck.now) (key_at nodes.now.keys n) ≡ true }
-    ensures { entry_at (table deck.now) (key_at nodes.now.keys n) ≡ Some (entry_view result.now) }
+    ensures { entry_at (table deck.now) (key_at nodes.now.keys n) ≡ Some (entry_view result) }
 {
     let kind = nodes.keys.kind(n);
     let name = nodes.keys.name(n);

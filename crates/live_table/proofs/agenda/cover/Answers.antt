@@ -5,5 +5,6 @@ use Rattle.live_table.proofs.agenda.cover.Goals as goal
 
 pub returns-clause-same : goal.returns-clause-same
 returns-clause-same c =
-    same_after (is_ok c.resize.result) c.args.marks.now.items c.resize.new.self.items c.args.end c.args.marks.now.len c.args.marks.now.ok.0
+    same_after (is_ok c.resize.result) c.args.marks.now.items c.resize.new.self.items c.args.end c.args.marks.now.len
+    c.args.marks.now.ok.0
     (let s = c.args.marks.now.ok.0 in omega arith) c.resize.ensures.items

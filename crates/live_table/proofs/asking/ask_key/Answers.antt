@@ -17,95 +17,62 @@ use Rattle.live_table.proofs.Growing.{grown_both, none_listed}
 use Rattle.live_table.proofs.Queries.{cut_off}
 use Rattle.live_table.proofs.asking.ask_key.Goals as goal
 
-pub put_target-requires : goal.put_target-requires
-put_target-requires g c = (table c.args.deck.now, c.requires.sound.numbers)
-
-pub returns-in_err-name-clause-asked : goal.returns-in_err-name-clause-asked
-returns-in_err-name-clause-asked g c =
-    let t = table c.args.deck.now in
-    let p = err_from_is_err_and c.from_residual.result c.from_residual.ensures.1 in
-    subst (λ r. IsAsked (AsksKey (key_named c.args.kind c.args.name.now))
-    (key_fault t (key_named c.args.kind c.args.name.now))
-    (λ n. (key_named c.args.kind c.args.name.now ≡ key_at c.args.nodes.now.keys n) × IsSettled
-    c.args.nodes.now.settled.items n) r
-    (shown c.args.deck.now (listed c.args.nodes.now) c.args.reductions.now)
-    (shown c.args.deck.now (listed c.args.nodes.now) c.args.reductions.now) c.args.steps.now c.args.steps.now)
-    (sym (p.1 ∙ ap Err p.2))
-    (cut_off (AsksKey (key_named c.args.kind c.args.name.now)) (key_fault t (key_named c.args.kind c.args.name.now))
-    (key_named c.args.kind c.args.name.now ∷ key_reach t (key_named c.args.kind c.args.name.now))
-    (shown c.args.deck.now (listed c.args.nodes.now) c.args.reductions.now) c.args.steps.now c.requires.sound.right
-    (key_query t (key_named c.args.kind c.args.name.now)))
+pub put_key-requires-clause-listed : goal.put_key-requires-clause-listed
+put_key-requires-clause-listed g c = none_listed (table c.args.deck.now) (listed c.args.nodes.now) c.clear.new.self
+    c.clear.ensures
 
 pub returns-in_err-n-clause-sound : goal.returns-in_err-n-clause-sound
 returns-in_err-n-clause-sound g c =
     let t = table c.args.deck.now in
-    let added = c.put_target.ensures.added t [] c.requires.sound.numbers
-    (none_listed t (listed c.args.nodes.now) c.clear.new.self c.clear.ensures)
-    (subst (λ (name : List ℕ). is_present t (key_named c.args.kind name) ≡ true) (sym c.in_ok-name.ensures)
-    c.requires.present) in
-    grown_sound c.args.deck.now (listed c.args.nodes.now) (listed c.put_target.new.nodes) c.clear.new.self
-    c.put_target.new.agenda [] [] c.args.reductions.now added.grown c.requires.sound
+    let added = c.put_key.ensures.added [] in
+    grown_sound c.args.deck.now (listed c.args.nodes.now) (listed c.put_key.new.nodes) c.clear.new.self
+    c.put_key.new.agenda [] [] c.args.reductions.now added.grown c.requires.sound
 
 pub returns-in_err-n-clause-asked : goal.returns-in_err-n-clause-asked
 returns-in_err-n-clause-asked g c =
     let t = table c.args.deck.now in
-    let added = c.put_target.ensures.added t [] c.requires.sound.numbers
-    (none_listed t (listed c.args.nodes.now) c.clear.new.self c.clear.ensures)
-    (subst (λ (name : List ℕ). is_present t (key_named c.args.kind name) ≡ true) (sym c.in_ok-name.ensures)
-    c.requires.present) in
-    let p = err_from_is_err_and c.from_residual-in_err-n.result c.from_residual-in_err-n.ensures.1 in
+    let added = c.put_key.ensures.added [] in
+    let p = err_from_is_err_and c.from_residual.result c.from_residual.ensures.1 in
     subst (λ r. IsAsked (AsksKey (key_named c.args.kind c.args.name.now))
     (key_fault t (key_named c.args.kind c.args.name.now))
-    (λ n. (key_named c.args.kind c.args.name.now ≡ key_at c.put_target.new.nodes.keys n) × IsSettled
-    c.put_target.new.nodes.settled.items n) r
+    (λ n. (key_named c.args.kind c.args.name.now ≡ key_at c.put_key.new.nodes.keys n) × IsSettled
+    c.put_key.new.nodes.settled.items n) r
     (shown c.args.deck.now (listed c.args.nodes.now) c.args.reductions.now)
-    (shown c.args.deck.now (listed c.put_target.new.nodes) c.args.reductions.now) c.args.steps.now c.args.steps.now)
+    (shown c.args.deck.now (listed c.put_key.new.nodes) c.args.reductions.now) c.args.steps.now c.args.steps.now)
     (sym (p.1 ∙ ap Err p.2))
     (cut_short (AsksKey (key_named c.args.kind c.args.name.now)) (key_fault t (key_named c.args.kind c.args.name.now))
     (key_named c.args.kind c.args.name.now ∷ key_reach t (key_named c.args.kind c.args.name.now)) c.args.deck.now
-    (listed c.args.nodes.now) (listed c.put_target.new.nodes) c.clear.new.self c.put_target.new.agenda [] []
+    (listed c.args.nodes.now) (listed c.put_key.new.nodes) c.clear.new.self c.put_key.new.agenda [] []
     c.args.reductions.now c.args.steps.now
     added.grown c.requires.sound (key_query t (key_named c.args.kind c.args.name.now)))
 
 pub explore-requires-clause-nodes : goal.explore-requires-clause-nodes
 explore-requires-clause-nodes g c =
     let t = table c.args.deck.now in
-    let added = c.put_target.ensures.added t [] c.requires.sound.numbers
-    (none_listed t (listed c.args.nodes.now) c.clear.new.self c.clear.ensures)
-    (subst (λ (name : List ℕ). is_present t (key_named c.args.kind name) ≡ true) (sym c.in_ok-name.ensures)
-    c.requires.present) in
+    let added = c.put_key.ensures.added [] in
     added.grown.nodes
 
 pub explore-requires-clause-listed : goal.explore-requires-clause-listed
 explore-requires-clause-listed g c =
     let t = table c.args.deck.now in
-    let added = c.put_target.ensures.added t [] c.requires.sound.numbers
-    (none_listed t (listed c.args.nodes.now) c.clear.new.self c.clear.ensures)
-    (subst (λ (name : List ℕ). is_present t (key_named c.args.kind name) ≡ true) (sym c.in_ok-name.ensures)
-    c.requires.present) in
+    let added = c.put_key.ensures.added [] in
     added.grown.listed
 
 pub returns-in_err-explore-clause-sound : goal.returns-in_err-explore-clause-sound
 returns-in_err-explore-clause-sound g c =
     let t = table c.args.deck.now in
-    let added = c.put_target.ensures.added t c.new-dead_ends.result.items c.requires.sound.numbers
-    (none_listed t (listed c.args.nodes.now) c.clear.new.self c.clear.ensures)
-    (subst (λ (name : List ℕ). is_present t (key_named c.args.kind name) ≡ true) (sym c.in_ok-name.ensures)
-    c.requires.present) in
+    let added = c.put_key.ensures.added c.new-dead_ends.result.items in
     grown_sound c.args.deck.now (listed c.args.nodes.now) (listed c.explore.new.nodes) c.clear.new.self
     c.explore.new.agenda c.new-dead_ends.result.items c.explore.new.dead_ends.items c.args.reductions.now
-    (grown_both t (listed c.args.nodes.now) (listed c.put_target.new.nodes) (listed c.explore.new.nodes)
-    c.clear.new.self c.put_target.new.agenda c.explore.new.agenda
+    (grown_both t (listed c.args.nodes.now) (listed c.put_key.new.nodes) (listed c.explore.new.nodes)
+    c.clear.new.self c.put_key.new.agenda c.explore.new.agenda
     c.new-dead_ends.result.items c.new-dead_ends.result.items c.explore.new.dead_ends.items added.grown
     c.explore.ensures.grown) c.requires.sound
 
 pub returns-in_err-explore-clause-asked : goal.returns-in_err-explore-clause-asked
 returns-in_err-explore-clause-asked g c =
     let t = table c.args.deck.now in
-    let added = c.put_target.ensures.added t c.new-dead_ends.result.items c.requires.sound.numbers
-    (none_listed t (listed c.args.nodes.now) c.clear.new.self c.clear.ensures)
-    (subst (λ (name : List ℕ). is_present t (key_named c.args.kind name) ≡ true) (sym c.in_ok-name.ensures)
-    c.requires.present) in
+    let added = c.put_key.ensures.added c.new-dead_ends.result.items in
     let p = err_from_is_err_and c.from_residual-in_err-explore.result c.from_residual-in_err-explore.ensures.1 in
     subst (λ r. IsAsked (AsksKey (key_named c.args.kind c.args.name.now))
     (key_fault t (key_named c.args.kind c.args.name.now))
@@ -118,8 +85,8 @@ returns-in_err-explore-clause-asked g c =
     (key_named c.args.kind c.args.name.now ∷ key_reach t (key_named c.args.kind c.args.name.now)) c.args.deck.now
     (listed c.args.nodes.now) (listed c.explore.new.nodes) c.clear.new.self c.explore.new.agenda
     c.new-dead_ends.result.items c.explore.new.dead_ends.items c.args.reductions.now c.args.steps.now
-    (grown_both t (listed c.args.nodes.now) (listed c.put_target.new.nodes) (listed c.explore.new.nodes)
-    c.clear.new.self c.put_target.new.agenda c.explore.new.agenda
+    (grown_both t (listed c.args.nodes.now) (listed c.put_key.new.nodes) (listed c.explore.new.nodes)
+    c.clear.new.self c.put_key.new.agenda c.explore.new.agenda
     c.new-dead_ends.result.items c.new-dead_ends.result.items c.explore.new.dead_ends.items added.grown
     c.explore.ensures.grown)
     c.requires.sound (key_query t (key_named c.args.kind c.args.name.now)))
@@ -127,41 +94,30 @@ returns-in_err-explore-clause-asked g c =
 pub settle_query-requires-clause-sound : goal.settle_query-requires-clause-sound
 settle_query-requires-clause-sound g c =
     let t = table c.args.deck.now in
-    let added = c.put_target.ensures.added t c.new-dead_ends.result.items c.requires.sound.numbers
-    (none_listed t (listed c.args.nodes.now) c.clear.new.self c.clear.ensures)
-    (subst (λ (name : List ℕ). is_present t (key_named c.args.kind name) ≡ true) (sym c.in_ok-name.ensures)
-    c.requires.present) in
+    let added = c.put_key.ensures.added c.new-dead_ends.result.items in
     grown_sound c.args.deck.now (listed c.args.nodes.now) (listed c.explore.new.nodes) c.clear.new.self
     c.explore.new.agenda c.new-dead_ends.result.items c.explore.new.dead_ends.items c.args.reductions.now
-    (grown_both t (listed c.args.nodes.now) (listed c.put_target.new.nodes) (listed c.explore.new.nodes)
-    c.clear.new.self c.put_target.new.agenda c.explore.new.agenda
+    (grown_both t (listed c.args.nodes.now) (listed c.put_key.new.nodes) (listed c.explore.new.nodes)
+    c.clear.new.self c.put_key.new.agenda c.explore.new.agenda
     c.new-dead_ends.result.items c.new-dead_ends.result.items c.explore.new.dead_ends.items added.grown
     c.explore.ensures.grown) c.requires.sound
 
 pub settle_query-requires-clause-explored : goal.settle_query-requires-clause-explored
 settle_query-requires-clause-explored g c =
     let t = table c.args.deck.now in
-    let added = c.put_target.ensures.added t c.new-dead_ends.result.items c.requires.sound.numbers
-    (none_listed t (listed c.args.nodes.now) c.clear.new.self c.clear.ensures)
-    (subst (λ (name : List ℕ). is_present t (key_named c.args.kind name) ≡ true) (sym c.in_ok-name.ensures)
-    c.requires.present) in
-    key_explored c.args.deck.now (listed c.args.nodes.now) (listed c.put_target.new.nodes) (listed c.explore.new.nodes)
+    let added = c.put_key.ensures.added c.new-dead_ends.result.items in
+    key_explored c.args.deck.now (listed c.args.nodes.now) (listed c.put_key.new.nodes) (listed c.explore.new.nodes)
     c.args.reductions.now
-    c.clear.new.self c.put_target.new.agenda c.explore.new.agenda c.new-dead_ends.result.items
+    c.clear.new.self c.put_key.new.agenda c.explore.new.agenda c.new-dead_ends.result.items
     c.explore.new.dead_ends.items
     c.in_ok-n.n (key_named c.args.kind c.args.name.now) c.requires.sound added.grown c.explore.ensures.grown
-    (subst (λ (name : List ℕ). (key_named c.args.kind name ≡ key_at c.put_target.new.nodes.keys c.in_ok-n.n) × IsKnown
-    (listed c.put_target.new.nodes) c.put_target.new.agenda c.in_ok-n.n)
-    c.in_ok-name.ensures c.in_ok-n.ensures.target) c.in_ok-explore.ensures.explored c.deref.result.now
+    c.in_ok-n.ensures.target c.in_ok-explore.ensures.explored c.deref.result.now
     (To c.in_ok-n.n ∷ []) c.deref.ensures.value refl
 
 pub returns-in_err-settle_query-clause-asked : goal.returns-in_err-settle_query-clause-asked
 returns-in_err-settle_query-clause-asked g c =
     let t = table c.args.deck.now in
-    let added = c.put_target.ensures.added t c.new-dead_ends.result.items c.requires.sound.numbers
-    (none_listed t (listed c.args.nodes.now) c.clear.new.self c.clear.ensures)
-    (subst (λ (name : List ℕ). is_present t (key_named c.args.kind name) ≡ true) (sym c.in_ok-name.ensures)
-    c.requires.present) in
+    let added = c.put_key.ensures.added c.new-dead_ends.result.items in
     let p = err_from_is_err_and c.from_residual-in_err-settle_query.result
     c.from_residual-in_err-settle_query.ensures.1 in
     subst (λ r. IsAsked (AsksKey (key_named c.args.kind c.args.name.now))
@@ -171,14 +127,12 @@ returns-in_err-settle_query-clause-asked g c =
     (shown c.args.deck.now (listed c.args.nodes.now) c.args.reductions.now)
     (shown c.args.deck.now (listed c.settle_query.new.nodes) c.settle_query.new.reductions)
     c.args.steps.now c.settle_query.new.steps) (sym (p.1 ∙ ap Err p.2))
-    (key_explored_fault c.args.deck.now (listed c.args.nodes.now) (listed c.put_target.new.nodes)
+    (key_explored_fault c.args.deck.now (listed c.args.nodes.now) (listed c.put_key.new.nodes)
     (listed c.explore.new.nodes) c.args.reductions.now
-    c.clear.new.self c.put_target.new.agenda c.explore.new.agenda c.new-dead_ends.result.items
+    c.clear.new.self c.put_key.new.agenda c.explore.new.agenda c.new-dead_ends.result.items
     c.explore.new.dead_ends.items
     c.in_ok-n.n (key_named c.args.kind c.args.name.now) c.requires.sound added.grown c.explore.ensures.grown
-    (subst (λ (name : List ℕ). (key_named c.args.kind name ≡ key_at c.put_target.new.nodes.keys c.in_ok-n.n) × IsKnown
-    (listed c.put_target.new.nodes) c.put_target.new.agenda c.in_ok-n.n)
-    c.in_ok-name.ensures c.in_ok-n.ensures.target) c.in_ok-explore.ensures.explored c.numbered_fault_law.ensures
+    c.in_ok-n.ensures.target c.in_ok-explore.ensures.explored c.numbered_fault_law.ensures
     c.settling_law.ensures c.deref.result.now (To c.in_ok-n.n ∷ []) c.deref.ensures.value refl
     (λ n. (key_named c.args.kind c.args.name.now ≡ key_at c.settle_query.new.nodes.keys n) × IsSettled
     c.settle_query.new.nodes.settled.items n)
@@ -189,19 +143,14 @@ returns-in_err-settle_query-clause-asked g c =
 pub returns-clause-asked : goal.returns-clause-asked
 returns-clause-asked g c =
     let t = table c.args.deck.now in
-    let added = c.put_target.ensures.added t c.new-dead_ends.result.items c.requires.sound.numbers
-    (none_listed t (listed c.args.nodes.now) c.clear.new.self c.clear.ensures)
-    (subst (λ (name : List ℕ). is_present t (key_named c.args.kind name) ≡ true) (sym c.in_ok-name.ensures)
-    c.requires.present) in
+    let added = c.put_key.ensures.added c.new-dead_ends.result.items in
     let a = c.in_ok-settle_query.ensures.answered in
-    key_explored_settled c.args.deck.now (listed c.args.nodes.now) (listed c.put_target.new.nodes)
+    key_explored_settled c.args.deck.now (listed c.args.nodes.now) (listed c.put_key.new.nodes)
     (listed c.explore.new.nodes) c.args.reductions.now
-    c.clear.new.self c.put_target.new.agenda c.explore.new.agenda c.new-dead_ends.result.items
+    c.clear.new.self c.put_key.new.agenda c.explore.new.agenda c.new-dead_ends.result.items
     c.explore.new.dead_ends.items
     c.in_ok-n.n (key_named c.args.kind c.args.name.now) c.requires.sound added.grown c.explore.ensures.grown
-    (subst (λ (name : List ℕ). (key_named c.args.kind name ≡ key_at c.put_target.new.nodes.keys c.in_ok-n.n) × IsKnown
-    (listed c.put_target.new.nodes) c.put_target.new.agenda c.in_ok-n.n)
-    c.in_ok-name.ensures c.in_ok-n.ensures.target) c.in_ok-explore.ensures.explored c.numbered_fault_law.ensures
+    c.in_ok-n.ensures.target c.in_ok-explore.ensures.explored c.numbered_fault_law.ensures
     c.settling_law.ensures c.deref.result.now (To c.in_ok-n.n ∷ []) c.deref.ensures.value refl
     (listed c.settle_query.new.nodes) c.settle_query.new.reductions c.args.steps.now c.settle_query.new.steps
     c.settle_query.ensures.sound

@@ -1,4 +1,6 @@
-use Rattle.std.proofs.Common.{◌≡◌, ◌<◌, ◌≤◌, List, ℕ, length, arith, subst}
+use Rattle.std.proofs.Common.{◌≡◌, ◌<◌, ◌≤◌, List, ℕ, length, nat_eq, arith, subst, sym}
+use Rattle.std.specs.List.{IsDistinct}
+use Rattle.live_table.specs.Looks.{AllLead, AreLooks}
 use Rattle.expr_tree.specs.declared.word_list.WordUse.{WordUse}
 use Rattle.deck.specs.Tables.{table}
 use Rattle.live_table.specs.Exploring.{AreWritten}
@@ -26,24 +28,45 @@ index_mut-requires-2 c =
     let h = c.requires.listed.within c.args.n c.requires.name in
     omega arith
 
+pub index_mut-requires-3 : goal.index_mut-requires-3
+index_mut-requires-3 c =
+    let s = c.put_words.new.nodes.looks.ok.0 in
+    let a = c.put_words.ensures.added.grown.nodes.look_count in
+    let b = more_length c.args.nodes.now.keys c.put_words.new.nodes.keys c.put_words.ensures.added.grown.keys_more in
+    let h = c.requires.listed.within c.args.n c.requires.name in
+    omega arith
+
 pub returns-clause-grown : goal.returns-clause-grown
 returns-clause-grown c =
-    stepped_grown (table c.args.deck.now) (listed c.args.nodes.now) (listed c.put_words.new.nodes) c.args.agenda.now c.put_words.new.agenda c.args.dead_ends.now.items c.put_words.new.dead_ends.items
-    c.args.n (record { rank = c.index_mut.result.now.rank; starts = c.in_ok-entry.entry.starts }) c.in_ok-steps.steps c.put_words.ensures.added c.requires.listed c.requires.name
-    (subst (λ (us : List WordUse). AreWritten (table c.args.deck.now) (listed c.put_words.new.nodes) c.put_words.new.agenda c.put_words.new.dead_ends.items us c.in_ok-steps.steps.items)
+    stepped_grown (table c.args.deck.now) (listed c.args.nodes.now) (listed c.put_words.new.nodes) c.args.agenda.now
+    c.put_words.new.agenda c.args.dead_ends.now.items c.put_words.new.dead_ends.items
+    c.args.n (record { rank = c.index_mut.result.now.rank; starts = c.in_ok-entry.entry.starts }) c.in_ok-steps.steps
+    c.in_ok-looks.looks c.put_words.ensures.added c.requires.listed c.requires.name
+    (subst (λ (us : List WordUse). AreWritten (table c.args.deck.now) (listed c.put_words.new.nodes)
+    c.put_words.new.agenda c.put_words.new.dead_ends.items us c.in_ok-steps.steps.items)
     c.in_ok-entry.ensures.words c.in_ok-steps.ensures.written)
 
 pub returns-clause-same : goal.returns-clause-same
 returns-clause-same c =
-    stepped_same (table c.args.deck.now) (listed c.args.nodes.now) (listed c.put_words.new.nodes) c.args.agenda.now c.put_words.new.agenda c.args.dead_ends.now.items c.put_words.new.dead_ends.items
-    c.args.n (record { rank = c.index_mut.result.now.rank; starts = c.in_ok-entry.entry.starts }) c.in_ok-steps.steps c.put_words.ensures.added c.requires.listed c.requires.name
-    (subst (λ (us : List WordUse). AreWritten (table c.args.deck.now) (listed c.put_words.new.nodes) c.put_words.new.agenda c.put_words.new.dead_ends.items us c.in_ok-steps.steps.items)
+    stepped_same (table c.args.deck.now) (listed c.args.nodes.now) (listed c.put_words.new.nodes) c.args.agenda.now
+    c.put_words.new.agenda c.args.dead_ends.now.items c.put_words.new.dead_ends.items
+    c.args.n (record { rank = c.index_mut.result.now.rank; starts = c.in_ok-entry.entry.starts }) c.in_ok-steps.steps
+    c.in_ok-looks.looks c.put_words.ensures.added c.requires.listed c.requires.name
+    (subst (λ (us : List WordUse). AreWritten (table c.args.deck.now) (listed c.put_words.new.nodes)
+    c.put_words.new.agenda c.put_words.new.dead_ends.items us c.in_ok-steps.steps.items)
     c.in_ok-entry.ensures.words c.in_ok-steps.ensures.written)
 
 pub returns-clause-written : goal.returns-clause-written
 returns-clause-written c =
-    stepped_written (table c.args.deck.now) (listed c.args.nodes.now) (listed c.put_words.new.nodes) c.args.agenda.now c.put_words.new.agenda c.args.dead_ends.now.items c.put_words.new.dead_ends.items
-    c.args.n (record { rank = c.index_mut.result.now.rank; starts = c.in_ok-entry.entry.starts }) c.in_ok-steps.steps c.put_words.ensures.added c.requires.listed c.requires.name
-    (subst (λ (us : List WordUse). AreWritten (table c.args.deck.now) (listed c.put_words.new.nodes) c.put_words.new.agenda c.put_words.new.dead_ends.items us c.in_ok-steps.steps.items)
+    stepped_written (table c.args.deck.now) (listed c.args.nodes.now) (listed c.put_words.new.nodes) c.args.agenda.now
+    c.put_words.new.agenda c.args.dead_ends.now.items c.put_words.new.dead_ends.items
+    c.args.n (record { rank = c.index_mut.result.now.rank; starts = c.in_ok-entry.entry.starts }) c.in_ok-steps.steps
+    c.in_ok-looks.looks c.put_words.ensures.added c.requires.listed c.requires.name
+    (subst (λ (us : List WordUse). AreWritten (table c.args.deck.now) (listed c.put_words.new.nodes)
+    c.put_words.new.agenda c.put_words.new.dead_ends.items us c.in_ok-steps.steps.items)
     c.in_ok-entry.ensures.words c.in_ok-steps.ensures.written)
     c.in_ok-entry.ensures.starts
+    (subst (λ (p : List WordUse × List ℕ). AllLead c.in_ok-steps.steps.items
+    → AreLooks (table c.args.deck.now) c.put_words.new.nodes.keys p.0 c.in_ok-steps.steps.items p.1)
+    (λ i. (c.in_ok-entry.ensures.words i, sym c.in_ok-looks.ensures.copy i)) c.in_ok-steps.ensures.looks)
+    (subst (IsDistinct nat_eq) (sym c.in_ok-looks.ensures.copy) c.in_ok-looks.ensures.once)

@@ -1,14 +1,20 @@
-use Rattle.std.proofs.Common.{◌≡◌, List, ℕ, false, sym, subst}
-use Rattle.def_entry.specs.Keys.{key}
+use Rattle.std.proofs.Common.{◌≡◌, false, List, ℕ, sym, ◌∙◌, ap, refl}
+use Rattle.def_entry.specs.Keys.{key as key_named}
 use Rattle.def_entry.specs.SameKeys.{is_among}
-use Rattle.live_table.specs.Exploring.{AreAdded}
-use Rattle.live_table.specs.Stored.{Listed, listed}
-use Rattle.live_table.proofs.Named.{named_added, not_there}
+use Rattle.live_table.specs.Stored.{listed}
+use Rattle.live_table.proofs.KeyNumbers.{kept_named, more_named}
 use Rattle.live_table.proofs.numbering.number.Goals as goal
 
-pub returns-clause-added : goal.returns-clause-added
-returns-clause-added c t list ends nodes right =
-    let named = c.in_ok-add.ensures.ok in
-    subst (λ (m : Listed). AreAdded t (listed c.args.nodes.now) m list list ends ends) (sym named.3)
-    (named_added t (listed c.args.nodes.now) c.args.key named.0 named.1 named.2 nodes (not_there c.args.nodes.now.keys c.args.key
-    (subst (λ (w : List ℕ). is_among c.args.nodes.now.keys (key c.args.key.kind w) ≡ false) c.as_bytes.ensures c.in_default.ensures)) list ends right)
+pub returns-clause-kept : goal.returns-clause-kept
+returns-clause-kept g c =
+    let keys = g.P.Present.keys c.args.table.now in
+    let same = ap (λ (w : List ℕ). key_named c.args.kind w) c.in_ok-name.ensures in
+    kept_named keys c.args.nodes.now c.add.new.self (key_named c.args.kind c.in_ok-name.name) c.has-is_present.result
+    c.in_ok-add.ensures.ok
+    (c.has-is_present.ensures ∙ ap (is_among keys) (sym same))
+    (ap (is_among c.args.nodes.now.keys) same ∙ c.in_default.ensures) c.add.ensures.gathered
+
+pub returns-clause-more : goal.returns-clause-more
+returns-clause-more g c =
+    more_named c.args.nodes.now c.add.new.self (key_named c.args.kind c.in_ok-name.name) c.has-is_present.result
+    c.in_ok-add.ensures.ok

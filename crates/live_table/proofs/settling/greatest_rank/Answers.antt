@@ -1,7 +1,7 @@
 use Rattle.std.proofs.Common.{◌<◌, Some, ap, ◌∙◌, length, arith}
 use Rattle.std.proofs.lemmas.Option.{slice_get-get_or}
 use Rattle.name_walk.specs.declared.step.Step.TheVariants.{Nowhere, To}
-use Rattle.live_table.proofs.Places.{get_In}
+use Rattle.name_walk.proofs.Lists.{get_In}
 use Rattle.live_table.proofs.settling.greatest_rank.Goals as goal
 
 pub step_rank-requires : goal.step_rank-requires

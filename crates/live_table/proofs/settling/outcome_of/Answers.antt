@@ -22,20 +22,20 @@ pub reduce-requires-clause-words : goal.reduce-requires-clause-words
 reduce-requires-clause-words g c = holds_words c.args.deck.now (listed c.args.nodes.now) (Name c.args.n)
     (surrounded c.args.deck.now (listed c.args.nodes.now) c.requires.sound.0 c.args.n c.requires.sound.1
     c.requires.due) c.args.n (name_hand c.args.deck.now (listed c.args.nodes.now) c.args.n)
-    (entry_view c.entry.result.now) c.entry.ensures
+    (entry_view c.entry.result) c.entry.ensures
 
 pub reduce-requires-clause-target : goal.reduce-requires-clause-target
 reduce-requires-clause-target g c = has_target c.args.deck.now (listed c.args.nodes.now) (Name c.args.n)
     (surrounded c.args.deck.now (listed c.args.nodes.now) c.requires.sound.0 c.args.n c.requires.sound.1
     c.requires.due) c.args.n (name_hand c.args.deck.now (listed c.args.nodes.now) c.args.n)
-    (entry_view c.entry.result.now) c.entry.ensures
+    (entry_view c.entry.result) c.entry.ensures
 
 pub returns-clause-outcome : goal.returns-clause-outcome
 returns-clause-outcome g c =
     if_ok _ _ c.reduce.result (λ o e. e
     ∙ (ap (λ (name : List ℕ). outcome_of (meaning_of (word_meaning (table c.args.deck.now)) name
-    (what_view c.entry.result.now.what))) c.name.ensures
+    (what_view c.entry.result.what.now))) c.name.ensures
     ∙ ap outcome_of (sym (meaning_is c.args.deck.now (listed c.args.nodes.now) (Name c.args.n)
     (surrounded c.args.deck.now (listed c.args.nodes.now) c.requires.sound.0 c.args.n c.requires.sound.1
     c.requires.due) c.args.n (name_hand c.args.deck.now (listed c.args.nodes.now) c.args.n)
-    (entry_view c.entry.result.now) c.entry.ensures)))) c.reduce.ensures.outcome
+    (entry_view c.entry.result) c.entry.ensures)))) c.reduce.ensures.outcome

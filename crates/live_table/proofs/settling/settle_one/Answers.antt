@@ -1,5 +1,6 @@
 use Rattle.std.proofs.Common.{◌≡◌, ◌<◌, length, arith}
 use Rattle.live_table.specs.Stored.{listed}
+use Rattle.live_table.proofs.Flags.{count_room}
 use Rattle.live_table.proofs.Kept.{settled_count}
 use Rattle.live_table.proofs.SettleOne.{settled_nodes, settled_shown, settled_sound}
 use Rattle.live_table.proofs.settling.settle_one.Goals as goal
@@ -23,6 +24,13 @@ put-requires-clause-settled g c =
     let a : c.args.n < length (listed c.args.nodes.now).keys = c.requires.due.within in
     let b : length (listed c.args.nodes.now).settled ≡ length (listed c.args.nodes.now).keys =
     settled_count c.args.deck.now (listed c.args.nodes.now) c.args.reductions.now c.requires.sound.numbers in
+    omega (arith, a, b)
+
+pub put-requires-clause-room : goal.put-requires-clause-room
+put-requires-clause-room g c =
+    let a = count_room (listed c.args.nodes.now).settled c.args.n c.requires.due.fresh in
+    let b = c.requires.sound.numbers.counted in
+    let s = c.args.nodes.now.settled.ok.0 in
     omega (arith, a, b)
 
 pub returns-clause-sound : goal.returns-clause-sound

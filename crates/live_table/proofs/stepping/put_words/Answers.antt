@@ -16,13 +16,19 @@ put_word-requires-clause-listed c = c.loop-u.invariant.added.grown.listed
 
 pub returns-in_err-put_word-clause-added : goal.returns-in_err-put_word-clause-added
 returns-in_err-put_word-clause-added c =
-    added_both (table c.args.deck.now) (listed c.args.nodes.now) (listed c.loop-u.nodes) (listed c.put_word.new.nodes) c.args.agenda.now c.loop-u.agenda c.put_word.new.agenda
-    c.args.dead_ends.now.items c.loop-u.dead_ends.items c.put_word.new.dead_ends.items c.loop-u.invariant.added c.put_word.ensures.added
+    added_both (table c.args.deck.now) (listed c.args.nodes.now) (listed c.loop-u.nodes) (listed c.put_word.new.nodes)
+    c.args.agenda.now c.loop-u.agenda c.put_word.new.agenda
+    c.args.dead_ends.now.items c.loop-u.dead_ends.items c.put_word.new.dead_ends.items c.loop-u.invariant.added
+    c.put_word.ensures.added
 
 pub loop-u-preserved : goal.loop-u-preserved
 loop-u-preserved c =
-    putting_next (table c.args.deck.now) (listed c.args.nodes.now) (listed c.loop-u.nodes) (listed c.put_word.new.nodes) c.args.agenda.now c.loop-u.agenda c.put_word.new.agenda
-    c.args.dead_ends.now.items c.loop-u.dead_ends.items c.put_word.new.dead_ends.items c.args.words.now c.loop-u.steps.items c.put_word.new.steps.items c.loop-u.u-index c.u-item.result
+    putting_next (table c.args.deck.now) (listed c.args.nodes.now) (listed c.loop-u.nodes) (listed c.put_word.new.nodes)
+    c.args.agenda.now c.loop-u.agenda c.put_word.new.agenda
+    c.args.dead_ends.now.items c.loop-u.dead_ends.items c.put_word.new.dead_ends.items c.loop-u.nodes.gathered
+    c.put_word.new.nodes.gathered c.args.words.now c.loop-u.steps.items c.put_word.new.steps.items c.loop-u.u-index
+    c.u-item.result
     (ap (λ (xs : List WordUse). slice_get xs c.loop-u.u-index) (sym c.as_slice-u-items.ensures)
-    ∙ (slice_get-get_or c.as_slice-u-items.result.now c.loop-u.u-index c.u-item.result (omega arith) ∙ ap Some (sym c.u-item.is)))
+    ∙ (slice_get-get_or c.as_slice-u-items.result.now c.loop-u.u-index c.u-item.result (omega arith)
+    ∙ ap Some (sym c.u-item.is)))
     c.loop-u.invariant c.put_word.ensures.added c.in_ok-put_word.ensures.written

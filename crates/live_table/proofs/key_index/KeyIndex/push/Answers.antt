@@ -11,17 +11,24 @@ use Rattle.live_table.proofs.key_index.KeyIndex.push.Goals as goal
 pub invariant_of-self-2 : goal.invariant_of-self-2
 invariant_of-self-2 c =
     subst (λ (order : List KeyNumber). IsIndexed (names_in c.put-number.new.self) c.push.new.self order)
-    (sym (c.in_ok-push-2.ensures.items ∙ ap (λ (xs : List KeyNumber). xs ++ c.put-number.result ∷ []) c.in_ok-reserve.ensures.items))
-    (indexed_more (names_in c.self.inside.names) (names_in c.put-number.new.self) c.self.inside.numbers c.push.new.self c.self.inside.order.items c.args.key c.put-number.result
+    (sym (c.in_ok-push-2.ensures.items ∙ ap (λ (xs : List KeyNumber). xs ++ c.put-number.result ∷ [])
+    c.in_ok-reserve.ensures.items))
+    (indexed_more (names_in c.self.inside.names) (names_in c.put-number.new.self) c.self.inside.numbers c.push.new.self
+    c.self.inside.order.items c.args.key c.put-number.result
     c.self.invariant (subst (λ (keys : List Key). is_among keys c.args.key ≡ false) (sym c.self.view_is) c.requires)
     (c.put-number.ensures.names ∙ ap (λ (x : Names). with_key x c.args.key) c.in_ok-reserve_one.ensures.names)
-    (subst (λ (n : ℕ). IsPushed c.args.key.kind n c.self.inside.numbers c.push.new.self) (c.len-n.ensures ∙ c.self.inside.order.ok.0) c.in_ok-push.ensures.ok) c.put-number.ensures.number)
+    (subst (λ (n : ℕ). IsPushed c.args.key.kind n c.self.inside.numbers c.push.new.self)
+    (c.len-n.ensures ∙ c.self.inside.order.ok.0) c.in_ok-push.ensures.ok) c.put-number.ensures.number)
 
 pub returns-clause-ok : goal.returns-clause-ok
 returns-clause-ok c =
-    ap (keys_by (names_in c.put-number.new.self)) (c.in_ok-push-2.ensures.items ∙ ap (λ (xs : List KeyNumber). xs ++ c.put-number.result ∷ []) c.in_ok-reserve.ensures.items)
-    ∙ (keys_more (names_in c.self.inside.names) (names_in c.put-number.new.self) c.self.inside.numbers c.push.new.self c.self.inside.order.items c.args.key c.put-number.result
+    ap (keys_by (names_in c.put-number.new.self))
+    (c.in_ok-push-2.ensures.items ∙ ap (λ (xs : List KeyNumber). xs ++ c.put-number.result ∷ [])
+    c.in_ok-reserve.ensures.items)
+    ∙ (keys_more (names_in c.self.inside.names) (names_in c.put-number.new.self) c.self.inside.numbers c.push.new.self
+    c.self.inside.order.items c.args.key c.put-number.result
     c.self.invariant (subst (λ (keys : List Key). is_among keys c.args.key ≡ false) (sym c.self.view_is) c.requires)
     (c.put-number.ensures.names ∙ ap (λ (x : Names). with_key x c.args.key) c.in_ok-reserve_one.ensures.names)
-    (subst (λ (n : ℕ). IsPushed c.args.key.kind n c.self.inside.numbers c.push.new.self) (c.len-n.ensures ∙ c.self.inside.order.ok.0) c.in_ok-push.ensures.ok) c.put-number.ensures.number
+    (subst (λ (n : ℕ). IsPushed c.args.key.kind n c.self.inside.numbers c.push.new.self)
+    (c.len-n.ensures ∙ c.self.inside.order.ok.0) c.in_ok-push.ensures.ok) c.put-number.ensures.number
     ∙ ap (λ (keys : List Key). keys ++ c.args.key ∷ []) c.self.view_is)

@@ -11,7 +11,12 @@ pub overflow_add-result : goal.overflow_add-result
 overflow_add-result c =
     let few : (c.key_count-units.result + c.key_count-prefixes.result) + c.key_count-functions.result ≤ 100000 =
     names_within c.self.inside.deck c.key_count-units.result c.key_count-prefixes.result c.key_count-functions.result
-    (record { units = c.key_count-units.ensures; prefixes = c.key_count-prefixes.ensures; functions = c.key_count-functions.ensures })
+    (record {
+      units = c.key_count-units.ensures;
+      prefixes = c.key_count-prefixes.ensures;
+      functions =
+          c.key_count-functions.ensures;
+    })
     c.lines-within.ensures.within in
     omega (arith, few)
 
@@ -19,19 +24,29 @@ pub overflow_add-result-2 : goal.overflow_add-result-2
 overflow_add-result-2 c =
     let few : (c.key_count-units.result + c.key_count-prefixes.result) + c.key_count-functions.result ≤ 100000 =
     names_within c.self.inside.deck c.key_count-units.result c.key_count-prefixes.result c.key_count-functions.result
-    (record { units = c.key_count-units.ensures; prefixes = c.key_count-prefixes.ensures; functions = c.key_count-functions.ensures })
+    (record {
+      units = c.key_count-units.ensures;
+      prefixes = c.key_count-prefixes.ensures;
+      functions =
+          c.key_count-functions.ensures;
+    })
     c.lines-within.ensures.within in
     omega (arith, few)
 
 pub returns-clause-settled : goal.returns-clause-settled
 returns-clause-settled c =
-    c.settled_count.ensures
+    c.self.invariant.numbers.counted
     ∙ (kept_counted (table c.self.inside.deck) (listed c.self.inside.nodes) c.self.invariant.numbers
     ∙ ap (λ (s : Shown). map_of.len s.kept) c.self.view_is)
 
 pub returns-clause-names : goal.returns-clause-names
 returns-clause-names c =
     names_counted c.self.inside.deck c.key_count-units.result c.key_count-prefixes.result c.key_count-functions.result
-    (record { units = c.key_count-units.ensures; prefixes = c.key_count-prefixes.ensures; functions = c.key_count-functions.ensures })
+    (record {
+      units = c.key_count-units.ensures;
+      prefixes = c.key_count-prefixes.ensures;
+      functions =
+          c.key_count-functions.ensures;
+    })
     c.table_keys_are_whole.ensures
     ∙ ap (λ (s : Shown). length (names_in (table s.deck))) c.self.view_is

@@ -20,7 +20,7 @@ entry-requires-clause-present c =
 pub returns : goal.returns
 returns c =
     subst (λ (s : Scene). IsFunction (holder_words s) (word_means s) c.args.id (callee_at s c.args.id)
-    (what_view c.entry.result.now.what)) c.self.view_is
+    (what_view c.entry.result.what.now)) c.self.view_is
     (is_function c.self.inside.deck.now (listed c.self.inside.nodes.now) c.self.inside.asked c.self.invariant c.args.id
     (subst (λ (s : Scene). has_callee s c.args.id ≡ true) (sym c.self.view_is) c.requires)
-    (entry_view c.entry.result.now) c.entry.ensures)
+    (entry_view c.entry.result) c.entry.ensures)

@@ -1,0 +1,110 @@
+-- Numbers for keys that are looked at: what is kept, and what was looked at.
+use Rattle.std.proofs.Common.{◌≡◌, ◌⊎◌, ◌↔◌, ◌<◌, ◌++◌, ◌∷◌, [], ℕ, zero, suc, Bool, true, false, List, length, map}
+use Rattle.std.proofs.Common.{get_or, Contains, refl, sym, ◌∙◌, ap, subst, inl, inr, arith}
+use Rattle.std.proofs.lemmas.List.{length-map, map-append}
+use Rattle.std.proofs.lemmas.Map.Made.{is_some-lookup}
+use Rattle.def_entry.specs.declared.key.Key.{Key}
+use Rattle.def_entry.specs.SameKeys.{is_among, is_same}
+use Rattle.def_entry.specs.Tables.{Table, is_present, keys_of}
+use Rattle.name_walk.specs.Lists.{In}
+use Rattle.name_walk.proofs.Lists.{In-push}
+use Rattle.table_names.proofs.Members.{map_same, member_cases, member_first, member_later, no_member}
+use Rattle.live_table.specs.declared.nodes.Nodes.{Nodes}
+use Rattle.live_table.specs.Exploring.{AreAdded, IsMore, IsNamed}
+use Rattle.live_table.specs.Numbering.{AreFlagged, CanLook, IsKept, looked_by}
+use Rattle.live_table.specs.Stored.{Listed, key_at, listed}
+use Rattle.live_table.proofs.Growing.{added_both, added_none, key_same, more_length, push_more}
+use Rattle.live_table.proofs.Named.{named_added, not_there}
+
+-- ---- what is kept
+pub kept_same : (keys : List Key) (a b : Nodes) → listed b ≡ listed a → b.gathered ≡ a.gathered → IsKept keys a b
+kept_same keys a b e f = record {
+  added = λ t is nodes list ends right.
+      subst (λ (m : Listed). AreAdded t (listed a) m list list ends ends) (sym e)
+      (added_none t (listed a) list ends ends nodes right (λ i x q. q));
+  gathered = f;
+}
+
+pub kept_itself : (keys : List Key) (a : Nodes) → IsKept keys a a
+kept_itself keys a = kept_same keys a a refl refl
+
+pub kept_on : (keys : List Key) (a b c : Nodes) → IsKept keys a b → IsKept keys b c → IsKept keys a c
+kept_on keys a b c h k = record {
+  added = λ t is nodes list ends right.
+      let x = h.added t is nodes list ends right in
+      added_both t (listed a) (listed b) (listed c) list list list ends ends ends x
+      (k.added t is x.grown.nodes list ends x.grown.listed);
+  gathered = k.gathered ∙ h.gathered;
+}
+
+-- a key is present in a table exactly where it is among its keys
+pub present_among : (t : Table) (keys : List Key) (k : Key) → keys_of t ≡ keys → is_among keys k ≡ is_present t k
+present_among t keys k e = ap (λ (ks : List Key). is_among ks k) (sym e) ∙ sym (is_some-lookup (is_same k) t)
+
+pub kept_named : (keys : List Key) (a b : Nodes) (k : Key) (flag : Bool) → IsNamed k flag (listed a) (listed b)
+    → flag ≡ is_among keys k
+    → is_among a.keys k ≡ false → b.gathered ≡ a.gathered → IsKept keys a b
+kept_named keys a b k flag named is new e = record {
+  added = λ t of nodes list ends right.
+      subst (λ (m : Listed). AreAdded t (listed a) m list list ends ends) (sym named.named)
+      (named_added t (listed a) k flag named.callee named.steps named.looks named.no_steps named.no_looks
+      (is ∙ present_among t keys k of) nodes (not_there a.keys k new) list ends right);
+  gathered = e;
+}
+
+-- ---- flags
+pub flagged_named : (keys : List Key) (a b : Nodes) (k : Key) (flag : Bool) → IsNamed k flag (listed a) (listed b)
+    → flag ≡ is_among keys k
+    → AreFlagged keys a → AreFlagged keys b
+flagged_named keys a b k flag named is f =
+    ap (λ (l : Listed). l.present) named.named
+    ∙ ((λ i. f i ++ is i ∷ []) ∙ (sym (map-append (is_among keys) a.keys (k ∷ []))
+    ∙ ap (λ (l : Listed). map (is_among keys) l.keys) (sym named.named)))
+
+pub more_named : (a b : Nodes) (k : Key) (flag : Bool) → IsNamed k flag (listed a) (listed b) → IsMore a.keys b.keys
+more_named a b k flag named = subst (IsMore a.keys) (ap (λ (l : Listed). l.keys) (sym named.named))
+    (push_more a.keys (k ∷ []))
+
+flag_in : (p : Key → Bool) (ks : List Key) (n : ℕ) (b : Bool) → n < length ks → get_or (map p ks) n b ≡ p (key_at ks n)
+flag_in p [] n b h = absurd (omega arith)
+flag_in p (k ∷ ks) zero b h = refl
+flag_in p (k ∷ ks) (suc n) b h = flag_in p ks n b (omega arith)
+
+pub flag_at : (keys : List Key) (a : Nodes) (n : ℕ) (b : Bool) (k : Key) → AreFlagged keys a → n < length a.keys
+    → k ≡ key_at a.keys n
+    → b ≡ get_or a.present.items n b → b ≡ is_among keys k
+flag_at keys a n b k f h is e =
+    e ∙ (ap (λ (bs : List Bool). get_or bs n b) f
+    ∙ (flag_in (is_among keys) a.keys n b h ∙ ap (is_among keys) (sym is)))
+
+pub flag_count : (keys : List Key) (a : Nodes) → AreFlagged keys a → length a.present.items ≡ length a.keys
+flag_count keys a f = ap length f ∙ length-map a.keys (is_among keys)
+
+-- ---- one more number that was looked at
+pub looked_push : (ks ls : List Key) (ns : List ℕ) (n : ℕ) (k : Key) → IsMore ks ls
+    → ((m : ℕ) → In m ns → m < length ks) → k ≡ key_at ls n
+    → map (key_at ls) (ns ++ n ∷ []) ≡ map (key_at ks) ns ++ k ∷ []
+looked_push ks ls [] n k more within is = λ i. sym is i ∷ []
+looked_push ks ls (m ∷ ns) n k more within is =
+    let rest : map (key_at ls) (ns ++ n ∷ []) ≡ map (key_at ks) ns ++ k ∷ [] =
+    looked_push ks ls ns n k more (λ q i. within q (inr i)) is in
+    λ i. key_same ks ls m more (within m (inl refl)) i ∷ rest i
+
+pub within_more : (ks ls : List Key) (ns ms : List ℕ) → IsMore ks ls → ms ≡ ns → ((m : ℕ) → In m ns → m < length ks)
+    → (m : ℕ) → In m ms → m < length ls
+within_more ks ls ns ms more e within m i =
+    let a : m < length ks = within m (subst (λ (xs : List ℕ). In m xs) e i) in let b = more_length ks ls more in
+    omega arith
+
+pub within_push : (ks ls : List Key) (ns : List ℕ) (n : ℕ) → IsMore ks ls → ((m : ℕ) → In m ns → m < length ks)
+    → n < length ls
+    → (m : ℕ) → In m (ns ++ n ∷ []) → m < length ls
+within_push ks ls ns n more within h m i = elim (In-push ns n m i) [
+  | inl j ↦ let a : m < length ks = within m j in let b = more_length ks ls more in omega arith
+  | inr e ↦ subst (λ (x : ℕ). x < length ls) (sym e) h
+]
+
+-- ---- a table's flags, by whether keys are present
+pub flagged_by : (t : Table) (a : Nodes) → a.present.items ≡ map (is_present t) a.keys → AreFlagged (keys_of t) a
+flagged_by t a f = f ∙ map_same (is_present t) (is_among (keys_of t)) a.keys
+    (λ k i. sym (present_among t (keys_of t) k refl))

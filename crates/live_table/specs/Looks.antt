@@ -1,0 +1,35 @@
+-- The keys at which words look, by number.
+use Rattle.std.specs.Prelude.{◌≡◌, ◌⊎◌, ◌↔◌, ◌<◌, ℕ, List, length, Contains}
+use Rattle.expr_tree.specs.declared.word_list.WordUse.{WordUse}
+use Rattle.def_entry.specs.declared.key.Key.{Key}
+use Rattle.def_entry.specs.Tables.{Table}
+use Rattle.name_walk.specs.declared.step.Step.{Step}
+use Rattle.name_walk.specs.declared.step.Step.TheVariants.{Nowhere, To}
+use Rattle.name_walk.specs.Lists.{In}
+use Rattle.table_names.specs.Leads.{looked_keys}
+use Rattle.live_table.specs.Stored.{key_at}
+
+-- one of the words looks at the key
+abbrev pub WordsLookAt : Table → List WordUse → Key → Type 0
+WordsLookAt table us k = (u : WordUse) × Contains us u × Contains (looked_keys table u) k
+
+-- the key is that of a target in steps, or of one of these numbers
+abbrev pub IsSeen : List Key → List Step → List ℕ → Key → Type 0
+IsSeen keys xs ns k = (m : ℕ) × (In (To m) xs ⊎ In m ns) × (k ≡ key_at keys m)
+
+-- the keys at which words look are those of the targets in their steps and those of these numbers
+pub record AreLooks (table : Table) (keys : List Key) (us : List WordUse) (xs : List Step) (ns : List ℕ) : Type 0 where
+  pub within : (m : ℕ) → In m ns → m < length keys
+  pub exactly : (k : Key) → WordsLookAt table us k ↔ IsSeen keys xs ns k
+
+-- one more word puts in its own
+pub record AreLooksPut (table : Table) (keys : List Key) (u : WordUse) (xs : List Step) (old new : List ℕ) : Type 0
+  where
+    pub own : List ℕ
+    pub put : (m : ℕ) → In m new ↔ (In m old ⊎ In m own)
+    pub within : (m : ℕ) → In m own → m < length keys
+    pub exactly : (k : Key) → Contains (looked_keys table u) k ↔ IsSeen keys xs own k
+
+-- none of the steps leads nowhere
+abbrev pub AllLead : List Step → Type 0
+AllLead xs = (t : ℕ) → In (Nowhere t) xs → ⊥
