@@ -10,9 +10,15 @@ pub(crate) struct Marking {
 }
 
 impl Marks for Marking {
-    ghost use Rattle.std.specs.Prelude.{slice_index_or, false};
+    ghost use Rattle.std.specs.Prelude.{slice_index_or, false, ⊤};
 
     ghost is_marked = { λ marking node. slice_index_or marking.are_marked.items node false };
+
+    ghost stays = { λ old new. ⊤ };
+
+    ghost stays_at_first = { λ marking. tt };
+
+    ghost stays_on = { λ old mid new first then. tt };
 
     fn clear(&mut self, node: usize) {
         if node < self.are_marked.len() {

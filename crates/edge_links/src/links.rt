@@ -99,6 +99,7 @@ impl Links {
         ensures spare { self.new.spare + length self.new.edges ≡ self.old.spare + length self.old.edges }
         ensures nodes { self.new.nodes ≡ self.old.nodes }
         ensures marks { IsCleared (IsAffected self.old.edges key) (K.is_marked marks.old) (K.is_marked marks.new) }
+        ensures rest { K.stays marks.old marks.new }
     {
         let place = self.nodes[key];
         self.places.unsettle(place, marks);

@@ -25,6 +25,7 @@ impl Places {
         ensures kept { (m : ℕ)
             → ((x : ℕ) → IsHead self.old x → IsAffected self.old key x → slice_index self.old.names x ≡ m → ⊥)
             → K.is_marked marks.new m ≡ K.is_marked marks.old m }
+        ensures rest { K.stays marks.old marks.new }
         ensures idle { (x : ℕ) → slice_index_or self.new.waits x false ≡ false }
     {
         self.wait(key);

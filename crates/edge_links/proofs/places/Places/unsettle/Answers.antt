@@ -17,6 +17,7 @@ loop-place-init g c =
           (g.K.Marks.is_marked c.args.marks.now) c.requires.idle
           c.requires.there.0 c.requires.there.1 c.requires.there.2 users keys c.wait.ensures.waits;
       names = ap (λ (s : Owners). s.names) c.wait.ensures.rest;
+      stays = g.met.K.Marks.stays_at_first c.args.marks.now;
     }
 
 named : (names names2 : List ℕ) (place name : ℕ) (now new : ℕ → Bool) → name ≡ get_or names2 place 0 → names2 ≡ names
@@ -38,8 +39,10 @@ loop-place-preserved g c =
           c.cut_users.ensures.cut c.cut_users.ensures.waits c.cut_users.ensures.size c.cut_keys.ensures.cut c.cut_keys.ensures.waits
           c.cut_keys.ensures.size (g.K.Marks.is_marked c.clear.new.self)
           (named c.args.self.now.names c.take.new.self.names c.in-Some.place c.name.result (g.K.Marks.is_marked c.loop-place.marks)
-          (g.K.Marks.is_marked c.clear.new.self) c.name.ensures names c.clear.ensures);
+          (g.K.Marks.is_marked c.clear.new.self) c.name.ensures names c.clear.ensures.marks);
       names = c.cut_keys.ensures.names ∙ (c.cut_users.ensures.names ∙ names);
+      stays = g.met.K.Marks.stays_on c.args.marks.now c.loop-place.marks c.clear.new.self c.loop-place.invariant.stays
+          c.clear.ensures.rest;
     }
 
 -- the place that was taken is a head

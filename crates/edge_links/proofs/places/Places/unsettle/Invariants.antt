@@ -8,6 +8,7 @@ abbrev pub invariant-loop-place : goal.invariant-loop-place
 invariant-loop-place g l = record {
   unsettling : IsUnsettling l.fn.self l.self (slice_index l.fn.self.names) (g.K.Marks.is_marked l.fn.marks) (g.K.Marks.is_marked l.marks) l.key;
   names : l.self.names ≡ l.fn.self.names;
+  stays : g.K.Marks.stays l.fn.marks l.marks;
 }
 
 abbrev pub decreases-loop-place : goal.decreases-loop-place

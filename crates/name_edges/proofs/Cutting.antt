@@ -1,0 +1,129 @@
+-- Edges that are cut one after another, and what then leads where.
+use Rattle.std.proofs.Common.{◌≡◌, ◌⊎◌, ℕ, zero, suc, ◌<◌, get_or, Bool, true, false, List, [], ◌∷◌, ◌++◌, Contains, refl, sym, ◌∙◌, subst, inl, inr, arith}
+use Rattle.std.proofs.lemmas.Bool.{cases_eq, cases_Bool, true≢false}
+use Rattle.std.proofs.lemmas.List.Elements.{Contains-append_cases, Contains-append_left, Contains-append_right}
+use Rattle.edge_links.specs.Edges.{Edge, edge_count}
+use Rattle.edge_links.specs.Reach.{HasEdge, Reaches, at_once, further, IsCleared}
+use Rattle.name_edges.specs.Affected.{AreAffected, Forgets, IsAffected, IsCut, Needs}
+use Rattle.name_edges.specs.NameGraphs.{NameGraph}
+
+-- what two cuts cut together
+pub record IsBoth (A B D : ℕ → Type 0) : Type 0 where
+  pub first : (x : ℕ) → A x → D x
+  pub second : (x : ℕ) → B x → D x
+  pub either : (x : ℕ) → D x → (A x → ⊥) → (B x → ⊥) → ⊥
+
+module _ (A B D : ℕ → Type 0) (both : IsBoth A B D) where
+  -- an edge that was cut in the first place is not there afterwards
+  gone_still : (old mid new : List Edge) → IsCut A old mid → IsCut B mid new → (x y : ℕ) → A x → (edge_count new x y ≡ 0 → ⊥) → ⊥
+  gone_still old mid new a b x y h some =
+      let free : B x → ⊥ = λ i. some (b.gone x y i) in
+      some (b.kept x y free ∙ a.gone x y h)
+
+  pub cut_on : (old mid new : List Edge) → IsCut A old mid → IsCut B mid new → IsCut D old new
+  cut_on old mid new a b = record {
+    gone = λ x y h. elim (cases_eq (edge_count new x y) 0) [
+      | inl e ↦ e
+      | inr some ↦ absurd (both.either x h (λ i. gone_still old mid new a b x y i some) (λ i. some (b.gone x y i)))
+    ];
+    kept = λ x y free. b.kept x y (λ i. free (both.second x i)) ∙ a.kept x y (λ i. free (both.first x i));
+  }
+
+  pub cleared_on : (marks then now : ℕ → Bool) → IsCleared A marks then → IsCleared B then now → IsCleared D marks now
+  cleared_on marks then now a b = record {
+    gone = λ x h. elim (cases_Bool (now x)) [
+      | inr e ↦ e
+      | inl e ↦
+          let free : B x → ⊥ = λ i. true≢false (sym e ∙ b.gone x i) in
+          absurd (both.either x h (λ i. true≢false (sym e ∙ (b.kept x free ∙ a.gone x i))) free)
+    ];
+    kept = λ x free. b.kept x (λ i. free (both.second x i)) ∙ a.kept x (λ i. free (both.first x i));
+  }
+
+-- what is there after a cut was there before, and is no edge of what was cut
+module _ (A : ℕ → Type 0) (old new : List Edge) (cut : IsCut A old new) where
+  pub was_free : (x y : ℕ) → HasEdge new x y → A x → ⊥
+  was_free x y h i = let z : edge_count new x y ≡ 0 = cut.gone x y i in omega (arith, h, z)
+
+  pub was_there : (x y : ℕ) → HasEdge new x y → HasEdge old x y
+  was_there x y h = subst (λ k. 0 < k) (cut.kept x y (was_free x y h)) h
+
+  pub stays_there : (x y : ℕ) → (A x → ⊥) → HasEdge old x y → HasEdge new x y
+  stays_there x y free h = subst (λ k. 0 < k) (sym (cut.kept x y free)) h
+
+  pub reached_before : {x y : ℕ} → Reaches new x y → Reaches old x y
+  reached_before (at_once h) = at_once (was_there _ _ h)
+  reached_before (further h r) = further (was_there _ _ h) (reached_before r)
+
+  -- a way of which no user was cut is there still
+  module _ (up : (x y : ℕ) → HasEdge old x y → A y → A x) where
+    pub reached_still : {x y : ℕ} → Reaches old x y → (A x → ⊥) → Reaches new x y
+    reached_still (at_once h) free = at_once (stays_there _ _ free h)
+    reached_still (further h r) free = further (stays_there _ _ free h) (reached_still r (λ i. free (up _ _ h i)))
+
+    pub up_way : {x y : ℕ} → Reaches old x y → A y → A x
+    up_way (at_once h) i = up _ _ h i
+    up_way (further h r) i = up _ _ h (up_way r i)
+
+-- ---- names
+module _ (g : NameGraph) where
+  pub needs_more : {n m k : ℕ} → HasEdge g.uses n m → Needs g m k → Needs g n k
+  needs_more {n = n} h (inl e) = inr (at_once (subst (λ z. HasEdge g.uses n z) e h))
+  needs_more h (inr r) = inr (further h r)
+
+  -- what uses an affected name is affected
+  pub user_affected : (key n m : ℕ) → HasEdge g.uses n m → IsAffected g key m → IsAffected g key n
+  user_affected key n m h (inl i) = inl (needs_more h i)
+  user_affected key n m h (inr (k, l, i)) = inr (k, l, needs_more h i)
+
+  pub users_affected : (keys : List ℕ) (n m : ℕ) → HasEdge g.uses n m → AreAffected g keys m → AreAffected g keys n
+  users_affected keys n m h (k, c, i) = (k, c, user_affected k n m h i)
+
+-- one key more, in what was left
+module _ (keys : List ℕ) (key : ℕ) (old mid : NameGraph) (left : Forgets (AreAffected old keys) old mid) where
+  abbrev Before : ℕ → Type 0
+  Before = AreAffected old keys
+
+  needed_before : {n m : ℕ} → Needs mid n m → Needs old n m
+  needed_before (inl e) = inl e
+  needed_before (inr r) = inr (reached_before Before old.uses mid.uses left.uses r)
+
+  affected_before : (n : ℕ) → IsAffected mid key n → IsAffected old key n
+  affected_before n (inl i) = inl (needed_before i)
+  affected_before n (inr (m, l, i)) = inr (m, was_there Before old.looks mid.looks left.looks m key l, needed_before i)
+
+  needed_still : {n m : ℕ} → Needs old n m → (Before n → ⊥) → Needs mid n m
+  needed_still (inl e) free = inl e
+  needed_still (inr r) free = inr (reached_still Before old.uses mid.uses left.uses (users_affected old keys) r free)
+
+  free_below : {n m : ℕ} → Needs old n m → (Before n → ⊥) → Before m → ⊥
+  free_below {n = n} {m = m} (inl e) free i = free (subst Before (sym e) i)
+  free_below (inr r) free i = free (up_way Before old.uses mid.uses left.uses (users_affected old keys) r i)
+
+  affected_still : (n : ℕ) → IsAffected old key n → (Before n → ⊥) → IsAffected mid key n
+  affected_still n (inl i) free = inl (needed_still i free)
+  affected_still n (inr (m, l, i)) free =
+      inr (m, stays_there Before old.looks mid.looks left.looks m key (free_below i free) l, needed_still i free)
+
+  one_more : (n : ℕ) → AreAffected old (keys ++ key ∷ []) n → AreAffected old keys n ⊎ IsAffected old key n
+  one_more n (k, c, i) = elim (Contains-append_cases keys (key ∷ []) k c) [
+    | inl j ↦ inl (k, j, i)
+    | inr j ↦ inr (subst (λ z. IsAffected old z n) (only j) i)
+  ]
+    where
+      only : {k : ℕ} → Contains (key ∷ []) k → k ≡ key
+      only {k = k} (j, l, e) = sym (first j l e)
+        where
+          first : (j : ℕ) → j < 1 → get_or (key ∷ []) j k ≡ k → key ≡ k
+          first zero l e = e
+          first (suc j) l e = absurd (omega (arith, l))
+
+  pub both : IsBoth (AreAffected old keys) (IsAffected mid key) (AreAffected old (keys ++ key ∷ []))
+  both = record {
+    first = λ n i. (i.0, Contains-append_left keys (key ∷ []) i.0 i.1, i.2);
+    second = λ n i. (key, Contains-append_right keys (key ∷ []) key (0, omega arith, refl), affected_before n i);
+    either = λ n i before after. elim (one_more n i) [
+      | inl j ↦ before j
+      | inr j ↦ after (affected_still n j before)
+    ];
+  }

@@ -1,0 +1,42 @@
+-- Numbers of nodes, and of the names that they belong to.
+use Rattle.std.proofs.Common.{◌≡◌, ◌⊎◌, ℕ, ◌+◌, ◌*◌, ◌/◌, ◌%◌, ◌<◌, Bool, true, false, cond, nat_eq, refl, sym, ◌∙◌, ap, inl, inr, arith}
+use Rattle.std.proofs.lemmas.Bool.{cases_eq, eq-eqb, ne_eqb}
+use Rattle.std.proofs.lemmas.Nat.{div-add-mod', div-mul-add, mod-mul-add}
+use Rattle.std.specs.Prelude.{◌&&◌}
+
+pub node_name : (n r : ℕ) → r < 2 → (n * 2 + r) / 2 ≡ n
+node_name n r l = div-mul-add n 2 r l
+
+pub node_kind : (n r : ℕ) → r < 2 → (n * 2 + r) % 2 ≡ r
+node_kind n r l = mod-mul-add n 2 r l
+
+pub node_of : (x : ℕ) → x / 2 * 2 + x % 2 ≡ x
+node_of x = div-add-mod' x 2
+
+-- a node is this one of a name exactly where its remainder and its half say so
+pub is_node : (x n r : ℕ) → r < 2 → nat_eq x (n * 2 + r) ≡ (nat_eq (x % 2) r && nat_eq (x / 2) n)
+is_node x n r l = elim (cases_eq x (n * 2 + r)) [
+  | inl e ↦
+      eq-eqb x (n * 2 + r) e
+      ∙ sym (both _ _ (eq-eqb (x % 2) r (ap (λ z. z % 2) e ∙ node_kind n r l)) (eq-eqb (x / 2) n (ap (λ z. z / 2) e ∙ node_name n r l)))
+  | inr ne ↦ ne_eqb x (n * 2 + r) ne ∙ sym (not_both ne)
+]
+  where
+    both : (a b : Bool) → a ≡ true → b ≡ true → a && b ≡ true
+    both true true e f = refl
+    both true false e f = f
+    both false b e f = e
+
+    none_left : (a b : Bool) → a ≡ false → a && b ≡ false
+    none_left true b e = cc
+    none_left false b e = refl
+
+    none_right : (a b : Bool) → b ≡ false → a && b ≡ false
+    none_right true b e = e
+    none_right false b e = refl
+
+    not_both : (x ≡ n * 2 + r → ⊥) → nat_eq (x % 2) r && nat_eq (x / 2) n ≡ false
+    not_both ne = elim (cases_eq (x % 2) r) [
+      | inr other ↦ none_left _ _ (ne_eqb (x % 2) r other)
+      | inl e ↦ none_right _ _ (ne_eqb (x / 2) n (λ f. ne (sym (node_of x) ∙ (λ i. f i * 2 + e i))))
+    ]

@@ -1,0 +1,148 @@
+-- Edges of one user, counted.
+use Rattle.std.proofs.Common.{◌≡◌, ◌⊎◌, ℕ, ◌+◌, ◌<◌, ◌≤◌, List, [], ◌∷◌, ◌++◌, map, Contains, refl, sym, ◌∙◌, ap, subst, inl, inr, arith}
+use Rattle.std.proofs.Common.{Bool, true, false, cond, nat_eq, get_or, length, zero, suc, take}
+use Rattle.std.proofs.lemmas.Bool.{cases_eq, cond-true, cond-false, eq-eqb, ne_eqb}
+use Rattle.std.proofs.lemmas.List.{take_all}
+use Rattle.std.specs.Prelude.{◌&&◌}
+use Rattle.edge_links.specs.Edges.{Edge, edge, edge_count, SameEdges}
+use Rattle.edge_links.specs.Reach.{HasEdge}
+use Rattle.name_edges.specs.Nodes.{edge_to}
+
+pub count_append : (es ds : List Edge) (x y : ℕ) → edge_count (es ++ ds) x y ≡ edge_count es x y + edge_count ds x y
+count_append [] ds x y = omega arith
+count_append (e ∷ es) ds x y =
+    sums _ _ _ _ (count_append es ds x y)
+  where
+    sums : (a b d f : ℕ) → b ≡ d + f → a + b ≡ (a + d) + f
+    sums a b d f h = omega (arith, h)
+
+and_both : (a b : Bool) → a ≡ true → b ≡ true → a && b ≡ true
+and_both true true e f = refl
+and_both true false e f = f
+and_both false b e f = e
+
+and_left : (a b : Bool) → a ≡ false → a && b ≡ false
+and_left true b e = cc
+and_left false b e = refl
+
+and_right : (a b : Bool) → b ≡ false → a && b ≡ false
+and_right true b e = e
+and_right false b e = refl
+
+-- how often the one edge is the other
+abbrev pub one_count : ℕ → ℕ → ℕ → ℕ → ℕ
+one_count a b x y = cond (nat_eq a x && nat_eq b y) 1 0
+
+pub one_self : (a b x y : ℕ) → a ≡ x → b ≡ y → one_count a b x y ≡ 1
+one_self a b x y e f = cond-true (nat_eq a x && nat_eq b y) 1 0 (and_both _ _ (eq-eqb a x e) (eq-eqb b y f))
+
+pub one_other_user : (a b x y : ℕ) → (a ≡ x → ⊥) → one_count a b x y ≡ 0
+one_other_user a b x y ne = cond-false (nat_eq a x && nat_eq b y) 1 0 (and_left _ _ (ne_eqb a x ne))
+
+pub one_other_key : (a b x y : ℕ) → (b ≡ y → ⊥) → one_count a b x y ≡ 0
+one_other_key a b x y ne = cond-false (nat_eq a x && nat_eq b y) 1 0 (and_right _ _ (ne_eqb b y ne))
+
+no_member : (x : ℕ) → Contains [] x → ⊥
+no_member x (i, l, e) = omega (arith, l)
+
+member_first : (x y : ℕ) (xs : List ℕ) → x ≡ y → Contains (y ∷ xs) x
+member_first x y xs e = (0, omega arith, sym e)
+
+member_later : (x y : ℕ) (xs : List ℕ) → Contains xs x → Contains (y ∷ xs) x
+member_later x y xs (i, l, e) = (suc i, omega (arith, l), e)
+
+member_cases : (x y : ℕ) (xs : List ℕ) → Contains (y ∷ xs) x → (x ≡ y) ⊎ Contains xs x
+member_cases x y xs (i, l, e) = at i l e
+  where
+    at : (i : ℕ) → i < length (y ∷ xs) → get_or (y ∷ xs) i x ≡ x → (x ≡ y) ⊎ Contains xs x
+    at zero l e = inl (sym e)
+    at (suc i) l e = inr (i, omega (arith, l), e)
+
+-- the edges of a user lead from it, and to these keys
+edges_from : (user : ℕ) (keys : List ℕ) (x y : ℕ) → HasEdge (map (edge user) keys) x y → (x ≡ user) × Contains keys y
+edges_from user [] x y h = absurd (omega (arith, h))
+edges_from user (k ∷ keys) x y h = elim (cases_eq (one_count user k x y) 0) [
+  | inl z ↦
+      let r = edges_from user keys x y (rest _ _ z h) in (r.0, member_later y k keys r.1)
+  | inr some ↦ elim (cases_eq user x) [
+    | inr ne ↦ absurd (some (one_other_user user k x y ne))
+    | inl e ↦ elim (cases_eq k y) [
+      | inr ne ↦ absurd (some (one_other_key user k x y ne))
+      | inl f ↦ (sym e, member_first y k keys (sym f))
+    ]
+  ]
+]
+  where
+    rest : (a b : ℕ) → a ≡ 0 → 0 < a + b → 0 < b
+    rest a b e l = omega (arith, e, l)
+
+edges_to : (user : ℕ) (keys : List ℕ) (y : ℕ) → Contains keys y → HasEdge (map (edge user) keys) user y
+edges_to user [] y i = absurd (no_member y i)
+edges_to user (k ∷ keys) y i = elim (member_cases y k keys i) [
+  | inl e ↦ some _ _ (one_self user k user y refl (sym e))
+  | inr j ↦ more _ _ (edges_to user keys y j)
+]
+  where
+    some : (a b : ℕ) → a ≡ 1 → 0 < a + b
+    some a b e = omega (arith, e)
+
+    more : (a b : ℕ) → 0 < b → 0 < a + b
+    more a b l = omega (arith, l)
+
+module _ (user : ℕ) (keys : List ℕ) (old new : List Edge) (same : SameEdges new (map (edge user) keys ++ old)) (x y : ℕ) where
+  sum : edge_count new x y ≡ edge_count (map (edge user) keys) x y + edge_count old x y
+  sum = same x y ∙ count_append (map (edge user) keys) old x y
+
+  pub linked_from : HasEdge new x y → ((x ≡ user) × Contains keys y) ⊎ HasEdge old x y
+  linked_from h = elim (cases_eq (edge_count (map (edge user) keys) x y) 0) [
+    | inl z ↦ inr (let s = sum in omega (arith, h, z, s))
+    | inr some ↦ inl (edges_from user keys x y (omega (arith, some)))
+  ]
+
+  pub linked_to : ((x ≡ user) × Contains keys y) ⊎ HasEdge old x y → HasEdge new x y
+  linked_to (inl (e, i)) =
+      let h : HasEdge (map (edge user) keys) x y = subst (λ z. HasEdge (map (edge user) keys) z y) (sym e) (edges_to user keys y i) in
+      let s = sum in omega (arith, h, s)
+  linked_to (inr h) = let s = sum in omega (arith, h, s)
+
+-- ---- one key after another
+item_at : (keys : List ℕ) (n : ℕ) → n < length keys → get_or keys n (get_or keys n 0) ≡ get_or keys n 0
+item_at [] n l = absurd (omega (arith, l))
+item_at (x ∷ keys) zero l = refl
+item_at (x ∷ keys) (suc n) l = item_at keys n (omega (arith, l))
+
+pub item_in : (keys : List ℕ) (n : ℕ) → n < length keys → Contains keys (get_or keys n 0)
+item_in keys n l = (n, l, item_at keys n l)
+
+take_next : (keys : List ℕ) (n k : ℕ) → n < length keys → get_or keys n k ≡ k → take (n + 1) keys ≡ take n keys ++ k ∷ []
+take_next [] n k l e = absurd (omega (arith, l))
+take_next (x ∷ keys) zero k l e = ap (λ z. z ∷ []) e
+take_next (x ∷ keys) (suc n) k l e =
+    ap (λ m. take m (x ∷ keys)) (one_later n) ∙ ap (λ ks. x ∷ ks) (take_next keys n k (omega (arith, l)) e)
+  where
+    one_later : (n : ℕ) → suc n + 1 ≡ suc (n + 1)
+    one_later n = omega arith
+
+map_behind : (f : ℕ → Edge) (keys : List ℕ) (k : ℕ) → map f (keys ++ k ∷ []) ≡ map f keys ++ f k ∷ []
+map_behind f [] k = refl
+map_behind f (x ∷ keys) k = ap (λ es. f x ∷ es) (map_behind f keys k)
+
+pub one_linked : (r user : ℕ) (keys : List ℕ) (n : ℕ) → n < length keys → (old before now : List Edge) (x y : ℕ)
+    → edge_count before x y ≡ edge_count (map (edge_to r user) (take n keys)) x y + edge_count old x y
+    → edge_count now x y ≡ edge_count (edge_to r user (get_or keys n 0) ∷ before) x y
+    → edge_count now x y ≡ edge_count (map (edge_to r user) (take (n + 1) keys)) x y + edge_count old x y
+one_linked r user keys n l old before now x y was is =
+    sums _ _ _ _ _ _ is was
+    (ap (λ es. edge_count es x y) (ap (map (edge_to r user)) (take_next keys n (get_or keys n 0) l (item_at keys n l))
+    ∙ map_behind (edge_to r user) (take n keys) (get_or keys n 0))
+    ∙ count_append (map (edge_to r user) (take n keys)) (edge_to r user (get_or keys n 0) ∷ []) x y)
+  where
+    sums : (a b d f g h : ℕ) → a ≡ b + d → d ≡ f + g → h ≡ f + (b + 0) → a ≡ h + g
+    sums a b d f g h i j k = omega (arith, i, j, k)
+
+pub all_linked : (r user : ℕ) (keys : List ℕ) (n : ℕ) → length keys ≤ n → (old now : List Edge) (x y : ℕ)
+    → edge_count now x y ≡ edge_count (map (edge_to r user) (take n keys)) x y + edge_count old x y
+    → edge_count now x y ≡ edge_count (map (edge_to r user) keys ++ old) x y
+all_linked r user keys n end old now x y is =
+    is ∙ (ap (λ ks. edge_count (map (edge_to r user) ks) x y + edge_count old x y) (take_all n keys end)
+    ∙ sym (count_append (map (edge_to r user) keys) old x y))

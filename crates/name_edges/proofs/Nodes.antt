@@ -1,0 +1,218 @@
+-- What stands between nodes is what stands between names.
+use Rattle.std.proofs.Common.{◌≡◌, ◌⊎◌, ℕ, ◌+◌, ◌*◌, ◌/◌, ◌%◌, ◌<◌, Bool, true, false, cond, nat_eq, List, [], ◌∷◌, refl, sym, ◌∙◌, ap, subst, inl, inr, arith}
+use Rattle.std.proofs.lemmas.Bool.{cases_eq}
+use Rattle.std.proofs.Math.Nat.{mod-lt}
+use Rattle.std.specs.Prelude.{◌&&◌}
+use Rattle.edge_links.specs.Edges.{Edge, edge, edge_count, Graph}
+use Rattle.edge_links.specs.Reach.{HasEdge, IsCleared, Reaches, at_once, further}
+use Rattle.edge_links.specs.Reach as node
+use Rattle.name_edges.specs.Affected.{Forgets, IsAffected, IsCut, Needs}
+use Rattle.name_edges.specs.NameGraphs.{NameGraph}
+use Rattle.name_edges.specs.Nodes.{AreNodes, edges_to, shown}
+use Rattle.name_edges.proofs.Cutting.{IsBoth, cleared_on, cut_on, reached_before, reached_still, was_there}
+use Rattle.name_edges.proofs.Halves.{is_node, node_kind, node_name, node_of}
+
+plain : (n : ℕ) → n * 2 + 0 ≡ n * 2
+plain n = omega arith
+
+none_more : (n : ℕ) → n ≡ 0 + n
+none_more n = omega arith
+
+-- by the remainders of both ends (a, c) and by their halves (b, d)
+one_edge : (a b c d p q : Bool) (n : ℕ) → p ≡ (a && b) → q ≡ (c && d)
+    → (e : Edge) (es : List Edge) (u k : ℕ) → (nat_eq e.user u ≡ b) → (nat_eq e.key k ≡ d) → edge_count es u k ≡ n
+    → edge_count (cond (a && c) (e ∷ es) es) u k ≡ cond (p && q) 1 0 + n
+one_edge true b true d p q n f g e es u k h i j =
+    λ t. cond ((h ∙ sym f) t && (i ∙ sym g) t) 1 0 + j t
+one_edge true b false d p q n f g e es u k h i j = j ∙ (none_more n ∙ sym (ap (λ z. cond z 1 0 + n) (ap (λ z. p && z) g ∙ none p)))
+  where
+    none : (p : Bool) → p && false ≡ false
+    none true = refl
+    none false = refl
+one_edge false b c d p q n f g e es u k h i j = j ∙ (none_more n ∙ sym (ap (λ z. cond (z && q) 1 0 + n) f))
+
+-- as many edges between names as between their nodes
+pub counted : (r : ℕ) → r < 2 → (es : List Edge) (u k : ℕ) → edge_count (edges_to r es) u k ≡ edge_count es (u * 2) (k * 2 + r)
+counted r l [] u k = refl
+counted r l (e ∷ es) u k =
+    one_edge (nat_eq (e.user % 2) 0) (nat_eq (e.user / 2) u) (nat_eq (e.key % 2) r) (nat_eq (e.key / 2) k)
+    (nat_eq e.user (u * 2)) (nat_eq e.key (k * 2 + r)) (edge_count es (u * 2) (k * 2 + r))
+    (ap (λ z. nat_eq e.user z) (sym (plain u)) ∙ is_node e.user u 0 (omega arith)) (is_node e.key k r l)
+    (edge (e.user / 2) (e.key / 2)) (edges_to r es) u k refl refl (counted r l es u k)
+
+pub counted_uses : (es : List Edge) (u k : ℕ) → edge_count (edges_to 0 es) u k ≡ edge_count es (u * 2) (k * 2)
+counted_uses es u k = counted 0 (omega arith) es u k ∙ ap (edge_count es (u * 2)) (plain k)
+
+module _ (g : Graph) (nodes : AreNodes g) where
+  abbrev names : NameGraph
+  names = shown g
+
+  -- the user of an edge is the first node of a name
+  pub user_is : (x y : ℕ) → HasEdge g.edges x y → x ≡ x / 2 * 2
+  user_is x y h = elim (cases_eq (x % 2) 0) [
+    | inl e ↦ sym (node_of x) ∙ (ap (λ r. x / 2 * 2 + r) e ∙ plain (x / 2))
+    | inr ne ↦
+        let one : x ≡ x / 2 * 2 + 1 =
+        sym (node_of x) ∙ ap (λ r. x / 2 * 2 + r) (only_one (x % 2) (mod_small x) ne) in
+        let z : edge_count g.edges x y ≡ 0 = ap (λ n. edge_count g.edges n y) one ∙ nodes.users (x / 2) y in
+        absurd (omega (arith, h, z))
+  ]
+    where
+      only_one : (r : ℕ) → r < 2 → (r ≡ 0 → ⊥) → r ≡ 1
+      only_one r l ne = omega (arith, l, ne)
+
+      mod_small : (x : ℕ) → x % 2 < 2
+      mod_small x = mod-lt x (omega arith)
+
+  use_shown : (u k : ℕ) → HasEdge g.edges (u * 2) (k * 2) → HasEdge names.uses u k
+  use_shown u k h = subst (λ n. 0 < n) (sym (counted_uses g.edges u k)) h
+
+  use_there : (u k : ℕ) → HasEdge names.uses u k → HasEdge g.edges (u * 2) (k * 2)
+  use_there u k h = subst (λ n. 0 < n) (counted_uses g.edges u k) h
+
+  look_shown : (u k : ℕ) → HasEdge g.edges (u * 2) (k * 2 + 1) → HasEdge names.looks u k
+  look_shown u k h = subst (λ n. 0 < n) (sym (counted 1 (omega arith) g.edges u k)) h
+
+  look_there : (u k : ℕ) → HasEdge names.looks u k → HasEdge g.edges (u * 2) (k * 2 + 1)
+  look_there u k h = subst (λ n. 0 < n) (counted 1 (omega arith) g.edges u k) h
+
+  starts : {a b : ℕ} → Reaches g.edges a b → a ≡ a / 2 * 2
+  starts (at_once h) = user_is _ _ h
+  starts (further h r) = user_is _ _ h
+
+  -- ways between nodes are ways between names
+  way_shown : {a b : ℕ} → Reaches g.edges a b → (n k : ℕ) → a ≡ n * 2 → b ≡ k * 2 → Reaches names.uses n k
+  way_shown (at_once {y = y} h) n k e f =
+      at_once (use_shown n k (subst (λ z. HasEdge g.edges (n * 2) z) f (subst (λ z. HasEdge g.edges z y) e h)))
+  way_shown (further {y = y} h r) n k e f =
+      let m : y ≡ y / 2 * 2 = starts r in
+      further (use_shown n (y / 2) (subst (λ z. HasEdge g.edges (n * 2) z) m (subst (λ z. HasEdge g.edges z y) e h)))
+      (way_shown r (y / 2) k m f)
+
+  abbrev Looked : ℕ → ℕ → Type 0
+  Looked n k = (m : ℕ) × HasEdge names.looks m k × Needs names n m
+
+  needs_first : (n m k : ℕ) → HasEdge names.uses n m → Looked m k → Looked n k
+  needs_first n m k h (x, l, inl e) = (x, l, inr (at_once (subst (λ z. HasEdge names.uses n z) e h)))
+  needs_first n m k h (x, l, inr r) = (x, l, inr (further h r))
+
+  look_way_shown : {a b : ℕ} → Reaches g.edges a b → (n k : ℕ) → a ≡ n * 2 → b ≡ k * 2 + 1 → Looked n k
+  look_way_shown (at_once {y = y} h) n k e f =
+      (n, look_shown n k (subst (λ z. HasEdge g.edges (n * 2) z) f (subst (λ z. HasEdge g.edges z y) e h)), inl refl)
+  look_way_shown (further {y = y} h r) n k e f =
+      let m : y ≡ y / 2 * 2 = starts r in
+      needs_first n (y / 2) k (use_shown n (y / 2) (subst (λ z. HasEdge g.edges (n * 2) z) m (subst (λ z. HasEdge g.edges z y) e h)))
+      (look_way_shown r (y / 2) k m f)
+
+  way_there : {n k : ℕ} → Reaches names.uses n k → Reaches g.edges (n * 2) (k * 2)
+  way_there (at_once h) = at_once (use_there _ _ h)
+  way_there (further h r) = further (use_there _ _ h) (way_there r)
+
+  look_way_there : {n m : ℕ} → Reaches names.uses n m → (k : ℕ) → HasEdge names.looks m k → Reaches g.edges (n * 2) (k * 2 + 1)
+  look_way_there (at_once h) k l = further (use_there _ _ h) (at_once (look_there _ k l))
+  look_way_there (further h r) k l = further (use_there _ _ h) (look_way_there r k l)
+
+  half : (n k : ℕ) → n * 2 ≡ k * 2 → n ≡ k
+  half n k e = omega (arith, e)
+
+  apart : (n k : ℕ) → n * 2 ≡ k * 2 + 1 → ⊥
+  apart n k e = omega (arith, e)
+
+  -- by the two nodes of the key
+  pub affected_shown : (key n : ℕ) → node.IsAffected g.edges (key * 2) (n * 2) ⊎ node.IsAffected g.edges (key * 2 + 1) (n * 2)
+      → IsAffected names key n
+  affected_shown key n (inl (inl e)) = inl (inl (half n key e))
+  affected_shown key n (inl (inr r)) = inl (inr (way_shown r n key refl refl))
+  affected_shown key n (inr (inl e)) = absurd (apart n key e)
+  affected_shown key n (inr (inr r)) = inr (look_way_shown r n key refl refl)
+
+  pub affected_there : (key n : ℕ) → IsAffected names key n
+      → node.IsAffected g.edges (key * 2) (n * 2) ⊎ node.IsAffected g.edges (key * 2 + 1) (n * 2)
+  affected_there key n (inl (inl e)) = inl (inl (ap (λ z. z * 2) e))
+  affected_there key n (inl (inr r)) = inl (inr (way_there r))
+  affected_there key n (inr (m, l, inl e)) =
+      inr (inr (at_once (subst (λ z. HasEdge g.edges (z * 2) (key * 2 + 1)) (sym e) (look_there m key l))))
+  affected_there key n (inr (m, l, inr r)) = inr (inr (look_way_there r key l))
+
+-- ---- both nodes of a key forgotten, one after the other
+module _ (g : Graph) (nodes : AreNodes g) (key : ℕ) (mid new : List Edge)
+    (first : node.Forgets (key * 2) g.edges mid) (second : node.Forgets (key * 2 + 1) mid new) where
+  abbrev First : ℕ → Type 0
+  First = node.IsAffected g.edges (key * 2)
+
+  abbrev Second : ℕ → Type 0
+  Second = node.IsAffected mid (key * 2 + 1)
+
+  abbrev Either : ℕ → Type 0
+  Either x = node.IsAffected g.edges (key * 2) x ⊎ node.IsAffected g.edges (key * 2 + 1) x
+
+  cut_first : IsCut First g.edges mid
+  cut_first = record { gone = first.gone; kept = first.kept }
+
+  cut_second : IsCut Second mid new
+  cut_second = record { gone = second.gone; kept = second.kept }
+
+  up : (x y : ℕ) → HasEdge g.edges x y → First y → First x
+  up x y h (inl e) = inr (at_once (subst (λ z. HasEdge g.edges x z) e h))
+  up x y h (inr r) = inr (further h r)
+
+  pub both_nodes : IsBoth First Second Either
+  both_nodes = record {
+    first = λ x i. inl i;
+    second = λ x i. elim i [ inl e ↦ inr (inl e) | inr r ↦ inr (inr (reached_before First g.edges mid cut_first r)) ];
+    either = λ x i before after. elim i [
+      | inl j ↦ before j
+      | inr j ↦ elim j [
+        | inl e ↦ after (inl e)
+        | inr r ↦ after (inr (reached_still First g.edges mid cut_first up r before))
+      ]
+    ];
+  }
+
+  cut_both : IsCut Either g.edges new
+  cut_both = cut_on First Second Either both_nodes g.edges mid new cut_first cut_second
+
+  -- no second node is a user afterwards
+  pub users_after : (x y : ℕ) → edge_count new (x * 2 + 1) y ≡ 0
+  users_after x y = elim (cases_eq (edge_count new (x * 2 + 1) y) 0) [
+    | inl e ↦ e
+    | inr some ↦
+        let h : HasEdge g.edges (x * 2 + 1) y = was_there Either g.edges new cut_both (x * 2 + 1) y (omega (arith, some)) in
+        absurd (let z = nodes.users x y in omega (arith, h, z))
+  ]
+
+  between : (r : ℕ) → r < 2 → IsCut (IsAffected (shown g) key) (edges_to r g.edges) (edges_to r new)
+  between r l = record {
+    gone = λ x y i. counted r l new x y ∙ cut_both.gone (x * 2) (y * 2 + r) (affected_there g nodes key x i);
+    kept = λ x y free. counted r l new x y
+        ∙ (cut_both.kept (x * 2) (y * 2 + r) (λ i. free (affected_shown g nodes key x i)) ∙ sym (counted r l g.edges x y));
+  }
+
+  pub forgotten : (h : Graph) → h.nodes ≡ g.nodes → h.edges ≡ new → Forgets (IsAffected (shown g) key) (shown g) (shown h)
+  forgotten h same is = record {
+    names = ap (λ n. n / 2) same;
+    uses = subst (λ es. IsCut (IsAffected (shown g) key) (edges_to 0 g.edges) (edges_to 0 es)) (sym is) (between 0 (omega arith));
+    looks = subst (λ es. IsCut (IsAffected (shown g) key) (edges_to 1 g.edges) (edges_to 1 es)) (sym is) (between 1 (omega arith));
+  }
+
+  -- the marks of names are those of their first nodes
+  module _ (marks then now : ℕ → Bool) (old_names new_names : ℕ → Bool)
+      (old_is : (n : ℕ) → marks (n * 2) ≡ old_names n) (new_is : (n : ℕ) → now (n * 2) ≡ new_names n)
+      (clear_first : IsCleared First marks then) (clear_second : IsCleared Second then now) where
+    clear_both : IsCleared Either marks now
+    clear_both = cleared_on First Second Either both_nodes marks then now clear_first clear_second
+
+    pub cleared : IsCleared (IsAffected (shown g) key) old_names new_names
+    cleared = record {
+      gone = λ n i. sym (new_is n) ∙ clear_both.gone (n * 2) (affected_there g nodes key n i);
+      kept = λ n free. sym (new_is n) ∙ (clear_both.kept (n * 2) (λ i. free (affected_shown g nodes key n i)) ∙ old_is n);
+    }
+
+pub marked_at : (names : ℕ → Bool) (n : ℕ) → (nat_eq (n * 2 % 2) 0 && names (n * 2 / 2)) ≡ names n
+marked_at names n = λ i. nat_eq (even i) 0 && names (half_is i)
+  where
+    even : n * 2 % 2 ≡ 0
+    even = ap (λ z. z % 2) (sym (plain n)) ∙ node_kind n 0 (omega arith)
+
+    half_is : n * 2 / 2 ≡ n
+    half_is = ap (λ z. z / 2) (sym (plain n)) ∙ node_name n 0 (omega arith)

@@ -1,0 +1,24 @@
+use Rattle.std.proofs.Common.{◌≡◌, ℕ, ◌<◌, [], refl, arith, ◌∙◌}
+use Rattle.name_edges.specs.Affected.{AreAffected}
+use Rattle.name_edges.specs.NameGraphs.{NameGraph}
+use Rattle.name_edges.proofs.Cutting.{both, cleared_on, cut_on}
+use Rattle.name_edges.proofs.laws.forgetting_law.Goals as goal
+
+no_key : (g : NameGraph) (n : ℕ) → AreAffected g [] n → ⊥
+no_key g n (k, (i, l, e), a) = omega (arith, l)
+
+pub returns : goal.returns
+returns c = record {
+  none = λ g. record {
+    names = refl;
+    uses = record { gone = λ x y i. absurd (no_key g x i); kept = λ x y free. refl };
+    looks = record { gone = λ x y i. absurd (no_key g x i); kept = λ x y free. refl };
+  };
+  none_cleared = λ g marks. record { gone = λ x i. absurd (no_key g x i); kept = λ x free. refl };
+  more = λ keys key old mid new a b. record {
+    names = b.names ∙ a.names;
+    uses = cut_on _ _ _ (both keys key old mid a) old.uses mid.uses new.uses a.uses b.uses;
+    looks = cut_on _ _ _ (both keys key old mid a) old.looks mid.looks new.looks a.looks b.looks;
+  };
+  more_cleared = λ keys key old mid marks then now a b d. cleared_on _ _ _ (both keys key old mid a) marks then now b d;
+}

@@ -1,0 +1,28 @@
+use Rattle.std.proofs.Common.{◌≡◌, ◌*◌, ◌/◌, ◌%◌, ℕ, Bool, true, ◌∙◌, ap, subst, arith, nat_eq, refl}
+use Rattle.std.specs.Prelude.{◌&&◌}
+use Rattle.edge_links.specs.Reach.{IsCleared}
+use Rattle.name_edges.specs.Affected.{Forgets, IsAffected}
+use Rattle.name_edges.specs.NameGraphs.{NameGraph}
+use Rattle.name_edges.specs.Nodes.{shown}
+use Rattle.name_edges.proofs.Nodes.{cleared, forgotten, marked_at}
+use Rattle.name_edges.proofs.name_edges.NameEdges.forget.Goals as goal
+
+pub returns-clause-edges : goal.returns-clause-edges
+returns-clause-edges g c =
+    subst (λ (x : NameGraph). Forgets (IsAffected x c.args.key) x (shown c.unsettle-2.new.self)) c.self.view_is
+    (forgotten c.self.inside.links c.self.invariant c.args.key c.unsettle.new.self.edges c.unsettle-2.new.self.edges
+    c.unsettle.ensures.edges c.unsettle-2.ensures.edges c.unsettle-2.new.self
+    (c.unsettle-2.ensures.nodes ∙ c.unsettle.ensures.nodes) refl)
+
+pub returns-clause-marks : goal.returns-clause-marks
+returns-clause-marks g c =
+    subst (λ (x : NameGraph). IsCleared (IsAffected x c.args.key) (g.K.Marks.is_marked c.args.names)
+    (g.K.Marks.is_marked c.unsettle-2.new.marks.names)) c.self.view_is
+    (cleared c.self.inside.links c.self.invariant c.args.key c.unsettle.new.self.edges c.unsettle-2.new.self.edges
+    c.unsettle.ensures.edges c.unsettle-2.ensures.edges
+    (λ node. nat_eq (node % 2) 0 && g.K.Marks.is_marked c.args.names (node / 2))
+    (λ node. nat_eq (node % 2) 0 && g.K.Marks.is_marked c.unsettle.new.marks.names (node / 2))
+    (λ node. nat_eq (node % 2) 0 && g.K.Marks.is_marked c.unsettle-2.new.marks.names (node / 2))
+    (g.K.Marks.is_marked c.args.names) (g.K.Marks.is_marked c.unsettle-2.new.marks.names)
+    (marked_at (g.K.Marks.is_marked c.args.names)) (marked_at (g.K.Marks.is_marked c.unsettle-2.new.marks.names))
+    c.unsettle.ensures.marks c.unsettle-2.ensures.marks)

@@ -1,0 +1,24 @@
+-- What holds of what is forgotten and of what is linked.
+use Rattle.std.specs.Prelude.{◌≡◌, ◌⊎◌, ◌↔◌, ◌++◌, ℕ, Bool, List, [], ◌∷◌, map, Contains}
+use Rattle.edge_links.specs.Edges.{Edge, edge, SameEdges}
+use Rattle.edge_links.specs.Reach.{HasEdge, IsCleared}
+use Rattle.name_edges.specs.Affected.{AreAffected, Forgets, IsAffected}
+use Rattle.name_edges.specs.NameGraphs.{NameGraph}
+
+-- law: without a changed key nothing is forgotten; and where one key more is forgotten in what was left, all
+-- that the keys together affect is forgotten, and no mark of another name is taken
+pub record ForgettingLaw : Type 0 where
+  pub none : (g : NameGraph) → Forgets (AreAffected g []) g g
+  pub none_cleared : (g : NameGraph) (marks : ℕ → Bool) → IsCleared (AreAffected g []) marks marks
+  pub more : (keys : List ℕ) (key : ℕ) (old mid new : NameGraph)
+      → Forgets (AreAffected old keys) old mid → Forgets (IsAffected mid key) mid new
+      → Forgets (AreAffected old (keys ++ key ∷ [])) old new
+  pub more_cleared : (keys : List ℕ) (key : ℕ) (old mid : NameGraph) (marks then now : ℕ → Bool)
+      → Forgets (AreAffected old keys) old mid
+      → IsCleared (AreAffected old keys) marks then → IsCleared (IsAffected mid key) then now
+      → IsCleared (AreAffected old (keys ++ key ∷ [])) marks now
+
+-- law: a linked name has the edges that were added, and all edges from before stand
+abbrev pub LinkingLaw : Type 0
+LinkingLaw = (user : ℕ) (keys : List ℕ) (old new : List Edge) → SameEdges new (map (edge user) keys ++ old)
+    → (x y : ℕ) → HasEdge new x y ↔ (((x ≡ user) × Contains keys y) ⊎ HasEdge old x y)

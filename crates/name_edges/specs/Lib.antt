@@ -1,0 +1,4 @@
+pub mod Affected
+pub mod Laws
+pub mod NameGraphs
+pub mod Nodes

@@ -1,0 +1,25 @@
+-- The two nodes of each name.
+use Rattle.std.specs.Prelude.{◌≡◌, ◌&&◌, ℕ, ◌+◌, ◌*◌, ◌/◌, ◌%◌, ◌^◌, ◌≤◌, nat_eq, if◌then◌else◌, List, [], ◌∷◌}
+use Rattle.edge_links.specs.Edges.{Edge, edge, edge_count, Graph}
+use Rattle.name_edges.specs.NameGraphs.{NameGraph}
+
+-- the edge from a node to that node of a key which has this remainder
+abbrev pub edge_to : ℕ → ℕ → ℕ → Edge
+edge_to remainder user key = edge user (key * 2 + remainder)
+
+-- the edges between the first nodes of names, or from these to the second, by the numbers of the names
+abbrev pub edges_to : ℕ → List Edge → List Edge
+edges_to remainder [] = []
+edges_to remainder (e ∷ es) =
+    if nat_eq (e.user % 2) 0 && nat_eq (e.key % 2) remainder
+    then edge (e.user / 2) (e.key / 2) ∷ edges_to remainder es
+    else edges_to remainder es
+
+-- a last node that stands alone belongs to no name yet
+abbrev pub shown : Graph → NameGraph
+shown g = record { names = g.nodes / 2; uses = edges_to 0 g.edges; looks = edges_to 1 g.edges }
+
+-- no second node is a user
+pub record AreNodes (g : Graph) : Type 0 where
+  pub users : (x y : ℕ) → edge_count g.edges (x * 2 + 1) y ≡ 0
+  pub fits : g.nodes ≤ 2 ^ 64
