@@ -53,17 +53,17 @@ module _ (lines : List (List ℕ)) (read : PartWords) (f : Found) (is : IsFound 
         by (OfName named x e) = absurd (true≢false (sym has ∙ ap is_callee (at_line lines f is ∙ ap Some e)))
 
     pub named_so : f.row.now.name ≡ function_name (callee_at lines f.id)
-    named_so = sym (callee_name (means (known lines)) f.row.now.name (what_view f.row.now.entry.what)
+    named_so = sym (callee_name (means (known lines)) f.row.now.name (what_view f.row.now.what)
         (callee_at lines f.id) is.is.keeps.target is_callee_at)
 
     pub ranked_so : f.row.now.rank ≡ rank_of (callee_at lines f.id)
     ranked_so = is.is.keeps.rank ∙ ap rank_of_meaning is_callee_at
 
     pub is_function : IsFunction (holder_words lines read) (means (known lines)) f.id (callee_at lines f.id)
-        (what_view f.row.now.entry.what)
+        (what_view f.row.now.what)
     is_function = (
       λ part. sym (words_found part) ∙ is.is.keeps.words part,
-      ap (λ name. meaning_of (means (known lines)) name (what_view f.row.now.entry.what)) (sym named_so) ∙ is_callee_at,
+      ap (λ name. meaning_of (means (known lines)) name (what_view f.row.now.what)) (sym named_so) ∙ is_callee_at,
     )
 
 pub words_absent : (lines : List (List ℕ)) (read : PartWords) (id : ℕ) (part : Part) → slice_get lines id ≡ None

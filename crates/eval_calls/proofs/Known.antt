@@ -126,7 +126,7 @@ target_extends k l more words (Alias target) are all h =
 
 module _ (law : MeaningLaw) (k l : Known) (more : Extends k l) (row : Row) (h : Keeps k row) where
   same_meaning : meaning_in k row ≡ meaning_in l row
-  same_meaning = meaning_extends law k l more row.name row.words (what_view row.entry.what) h.words h.all_known
+  same_meaning = meaning_extends law k l more row.name row.words (what_view row.what) h.words h.all_known
 
   -- a row keeps what it keeps
   pub row_in : l row.name ≡ Some (meaning_in k row) → IsRow l row
@@ -136,7 +136,7 @@ module _ (law : MeaningLaw) (k l : Known) (more : Extends k l) (row : Row) (h : 
       what = h.what;
       words = h.words;
       all_known = λ part. all_known_extends k l more (words_of row.words part) (h.all_known part);
-      target = target_extends k l more row.words (what_view row.entry.what) h.words h.all_known h.target;
+      target = target_extends k l more row.words (what_view row.what) h.words h.all_known h.target;
       outcome = h.outcome ∙ ap outcome_of same_meaning;
       rank = h.rank ∙ ap rank_of_meaning same_meaning;
     };

@@ -58,7 +58,7 @@ told_unknown lines m o none e = (expanded.Dimensionless, ap or_one none, e)
 module _ (lines : List (List ℕ)) (f : Found) (is : IsFound lines f) where
   pub row_kind : Kind (is_callable f.row.now.outcome) (meaning_in (known lines) f.row.now)
   row_kind = subst (λ o. Kind (is_callable o) (meaning_in (known lines) f.row.now)) (sym is.is.keeps.outcome)
-      (kind (means (known lines)) f.row.now.name (what_view f.row.now.entry.what) is.is.keeps.target)
+      (kind (means (known lines)) f.row.now.name (what_view f.row.now.what) is.is.keeps.target)
 
   pub at_line : line_meaning (known lines) (slice_get lines f.id) ≡ Some (meaning_in (known lines) f.row.now)
   at_line = ap (line_meaning (known lines)) is.place ∙ ap (known lines) is.is.keeps.name ∙ is.is.means

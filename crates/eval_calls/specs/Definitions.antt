@@ -6,4 +6,4 @@ use Rattle.eval_calls.specs.Lines.{name_of, what_of}
 
 -- a line says this of this name
 abbrev pub Says : List ℕ → Definition → Type 0
-Says line definition = (name_of line ≡ definition.name) × (what_of line ≡ what_view definition.entry.what)
+Says line definition = (name_of line ≡ definition.name) × (what_of line ≡ what_view definition.what)

@@ -20,7 +20,7 @@ use Rattle.eval_calls.specs.Parts.{AllKnown, AreWordsOf}
 
 -- what the name of a row stands for, by what is known
 abbrev pub meaning_in : Known → Row → Meaning
-meaning_in known row = meaning_of (means known) row.name (what_view row.entry.what)
+meaning_in known row = meaning_of (means known) row.name (what_view row.what)
 
 -- what is said may stand behind what is known, with this rank
 pub record MayStand (known : Known) (what : What) (words : PartWords) (rank : ℕ) : Type 0 where
@@ -31,10 +31,10 @@ pub record MayStand (known : Known) (what : What) (words : PartWords) (rank : �
 -- a row keeps what follows from its line and from what is known
 pub record Keeps (known : Known) (row : Row) : Type 0 where
   pub name : name_of row.line ≡ row.name
-  pub what : what_of row.line ≡ what_view row.entry.what
-  pub words : AreWordsOf row.words (what_view row.entry.what)
+  pub what : what_of row.line ≡ what_view row.what
+  pub words : AreWordsOf row.words (what_view row.what)
   pub all_known : AllKnown known row.words
-  pub target : HasTarget (means known) (what_view row.entry.what)
+  pub target : HasTarget (means known) (what_view row.what)
   pub outcome : row.outcome ≡ outcome_of (meaning_in known row)
   pub rank : row.rank ≡ rank_of_meaning (meaning_in known row)
 

@@ -15,7 +15,7 @@ use crate::row::Row;
 use crate::scene::Scene;
 use crate::table::Table;
 use crate::texts::outcome_text;
-use def_entry::{Entry, EntryFault, What, entry_fault_text, read_entry, told_law};
+use def_entry::{EntryFault, What, entry_fault_text, read_entry, told_law};
 use def_lines::{LineKind, classify};
 use std::alloc::Global;
 use std::marker::Brand;
@@ -27,16 +27,16 @@ use units_io::{Steps, Text};
 #[derive(Drop)]
 pub(crate) struct Definition {
     pub(crate) name: Text,
-    pub(crate) entry: Entry,
+    pub(crate) what: What,
 }
 
 // Takes the definition of a line, whose outcome it answers.
 pub(crate) fn define(alloc: Global, table: &mut Table, line: &[u8]) -> Result<Text, Refusal> {
-    let Definition { name, entry } = read_definition(alloc, line)?;
+    let Definition { name, what } = read_definition(alloc, line)?;
     if table.find(name.as_bytes()).is_some() {
         return Err(Refusal::DefinedTwice);
     }
-    let row = new_row::<Brand>(alloc, table, line, name, entry, Blank::new(1))?;
+    let row = new_row::<Brand>(alloc, table, line, name, what, Blank::new(1))?;
     let text = outcome_text(alloc, &row.outcome)?;
     table.push(alloc, row)?;
     Ok(text)
@@ -58,9 +58,9 @@ fn read_said(alloc: Global, line: &[u8]) -> Result<Definition, Refusal>
 {
     told_law();
     match read_entry(alloc, line) {
-        Ok((key, entry)) => Ok(Definition {
+        Ok((key, what)) => Ok(Definition {
             name: key.name,
-            entry,
+            what,
         }),
         Err(EntryFault::OutOfMemory) => Err(Refusal::OutOfMemory),
         Err(fault) => Err(Refusal::Fault(entry_fault_text(alloc, &fault)?)),
@@ -90,18 +90,18 @@ fn new_row<L: Ledger>(
     table: &Table,
     line: &[u8],
     name: Text,
-    entry: Entry,
+    what: What,
     blank: Blank,
 ) -> Result<Row, Refusal>
     requires name { lines.name_of line.now ≡ name }
-    requires what { lines.what_of line.now ≡ what_view entry.what }
+    requires what { lines.what_of line.now ≡ what_view what }
     requires ledger { blank.name ≡ L.name }
     requires parts { blank.parts ≡ L.parts }
     requires some { 0 < blank.parts }
     ensures { IfOk result (λ row. spec.Keeps (lines.known table.now) row × (row.name ≡ name)) }
 {
-    let words = PartWords::of_what(alloc, &entry.what)?;
-    let rank = rank_of(table, &entry.what, &words)?;
+    let words = PartWords::of_what(alloc, &what)?;
+    let rank = rank_of(table, &what, &words)?;
     let scene = Scene {
         table,
         words: &words,
@@ -112,14 +112,14 @@ fn new_row<L: Ledger>(
         &scene,
         table.len(),
         name.as_bytes(),
-        &entry,
+        &what,
         &mut steps,
     )?;
     let line = Text::from_bytes(alloc, line)?;
     Ok(Row {
         name,
         line,
-        entry,
+        what,
         words,
         outcome,
         rank,

@@ -2,9 +2,9 @@
 
 use crate::definition::define;
 use crate::query::{Way, taken, value_of};
-use crate::split::cut_at;
 use crate::table::Table;
 use crate::texts::{answer_text, shown};
+use def_entry::cut_at;
 use std::alloc::{AllocError, Global};
 use units_io::Text;
 

@@ -6,12 +6,12 @@ mod answers;
 mod definition;
 mod line;
 mod meaning;
+mod own_word;
 mod parts;
 mod query;
 mod refusal;
 mod row;
 mod scene;
-mod split;
 mod table;
 mod texts;
 

@@ -11,11 +11,10 @@ ghost use Rattle.eval_calls.specs.Parts as parts;
 ghost use Rattle.eval_calls.specs.Queries.{IsNumberOf};
 ghost use Rattle.eval_calls.specs.Scenes.{IsToldOf};
 
+use crate::own_word::{OwnWord, OwnWords};
 use crate::parts::PartWords;
-use crate::split::cut_at;
 use crate::table::Table;
-use def_entry::What;
-use expr_tree::{WordUse, Words};
+use def_entry::{What, cut_at};
 use tree_eval::{Meaning, Outcome, Part};
 
 impl Table {
@@ -100,16 +99,16 @@ impl Table {
     }
 
     // Whether all words are known.
-    pub(crate) fn knows_all(&self, words: &Words) -> bool
+    pub(crate) fn knows_all(&self, words: &OwnWords) -> bool
         ensures { result ≡ parts.are_known (lines.known self.now) words.now }
     {
         words.as_slice().iter().all(|word| self.knows_word(word))
     }
 
-    fn knows_word(&self, word: &WordUse) -> bool
+    fn knows_word(&self, word: &OwnWord) -> bool
         ensures { result ≡ is_some (lines.found (lines.known self.now) word.now.text) }
     {
-        self.knows(word.text.as_bytes())
+        self.knows(word.text())
     }
 
     // Whether all words of the trees of an entry are known.
@@ -178,12 +177,12 @@ impl Table {
 
     // The greatest rank of some words.
     #[tactic(auto, using(crate::proofs::Ranks::ranks))]
-    pub(crate) fn greatest_rank(&self, words: &Words) -> u32
+    pub(crate) fn greatest_rank(&self, words: &OwnWords) -> u32
         ensures { result ≡ greatest_rank (lines.means (lines.known self.now)) words.now }
     {
         let mut greatest = 0;
         for word in words.as_slice() {
-            greatest = greatest.max(self.word_rank(word.text.as_bytes()));
+            greatest = greatest.max(self.word_rank(word.text()));
         }
         greatest
     }

@@ -8,8 +8,9 @@ ghost use Rattle.tree_eval.specs.Entries.{words_if};
 ghost use Rattle.tree_eval.specs.Expansion.{inverted_word};
 ghost use Rattle.eval_calls.specs.Parts as spec;
 
+use crate::own_word::{OwnWord, OwnWords, own_words};
 use def_entry::What;
-use expr_tree::{Tree, WordKind, WordUse, Words, words};
+use expr_tree::{Tree, WordKind};
 use std::alloc::{AllocError, Global};
 use tree_eval::Part;
 use units_io::Text;
@@ -17,12 +18,12 @@ use units_io::Text;
 /// The words of each tree of an entry.
 #[derive(Drop)]
 pub(crate) struct PartWords {
-    in_unit: Words,
-    out_unit: Words,
-    forward: Words,
-    inverse: Words,
-    table_unit: Words,
-    pub(crate) body: Words,
+    in_unit: OwnWords,
+    out_unit: OwnWords,
+    forward: OwnWords,
+    inverse: OwnWords,
+    table_unit: OwnWords,
+    pub(crate) body: OwnWords,
 }
 
 impl PartWords {
@@ -31,12 +32,12 @@ impl PartWords {
         ensures { result ≡ spec.no_words }
     {
         PartWords {
-            in_unit: Words::new(alloc),
-            out_unit: Words::new(alloc),
-            forward: Words::new(alloc),
-            inverse: Words::new(alloc),
-            table_unit: Words::new(alloc),
-            body: Words::new(alloc),
+            in_unit: OwnWords::new(alloc),
+            out_unit: OwnWords::new(alloc),
+            forward: OwnWords::new(alloc),
+            inverse: OwnWords::new(alloc),
+            table_unit: OwnWords::new(alloc),
+            body: OwnWords::new(alloc),
         }
     }
 
@@ -45,7 +46,7 @@ impl PartWords {
         ensures { IfOk result (λ words. words.body ≡ words_in (syntax tree.now)) }
     {
         Ok(PartWords {
-            body: words(alloc, tree)?,
+            body: own_words(alloc, tree)?,
             ..PartWords::new(alloc)
         })
     }
@@ -58,13 +59,13 @@ impl PartWords {
         let none = PartWords::new(alloc);
         match what {
             What::Body(tree) => Ok(PartWords {
-                body: words(alloc, tree)?,
+                body: own_words(alloc, tree)?,
                 ..none
             }),
             What::Function(f) => Ok(PartWords {
                 in_unit: words_if(alloc, &f.in_unit)?,
                 out_unit: words_if(alloc, &f.out_unit)?,
-                forward: words(alloc, &f.forward)?,
+                forward: own_words(alloc, &f.forward)?,
                 inverse: words_if(alloc, &f.inverse)?,
                 ..none
             }),
@@ -73,7 +74,7 @@ impl PartWords {
                 ..none
             }),
             What::Table(table) => Ok(PartWords {
-                table_unit: words(alloc, &table.unit)?,
+                table_unit: own_words(alloc, &table.unit)?,
                 ..none
             }),
             What::Primitive | What::Dimensionless | What::ListOf(_) => Ok(none),
@@ -81,7 +82,7 @@ impl PartWords {
     }
 
     // The words of a part.
-    pub(crate) fn get(&self, part: Part) -> &Words
+    pub(crate) fn get(&self, part: Part) -> &OwnWords
         ensures { result.now ≡ spec.words_of self.now part }
     {
         match part {
@@ -96,7 +97,7 @@ impl PartWords {
 }
 
 // The same words, of which there are no more than can be counted.
-pub(crate) fn counted(words: &Words) -> &Words
+pub(crate) fn counted(words: &OwnWords) -> &OwnWords
     ensures words { result.now ≡ words.now }
     ensures few { length result.now < 2 ^ 64 }
 {
@@ -105,22 +106,23 @@ pub(crate) fn counted(words: &Words) -> &Words
 }
 
 // The words of a tree that may be left out.
-fn words_if(alloc: Global, tree: &Option<Tree>) -> Result<Words, AllocError>
+fn words_if(alloc: Global, tree: &Option<Tree>) -> Result<OwnWords, AllocError>
     ensures { IfOk result (λ us. us ≡ words_if (option_map syntax tree.now)) }
 {
     match tree {
-        Some(tree) => words(alloc, tree),
-        None => Ok(Words::new(alloc)),
+        Some(tree) => own_words(alloc, tree),
+        None => Ok(OwnWords::new(alloc)),
     }
 }
 
 // The word that an alias has.
-fn target_word(alloc: Global, target: &Text) -> Result<Words, AllocError>
+fn target_word(alloc: Global, target: &Text) -> Result<OwnWords, AllocError>
     ensures { IfOk result (λ us. us ≡ inverted_word target.now ∷ []) }
 {
-    let mut words = Words::new(alloc);
-    let text = target.copy(alloc)?;
-    let kind = WordKind::Inverse;
-    words.push(alloc, WordUse { text, kind })?;
+    let mut words = OwnWords::new(alloc);
+    words.push(
+        alloc,
+        OwnWord::new(alloc, target.as_bytes(), WordKind::Inverse)?,
+    )?;
     Ok(words)
 }

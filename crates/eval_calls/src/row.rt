@@ -4,7 +4,7 @@ ghost use Rattle.std.specs.Prelude.{◌≡◌};
 ghost use Rattle.eval_calls.specs.Kinds as spec;
 
 use crate::parts::PartWords;
-use def_entry::Entry;
+use def_entry::What;
 use tree_eval::Outcome;
 use units_io::Text;
 
@@ -14,7 +14,7 @@ pub(crate) struct Row {
     // Its name and its line.
     pub(crate) name: Text,
     pub(crate) line: Text,
-    pub(crate) entry: Entry,
+    pub(crate) what: What,
     pub(crate) words: PartWords,
     pub(crate) outcome: Outcome,
     // The rank of a function, 0 for any other.

@@ -1,9 +1,9 @@
 //! The environment of what is read.
 
+use crate::own_word::OwnWords;
 use crate::parts::{PartWords, counted};
 use crate::table::Table;
-use def_entry::Entry;
-use expr_tree::Words;
+use def_entry::What;
 use tree_eval::{Env, Holder, Meaning, Part};
 
 /// A table with the words of what is read over it.
@@ -30,12 +30,12 @@ impl<'a> Env for Scene<'a> {
     fn meaning(&self, holder: Holder, place: usize) -> Meaning<'_> {
         let words = counted(self.words(holder));
         let word = words.get(place).unwrap();
-        self.table.meaning(word.text.as_bytes())
+        self.table.meaning(word.text())
     }
 
     #[tactic(auto, using(crate::proofs::Functions::is_function, crate::proofs::Told::has_line))]
-    fn function(&self, id: usize) -> &Entry {
-        &self.table.at(id).unwrap().row.entry
+    fn function(&self, id: usize) -> &What {
+        &self.table.at(id).unwrap().row.what
     }
 
     #[tactic(auto, using(crate::proofs::Functions::named_so, crate::proofs::Told::has_line))]
@@ -54,7 +54,7 @@ impl<'a> Scene<'a> {
     ghost use Rattle.eval_calls.specs.Scenes.{holder_words};
 
     // The words of a holder.
-    fn words(&self, holder: Holder) -> &Words
+    fn words(&self, holder: Holder) -> &OwnWords
         ensures { result.now ≡ holder_words self.now.table.now self.now.words.now holder }
     {
         match holder {
@@ -65,7 +65,7 @@ impl<'a> Scene<'a> {
 
     // The words of a part of the definition of this number.
     #[tactic(auto, using(crate::proofs::Functions::words_found, crate::proofs::Functions::words_absent))]
-    fn part_words(&self, id: usize, part: Part) -> &Words
+    fn part_words(&self, id: usize, part: Part) -> &OwnWords
         ensures { result.now ≡ holder_words self.now.table.now self.now.words.now (Holder.Of id part) }
     {
         match self.table.at(id) {

@@ -21,7 +21,7 @@ returns g c = (
     all_known = c.in_ok-rank.ensures.all_known;
     target = c.in_ok-rank.ensures.target;
     outcome = c.in_ok-outcome.ensures.outcome
-        ∙ ap (λ name. outcome_of (meaning_of (means (known c.args.table.now)) name (what_view c.args.entry.what)))
+        ∙ ap (λ name. outcome_of (meaning_of (means (known c.args.table.now)) name (what_view c.args.what)))
         c.as_bytes.ensures;
     rank = c.in_ok-rank.ensures.ranked c.args.name;
   },
