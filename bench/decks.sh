@@ -9,62 +9,26 @@ set -u
 root=$(cd "$(dirname "${BASH_SOURCE[0]}")/.." && pwd)
 program=$("$root/tools/built.sh" deck_calls) || exit
 definitions=$(realpath -ms -- "${1:-/usr/share/units/definitions.units}") || exit
-exec python3 - "$program" "$definitions" <<'PYTHON'
+PYTHONPATH="$root/bench" PYTHONDONTWRITEBYTECODE=1 exec python3 - "$program" "$definitions" <<'PYTHON'
+import functools
 import os
-import subprocess
 import sys
 import tempfile
 from pathlib import Path
-from typing import NamedTuple
+
+import timing
+from timing import say
 
 REAL = sys.argv[2]
 SIZES = [25_000, 50_000, 100_000]
 PASSES = 40  # how many calls that go over the deck are timed together
 
-
-# Runs a program in a process of its own, small enough to hide none of its memory, and tells its status, its seconds by the
-# clock and by the processor, and its greatest memory in KiB.
-TIMER = """
-import os, sys, time
-start = time.perf_counter()
-pid = os.posix_spawn(sys.argv[1], sys.argv[1:], os.environ)
-_, status, usage = os.wait4(pid, 0)
-print(status, time.perf_counter() - start, usage.ru_utime + usage.ru_stime, usage.ru_maxrss, file=sys.stderr)
-"""
-
-
-class Cost(NamedTuple):
-    clock: float
-    processor: float
-    memory: int = 0
-
-    def less(self, other, parts=1):
-        return Cost((self.clock - other.clock) / parts, (self.processor - other.processor) / parts)
-
-
-def timed(calls, wanted, runs=5):
-    """The lowest times of some runs, and the greatest memory in bytes. The last answer has to be the one wanted."""
-    costs = []
-    for _ in range(runs):
-        with tempfile.TemporaryFile() as given:
-            given.write("".join(call + "\n" for call in calls).encode())
-            given.seek(0)
-            run = subprocess.run([sys.executable, "-I", "-S", "-c", TIMER, sys.argv[1]], stdin=given, capture_output=True)
-        status, clock, processor, memory = run.stderr.split()
-        last = run.stdout.decode().splitlines()[-1]
-        if status != b"0" or wanted not in last:
-            sys.exit(f"{calls[-1]}: status {status}, {last!r} in the place of {wanted!r}")
-        costs.append(Cost(float(clock), float(processor), int(memory) << 10))
-    return Cost(*(min(times) for times in list(zip(*costs))[:2]), max(cost.memory for cost in costs))
+timed = functools.partial(timing.timed, sys.argv[1])
 
 
 def lines(count):
     """A primitive, and units each of which stands for one of half its number."""
     return ["u_0 !", *(f"u_{i} {1 + i % 3} u_{i // 2}" for i in range(1, count))]
-
-
-def say(what, cost, rest=""):
-    print(f"{what:44} {cost.clock * 1e3:8.1f} ms, {cost.processor * 1e3:8.1f} of the processor{rest}", flush=True)
 
 
 def real():

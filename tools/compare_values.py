@@ -28,12 +28,21 @@ PROGRAM = ROOT / "crates/eval_calls/out/eval_calls"
 SHOWN = 20  # how many differences over random tables are printed
 GREATEST = 2**127 - 1
 GREATEST_EXPONENT, GREATEST_SHARE = 32767, 60
-TOKEN = re.compile(r"\s*((?:[0-9]+\.?[0-9]*|\.[0-9]+)(?:[eE][+-]?[0-9]+)?|[^\s+*/|^;~#()\[\]-]+|.)")
+TOKEN = re.compile(r"\s*((?:[0-9]+\.?[0-9]*|\.[0-9]+)(?:[eE][+-]?[0-9]+)?|[^\s+*/|^;~#()\[\]-]+|.)", re.ASCII)
 SIGNS = {"+": 1, "-": -1}
+OPTION = re.compile(
+    r"\s*(?:units=\[([^;]*);([^\]]*)\]|(domain|range)=([\[(])([^,]*),([^\])]*)([\])])|noerror(?=\s))", re.ASCII
+)
 
 
 class Fault(Exception):
     """Why there is no value."""
+
+
+def number(text):
+    """The number that a bound or a number of a table stands for."""
+    above, _, below = text.strip().partition("|")
+    return Fraction(above) / Fraction(below or 1)
 
 
 def fitting(x):
@@ -135,8 +144,9 @@ class Reader:
     """Reads an expression into a function from the table and the argument to its value."""
 
     def __init__(self, text, binder):
-        self.tokens = TOKEN.findall(text.strip())
-        self.spaced = [m.group(0) != m.group(1) for m in TOKEN.finditer(text.strip())]
+        found = list(TOKEN.finditer(text.strip(" \t")))
+        self.tokens = [m.group(1) for m in found]
+        self.spaced = [m.group(0) != m.group(1) for m in found]
         self.at, self.binder, self.words = 0, binder, []
 
     def peek(self):
@@ -415,11 +425,7 @@ class Table:
             self.functions[name] = self.function(name, behind)
             return "function"
         if behind.startswith("["):
-            unit, _, numbers = behind[1:].partition("]")
-            read = self.read(unit)
-            numbers = [Fraction(n.replace("|", "/")) for n in re.findall(r"[^\s,]+", numbers)]
-            points = list(zip(numbers[::2], numbers[1::2]))
-            self.functions[name] = Points(name, read.rank + 1, read, points)
+            self.functions[name] = self.points(name, behind)
             return "function"
         text = behind.strip()
         if text == "!":
@@ -435,15 +441,22 @@ class Table:
         self.outcomes[name.rstrip("-")] = outcome
         return str(outcome) if isinstance(outcome, Fault) else outcome.text()
 
+    def points(self, name, behind):
+        unit, _, numbers = behind[1:].partition("]")
+        read = self.read(unit)
+        numbers = [number(n) for n in re.findall(r"[^\s,]+", numbers) if n != "noerror"]
+        return Points(name, read.rank + 1, read, list(zip(numbers[::2], numbers[1::2])))
+
     def function(self, name, behind):
         parameter, _, text = behind[1:].partition(")")
+        parameter = parameter.strip()
         units, domain, range_ = ("", ""), None, None
-        while option := re.match(r"\s*(?:units=\[([^;]*);([^\]]*)\]|(domain|range)=([\[(])([^,]*),([^\])]*)([\])]))", text):
+        while option := OPTION.match(text):
             text = text[option.end():]
-            if option.group(3) is None:
-                units = option.group(1), option.group(2)
-            else:
-                bounds = [Fraction(b.replace("|", "/")) if b else None for b in option.group(5, 6)]
+            if option.group(1) is not None:
+                units = option.group(1).strip(), option.group(2).strip()
+            elif option.group(3) is not None:
+                bounds = [number(b) if b.strip() else None for b in option.group(5, 6)]
                 interval = (option.group(4), *bounds, option.group(7))
                 if option.group(3) == "domain":
                     domain = interval

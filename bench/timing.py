@@ -1,0 +1,45 @@
+"""Times runs of a program that answers calls, one a line."""
+
+import subprocess
+import sys
+import tempfile
+from typing import NamedTuple
+
+# Runs a program in a process of its own, small enough to hide none of its memory, and tells its status, its seconds by the
+# clock and by the processor, and its greatest memory in KiB.
+TIMER = """
+import os, sys, time
+start = time.perf_counter()
+pid = os.posix_spawn(sys.argv[1], sys.argv[1:], os.environ)
+_, status, usage = os.wait4(pid, 0)
+print(status, time.perf_counter() - start, usage.ru_utime + usage.ru_stime, usage.ru_maxrss, file=sys.stderr)
+"""
+
+
+class Cost(NamedTuple):
+    clock: float
+    processor: float
+    memory: int = 0
+
+    def less(self, other, parts=1):
+        return Cost((self.clock - other.clock) / parts, (self.processor - other.processor) / parts)
+
+
+def timed(program, calls, wanted, runs=5):
+    """The lowest times of some runs, and the greatest memory in bytes. The last answer has to be the one wanted."""
+    costs = []
+    for _ in range(runs):
+        with tempfile.TemporaryFile() as given:
+            given.write("".join(call + "\n" for call in calls).encode())
+            given.seek(0)
+            run = subprocess.run([sys.executable, "-I", "-S", "-c", TIMER, program], stdin=given, capture_output=True)
+        status, clock, processor, memory = run.stderr.split()
+        last = run.stdout.decode().splitlines()[-1]
+        if status != b"0" or wanted not in last:
+            sys.exit(f"{calls[-1]}: status {status}, {last!r} in the place of {wanted!r}")
+        costs.append(Cost(float(clock), float(processor), int(memory) << 10))
+    return Cost(*(min(times) for times in list(zip(*costs))[:2]), max(cost.memory for cost in costs))
+
+
+def say(what, cost, rest=""):
+    print(f"{what:44} {cost.clock * 1e3:8.1f} ms, {cost.processor * 1e3:8.1f} of the processor{rest}", flush=True)
