@@ -45,7 +45,7 @@ ratio_quotients : (a b : ℕ) → 0 < b → ratio (pos a) (pos b) ≡ fitting (r
 ratio_quotients a b some = ratio_low a b (a / gcd a b) (b / gcd a b) some (record { top_is = refl; bottom_is = refl })
 
 -- each number is coprime to 1
-coprime_one : (a : ℕ) → IsCoprime a 1
+pub coprime_one : (a : ℕ) → IsCoprime a 1
 coprime_one a = coprime_is a 1 (one-dvd a, one-dvd 1, λ d p q. q)
 
 -- a whole number in range

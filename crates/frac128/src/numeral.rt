@@ -130,6 +130,10 @@ fn scaled_up(n: u128, power: u128) -> Result<Frac, FracFault>
     requires fits { n ≤ most }
     ensures { result ≡ ratio (pos (n * 10 ^ power)) (pos 1) }
 {
+    // Most numerals are whole numbers.
+    if power == 0 {
+        return Ok(Frac::whole(n as i128));
+    }
     match power_of_ten(power) {
         Some(factor) => Frac::whole(n as i128).mul(&Frac::whole(factor)),
         None => Err(FracFault::Overflow),

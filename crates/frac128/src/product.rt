@@ -48,11 +48,22 @@ fn lowest_product(a: u128, b: u128, c: u128, d: u128) -> Option<(u128, u128)>
     ensures found { IfSome result (λ x. IsLowest (a * c) (b * d) x.0 x.1) }
     ensures wide { IfNone result (IsWide (a * c) (b * d)) }
 {
+    if b == 1 && d == 1 {
+        return whole_product(a, c);
+    }
     let left = gcd(a, d);
     let right = gcd(c, b);
     let top = reduced_product(a, left, c, right)?;
     let bottom = reduced_product(b, right, d, left)?;
     Some((top, bottom))
+}
+
+// The same of two whole numbers, where nothing is divided out.
+fn whole_product(a: u128, c: u128) -> Option<(u128, u128)>
+    ensures found { IfSome result (λ x. IsLowest (a * c) 1 x.0 x.1) }
+    ensures wide { IfNone result (IsWide (a * c) 1) }
+{
+    Some((a.checked_mul(c)?, 1))
 }
 
 // The product of two quotients, or none where it has more than 128 bits.

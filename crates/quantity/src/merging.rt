@@ -72,7 +72,7 @@ fn merge_both(
     ensures { IsListed result (merged (exponent_in factor) left.items right.now) }
 {
     reduced_law();
-    let mut powers = SmallVec::new(alloc);
+    let mut powers = SmallVec::with_capacity(alloc, left.len())?;
     let (mut left, mut right) = (left.into_iter(), right);
     loop {
         match first_of(left.as_slice(), right) {
