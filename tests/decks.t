@@ -168,6 +168,49 @@ A file that cannot be read ends the load and the append, which leave the deck as
   changed: c
   different
 
+Each of the fetches of a file in turn, of which the third is that of a file in an open block. The same file with no such fetch is put behind the lines afterwards.
+
+  $ mkdir -p whole/sub
+  $ printf 'ell !\n!include sub/b\n!include d\nlast 2 ell\n' > whole/a
+  $ printf '!locale en_US\n!include c\n' > whole/sub/b
+  $ printf 'ft 3 ell\n' > whole/sub/c
+  $ printf 'yd 3 ft\n' > whole/d
+  $ for file in a sub/b sub/c d; do
+  >   rm -rf cut
+  >   cp -r whole cut
+  >   rm "cut/$file"
+  >   mkdir "cut/$file"
+  >   printf '%s\n' 'load cut/a' 'load whole/d' snapshot 'append cut/a' compare 'append whole/a' count | deck_calls
+  > done
+  read failed
+  ok
+  ok
+  read failed
+  equal
+  changed: ell | ft | last
+  4 units, 0 prefixes, 0 functions, 0 lists, 10 lines, 1 notices
+  read failed
+  ok
+  ok
+  read failed
+  equal
+  changed: ell | ft | last
+  4 units, 0 prefixes, 0 functions, 0 lists, 10 lines, 1 notices
+  read failed
+  ok
+  ok
+  read failed
+  equal
+  changed: ell | ft | last
+  4 units, 0 prefixes, 0 functions, 0 lists, 10 lines, 1 notices
+  read failed
+  ok
+  ok
+  read failed
+  equal
+  changed: ell | ft | last
+  4 units, 0 prefixes, 0 functions, 0 lists, 10 lines, 1 notices
+
 Stray ends, and blocks that are closed in the wrong order.
 
   $ printf '!endvar\nm !\n!locale en_US\n!endvar\na m\n!utf8\n!endlocale\n!endutf8\n!endlocale\n!endlocale\n' > h.units

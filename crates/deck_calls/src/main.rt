@@ -8,8 +8,6 @@ mod call;
 mod edit;
 mod question;
 mod same;
-#[cfg(test)]
-mod tests;
 
 use board::Board;
 use std::io;

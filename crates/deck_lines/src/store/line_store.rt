@@ -27,10 +27,19 @@ use std::marker::Model;
 
 /// The lines of a deck with their marks and what they define, and the numbers of the keys that they
 /// define or once defined: a key keeps its number when the lines that brought it are gone.
-#[derive(Drop)]
 pub struct LineStore {
     lines: LineList,
     definitions: Definitions,
+}
+
+// By hand, so that who drops a store proves nothing of what it holds.
+impl Drop for LineStore {
+    fn drop(self) {
+        let LineStore {
+            lines: _,
+            definitions: _,
+        } = self;
+    }
 }
 
 impl Model for LineStore {
