@@ -1,29 +1,35 @@
 -- The words of the parts of an entry, part by part.
-use Rattle.std.proofs.Common.{◌≡◌, Bool, true, sym, ◌∙◌}
-use Rattle.std.specs.Bool.{OnTrue}
-use Rattle.std.proofs.lemmas.Bool.{OnTrue_from}
+use Rattle.std.proofs.Common.{◌≡◌, Bool, true, false, sym}
+use Rattle.std.specs.Bool.{MatchBool}
 use Rattle.def_entry.specs.Entries.{What}
 use Rattle.tree_eval.specs.declared.holder.Part.{Part}
 use Rattle.tree_eval.specs.declared.holder.Part.TheVariants.{InUnit, OutUnit, Forward, Inverse, TableUnit, Body}
 use Rattle.tree_eval.specs.Entries.{part_words}
 use Rattle.eval_calls.specs.declared.parts.PartWords.{PartWords}
 use Rattle.eval_calls.specs.Lines.{Known}
-use Rattle.eval_calls.specs.Parts.{AllKnown, AreWordsOf, are_known, words_of}
+use Rattle.eval_calls.specs.Parts.{AllKnown, AreWordsOf, HasUnknown, are_known, words_of}
 
 -- the words of each part are known
 pub all_known : (k : Known) (w : PartWords) (last : Bool)
     → true ≡ are_known k w.in_unit → true ≡ are_known k w.out_unit → true ≡ are_known k w.forward
     → true ≡ are_known k w.inverse → true ≡ are_known k w.table_unit → last ≡ are_known k w.body
-    → OnTrue last (AllKnown k w)
-all_known k w last a b c d e f = OnTrue_from last (AllKnown k w) each
+    → MatchBool last (AllKnown k w) (HasUnknown k w)
+all_known k w true a b c d e f = each
   where
-    each : last ≡ true → (part : Part) → are_known k (words_of w part) ≡ true
-    each h InUnit = sym a
-    each h OutUnit = sym b
-    each h Forward = sym c
-    each h Inverse = sym d
-    each h TableUnit = sym e
-    each h Body = sym f ∙ h
+    each : AllKnown k w
+    each InUnit = sym a
+    each OutUnit = sym b
+    each Forward = sym c
+    each Inverse = sym d
+    each TableUnit = sym e
+    each Body = sym f
+all_known k w false a b c d e f = (Body, sym f)
+
+-- the words of a part are not all known
+pub unknown_in : (k : Known) (w : PartWords) (part : Part) → false ≡ are_known k (words_of w part) → HasUnknown k w
+unknown_in k w part h = (part, sym h)
+
+pub ruleset parts_known = (all_known, unknown_in)
 
 -- the words of each part are those of what is said
 pub are_words : (w : PartWords) (what : What)

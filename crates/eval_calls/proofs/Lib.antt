@@ -3,5 +3,6 @@ mod Functions
 mod Known
 mod Ranks
 mod Read
+mod Refused
 mod Rows
 mod Told

@@ -1,7 +1,7 @@
 -- The ranks of what lines say, by the greatest ranks of their words.
-use Rattle.std.proofs.Common.{◌≡◌, ◌+◌, ◌<◌, ℕ, suc, max, List, [], ◌∷◌, ◌++◌, drop, get_or, length}
-use Rattle.std.proofs.Common.{Option, Some, None, sym, ap, ◌∙◌, arith}
-use Rattle.std.specs.Prelude.{IfSome}
+use Rattle.std.proofs.Common.{◌≡◌, ◌+◌, ◌<◌, ◌≤◌, ◌^◌, ℕ, suc, max, List, [], ◌∷◌, ◌++◌, drop, get_or, length}
+use Rattle.std.proofs.Common.{Option, Some, None, sym, ap, subst, ◌∙◌, arith}
+use Rattle.std.specs.Prelude.{MatchOption}
 use Rattle.std.specs.Option.{SomeIff}
 use Rattle.std.proofs.lemmas.List.{drop_more}
 use Rattle.def_entry.specs.Entries.{FunctionDef, TableDef, Function, Alias, Table}
@@ -77,6 +77,9 @@ module _ (means : WordUse → Meaning) where
       let z = max_zero (rank_of h.0) in
       omega (arith, a, b, z)
 
+not_below : (n : ℕ) → ¬ (n < 2 ^ 32) → 2 ^ 32 ≤ n
+not_below n h = omega arith
+
 -- the greatest rank of the word at a place and of those behind it
 pub rank_at : (means : WordUse → Meaning) (us : List WordUse) (i : ℕ) (d : WordUse) (done : ℕ) → i < length us
     → max done (greatest_rank means (drop i us))
@@ -87,8 +90,8 @@ rank_at means us i d done h =
 
 pub ruleset ranks = (rank_at, max_zero)
 
--- the rank of each name, where the number fits
-pub ranked : (r : Option ℕ) (P : Type 0) (n : ℕ) (rank : List ℕ → ℕ) → SomeIff r P n → ((name : List ℕ) → n ≡ rank name)
-    → IfSome r (λ found. (name : List ℕ) → found ≡ rank name)
-ranked None P n rank h each = tt
-ranked (Some x) P n rank h each = λ name. h.1 ∙ each name
+-- what is told of a rank, by whether the number fits
+pub ranked : (r : Option ℕ) (n : ℕ) (Is : ℕ → Type 0) → SomeIff r (n < 2 ^ 32) n → Is n
+    → MatchOption r ((m : ℕ) × Is m × (2 ^ 32 ≤ m)) Is
+ranked None n Is h is = (n, is, not_below n h)
+ranked (Some x) n Is h is = subst Is (sym h.1) is

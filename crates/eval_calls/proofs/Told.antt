@@ -5,7 +5,7 @@ use Rattle.def_entry.specs.Cuts.{cut_at}
 use Rattle.def_entry.specs.Entries.{What, Primitive, Dimensionless, Body, Function, Alias, Table, ListOf}
 use Rattle.def_entry.specs.Views.{what_view}
 use Rattle.expr_tree.specs.declared.word_list.WordUse.{WordUse}
-use Rattle.std.specs.Prelude.{IfNone, IfSome}
+use Rattle.std.specs.Prelude.{◌↔◌, IfNone, IfSome, IsTrue}
 use Rattle.tree_eval.specs.declared.meaning.Meaning.{Meaning as Told}
 use Rattle.tree_eval.specs.declared.meaning.Meaning.TheVariants as told
 use Rattle.tree_eval.specs.declared.outcome.Outcome.{Outcome}
@@ -20,7 +20,7 @@ use Rattle.tree_eval.specs.Value.{value}
 use Rattle.eval_calls.specs.declared.table.Found.{Found}
 use Rattle.eval_calls.specs.Finds.{IsFound, IsValue}
 use Rattle.eval_calls.specs.Kinds.{is_callable}
-use Rattle.eval_calls.specs.Lines.{IsFunction, Known, both, found, is_one, known, means, or_one}
+use Rattle.eval_calls.specs.Lines.{IsFunction, Known, both, found, is_one, known, means, or_one, stands}
 use Rattle.eval_calls.specs.Queries.{IsNumberOf}
 use Rattle.eval_calls.specs.Rows.{meaning_in}
 use Rattle.eval_calls.specs.Scenes.{IsToldOf, callee_at, has_callee, is_callee, callee_in, line_meaning}
@@ -112,6 +112,10 @@ module _ (lines : List (List ℕ)) (f : Found) (is : IsFound lines f) where
             → is_one (known lines name) ≡ false
         by (OfName named x e) = absurd (true≢false (sym h ∙ named))
         by (OfFunction called g e) = ap is_one (name_known ∙ ap Some e)
+
+    -- a name that is no function has no number
+    pub no_number : is_callable f.row.now.outcome ≡ false → is_callee (known lines name) ≡ false
+    no_number h = ap is_callee (is_value h).1
 
     pub is_known : is_some (known lines name) ≡ true
     is_known = ap is_some name_known
@@ -219,10 +223,32 @@ no_rank_two lines m p u h = sym (ap rank_of_meaning h.2)
 pub has_line : (lines : List (List ℕ)) (id : ℕ) → has_callee lines id ≡ true → slice_get lines id ≢ None
 has_line lines id h e = true≢false (sym h ∙ ap (λ o. is_callee (line_meaning (known lines) o)) e)
 
--- a word of which a function is told
+-- nothing is a function of a name that is not known
+pub unknown_number : (k : Known) (name : List ℕ) → k name ≡ None → is_callee (k name) ≡ false
+unknown_number k name h = ap is_callee h
+
+-- whether a word is a function, by what is told of it
 pub told_is_function : (lines : List (List ℕ)) (word : List ℕ) (id : ℕ)
-    → IsToldOf lines (found (known lines) word) (told.Function id) → IsFunction (known lines) word
-told_is_function lines word id h = (callee_at lines id, h.1)
+    → IsToldOf lines (found (known lines) word) (told.Function id) → IsTrue true ↔ IsFunction (known lines) word
+told_is_function lines word id h = (λ _. (callee_at lines id, h.1), λ _. refl)
+
+no_function : (k : Known) (word : List ℕ) → ((f : Callable) → stands k word ≡ Callee f → ⊥)
+    → IsTrue false ↔ IsFunction k word
+no_function k word h = (λ e. absurd (true≢false (sym e)), λ is. absurd (h is.0 is.1))
+
+pub told_one_no_function : (lines : List (List ℕ)) (word : List ℕ) (o : Bor Outcome)
+    → IsToldOf lines (found (known lines) word) (told.One o) → IsTrue false ↔ IsFunction (known lines) word
+told_one_no_function lines word o h = no_function (known lines) word none
+  where
+    none : (f : Callable) → stands (known lines) word ≡ Callee f → ⊥
+    none f e = let two : One h.0 ≡ Callee f = sym h.1 ∙ e in cc
+
+pub told_two_no_function : (lines : List (List ℕ)) (word : List ℕ) (p u : Bor Outcome)
+    → IsToldOf lines (found (known lines) word) (told.Two p u) → IsTrue false ↔ IsFunction (known lines) word
+told_two_no_function lines word p u h = no_function (known lines) word none
+  where
+    none : (f : Callable) → stands (known lines) word ≡ Callee f → ⊥
+    none f e = let two : Two h.0 h.1 ≡ Callee f = sym h.2 ∙ e in cc
 
 -- what is told of the word at a place
 pub told_at : (lines : List (List ℕ)) (us vs : List WordUse) (place : ℕ) (word u : WordUse) (t : Told) → us ≡ vs
@@ -232,6 +258,10 @@ told_at lines us vs place word u t same at there h =
     let here : Some word ≡ Some u = sym at ∙ ap (λ ws. slice_get ws place) same ∙ there in
     let is : word ≡ u = cc in
     subst (λ w. IsTold (has_callee lines) (callee_at lines) (means (known lines) w) t) is h
+
+pub ruleset number_told = (number_of, no_number, unknown_number)
+
+pub ruleset function_told = (told_is_function, told_one_no_function, told_two_no_function)
 
 -- what is told of a name, of a prefix and a unit, and of a word that has a rank
 pub ruleset name_told = (told_function, told_one, told_unknown)

@@ -4,5 +4,6 @@ pub mod Kinds
 pub mod Lines
 pub mod Parts
 pub mod Queries
+pub mod Refusals
 pub mod Rows
 pub mod Scenes

@@ -1,5 +1,5 @@
 -- The words of the trees of an entry.
-use Rattle.std.specs.Prelude.{◌≡◌, List, [], Bool, true, is_some}
+use Rattle.std.specs.Prelude.{◌≡◌, List, [], Bool, true, false, is_some}
 use Rattle.std.specs.List.{list_all}
 use Rattle.def_entry.specs.Entries.{What}
 use Rattle.expr_tree.specs.declared.word_list.WordUse.{WordUse}
@@ -30,3 +30,11 @@ are_known known us = list_all (λ u. is_some (found known u.text)) us
 
 abbrev pub AllKnown : Known → PartWords → Type 0
 AllKnown known words = (part : Part) → are_known known (words_of words part) ≡ true
+
+-- all words of what is said are known
+abbrev pub AreAllKnown : Known → What → Type 0
+AreAllKnown known what = (part : Part) → are_known known (part_words what part) ≡ true
+
+-- some word is not known
+abbrev pub HasUnknown : Known → PartWords → Type 0
+HasUnknown known words = (part : Part) × (are_known known (words_of words part) ≡ false)

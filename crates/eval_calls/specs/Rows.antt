@@ -22,11 +22,15 @@ use Rattle.eval_calls.specs.Parts.{AllKnown, AreWordsOf}
 abbrev pub meaning_in : Known → Row → Meaning
 meaning_in known row = meaning_of (means known) row.name (what_view row.what)
 
+-- the rank of what is said, whatever the name of which it is said
+abbrev pub IsRank : Known → What → ℕ → Type 0
+IsRank known what rank = (name : List ℕ) → rank ≡ rank_of_meaning (meaning_of (means known) name what)
+
 -- what is said may stand behind what is known, with this rank
 pub record MayStand (known : Known) (what : What) (words : PartWords) (rank : ℕ) : Type 0 where
   pub all_known : AllKnown known words
   pub target : HasTarget (means known) what
-  pub ranked : (name : List ℕ) → rank ≡ rank_of_meaning (meaning_of (means known) name what)
+  pub ranked : IsRank known what rank
 
 -- a row keeps what follows from its line and from what is known
 pub record Keeps (known : Known) (row : Row) : Type 0 where

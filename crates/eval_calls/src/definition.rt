@@ -1,12 +1,13 @@
 //! Definitions that a table takes.
 
-ghost use Rattle.std.specs.Prelude.{◌≡◌, ◌<◌, IfOk, true};
+ghost use Rattle.std.specs.Prelude.{◌≡◌, ◌<◌, ◌∷◌, ◌++◌, [], IfErr, IfOk, OnErr, OnOk, true};
 ghost use Rattle.def_entry.specs.Reading.{has_entry};
 ghost use Rattle.def_entry.specs.Views.{what_view};
 ghost use Rattle.def_lines.specs.Kinds.{kind_of};
 ghost use Rattle.eval_calls.specs.Definitions.{Says};
 ghost use Rattle.eval_calls.specs.Lines as lines;
 ghost use Rattle.eval_calls.specs.Parts.{AreWordsOf};
+ghost use Rattle.eval_calls.specs.Refusals as cause;
 ghost use Rattle.eval_calls.specs.Rows as spec;
 
 use crate::parts::PartWords;
@@ -31,7 +32,11 @@ pub(crate) struct Definition {
 }
 
 // Takes the definition of a line, whose outcome it answers.
-pub(crate) fn define(alloc: Global, table: &mut Table, line: &[u8]) -> Result<Text, Refusal> {
+pub(crate) fn define(alloc: Global, table: &mut Table, line: &[u8]) -> Result<Text, Refusal>
+    ensures taken { OnOk result (table.new ≡ table.old ++ line.now ∷ []) }
+    ensures kept { OnErr result (table.new ≡ table.old) }
+    ensures refused { IfErr result (cause.OrNoMemory (cause.IsNotDefined table.old line.now)) }
+{
     let Definition { name, what } = read_definition(alloc, line)?;
     if table.find(name.as_bytes()).is_some() {
         return Err(Refusal::DefinedTwice);
@@ -44,7 +49,8 @@ pub(crate) fn define(alloc: Global, table: &mut Table, line: &[u8]) -> Result<Te
 
 // What a line says.
 fn read_definition(alloc: Global, line: &[u8]) -> Result<Definition, Refusal>
-    ensures { IfOk result (Says line.now) }
+    ensures said { IfOk result (Says line.now) }
+    ensures refused { IfErr result (cause.OrNoMemory (cause.SaysNothing line.now)) }
 {
     match classify(line) {
         LineKind::Definition | LineKind::UnitList => read_said(alloc, line),
@@ -54,7 +60,8 @@ fn read_definition(alloc: Global, line: &[u8]) -> Result<Definition, Refusal>
 
 fn read_said(alloc: Global, line: &[u8]) -> Result<Definition, Refusal>
     requires { has_entry (kind_of line.now) ≡ true }
-    ensures { IfOk result (Says line.now) }
+    ensures said { IfOk result (Says line.now) }
+    ensures refused { IfErr result (cause.OrNoMemory (cause.SaysNothing line.now)) }
 {
     told_law();
     match read_entry(alloc, line) {
@@ -70,7 +77,8 @@ fn read_said(alloc: Global, line: &[u8]) -> Result<Definition, Refusal>
 // The rank of what is said of a name, where all its words are known.
 fn rank_of(table: &Table, what: &What, words: &PartWords) -> Result<u32, Refusal>
     requires { AreWordsOf words.now (what_view what.now) }
-    ensures { IfOk result (spec.MayStand (lines.known table.now) (what_view what.now) words.now) }
+    ensures rank { IfOk result (spec.MayStand (lines.known table.now) (what_view what.now) words.now) }
+    ensures refused { IfErr result (cause.MayNotStand (lines.known table.now) (what_view what.now)) }
 {
     if !table.knows_parts(words) {
         return Err(Refusal::UnknownWord);
@@ -98,7 +106,10 @@ fn new_row<L: Ledger>(
     requires ledger { blank.name ≡ L.name }
     requires parts { blank.parts ≡ L.parts }
     requires some { 0 < blank.parts }
-    ensures { IfOk result (λ row. spec.Keeps (lines.known table.now) row × (row.name ≡ name)) }
+    ensures row { IfOk result (λ row. spec.Keeps (lines.known table.now) row × (row.name ≡ name)
+        × (row.line ≡ line.now)) }
+    ensures refused { IfErr result (cause.OrNoMemory
+        (cause.MayNotStand (lines.known table.now) (lines.what_of line.now))) }
 {
     let words = PartWords::of_what(alloc, &what)?;
     let rank = rank_of(table, &what, &words)?;

@@ -1,15 +1,17 @@
 //! What words stand for in a table.
 
-ghost use Rattle.std.specs.Prelude.{◌≡◌, ℕ, false, is_some, List, IfNone, IfSome};
-ghost use Rattle.std.specs.Bool.{OnTrue};
+ghost use Rattle.std.specs.Prelude.{◌≡◌, ◌↔◌, false, is_some, IsTrue, IfNone, IfSome, MatchOption};
+ghost use Rattle.std.specs.Bool.{MatchBool};
 ghost use Rattle.def_entry.specs.Views.{what_view};
-ghost use Rattle.tree_eval.specs.Entries.{greatest_rank, meaning_of, rank_of_meaning};
+ghost use Rattle.tree_eval.specs.Entries.{greatest_rank, rank_of_meaning};
 ghost use Rattle.tree_eval.specs.Environment.{HasTarget};
 ghost use Rattle.eval_calls.specs.Lines as lines;
 ghost use Rattle.eval_calls.specs.Finds.{IsValue};
 ghost use Rattle.eval_calls.specs.Parts as parts;
 ghost use Rattle.eval_calls.specs.Queries.{IsNumberOf};
-ghost use Rattle.eval_calls.specs.Scenes.{IsToldOf};
+ghost use Rattle.eval_calls.specs.Refusals.{HasGreatRank};
+ghost use Rattle.eval_calls.specs.Rows.{IsRank};
+ghost use Rattle.eval_calls.specs.Scenes.{IsToldOf, is_callee};
 
 use crate::own_word::{OwnWord, OwnWords};
 use crate::parts::PartWords;
@@ -112,9 +114,10 @@ impl Table {
     }
 
     // Whether all words of the trees of an entry are known.
-    #[tactic(auto, using(crate::proofs::EachPart::all_known))]
+    #[tactic(auto, using(crate::proofs::EachPart::parts_known))]
     pub(crate) fn knows_parts(&self, words: &PartWords) -> bool
-        ensures { OnTrue result (parts.AllKnown (lines.known self.now) words.now) }
+        ensures { MatchBool result (parts.AllKnown (lines.known self.now) words.now)
+            (parts.HasUnknown (lines.known self.now) words.now) }
     {
         self.knows_part(words, Part::InUnit)
             && self.knows_part(words, Part::OutUnit)
@@ -131,9 +134,10 @@ impl Table {
     }
 
     // The number of the function that a name stands for.
-    #[tactic(auto, using(crate::proofs::Told::number_of))]
+    #[tactic(auto, using(crate::proofs::Told::number_told))]
     pub(crate) fn function(&self, name: &[u8]) -> Option<usize>
-        ensures { IfSome result (IsNumberOf self.now name.now) }
+        ensures is { IfSome result (IsNumberOf self.now name.now) }
+        ensures none { IfNone result (is_callee (lines.known self.now name.now) ≡ false) }
     {
         let found = self.find(name)?;
         if found.row.is_callable() {
@@ -145,7 +149,7 @@ impl Table {
 
     // Whether an alias has a function as its target.
     pub(crate) fn has_target(&self, what: &What) -> bool
-        ensures { OnTrue result (HasTarget (lines.means (lines.known self.now)) (what_view what.now)) }
+        ensures { IsTrue result ↔ HasTarget (lines.means (lines.known self.now)) (what_view what.now) }
     {
         match what {
             What::Alias(target) => self.is_function(target.as_bytes()),
@@ -154,9 +158,9 @@ impl Table {
     }
 
     // Whether a word stands for a function.
-    #[tactic(auto, using(crate::proofs::Told::told_is_function))]
+    #[tactic(auto, using(crate::proofs::Told::function_told))]
     fn is_function(&self, word: &[u8]) -> bool
-        ensures { OnTrue result (lines.IsFunction (lines.known self.now) word.now) }
+        ensures { IsTrue result ↔ lines.IsFunction (lines.known self.now) word.now }
     {
         match self.meaning(word) {
             Meaning::Function(_) => true,
@@ -192,8 +196,8 @@ impl Table {
     pub(crate) fn rank(&self, what: &What, words: &PartWords) -> Option<u32>
         requires words { parts.AreWordsOf words.now (what_view what.now) }
         requires target { HasTarget (lines.means (lines.known self.now)) (what_view what.now) }
-        ensures { IfSome result (λ rank. (name : List ℕ) → rank ≡ rank_of_meaning
-            (meaning_of (lines.means (lines.known self.now)) name (what_view what.now))) }
+        ensures { MatchOption result (HasGreatRank (lines.known self.now) (what_view what.now))
+            (IsRank (lines.known self.now) (what_view what.now)) }
     {
         match what {
             What::Function(_) => self

@@ -1,10 +1,11 @@
 //! Values that are asked for.
 
-ghost use Rattle.std.specs.Prelude.{◌≡◌, IfOk, IsTrue, None, Ok};
+ghost use Rattle.std.specs.Prelude.{◌≡◌, IfErr, IfOk, IsTrue, None, Ok};
 ghost use Rattle.expr_tree.specs.Parsed.{parsed};
 ghost use Rattle.expr_tree.specs.Trees.{syntax};
 ghost use Rattle.tree_eval.specs.Answers.{Answers};
 ghost use Rattle.eval_calls.specs.Queries as spec;
+ghost use Rattle.eval_calls.specs.Refusals as cause;
 ghost use Rattle.eval_calls.specs.Scenes.{callee_at, has_callee};
 
 use crate::parts::PartWords;
@@ -46,7 +47,8 @@ impl Way {
 
 // The value of an expression.
 pub(crate) fn value_of(alloc: Global, table: &Table, text: &[u8]) -> Result<Quantity, Refusal>
-    ensures { IfOk result (spec.IsValueOf table.now text.now) }
+    ensures value { IfOk result (spec.IsValueOf table.now text.now) }
+    ensures refused { IfErr result (cause.OrNoMemory (cause.HasNoValue table.now text.now)) }
 {
     let tree = read_tree(alloc, text)?;
     let words = PartWords::of_tree(alloc, &tree)?;
@@ -70,7 +72,8 @@ pub(crate) fn taken(
     way: Way,
     text: &[u8],
 ) -> Result<Quantity, Refusal>
-    ensures { IfOk result (spec.IsTaken table.now way text.now) }
+    ensures value { IfOk result (spec.IsTaken table.now way text.now) }
+    ensures refused { IfErr result (cause.OrNoMemory (cause.IsNotTaken table.now way text.now)) }
 {
     let Some((name, behind)) = cut_at(text, b' ') else {
         return Err(Refusal::BadLine);
@@ -92,7 +95,8 @@ pub(crate) fn taken(
 
 // The tree of an expression.
 fn read_tree(alloc: Global, text: &[u8]) -> Result<Tree, Refusal>
-    ensures { IfOk result (λ tree. parsed None text.now ≡ Ok (syntax tree)) }
+    ensures tree { IfOk result (λ tree. parsed None text.now ≡ Ok (syntax tree)) }
+    ensures unread { IfErr result (cause.OrNoMemory (cause.IsUnread text.now)) }
 {
     match parse_expr(alloc, text, None) {
         Ok(tree) => Ok(tree),
@@ -102,7 +106,9 @@ fn read_tree(alloc: Global, text: &[u8]) -> Result<Tree, Refusal>
 }
 
 // Why there is no value.
-fn refused(alloc: Global, fault: EvalFault) -> Refusal {
+fn refused(alloc: Global, fault: EvalFault) -> Refusal
+    ensures { cause.IsTold fault result }
+{
     match fault {
         EvalFault::Value(fault) => match fault_text(alloc, &fault) {
             Ok(text) => Refusal::Fault(text),

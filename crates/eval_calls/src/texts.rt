@@ -1,5 +1,9 @@
 //! The texts of answers.
 
+ghost use Rattle.std.specs.Prelude.{◌≡◌, IfOk};
+ghost use Rattle.digits_print.specs.declared.style.Style.{Style};
+ghost use Rattle.fault_texts.specs.Texts.{value_fault_text};
+
 use crate::refusal::Refusal;
 use fault_texts::put_value_fault;
 use quantity::{Quantity, Style};
@@ -38,7 +42,9 @@ pub(crate) fn outcome_text(alloc: Global, outcome: &Outcome) -> Result<Text, All
 }
 
 // The text of a fault.
-pub(crate) fn fault_text(alloc: Global, fault: &ValueFault) -> Result<Text, AllocError> {
+pub(crate) fn fault_text(alloc: Global, fault: &ValueFault) -> Result<Text, AllocError>
+    ensures { IfOk result (λ text. text ≡ value_fault_text Style.Exact fault.now) }
+{
     let mut text = Vec::new(alloc);
     put_value_fault(alloc, &mut text, fault, Style::Exact)?;
     Ok(Text::from(text))

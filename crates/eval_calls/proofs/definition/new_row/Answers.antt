@@ -10,20 +10,21 @@ pub reduce-requires-clause-words : goal.reduce-requires-clause-words
 reduce-requires-clause-words g c = holds_read _ _ _ _ c.len.ensures c.in_ok-words.ensures
 
 pub reduce-requires-clause-target : goal.reduce-requires-clause-target
-reduce-requires-clause-target g c = c.in_ok-rank.ensures.target
+reduce-requires-clause-target g c = c.in_ok-rank.ensures.rank.target
 
-pub returns : goal.returns
-returns g c = (
+pub returns-clause-row : goal.returns-clause-row
+returns-clause-row g c = (
   record {
     name = ap name_of c.in_ok-line.ensures ∙ c.requires.name;
     what = ap what_of c.in_ok-line.ensures ∙ c.requires.what;
     words = c.in_ok-words.ensures;
-    all_known = c.in_ok-rank.ensures.all_known;
-    target = c.in_ok-rank.ensures.target;
+    all_known = c.in_ok-rank.ensures.rank.all_known;
+    target = c.in_ok-rank.ensures.rank.target;
     outcome = c.in_ok-outcome.ensures.outcome
         ∙ ap (λ name. outcome_of (meaning_of (means (known c.args.table.now)) name (what_view c.args.what)))
         c.as_bytes.ensures;
-    rank = c.in_ok-rank.ensures.ranked c.args.name;
+    rank = c.in_ok-rank.ensures.rank.ranked c.args.name;
   },
   refl,
+  c.in_ok-line.ensures,
 )
