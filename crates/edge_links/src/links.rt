@@ -59,6 +59,13 @@ impl Links {
         Ok(node)
     }
 
+    /// How many nodes there are.
+    pub fn node_count(&self) -> usize
+        ensures { result ≡ self.now.nodes }
+    {
+        self.nodes.len()
+    }
+
     /// Makes room for at least `n` further edges. A refusal leaves the nodes and the edges.
     pub fn reserve_edges(&mut self, _alloc: Global, n: usize) -> Result<(), AllocError>
         ensures room { OnOk result (n ≤ self.new.spare) }

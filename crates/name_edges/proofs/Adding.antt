@@ -1,13 +1,14 @@
 -- Edges that are added between nodes, as edges between names.
-use Rattle.std.proofs.Common.{◌≡◌, ◌⊎◌, ℕ, ◌+◌, ◌*◌, ◌/◌, ◌%◌, ◌<◌, ◌≤◌, ◌^◌, Bool, true, false, cond, nat_eq, List, [], ◌∷◌, ◌++◌, map}
+use Rattle.std.proofs.Common.{◌≡◌, ℕ, ◌+◌, ◌*◌, ◌/◌, ◌%◌, ◌<◌, cond, nat_eq, List, []}
+use Rattle.std.proofs.Common.{◌∷◌, ◌++◌, map}
 use Rattle.std.proofs.Common.{refl, sym, ◌∙◌, ap, inl, inr, arith}
 use Rattle.std.proofs.lemmas.Bool.{cases_eq, eq-eqb, ne_eqb}
 use Rattle.std.specs.Prelude.{◌&&◌}
-use Rattle.edge_links.specs.Edges.{Edge, edge, edge_count, Graph, SameEdges}
-use Rattle.name_edges.specs.Nodes.{AreNodes, edge_to, edges_to, shown}
+use Rattle.edge_links.specs.Edges.{Edge, edge, edge_count, SameEdges}
+use Rattle.name_edges.specs.Nodes.{edge_to, edges_to}
 use Rattle.name_edges.proofs.Halves.{node_of}
-use Rattle.name_edges.proofs.Linked.{count_append, one_count, one_other_key, one_other_user}
-use Rattle.name_edges.proofs.Nodes.{counted, counted_uses}
+use Rattle.name_edges.proofs.Linked.{count_append, one_other_key, one_other_user}
+use Rattle.name_edges.proofs.Nodes.{counted}
 
 -- both nodes of a name are there
 pub both_there : (k nodes : ℕ) → k < nodes / 2 → k * 2 + 1 < nodes

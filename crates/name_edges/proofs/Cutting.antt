@@ -1,5 +1,6 @@
 -- Edges that are cut one after another, and what then leads where.
-use Rattle.std.proofs.Common.{◌≡◌, ◌⊎◌, ℕ, zero, suc, ◌<◌, get_or, Bool, true, false, List, [], ◌∷◌, ◌++◌, Contains, refl, sym, ◌∙◌, subst, inl, inr, arith}
+use Rattle.std.proofs.Common.{◌≡◌, ◌⊎◌, ℕ, zero, suc, ◌<◌, get_or, Bool, List, [], ◌∷◌, ◌++◌, Contains}
+use Rattle.std.proofs.Common.{refl, sym, ◌∙◌, subst, inl, inr, arith}
 use Rattle.std.proofs.lemmas.Bool.{cases_eq, cases_Bool, true≢false}
 use Rattle.std.proofs.lemmas.List.Elements.{Contains-append_cases, Contains-append_left, Contains-append_right}
 use Rattle.edge_links.specs.Edges.{Edge, edge_count}
@@ -15,7 +16,8 @@ pub record IsBoth (A B D : ℕ → Type 0) : Type 0 where
 
 module _ (A B D : ℕ → Type 0) (both : IsBoth A B D) where
   -- an edge that was cut in the first place is not there afterwards
-  gone_still : (old mid new : List Edge) → IsCut A old mid → IsCut B mid new → (x y : ℕ) → A x → (edge_count new x y ≡ 0 → ⊥) → ⊥
+  gone_still : (old mid new : List Edge) → IsCut A old mid → IsCut B mid new → (x y : ℕ) → A x
+      → (edge_count new x y ≡ 0 → ⊥) → ⊥
   gone_still old mid new a b x y h some =
       let free : B x → ⊥ = λ i. some (b.gone x y i) in
       some (b.kept x y free ∙ a.gone x y h)
@@ -79,8 +81,21 @@ module _ (g : NameGraph) where
   pub users_affected : (keys : List ℕ) (n m : ℕ) → HasEdge g.uses n m → AreAffected g keys m → AreAffected g keys n
   users_affected keys n m h (k, c, i) = (k, c, user_affected k n m h i)
 
--- one key more, in what was left
-module _ (keys : List ℕ) (key : ℕ) (old mid : NameGraph) (left : Forgets (AreAffected old keys) old mid) where
+  pub alone : (key n : ℕ) → AreAffected g (key ∷ []) n → IsAffected g key n
+  alone key n (k, c, i) = subst (λ z. IsAffected g z n) (only c) i
+    where
+      only : {k : ℕ} → Contains (key ∷ []) k → k ≡ key
+      only {k = k} (j, l, e) = sym (first j l e)
+        where
+          first : (j : ℕ) → j < 1 → get_or (key ∷ []) j k ≡ k → key ≡ k
+          first zero l e = e
+          first (suc j) l e = absurd (omega (arith, l))
+
+  pub in_alone : (key n : ℕ) → IsAffected g key n → AreAffected g (key ∷ []) n
+  in_alone key n i = (key, (0, omega arith, refl), i)
+
+-- other keys, in what was left
+module _ (keys others : List ℕ) (old mid : NameGraph) (left : Forgets (AreAffected old keys) old mid) where
   abbrev Before : ℕ → Type 0
   Before = AreAffected old keys
 
@@ -88,9 +103,10 @@ module _ (keys : List ℕ) (key : ℕ) (old mid : NameGraph) (left : Forgets (Ar
   needed_before (inl e) = inl e
   needed_before (inr r) = inr (reached_before Before old.uses mid.uses left.uses r)
 
-  affected_before : (n : ℕ) → IsAffected mid key n → IsAffected old key n
-  affected_before n (inl i) = inl (needed_before i)
-  affected_before n (inr (m, l, i)) = inr (m, was_there Before old.looks mid.looks left.looks m key l, needed_before i)
+  affected_before : (key n : ℕ) → IsAffected mid key n → IsAffected old key n
+  affected_before key n (inl i) = inl (needed_before i)
+  affected_before key n (inr (m, l, i)) =
+      inr (m, was_there Before old.looks mid.looks left.looks m key l, needed_before i)
 
   needed_still : {n m : ℕ} → Needs old n m → (Before n → ⊥) → Needs mid n m
   needed_still (inl e) free = inl e
@@ -100,30 +116,21 @@ module _ (keys : List ℕ) (key : ℕ) (old mid : NameGraph) (left : Forgets (Ar
   free_below {n = n} {m = m} (inl e) free i = free (subst Before (sym e) i)
   free_below (inr r) free i = free (up_way Before old.uses mid.uses left.uses (users_affected old keys) r i)
 
-  affected_still : (n : ℕ) → IsAffected old key n → (Before n → ⊥) → IsAffected mid key n
-  affected_still n (inl i) free = inl (needed_still i free)
-  affected_still n (inr (m, l, i)) free =
+  affected_still : (key n : ℕ) → IsAffected old key n → (Before n → ⊥) → IsAffected mid key n
+  affected_still key n (inl i) free = inl (needed_still i free)
+  affected_still key n (inr (m, l, i)) free =
       inr (m, stays_there Before old.looks mid.looks left.looks m key (free_below i free) l, needed_still i free)
 
-  one_more : (n : ℕ) → AreAffected old (keys ++ key ∷ []) n → AreAffected old keys n ⊎ IsAffected old key n
-  one_more n (k, c, i) = elim (Contains-append_cases keys (key ∷ []) k c) [
-    | inl j ↦ inl (k, j, i)
-    | inr j ↦ inr (subst (λ z. IsAffected old z n) (only j) i)
-  ]
-    where
-      only : {k : ℕ} → Contains (key ∷ []) k → k ≡ key
-      only {k = k} (j, l, e) = sym (first j l e)
-        where
-          first : (j : ℕ) → j < 1 → get_or (key ∷ []) j k ≡ k → key ≡ k
-          first zero l e = e
-          first (suc j) l e = absurd (omega (arith, l))
+  either_list : (n : ℕ) → AreAffected old (keys ++ others) n → AreAffected old keys n ⊎ AreAffected old others n
+  either_list n (k, c, i) =
+      elim (Contains-append_cases keys others k c) [ inl j ↦ inl (k, j, i) | inr j ↦ inr (k, j, i) ]
 
-  pub both : IsBoth (AreAffected old keys) (IsAffected mid key) (AreAffected old (keys ++ key ∷ []))
+  pub both : IsBoth (AreAffected old keys) (AreAffected mid others) (AreAffected old (keys ++ others))
   both = record {
-    first = λ n i. (i.0, Contains-append_left keys (key ∷ []) i.0 i.1, i.2);
-    second = λ n i. (key, Contains-append_right keys (key ∷ []) key (0, omega arith, refl), affected_before n i);
-    either = λ n i before after. elim (one_more n i) [
+    first = λ n i. (i.0, Contains-append_left keys others i.0 i.1, i.2);
+    second = λ n i. (i.0, Contains-append_right keys others i.0 i.1, affected_before i.0 n i.2);
+    either = λ n i before after. elim (either_list n i) [
       | inl j ↦ before j
-      | inr j ↦ after (affected_still n j before)
+      | inr j ↦ after (j.0, j.1, affected_still j.0 n j.2 before)
     ];
   }

@@ -1,5 +1,6 @@
 -- Numbers of nodes, and of the names that they belong to.
-use Rattle.std.proofs.Common.{◌≡◌, ◌⊎◌, ℕ, ◌+◌, ◌*◌, ◌/◌, ◌%◌, ◌<◌, Bool, true, false, cond, nat_eq, refl, sym, ◌∙◌, ap, inl, inr, arith}
+use Rattle.std.proofs.Common.{◌≡◌, ℕ, ◌+◌, ◌*◌, ◌/◌, ◌%◌, ◌<◌, Bool, true, false, nat_eq, refl, sym, ◌∙◌, ap}
+use Rattle.std.proofs.Common.{inl, inr}
 use Rattle.std.proofs.lemmas.Bool.{cases_eq, eq-eqb, ne_eqb}
 use Rattle.std.proofs.lemmas.Nat.{div-add-mod', div-mul-add, mod-mul-add}
 use Rattle.std.specs.Prelude.{◌&&◌}
@@ -18,7 +19,8 @@ pub is_node : (x n r : ℕ) → r < 2 → nat_eq x (n * 2 + r) ≡ (nat_eq (x % 
 is_node x n r l = elim (cases_eq x (n * 2 + r)) [
   | inl e ↦
       eq-eqb x (n * 2 + r) e
-      ∙ sym (both _ _ (eq-eqb (x % 2) r (ap (λ z. z % 2) e ∙ node_kind n r l)) (eq-eqb (x / 2) n (ap (λ z. z / 2) e ∙ node_name n r l)))
+      ∙ sym (both _ _ (eq-eqb (x % 2) r (ap (λ z. z % 2) e ∙ node_kind n r l))
+      (eq-eqb (x / 2) n (ap (λ z. z / 2) e ∙ node_name n r l)))
   | inr ne ↦ ne_eqb x (n * 2 + r) ne ∙ sym (not_both ne)
 ]
   where

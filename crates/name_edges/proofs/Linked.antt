@@ -1,5 +1,6 @@
 -- Edges of one user, counted.
-use Rattle.std.proofs.Common.{◌≡◌, ◌⊎◌, ℕ, ◌+◌, ◌<◌, ◌≤◌, List, [], ◌∷◌, ◌++◌, map, Contains, refl, sym, ◌∙◌, ap, subst, inl, inr, arith}
+use Rattle.std.proofs.Common.{◌≡◌, ◌⊎◌, ℕ, ◌+◌, ◌<◌, ◌≤◌, List, [], ◌∷◌, ◌++◌, map, Contains, refl, sym, ◌∙◌, ap, subst}
+use Rattle.std.proofs.Common.{inl, inr, arith}
 use Rattle.std.proofs.Common.{Bool, true, false, cond, nat_eq, get_or, length, zero, suc, take}
 use Rattle.std.proofs.lemmas.Bool.{cases_eq, cond-true, cond-false, eq-eqb, ne_eqb}
 use Rattle.std.proofs.lemmas.List.{take_all}
@@ -89,7 +90,8 @@ edges_to user (k ∷ keys) y i = elim (member_cases y k keys i) [
     more : (a b : ℕ) → 0 < b → 0 < a + b
     more a b l = omega (arith, l)
 
-module _ (user : ℕ) (keys : List ℕ) (old new : List Edge) (same : SameEdges new (map (edge user) keys ++ old)) (x y : ℕ) where
+module _ (user : ℕ) (keys : List ℕ) (old new : List Edge) (same : SameEdges new (map (edge user) keys ++ old))
+    (x y : ℕ) where
   sum : edge_count new x y ≡ edge_count (map (edge user) keys) x y + edge_count old x y
   sum = same x y ∙ count_append (map (edge user) keys) old x y
 
@@ -101,7 +103,8 @@ module _ (user : ℕ) (keys : List ℕ) (old new : List Edge) (same : SameEdges 
 
   pub linked_to : ((x ≡ user) × Contains keys y) ⊎ HasEdge old x y → HasEdge new x y
   linked_to (inl (e, i)) =
-      let h : HasEdge (map (edge user) keys) x y = subst (λ z. HasEdge (map (edge user) keys) z y) (sym e) (edges_to user keys y i) in
+      let h : HasEdge (map (edge user) keys) x y = subst (λ z. HasEdge (map (edge user) keys) z y) (sym e)
+      (edges_to user keys y i) in
       let s = sum in omega (arith, h, s)
   linked_to (inr h) = let s = sum in omega (arith, h, s)
 
@@ -114,7 +117,8 @@ item_at (x ∷ keys) (suc n) l = item_at keys n (omega (arith, l))
 pub item_in : (keys : List ℕ) (n : ℕ) → n < length keys → Contains keys (get_or keys n 0)
 item_in keys n l = (n, l, item_at keys n l)
 
-take_next : (keys : List ℕ) (n k : ℕ) → n < length keys → get_or keys n k ≡ k → take (n + 1) keys ≡ take n keys ++ k ∷ []
+take_next : (keys : List ℕ) (n k : ℕ) → n < length keys → get_or keys n k ≡ k
+    → take (n + 1) keys ≡ take n keys ++ k ∷ []
 take_next [] n k l e = absurd (omega (arith, l))
 take_next (x ∷ keys) zero k l e = ap (λ z. z ∷ []) e
 take_next (x ∷ keys) (suc n) k l e =

@@ -1,5 +1,6 @@
 -- What stands between nodes is what stands between names.
-use Rattle.std.proofs.Common.{◌≡◌, ◌⊎◌, ℕ, ◌+◌, ◌*◌, ◌/◌, ◌%◌, ◌<◌, Bool, true, false, cond, nat_eq, List, [], ◌∷◌, refl, sym, ◌∙◌, ap, subst, inl, inr, arith}
+use Rattle.std.proofs.Common.{◌≡◌, ◌⊎◌, ℕ, ◌+◌, ◌*◌, ◌/◌, ◌%◌, ◌<◌, Bool, true, false, cond, nat_eq, List, [], ◌∷◌}
+use Rattle.std.proofs.Common.{refl, sym, ◌∙◌, ap, subst, inl, inr, arith}
 use Rattle.std.proofs.lemmas.Bool.{cases_eq}
 use Rattle.std.proofs.Math.Nat.{mod-lt}
 use Rattle.std.specs.Prelude.{◌&&◌}
@@ -24,7 +25,8 @@ one_edge : (a b c d p q : Bool) (n : ℕ) → p ≡ (a && b) → q ≡ (c && d)
     → edge_count (cond (a && c) (e ∷ es) es) u k ≡ cond (p && q) 1 0 + n
 one_edge true b true d p q n f g e es u k h i j =
     λ t. cond ((h ∙ sym f) t && (i ∙ sym g) t) 1 0 + j t
-one_edge true b false d p q n f g e es u k h i j = j ∙ (none_more n ∙ sym (ap (λ z. cond z 1 0 + n) (ap (λ z. p && z) g ∙ none p)))
+one_edge true b false d p q n f g e es u k h i j = j
+    ∙ (none_more n ∙ sym (ap (λ z. cond z 1 0 + n) (ap (λ z. p && z) g ∙ none p)))
   where
     none : (p : Bool) → p && false ≡ false
     none true = refl
@@ -32,7 +34,8 @@ one_edge true b false d p q n f g e es u k h i j = j ∙ (none_more n ∙ sym (a
 one_edge false b c d p q n f g e es u k h i j = j ∙ (none_more n ∙ sym (ap (λ z. cond (z && q) 1 0 + n) f))
 
 -- as many edges between names as between their nodes
-pub counted : (r : ℕ) → r < 2 → (es : List Edge) (u k : ℕ) → edge_count (edges_to r es) u k ≡ edge_count es (u * 2) (k * 2 + r)
+pub counted : (r : ℕ) → r < 2 → (es : List Edge) (u k : ℕ) → edge_count (edges_to r es) u k ≡ edge_count es (u * 2)
+    (k * 2 + r)
 counted r l [] u k = refl
 counted r l (e ∷ es) u k =
     one_edge (nat_eq (e.user % 2) 0) (nat_eq (e.user / 2) u) (nat_eq (e.key % 2) r) (nat_eq (e.key / 2) k)
@@ -101,14 +104,16 @@ module _ (g : Graph) (nodes : AreNodes g) where
       (n, look_shown n k (subst (λ z. HasEdge g.edges (n * 2) z) f (subst (λ z. HasEdge g.edges z y) e h)), inl refl)
   look_way_shown (further {y = y} h r) n k e f =
       let m : y ≡ y / 2 * 2 = starts r in
-      needs_first n (y / 2) k (use_shown n (y / 2) (subst (λ z. HasEdge g.edges (n * 2) z) m (subst (λ z. HasEdge g.edges z y) e h)))
+      needs_first n (y / 2) k
+      (use_shown n (y / 2) (subst (λ z. HasEdge g.edges (n * 2) z) m (subst (λ z. HasEdge g.edges z y) e h)))
       (look_way_shown r (y / 2) k m f)
 
   way_there : {n k : ℕ} → Reaches names.uses n k → Reaches g.edges (n * 2) (k * 2)
   way_there (at_once h) = at_once (use_there _ _ h)
   way_there (further h r) = further (use_there _ _ h) (way_there r)
 
-  look_way_there : {n m : ℕ} → Reaches names.uses n m → (k : ℕ) → HasEdge names.looks m k → Reaches g.edges (n * 2) (k * 2 + 1)
+  look_way_there : {n m : ℕ} → Reaches names.uses n m → (k : ℕ) → HasEdge names.looks m k
+      → Reaches g.edges (n * 2) (k * 2 + 1)
   look_way_there (at_once h) k l = further (use_there _ _ h) (at_once (look_there _ k l))
   look_way_there (further h r) k l = further (use_there _ _ h) (look_way_there r k l)
 
@@ -119,7 +124,8 @@ module _ (g : Graph) (nodes : AreNodes g) where
   apart n k e = omega (arith, e)
 
   -- by the two nodes of the key
-  pub affected_shown : (key n : ℕ) → node.IsAffected g.edges (key * 2) (n * 2) ⊎ node.IsAffected g.edges (key * 2 + 1) (n * 2)
+  pub affected_shown : (key n : ℕ) → node.IsAffected g.edges (key * 2) (n * 2) ⊎ node.IsAffected g.edges (key * 2 + 1)
+      (n * 2)
       → IsAffected names key n
   affected_shown key n (inl (inl e)) = inl (inl (half n key e))
   affected_shown key n (inl (inr r)) = inl (inr (way_shown r n key refl refl))
@@ -177,7 +183,8 @@ module _ (g : Graph) (nodes : AreNodes g) (key : ℕ) (mid new : List Edge)
   users_after x y = elim (cases_eq (edge_count new (x * 2 + 1) y) 0) [
     | inl e ↦ e
     | inr some ↦
-        let h : HasEdge g.edges (x * 2 + 1) y = was_there Either g.edges new cut_both (x * 2 + 1) y (omega (arith, some)) in
+        let h : HasEdge g.edges (x * 2 + 1) y = was_there Either g.edges new cut_both (x * 2 + 1) y
+        (omega (arith, some)) in
         absurd (let z = nodes.users x y in omega (arith, h, z))
   ]
 
@@ -185,14 +192,18 @@ module _ (g : Graph) (nodes : AreNodes g) (key : ℕ) (mid new : List Edge)
   between r l = record {
     gone = λ x y i. counted r l new x y ∙ cut_both.gone (x * 2) (y * 2 + r) (affected_there g nodes key x i);
     kept = λ x y free. counted r l new x y
-        ∙ (cut_both.kept (x * 2) (y * 2 + r) (λ i. free (affected_shown g nodes key x i)) ∙ sym (counted r l g.edges x y));
+        ∙ (cut_both.kept (x * 2) (y * 2 + r) (λ i. free (affected_shown g nodes key x i))
+        ∙ sym (counted r l g.edges x y));
   }
 
-  pub forgotten : (h : Graph) → h.nodes ≡ g.nodes → h.edges ≡ new → Forgets (IsAffected (shown g) key) (shown g) (shown h)
+  pub forgotten : (h : Graph) → h.nodes ≡ g.nodes → h.edges ≡ new → Forgets (IsAffected (shown g) key) (shown g)
+      (shown h)
   forgotten h same is = record {
     names = ap (λ n. n / 2) same;
-    uses = subst (λ es. IsCut (IsAffected (shown g) key) (edges_to 0 g.edges) (edges_to 0 es)) (sym is) (between 0 (omega arith));
-    looks = subst (λ es. IsCut (IsAffected (shown g) key) (edges_to 1 g.edges) (edges_to 1 es)) (sym is) (between 1 (omega arith));
+    uses = subst (λ es. IsCut (IsAffected (shown g) key) (edges_to 0 g.edges) (edges_to 0 es)) (sym is)
+        (between 0 (omega arith));
+    looks = subst (λ es. IsCut (IsAffected (shown g) key) (edges_to 1 g.edges) (edges_to 1 es)) (sym is)
+        (between 1 (omega arith));
   }
 
   -- the marks of names are those of their first nodes
@@ -205,7 +216,8 @@ module _ (g : Graph) (nodes : AreNodes g) (key : ℕ) (mid new : List Edge)
     pub cleared : IsCleared (IsAffected (shown g) key) old_names new_names
     cleared = record {
       gone = λ n i. sym (new_is n) ∙ clear_both.gone (n * 2) (affected_there g nodes key n i);
-      kept = λ n free. sym (new_is n) ∙ (clear_both.kept (n * 2) (λ i. free (affected_shown g nodes key n i)) ∙ old_is n);
+      kept = λ n free. sym (new_is n)
+          ∙ (clear_both.kept (n * 2) (λ i. free (affected_shown g nodes key n i)) ∙ old_is n);
     }
 
 pub marked_at : (names : ℕ → Bool) (n : ℕ) → (nat_eq (n * 2 % 2) 0 && names (n * 2 / 2)) ≡ names n

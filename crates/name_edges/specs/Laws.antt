@@ -5,18 +5,19 @@ use Rattle.edge_links.specs.Reach.{HasEdge, IsCleared}
 use Rattle.name_edges.specs.Affected.{AreAffected, Forgets, IsAffected}
 use Rattle.name_edges.specs.NameGraphs.{NameGraph}
 
--- law: without a changed key nothing is forgotten; and where one key more is forgotten in what was left, all
--- that the keys together affect is forgotten, and no mark of another name is taken
+-- law: without a changed key nothing is forgotten; one changed key affects what it affects alone; and where other
+-- keys are forgotten in what was left, all that the keys together affect is forgotten, and no other mark is taken
 pub record ForgettingLaw : Type 0 where
   pub none : (g : NameGraph) → Forgets (AreAffected g []) g g
   pub none_cleared : (g : NameGraph) (marks : ℕ → Bool) → IsCleared (AreAffected g []) marks marks
-  pub more : (keys : List ℕ) (key : ℕ) (old mid new : NameGraph)
-      → Forgets (AreAffected old keys) old mid → Forgets (IsAffected mid key) mid new
-      → Forgets (AreAffected old (keys ++ key ∷ [])) old new
-  pub more_cleared : (keys : List ℕ) (key : ℕ) (old mid : NameGraph) (marks then now : ℕ → Bool)
+  pub one : (g : NameGraph) (key n : ℕ) → AreAffected g (key ∷ []) n ↔ IsAffected g key n
+  pub more : (keys others : List ℕ) (old mid new : NameGraph)
+      → Forgets (AreAffected old keys) old mid → Forgets (AreAffected mid others) mid new
+      → Forgets (AreAffected old (keys ++ others)) old new
+  pub more_cleared : (keys others : List ℕ) (old mid : NameGraph) (marks then now : ℕ → Bool)
       → Forgets (AreAffected old keys) old mid
-      → IsCleared (AreAffected old keys) marks then → IsCleared (IsAffected mid key) then now
-      → IsCleared (AreAffected old (keys ++ key ∷ [])) marks now
+      → IsCleared (AreAffected old keys) marks then → IsCleared (AreAffected mid others) then now
+      → IsCleared (AreAffected old (keys ++ others)) marks now
 
 -- law: a linked name has the edges that were added, and all edges from before stand
 abbrev pub LinkingLaw : Type 0

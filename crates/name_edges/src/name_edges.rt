@@ -1,6 +1,6 @@
 //! Edges between names.
 
-ghost use Rattle.std.specs.Prelude.{◌≡◌, ◌+◌, ◌<◌, ◌++◌, [], ℕ, map, Contains, OnOk, OnErr};
+ghost use Rattle.std.specs.Prelude.{◌≡◌, ◌+◌, ◌<◌, ◌≤◌, ◌++◌, [], ℕ, map, max, Contains, OnOk, OnErr};
 ghost use Rattle.edge_links.specs.Edges.{edge, SameEdges};
 ghost use Rattle.edge_links.specs.Reach.{IsCleared};
 ghost use Rattle.name_edges.specs.Affected.{Forgets, IsAffected};
@@ -39,6 +39,26 @@ impl NameEdges {
         NameEdges {
             links: Links::new(alloc),
         }
+    }
+
+    /// How many names there are.
+    pub fn names(&self) -> usize
+        ensures { result ≡ self.now.names }
+    {
+        self.links.node_count() / 2
+    }
+
+    /// Sees that there are at least `count` names. A refusal leaves what the names use and looked at.
+    pub fn cover(&mut self, alloc: Global, count: usize) -> Result<(), AllocError>
+        ensures covered { OnOk result (count ≤ self.new.names) }
+        ensures within { self.new.names ≤ max self.old.names count }
+        ensures rest { self.new ≡ record self.old { names = self.new.names } }
+        ensures no_less { self.old.names ≤ self.new.names }
+    {
+        while self.names() < count {
+            self.add_name(alloc)?;
+        }
+        Ok(())
     }
 
     /// One more name, whose number is the number of names before. A refusal changes nothing.

@@ -1,3 +1,5 @@
+pub mod AffectedNumbers
+pub mod EdgeChanges
 pub mod FewTargets
 pub mod NewKeys
 pub mod Paths

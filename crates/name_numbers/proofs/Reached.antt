@@ -58,7 +58,7 @@ module _ (table : Table) (key : ℕ → Key) (dead_end : ℕ → Option Key → 
       ]
 
   -- ---- words, and their steps
-  lead_of_step :
+  pub lead_of_step :
       (us : List WordUse) (xs : List Step) → AreWords table key dead_end us xs → (n : ℕ) → In (To n) xs
       → WordsLeadTo table us (key n)
   lead_of_step [] [] w n i = absurd i
@@ -71,7 +71,7 @@ module _ (table : Table) (key : ℕ → Key) (dead_end : ℕ → Option Key → 
       let l : WordsLeadTo table us (key n) = lead_of_step us xs w.1 n i in
       (l.0, member_later l.0 u us l.1, l.2)
 
-  step_of_lead :
+  pub step_of_lead :
       (us : List WordUse) (xs : List Step) → AreWords table key dead_end us xs
       → (u : WordUse) → Contains us u → is_refused u.text ≡ false → (k : Key) → Contains (targets table u) k
       → (n : ℕ) × (k ≡ key n) × In (To n) xs

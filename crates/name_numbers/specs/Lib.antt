@@ -1,3 +1,4 @@
+pub mod EdgeLaws
 pub mod FaultLaws
 pub mod LookupLaws
 pub mod Numbered

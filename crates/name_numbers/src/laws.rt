@@ -1,5 +1,6 @@
 //! Laws of names by number, and of what a walk over them needs of a table.
 
+ghost use Rattle.name_numbers.specs.EdgeLaws.{AffectedNumbersLaw};
 ghost use Rattle.name_numbers.specs.FaultLaws.{NumberedFaultLaw};
 ghost use Rattle.name_numbers.specs.LookupLaws.{FewTargetsLaw};
 ghost use Rattle.name_numbers.specs.RankLaws.{RankLaw};
@@ -34,4 +35,9 @@ pub fn few_targets_law()
 /// The rank of what a key stands for is at most the number of entries of the table.
 pub fn rank_law()
     ensures { RankLaw }
+{}
+
+/// What a change of keys affects by the edges between numbers is what it affects by the words of names.
+pub fn affected_numbers_law()
+    ensures { AffectedNumbersLaw }
 {}

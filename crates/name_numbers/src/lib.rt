@@ -3,4 +3,4 @@
 
 mod laws;
 
-pub use laws::{few_targets_law, numbered_fault_law, rank_law, settling_law};
+pub use laws::{affected_numbers_law, few_targets_law, numbered_fault_law, rank_law, settling_law};

@@ -122,6 +122,7 @@ module _ (before after : Table) (keys : List Key) (changed : AreChanged before a
     pub as_before : IsAsBefore before after n
     as_before = record {
       closed = closed_after;
+      meaning = meaning_after;
       outcome = ap outcome_of meaning_after;
       entry = entry_kept n free;
       lookups = lookup_kept n free;

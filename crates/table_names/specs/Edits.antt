@@ -7,13 +7,14 @@ pub use Rattle.def_entry.specs.Tables.{AreChanged}
 use Rattle.table_names.specs.Affected.{IsAffected}
 use Rattle.table_names.specs.Closed.{IsClosed}
 use Rattle.table_names.specs.Leads.{Reaches, word_lookup}
-use Rattle.table_names.specs.Meanings.{outcome}
+use Rattle.table_names.specs.Meanings.{key_meaning, outcome}
 use Rattle.table_names.specs.Words.{key_words}
 
--- a closed key is closed still, with the same outcome, the same entry, the same lookup of each of its
--- words, and the same keys that it reaches
+-- a closed key is closed still, stands for the same with the same outcome, and has the same entry, the same lookup
+-- of each of its words, and the same keys that it reaches
 pub record IsAsBefore (before after : Table) (n : Key) : Type 0 where
   pub closed : IsClosed after n
+  pub meaning : key_meaning before n ≡ key_meaning after n
   pub outcome : outcome before n ≡ outcome after n
   pub entry : entry_at before n ≡ entry_at after n
   pub lookups : (u : WordUse) → Contains (key_words before n) u → word_lookup before u ≡ word_lookup after u

@@ -1,4 +1,4 @@
-use Rattle.std.proofs.Common.{◌≡◌, ◌+◌, ◌*◌, ◌<◌, ◌≤◌, ◌^◌, ◌++◌, ◌∙◌, arith}
+use Rattle.std.proofs.Common.{◌∙◌, arith}
 use Rattle.name_edges.proofs.Linked.{all_linked, item_in, one_linked}
 use Rattle.name_edges.proofs.linking.link_all.Goals as goal
 

@@ -1,4 +1,4 @@
-use Rattle.std.proofs.Common.{◌≡◌, ◌+◌, ◌≤◌, ℕ, map, take, length}
+use Rattle.std.proofs.Common.{◌≡◌, ◌+◌, ℕ, map, take}
 use Rattle.edge_links.specs.Edges.{edge_count}
 use Rattle.name_edges.specs.Nodes.{edge_to}
 use Rattle.name_edges.proofs.linking.link_all.Given as goal

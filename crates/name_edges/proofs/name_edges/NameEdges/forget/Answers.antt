@@ -1,4 +1,4 @@
-use Rattle.std.proofs.Common.{◌≡◌, ◌*◌, ◌/◌, ◌%◌, ℕ, Bool, true, ◌∙◌, ap, subst, arith, nat_eq, refl}
+use Rattle.std.proofs.Common.{◌/◌, ◌%◌, ◌∙◌, subst, nat_eq, refl}
 use Rattle.std.specs.Prelude.{◌&&◌}
 use Rattle.edge_links.specs.Reach.{IsCleared}
 use Rattle.name_edges.specs.Affected.{Forgets, IsAffected}

@@ -1,7 +1,7 @@
-use Rattle.std.proofs.Common.{◌≡◌, ◌*◌, ◌+◌, ◌<◌, ◌≤◌, ◌^◌, ◌++◌, ℕ, List, map, ◌∙◌, ap, subst, sym, arith}
+use Rattle.std.proofs.Common.{◌≡◌, ◌*◌, ◌+◌, ◌<◌, ◌++◌, ℕ, List, map, ◌∙◌, ap, subst, sym, arith}
 use Rattle.edge_links.specs.Edges.{Edge, edge, edge_count, SameEdges}
 use Rattle.name_edges.specs.NameGraphs.{NameGraph}
-use Rattle.name_edges.specs.Nodes.{edge_to, edges_to}
+use Rattle.name_edges.specs.Nodes.{edges_to}
 use Rattle.name_edges.proofs.Adding.{both_there, looks_added, no_second_user, uses_added}
 use Rattle.name_edges.proofs.name_edges.NameEdges.link.Goals as goal
 
@@ -24,7 +24,8 @@ pub invariant_of-self-2 : goal.invariant_of-self-2
 invariant_of-self-2 c = record {
   users = no_second_user c.args.user c.args.used.now c.args.looked.now c.reserve_edges.new.self.edges
       c.link_all.new.links.edges c.link_all-2.new.links.edges c.link_all.ensures.edges c.link_all-2.ensures.edges
-      (subst (λ (es : List Edge). (x y : ℕ) → edge_count es (x * 2 + 1) y ≡ 0) (sym c.in_ok-reserve_edges.ensures.rest.1)
+      (subst (λ (es : List Edge). (x y : ℕ) → edge_count es (x * 2 + 1) y ≡ 0)
+      (sym c.in_ok-reserve_edges.ensures.rest.1)
       c.self.invariant.users);
   fits =
       let a = c.self.invariant.fits in
@@ -36,14 +37,16 @@ invariant_of-self-2 c = record {
 
 pub returns-clause-uses : goal.returns-clause-uses
 returns-clause-uses c =
-    subst (λ (es : List Edge). SameEdges (edges_to 0 c.link_all-2.new.links.edges) (map (edge c.args.user) c.args.used.now ++ es))
+    subst (λ (es : List Edge). SameEdges (edges_to 0 c.link_all-2.new.links.edges)
+    (map (edge c.args.user) c.args.used.now ++ es))
     (ap (edges_to 0) c.in_ok-reserve_edges.ensures.rest.1 ∙ ap (λ (x : NameGraph). x.uses) c.self.view_is)
     (uses_added c.args.user c.args.used.now c.args.looked.now c.reserve_edges.new.self.edges
     c.link_all.new.links.edges c.link_all-2.new.links.edges c.link_all.ensures.edges c.link_all-2.ensures.edges)
 
 pub returns-clause-looks : goal.returns-clause-looks
 returns-clause-looks c =
-    subst (λ (es : List Edge). SameEdges (edges_to 1 c.link_all-2.new.links.edges) (map (edge c.args.user) c.args.looked.now ++ es))
+    subst (λ (es : List Edge). SameEdges (edges_to 1 c.link_all-2.new.links.edges)
+    (map (edge c.args.user) c.args.looked.now ++ es))
     (ap (edges_to 1) c.in_ok-reserve_edges.ensures.rest.1 ∙ ap (λ (x : NameGraph). x.looks) c.self.view_is)
     (looks_added c.args.user c.args.used.now c.args.looked.now c.reserve_edges.new.self.edges
     c.link_all.new.links.edges c.link_all-2.new.links.edges c.link_all.ensures.edges c.link_all-2.ensures.edges)
