@@ -1,5 +1,5 @@
 -- How many names there are, and how many are settled.
-use Rattle.std.proofs.Common.{◌≡◌, ◌+◌, ◌<◌, ◌≤◌, ℕ, suc, zero, Bool, true, false, cond, List, [], ◌∷◌, map, filter}
+use Rattle.std.proofs.Common.{◌≡◌, ◌+◌, ◌≤◌, ℕ, Bool, true, false, cond, List, [], ◌∷◌, map, filter}
 use Rattle.std.proofs.Common.{length}
 use Rattle.std.proofs.Common.{Option, Some, None, is_some, refl, sym, ◌∙◌, ap, arith}
 use Rattle.std.specs.FinMap as map_of
@@ -21,7 +21,7 @@ use Rattle.deck.specs.Tables.{table}
 use Rattle.tree_eval.specs.declared.outcome.Outcome.{Outcome}
 use Rattle.live_table.specs.Calls.{is_name_kind, names_among, names_in}
 use Rattle.live_table.specs.Sound.{AreNodes}
-use Rattle.live_table.specs.Stored.{Listed, key_at, kept_of}
+use Rattle.live_table.specs.Stored.{Listed, kept_of}
 use Rattle.live_table.proofs.DeckTables.{lines_few, table_short}
 use Rattle.live_table.proofs.Kept.{AreApart, absent, apart_tail, first_apart}
 

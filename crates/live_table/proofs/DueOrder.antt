@@ -1,21 +1,19 @@
 -- In the order of a walk each name is due once those before it are settled.
-use Rattle.std.proofs.Common.{◌≡◌, ◌⊎◌, ◌<◌, ℕ, zero, suc, Bool, true, false, List, [], ◌∷◌, ◌++◌, set, length, Option}
-use Rattle.std.proofs.Common.{Some, None, nat_eq, option_map, refl, sym, ◌∙◌, ap, subst, inl, inr, arith}
+use Rattle.std.proofs.Common.{◌≡◌, ◌<◌, ℕ, zero, suc, Bool, true, false, List, [], ◌∷◌, ◌++◌, set, length, Option}
+use Rattle.std.proofs.Common.{Some, nat_eq, option_map, refl, sym, ◌∙◌, ap, subst, inl, inr, arith}
 use Rattle.std.specs.List.{IsDistinct, slice_get}
 use Rattle.std.proofs.lemmas.Bool.{cases_eq, eq-eqb}
 use Rattle.std.proofs.lemmas.List.{length-set}
 use Rattle.expr_tree.specs.declared.word_list.WordUse.{WordUse}
 use Rattle.def_entry.specs.declared.key.Key.{Key}
-use Rattle.def_entry.specs.Entries.{Entry}
 use Rattle.def_entry.specs.Tables.{Table, entry_at, is_present}
 use Rattle.name_walk.specs.declared.step.Step.{Step}
-use Rattle.name_walk.specs.declared.step.Step.TheVariants.{Nowhere, To}
+use Rattle.name_walk.specs.declared.step.Step.TheVariants.{Nowhere}
 use Rattle.name_walk.specs.Closed as walk
 use Rattle.name_walk.specs.Closed.{EndsWithin, IsDone, IsSettled}
-use Rattle.name_walk.specs.Faults as walk_faults
 use Rattle.name_walk.specs.Lists.{In}
 use Rattle.name_walk.specs.NewlyClosed.{AreNewlyClosed, AreOrdered, IsReached}
-use Rattle.name_walk.specs.Steps.{Graph, InRange, LeadsTo, Reaches, at_once, further, steps}
+use Rattle.name_walk.specs.Steps.{Graph, LeadsTo, Reaches, at_once, further, steps}
 use Rattle.name_walk.proofs.Closed.{closed_law_holds}
 use Rattle.name_walk.proofs.Lists.{In-push, all_at}
 use Rattle.name_walk.proofs.Marks.{get_set_other, get_set_same}
@@ -27,13 +25,11 @@ use Rattle.name_numbers.specs.FaultLaws.{NumberedFaultLaw}
 use Rattle.name_numbers.specs.Numbered.{AreWords, ForOne, ForRefused, ForTwo, ForUnknown, IsWord, LeadToKnown, named}
 use Rattle.live_table.specs.declared.callee.Callee.{Callee}
 use Rattle.live_table.specs.declared.dead_end.DeadEnd.{DeadEnd}
-use Rattle.live_table.specs.Callees.{HasStarts}
 use Rattle.live_table.specs.Due.{AreDue, IsDue, with_outcome}
 use Rattle.live_table.specs.Explored.{AreExplored, fault_at}
 use Rattle.live_table.specs.Looks.{AreLooks}
 use Rattle.live_table.specs.Sound.{AreNodes, HasLooksOf, HasStartsOf, IsFaithful}
 use Rattle.live_table.specs.Stored.{Listed, Looks, key_at, looks_of}
-use Rattle.live_table.proofs.Places.{some_same}
 
 -- ---- steps that all lead somewhere are those of their words, whatever the dead ends are
 module _ (t : Table) (key : ℕ → Key) (one other : ℕ → Option Key → NameFault) where

@@ -30,13 +30,13 @@ use Rattle.live_table.proofs.Outcomes.{left_in, left_out, put_in}
 
 -- ---- what a query settles
 -- closed keys that have entries, with all that they reach
-record AreWhole (t : Table) (keys : List Key) : Type 0 where
+pub record AreWhole (t : Table) (keys : List Key) : Type 0 where
   present : (n : Key) → Contains keys n → is_present t n ≡ true
   closed : (n : Key) → Contains keys n → IsClosed t n
   below : (n m : Key) → Contains keys n → Reaches t n m → Contains keys m
 
 module _ (t : Table) where
-  words_whole : (words : List WordUse) → AreClosed t words → AreWhole t (reach t words)
+  pub words_whole : (words : List WordUse) → AreClosed t words → AreWhole t (reach t words)
   words_whole words e = record {
     present = λ n i. reach_law.present t words n ((reach_law.listed t words e n).0 i);
     closed = λ n i. closed_law.below t words e n ((reach_law.listed t words e n).0 i);
@@ -44,7 +44,7 @@ module _ (t : Table) where
         (reach_law.further t words n m ((reach_law.listed t words e n).0 i) r);
   }
 
-  key_whole : (n : Key) → is_present t n ≡ true → IsClosed t n → AreWhole t (n ∷ key_reach t n)
+  pub key_whole : (n : Key) → is_present t n ≡ true → IsClosed t n → AreWhole t (n ∷ key_reach t n)
   key_whole n there e = record { present = present; closed = closed; below = below }
     where
       words_closed : AreClosed t (key_words t n)
@@ -81,13 +81,13 @@ module _ (s : State) (keys : List Key) (whole : AreWhole s.table keys) (h : IsRi
     | inr e ↦ inr (left_out s.table keys s.kept n (λ i. true≢false (sym (among_member keys n i) ∙ e)))
   ]
 
-  old_or_new : (n : Key) → IsSettled grown n → Contains keys n ⊎ IsSettled s n
+  pub old_or_new : (n : Key) → IsSettled grown n → Contains keys n ⊎ IsSettled s n
   old_or_new n i = elim (either n) [ inl j ↦ inl j | inr e ↦ inr (sym (ap is_some e) ∙ i) ]
 
-  new_in : (n : Key) → Contains keys n → IsSettled grown n
+  pub new_in : (n : Key) → Contains keys n → IsSettled grown n
   new_in n i = ap is_some (put_in s.table keys s.kept n (inl i))
 
-  old_in : (n : Key) → IsSettled s n → IsSettled grown n
+  pub old_in : (n : Key) → IsSettled s n → IsSettled grown n
   old_in n i = elim (either n) [ inl j ↦ new_in n j | inr e ↦ ap is_some e ∙ i ]
 
   grown_right : IsRight grown
@@ -110,7 +110,7 @@ query_right : (s : State) (keys : List Key) (b : Bool) → (b ≡ true → AreWh
 query_right s keys true whole h = grown_right s keys (whole refl) h
 query_right s keys false whole h = h
 
-none_is : {A : Type 0} (o : Option A) → is_none o ≡ true → o ≡ None
+pub none_is : {A : Type 0} (o : Option A) → is_none o ≡ true → o ≡ None
 none_is None e = refl
 none_is (Some x) e = cc
 
@@ -130,15 +130,15 @@ module _ (s : State) (table : Table) (keys : List Key) (changed : AreChanged s.t
   abbrev stays : Key → Bool
   stays n = not (is_affected s.table keys n)
 
-  parts : (n : Key) → IsSettled left n → (stays n ≡ true) × IsSettled s n
+  pub parts : (n : Key) → IsSettled left n → (stays n ≡ true) × IsSettled s n
   parts n i = left_some (stays n) (map_of.get s.kept n) (sym (ap is_some (left_in s.kept stays n)) ∙ i)
 
-  free : (n : Key) → IsSettled left n → IsAffected s.table keys n → ⊥
+  pub free : (n : Key) → IsSettled left n → IsAffected s.table keys n → ⊥
   free n i a =
       true≢false (sym ((affected_law.computed s.table keys n (h.closed n (parts n i).1)).1 a)
       ∙ not-true (is_affected s.table keys n) (parts n i).0)
 
-  stays_in : (m : Key) → IsSettled s m → (IsAffected s.table keys m → ⊥) → IsSettled left m
+  pub stays_in : (m : Key) → IsSettled s m → (IsAffected s.table keys m → ⊥) → IsSettled left m
   stays_in m i f =
       let e : stays m ≡ true =
       not_from_false (is_affected s.table keys m)

@@ -1,18 +1,15 @@
 -- Queries one behind another.
-use Rattle.std.proofs.Common.{◌≡◌, ◌≤◌, ℕ, Bool, true, false, List, [], ◌∷◌, ◌++◌, map, filter, take, length, refl, sym}
-use Rattle.std.proofs.Common.{◌∙◌, ap, subst, arith}
+use Rattle.std.proofs.Common.{◌≡◌, ◌≤◌, ℕ, Bool, true, false, List, [], ◌∷◌, ◌++◌, refl, sym}
+use Rattle.std.proofs.Common.{◌∙◌, ap, arith}
 use Rattle.std.specs.Prelude.{Result, Ok, Err}
-use Rattle.std.specs.declared.alloc.AllocError.{AllocError}
 use Rattle.quantity.specs.Amount.{Amount}
 use Rattle.def_entry.specs.declared.key.Key.{Key}
-use Rattle.def_entry.specs.Tables.{is_present}
 use Rattle.table_names.specs.Faults.{key_fault, name_fault}
 use Rattle.table_names.specs.Reach.{key_reach, reach}
-use Rattle.deck.specs.Tables.{table}
 use Rattle.std.specs.Option.{is_none}
 use Rattle.live_table.specs.declared.fault.QueryFault.{QueryFault}
 use Rattle.live_table.specs.declared.fault.QueryFault.TheVariants.{Name, Value, OutOfMemory}
-use Rattle.live_table.specs.Calls.{AreQueries, IsQuery}
+use Rattle.live_table.specs.Calls.{IsQuery}
 use Rattle.live_table.specs.Shown.{Follows, IsCutOff, IsRightTable, Shown, state}
 use Rattle.live_table.specs.States.{AsksKey, AsksWords, Becomes, Event, State, after, after_all, after_query}
 use Rattle.live_table.proofs.Events.{order_law}

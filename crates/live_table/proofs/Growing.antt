@@ -1,5 +1,5 @@
 -- What was written of words stays so where names, listed numbers and dead ends are added.
-use Rattle.std.proofs.Common.{◌≡◌, ◌⊎◌, ◌<◌, ◌≤◌, ℕ, zero, suc, true, List, [], ◌∷◌, ◌++◌, take, length, Option, Some}
+use Rattle.std.proofs.Common.{◌≡◌, ◌<◌, ◌≤◌, ℕ, zero, suc, true, List, [], ◌∷◌, ◌++◌, take, length, Option, Some}
 use Rattle.std.proofs.Common.{None, refl, sym, ◌∙◌, ap, subst, inl, inr, arith}
 use Rattle.std.specs.List.{slice_get}
 use Rattle.std.proofs.lemmas.List.{length-map}
@@ -16,7 +16,7 @@ use Rattle.table_names.specs.declared.fault.NameFault.{NameFault}
 use Rattle.name_numbers.specs.Numbered.{AreWords, ForOne, ForRefused, ForTwo, ForUnknown, IsWord}
 use Rattle.live_table.specs.declared.dead_end.DeadEnd.{DeadEnd}
 use Rattle.live_table.specs.Explored.{fault_at, fault_of}
-use Rattle.live_table.specs.Exploring.{AreAdded, AreGrown, AreListed, AreSame, AreWritten, IsKnown, IsMore}
+use Rattle.live_table.specs.Exploring.{AreAdded, AreGrown, AreListed, AreWritten, IsKnown, IsMore}
 use Rattle.live_table.specs.Sound.{AreNodes}
 use Rattle.live_table.specs.Stored.{Listed, key_at}
 use Rattle.live_table.proofs.Places.{element, get_lt, some_same}

@@ -69,7 +69,7 @@ put_at (k ∷ ks) (x ∷ os) (suc n) o a h e =
     ∙ onto_swapped (kept_of ks os) k (key_at ks n) x o (first_apart k ks a n (omega arith))
 
 -- ---- the outcome of a number is what is kept of its key
-onto_other : (m : Kept) (k q : Key) (x : Option Outcome) → (q ≡ k → ⊥) → map_of.get (onto k x m) q ≡ map_of.get m q
+pub onto_other : (m : Kept) (k q : Key) (x : Option Outcome) → (q ≡ k → ⊥) → map_of.get (onto k x m) q ≡ map_of.get m q
 onto_other m k q None ne = refl
 onto_other m k q (Some x) ne = inserted m k x q ∙ by (eq_by_cmp key_cmp q k) refl
   where
@@ -77,7 +77,7 @@ onto_other m k q (Some x) ne = inserted m k x q ∙ by (eq_by_cmp key_cmp q k) r
     by true e = absurd (ne (one_key q k e))
     by false e = refl
 
-onto_self : (m : Kept) (k : Key) (x : Option Outcome) → map_of.get m k ≡ None → map_of.get (onto k x m) k ≡ x
+pub onto_self : (m : Kept) (k : Key) (x : Option Outcome) → map_of.get m k ≡ None → map_of.get (onto k x m) k ≡ x
 onto_self m k None e = e
 onto_self m k (Some x) e = inserted m k x k ∙ ap (λ b. cond b (Some x) (map_of.get m k)) (tied k k refl)
 
@@ -99,7 +99,7 @@ kept_at (k ∷ ks) (x ∷ os) (suc n) a h e =
     kept_at ks os n (apart_tail k ks a) (omega arith) (omega arith)
     ∙ ap Some (sym (onto_other (kept_of ks os) k (key_at ks n) x (λ q. first_apart k ks a n (omega arith) (sym q))))
 
-marked_at : (os : List (Option Outcome)) (n : ℕ) (o : Option Outcome) → slice_get os n ≡ Some o
+pub marked_at : (os : List (Option Outcome)) (n : ℕ) (o : Option Outcome) → slice_get os n ≡ Some o
     → slice_get (map is_some os) n ≡ Some (is_some o)
 marked_at [] n o e = cc
 marked_at (x ∷ os) zero o e = ap (λ (y : Option Outcome). Some (is_some y)) (some_same x o e)

@@ -1,6 +1,6 @@
 -- Numbers for keys that are looked at: what is kept, and what was looked at.
-use Rattle.std.proofs.Common.{◌≡◌, ◌⊎◌, ◌↔◌, ◌<◌, ◌++◌, ◌∷◌, [], ℕ, zero, suc, Bool, true, false, List, length, map}
-use Rattle.std.proofs.Common.{get_or, Contains, refl, sym, ◌∙◌, ap, subst, inl, inr, arith}
+use Rattle.std.proofs.Common.{◌≡◌, ◌<◌, ◌++◌, ◌∷◌, [], ℕ, zero, suc, Bool, false, List, length, map}
+use Rattle.std.proofs.Common.{get_or, refl, sym, ◌∙◌, ap, subst, inl, inr, arith}
 use Rattle.std.proofs.lemmas.List.{length-map, map-append}
 use Rattle.std.proofs.lemmas.Map.Made.{is_some-lookup}
 use Rattle.def_entry.specs.declared.key.Key.{Key}
@@ -8,10 +8,10 @@ use Rattle.def_entry.specs.SameKeys.{is_among, is_same}
 use Rattle.def_entry.specs.Tables.{Table, is_present, keys_of}
 use Rattle.name_walk.specs.Lists.{In}
 use Rattle.name_walk.proofs.Lists.{In-push}
-use Rattle.table_names.proofs.Members.{map_same, member_cases, member_first, member_later, no_member}
+use Rattle.table_names.proofs.Members.{map_same}
 use Rattle.live_table.specs.declared.nodes.Nodes.{Nodes}
 use Rattle.live_table.specs.Exploring.{AreAdded, IsMore, IsNamed}
-use Rattle.live_table.specs.Numbering.{AreFlagged, CanLook, IsKept, looked_by}
+use Rattle.live_table.specs.Numbering.{AreFlagged, IsKept}
 use Rattle.live_table.specs.Stored.{Listed, key_at, listed}
 use Rattle.live_table.proofs.Growing.{added_both, added_none, key_same, more_length, push_more}
 use Rattle.live_table.proofs.Named.{named_added, not_there}

@@ -1,5 +1,5 @@
 -- One more name at the end changes nothing of the others.
-use Rattle.std.proofs.Common.{◌≡◌, ◌⊎◌, ◌+◌, ◌<◌, ◌≤◌, ℕ, zero, suc, Bool, true, false, List, [], ◌∷◌, ◌++◌, map}
+use Rattle.std.proofs.Common.{◌≡◌, ◌+◌, ◌<◌, ℕ, zero, suc, Bool, true, false, List, [], ◌∷◌, ◌++◌}
 use Rattle.std.proofs.Common.{length, Vec, Option, Some, None, nat_eq, refl, sym, ◌∙◌, ap, subst, inl, inr, arith}
 use Rattle.std.proofs.Common.{length-append}
 use Rattle.std.specs.declared.alloc.Global.{Global}
@@ -8,17 +8,15 @@ use Rattle.std.specs.Option.{is_some}
 use Rattle.std.proofs.lemmas.Bool.{cases_lt}
 use Rattle.std.proofs.lemmas.List.{map-append}
 use Rattle.def_entry.specs.declared.key.Key.{Key}
-use Rattle.def_entry.specs.Entries.{Entry}
 use Rattle.def_entry.specs.SameKeys.{is_among}
 use Rattle.def_entry.specs.Tables.{Table, entry_at, is_present}
 use Rattle.name_walk.specs.declared.step.Step.{Step}
-use Rattle.name_walk.specs.declared.step.Step.TheVariants.{Nowhere, To}
+use Rattle.name_walk.specs.declared.step.Step.TheVariants.{To}
 use Rattle.name_walk.specs.Closed.{IsSettled}
 use Rattle.name_walk.specs.Lists.{In}
-use Rattle.name_walk.specs.Steps.{Graph, items_of, steps}
+use Rattle.name_walk.specs.Steps.{Graph, steps}
 use Rattle.name_walk.proofs.Settled.{settled_law_holds}
 use Rattle.tree_eval.specs.declared.outcome.Outcome.{Outcome}
-use Rattle.table_names.specs.declared.fault.NameFault.{NameFault}
 use Rattle.table_names.specs.Meanings.{key_meaning}
 use Rattle.table_names.specs.Words.{key_words}
 use Rattle.table_names.proofs.KeyLists.{among_member}
@@ -26,7 +24,7 @@ use Rattle.table_names.proofs.Members.{member_at}
 use Rattle.name_numbers.specs.Numbered.{AreWords}
 use Rattle.live_table.specs.declared.callee.Callee.{Callee}
 use Rattle.live_table.specs.declared.dead_end.DeadEnd.{DeadEnd}
-use Rattle.live_table.specs.Callees.{HasRank, HasStarts}
+use Rattle.live_table.specs.Callees.{HasRank}
 use Rattle.live_table.specs.Exploring.{AreAdded, AreListed, with_name}
 use Rattle.live_table.specs.Looks.{AreLooks}
 use Rattle.live_table.specs.Sound.{AreNodes, HasLooksOf, HasRankOf, HasStartsOf, IsFaithful}
@@ -34,7 +32,6 @@ use Rattle.live_table.specs.Stored.{Listed, Looks, kept_of, key_at, looks_of, on
 use Rattle.live_table.proofs.Flags.{count_push}
 use Rattle.live_table.proofs.Growing.{key_read, key_same, push_more, same_words, settled_within}
 use Rattle.live_table.proofs.Looking.{looks_more}
-use Rattle.live_table.proofs.Places.{get_lt, some_same}
 
 nothing_kept : (ks : List Key) (os : List (Option Outcome)) (k : Key) → length os ≡ length ks
     → kept_of (ks ++ k ∷ []) (os ++ None ∷ []) ≡ kept_of ks os

@@ -1,18 +1,14 @@
 -- What a query owes, from what its walk found and what was settled.
-use Rattle.std.proofs.Common.{◌≡◌, ◌⊎◌, ◌↔◌, ◌+◌, ◌-◌, ◌^◌, ◌<◌, ◌≤◌, min, ℕ, Bool, true, false, List, [], ◌∷◌, map}
-use Rattle.std.proofs.Common.{take, length, Contains, Option, Some, None, is_none, is_some, option_map, refl, sym, ◌∙◌}
+use Rattle.std.proofs.Common.{◌≡◌, ◌⊎◌, ◌↔◌, ◌+◌, ◌<◌, ◌≤◌, ℕ, Bool, true, false, List, [], ◌∷◌, map}
+use Rattle.std.proofs.Common.{length, Contains, Option, Some, None, is_none, is_some, option_map, refl, sym, ◌∙◌}
 use Rattle.std.proofs.Common.{ap, subst, inl, inr, arith}
-use Rattle.std.specs.Prelude.{Result, Ok, Err}
+use Rattle.std.specs.Prelude.{Ok, Err}
 use Rattle.std.specs.FinMap as map_of
-use Rattle.std.specs.List.{slice_get}
 use Rattle.std.proofs.lemmas.Bool.{false_from_ne_true, true≢false}
-use Rattle.std.proofs.lemmas.List.{length-map}
-use Rattle.expr_tree.specs.declared.word_list.WordUse.{WordUse}
 use Rattle.def_entry.specs.declared.key.Key.{Key}
-use Rattle.def_entry.specs.Tables.{Table, is_present}
+use Rattle.def_entry.specs.Tables.{Table}
 use Rattle.name_walk.specs.declared.step.Step.{Step}
-use Rattle.name_walk.specs.declared.step.Step.TheVariants.{To}
-use Rattle.name_walk.specs.Closed.{IsDone, IsSettled}
+use Rattle.name_walk.specs.Closed.{IsSettled}
 use Rattle.name_walk.specs.Faults as walk
 use Rattle.name_walk.specs.Lists.{In}
 use Rattle.name_walk.specs.NewlyClosed.{AreNewlyClosed, IsReached}
@@ -28,17 +24,16 @@ use Rattle.name_numbers.specs.SettlingLaws.{AreMarks, AreNewKeys}
 use Rattle.live_table.specs.declared.dead_end.DeadEnd.{DeadEnd}
 use Rattle.live_table.specs.declared.fault.QueryFault.{QueryFault}
 use Rattle.live_table.specs.declared.fault.QueryFault.TheVariants.{Name, Value, OutOfMemory}
-use Rattle.live_table.specs.Asked.{AreAllSettled, AreSomeSettled, IsAnswered, IsAsked, IsClosing, IsFaulty, IsStill}
+use Rattle.live_table.specs.Asked.{AreAllSettled, AreSomeSettled, IsAnswered, IsAsked, IsClosing}
 use Rattle.live_table.specs.Asked.{put_in}
 use Rattle.live_table.specs.Explored.{AreExplored, fault_at}
 use Rattle.live_table.specs.New.{AreNew}
-use Rattle.live_table.specs.Right as right_of
 use Rattle.live_table.specs.Right.{IsRight}
 use Rattle.live_table.specs.Shown.{Follows, IsCutOff, IsRightTable, Shown, state}
 use Rattle.live_table.specs.Sound.{AreNodes, IsSound}
-use Rattle.live_table.specs.States.{Event, Kept, State, after, after_all, after_query, with_outcomes, with_settled}
+use Rattle.live_table.specs.States.{Event, Kept, State, after, after_all, after_query}
 use Rattle.live_table.specs.Stored.{Listed, key_at, shown}
-use Rattle.live_table.proofs.Kept.{key_settled, number_settled, settled_within}
+use Rattle.live_table.proofs.Kept.{key_settled, number_settled}
 use Rattle.live_table.proofs.New.{new_law}
 use Rattle.live_table.proofs.Outcomes as outcomes
 

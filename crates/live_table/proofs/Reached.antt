@@ -1,5 +1,5 @@
 -- The names below a query get their steps, one name after another.
-use Rattle.std.proofs.Common.{◌≡◌, ◌⊎◌, ◌+◌, ◌<◌, ◌≤◌, ◌||◌, ℕ, zero, suc, Bool, true, false, List, [], ◌∷◌, ◌++◌, set}
+use Rattle.std.proofs.Common.{◌≡◌, ◌+◌, ◌<◌, ◌≤◌, ◌||◌, ℕ, zero, suc, Bool, true, false, List, [], ◌∷◌, ◌++◌, set}
 use Rattle.std.proofs.Common.{take, length, Vec, Option, Some, None, nat_eq, refl, sym, ◌∙◌, ap, subst, inl, inr, arith}
 use Rattle.std.specs.declared.alloc.Global.{Global}
 use Rattle.std.specs.List.{IsDistinct, slice_get}
@@ -9,11 +9,11 @@ use Rattle.def_entry.specs.declared.key.Key.{Key}
 use Rattle.def_entry.specs.Entries.{Entry}
 use Rattle.def_entry.specs.Tables.{Table, entry_at}
 use Rattle.name_walk.specs.declared.step.Step.{Step}
-use Rattle.name_walk.specs.declared.step.Step.TheVariants.{Nowhere, To}
+use Rattle.name_walk.specs.declared.step.Step.TheVariants.{To}
 use Rattle.name_walk.specs.Closed.{IsSettled}
 use Rattle.name_walk.specs.Faults.{on}
 use Rattle.name_walk.specs.Lists.{In}
-use Rattle.name_walk.specs.Steps.{Graph, LeadsTo, items_of, steps}
+use Rattle.name_walk.specs.Steps.{Graph, items_of, steps}
 use Rattle.name_walk.proofs.Lists.{In-on, In-push, all_at, get_In, on-In, take_at}
 use Rattle.name_walk.proofs.Marks.{get_set_other, get_set_same}
 use Rattle.name_walk.proofs.Settled.{settled_law_holds}

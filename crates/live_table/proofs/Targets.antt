@@ -1,5 +1,5 @@
 -- What a search found, by number.
-use Rattle.std.proofs.Common.{◌≡◌, ◌⊎◌, ◌↔◌, ◌<◌, ◌≤◌, ◌-◌, ◌++◌, ◌∷◌, [], ℕ, zero, suc, false, List, length, map, take}
+use Rattle.std.proofs.Common.{◌≡◌, ◌⊎◌, ◌↔◌, ◌<◌, ◌≤◌, ◌-◌, ◌++◌, ◌∷◌, [], ℕ, false, List, length, map, take}
 use Rattle.std.proofs.Common.{drop, Contains, refl, sym, ◌∙◌, ap, subst, inl, inr, arith}
 use Rattle.std.proofs.lemmas.List.{drop-map, length-drop, length-map, take-append-drop}
 use Rattle.expr_tree.specs.declared.word_list.WordUse.{WordUse}
@@ -7,8 +7,7 @@ use Rattle.def_entry.specs.declared.key.Key.{Key}
 use Rattle.def_entry.specs.Tables.{Table}
 use Rattle.name_lookup.specs.declared.targets.Targets.{Targets}
 use Rattle.name_lookup.specs.declared.targets.Targets.TheVariants as which
-use Rattle.name_lookup.specs.Plans.{Found}
-use Rattle.name_lookup.specs.Targets.{AreFound, count, last_keys}
+use Rattle.name_lookup.specs.Targets.{AreFound, count}
 use Rattle.name_walk.specs.Lists.{In}
 use Rattle.name_walk.proofs.Lists.{In-left, In-right}
 use Rattle.table_names.specs.Leads.{looked_keys, targets, word_lookup}

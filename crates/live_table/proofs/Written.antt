@@ -1,9 +1,8 @@
 -- Steps of words, one word behind another.
-use Rattle.std.proofs.Common.{◌≡◌, ◌⊎◌, ◌+◌, ◌<◌, ℕ, true, false, List, [], ◌∷◌, ◌++◌, take, length, Option, Some, refl}
-use Rattle.std.proofs.Common.{sym, ◌∙◌, ap, subst, inl, inr, arith, length-append}
+use Rattle.std.proofs.Common.{◌≡◌, ◌+◌, ◌<◌, ℕ, true, false, List, [], ◌∷◌, ◌++◌, take, length, Option, Some, refl}
+use Rattle.std.proofs.Common.{sym, subst, inl, inr, arith, length-append}
 use Rattle.std.specs.Prelude.{Contains, IfOk, Result, Ok, Err}
 use Rattle.std.specs.List.{slice_get}
-use Rattle.std.proofs.lemmas.List.{append_assoc}
 use Rattle.expr_tree.specs.declared.word_list.WordUse.{WordUse}
 use Rattle.expr_tree.specs.Names.{is_refused}
 use Rattle.def_entry.specs.declared.key.Key.{Key}
@@ -16,11 +15,10 @@ use Rattle.name_walk.specs.Lists.{In}
 use Rattle.name_walk.proofs.Lists.{take_at}
 use Rattle.table_names.specs.declared.fault.NameFault.{NameFault}
 use Rattle.table_names.specs.Leads.{targets}
-use Rattle.name_numbers.specs.Numbered.{AreWords, ForOne, ForRefused, ForTwo, ForUnknown, IsWord}
+use Rattle.name_numbers.specs.Numbered.{AreWords, ForRefused, ForUnknown, IsWord}
 use Rattle.live_table.specs.declared.dead_end.DeadEnd.{DeadEnd}
 use Rattle.live_table.specs.Explored.{fault_at, fault_of}
-use Rattle.live_table.specs.Exploring.{AreAdded, AreListed, AreWritten, AreWrittenBehind, IsKnown}
-use Rattle.live_table.specs.Sound.{AreNodes}
+use Rattle.live_table.specs.Exploring.{AreAdded, AreWritten, AreWrittenBehind, IsKnown}
 use Rattle.live_table.specs.Stored.{Listed, key_at}
 use Rattle.live_table.specs.Looks.{AllLead, AreLooks}
 use Rattle.live_table.proofs.Growing.{added_both, known_within, written_more}

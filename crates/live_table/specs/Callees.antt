@@ -7,7 +7,7 @@ use Rattle.def_entry.specs.Tables.{Table, entry_at}
 use Rattle.expr_tree.specs.Words.{words_in}
 use Rattle.tree_eval.specs.declared.holder.Part.{Part}
 use Rattle.tree_eval.specs.declared.holder.Part.TheVariants as part
-use Rattle.tree_eval.specs.Entries.{part_words, rank_of_meaning, words_if}
+use Rattle.tree_eval.specs.Entries.{rank_of_meaning, words_if}
 use Rattle.tree_eval.specs.Expanded.{Meaning}
 use Rattle.live_table.specs.declared.callee.Callee.{Callee}
 use Rattle.live_table.specs.declared.callee.PartStarts.{PartStarts}

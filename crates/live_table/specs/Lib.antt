@@ -4,9 +4,14 @@ pub mod Asked
 pub mod Callees
 pub mod Calls
 pub mod Due
+pub mod Edged
+pub mod Edits
 pub mod Explored
 pub mod Exploring
+pub mod Forgotten
 pub mod Indexed
+pub mod Keeping
+pub mod KeptNames
 pub mod Leading
 pub mod Looks
 pub mod New

@@ -8,6 +8,7 @@ ghost use Rattle.deck.specs.Tables.{table};
 ghost use Rattle.table_names.specs.Faults.{key_fault, name_fault};
 ghost use Rattle.name_numbers.specs.Numbered.{LeadToKnown};
 ghost use Rattle.live_table.specs.Asked.{IsAnswered, IsAsked};
+ghost use Rattle.live_table.specs.Edged.{HasEdges};
 ghost use Rattle.live_table.specs.Explored.{AreExplored};
 ghost use Rattle.live_table.specs.Sound.{IsSound};
 ghost use Rattle.live_table.specs.States.{AsksKey, AsksWords};
@@ -26,6 +27,7 @@ use crate::stepping::put_words;
 use deck::Deck;
 use def_entry::Kind;
 use expr_tree::Words;
+use name_edges::NameEdges;
 use name_numbers::{numbered_fault_law, settling_law};
 use name_walk::{Net, Step, Walker};
 use std::alloc::Global;
@@ -38,6 +40,7 @@ pub(crate) fn ask_words<L: Ledger>(
     alloc: Global,
     deck: &Deck,
     nodes: &mut Nodes,
+    edges: &mut NameEdges,
     agenda: &mut Agenda,
     walker: &mut Walker,
     reductions: &mut u64,
@@ -45,7 +48,9 @@ pub(crate) fn ask_words<L: Ledger>(
     steps: &mut Steps<L>,
 ) -> Result<Vec<Step>, QueryFault>
     requires sound { IsSound deck.now (listed nodes.old) reductions.old }
+    requires edges { HasEdges deck.now (listed nodes.old) edges.old }
     ensures sound { IsSound deck.now (listed nodes.new) reductions.new }
+    ensures edges { HasEdges deck.now (listed nodes.new) edges.new }
     ensures asked { IsAsked (AsksWords words.now) (name_fault (table deck.now) words.now)
         (λ query. AreSettledWords (table deck.now) (listed nodes.new) words.now query.items) result
         (shown deck.now (listed nodes.old) reductions.old) (shown deck.now (listed nodes.new) reductions.new)
@@ -58,7 +63,7 @@ pub(crate) fn ask_words<L: Ledger>(
     let query = put_words(alloc, deck, nodes, agenda, &mut dead_ends, words)?;
     explore(alloc, deck, nodes, agenda, &mut dead_ends)?;
     settle_query(
-        alloc, deck, nodes, walker, reductions, &dead_ends, &query, steps,
+        alloc, deck, nodes, edges, walker, reductions, &dead_ends, &query, steps,
     )?;
     Ok(query)
 }
@@ -68,6 +73,7 @@ pub(crate) fn ask_key<L: Ledger>(
     alloc: Global,
     deck: &Deck,
     nodes: &mut Nodes,
+    edges: &mut NameEdges,
     agenda: &mut Agenda,
     walker: &mut Walker,
     reductions: &mut u64,
@@ -76,8 +82,10 @@ pub(crate) fn ask_key<L: Ledger>(
     steps: &mut Steps<L>,
 ) -> Result<usize, QueryFault>
     requires sound { IsSound deck.now (listed nodes.old) reductions.old }
+    requires edges { HasEdges deck.now (listed nodes.old) edges.old }
     requires present { is_present (table deck.now) (key_named kind name.now) ≡ true }
     ensures sound { IsSound deck.now (listed nodes.new) reductions.new }
+    ensures edges { HasEdges deck.now (listed nodes.new) edges.new }
     ensures asked { IsAsked (AsksKey (key_named kind name.now)) (key_fault (table deck.now) (key_named kind name.now))
         (λ n. (key_named kind name.now ≡ key_at nodes.new.keys n) × IsSettled nodes.new.settled.items n) result
         (shown deck.now (listed nodes.old) reductions.old) (shown deck.now (listed nodes.new) reductions.new)
@@ -93,6 +101,7 @@ pub(crate) fn ask_key<L: Ledger>(
         alloc,
         deck,
         nodes,
+        edges,
         walker,
         reductions,
         &dead_ends,
@@ -107,6 +116,7 @@ fn settle_query<L: Ledger>(
     alloc: Global,
     deck: &Deck,
     nodes: &mut Nodes,
+    edges: &mut NameEdges,
     walker: &mut Walker,
     reductions: &mut u64,
     dead_ends: &[DeadEnd],
@@ -114,9 +124,11 @@ fn settle_query<L: Ledger>(
     steps: &mut Steps<L>,
 ) -> Result<(), QueryFault>
     requires sound { IsSound deck.now (listed nodes.old) reductions.old }
+    requires edges { HasEdges deck.now (listed nodes.old) edges.old }
     requires explored { (known : ℕ → Bool) × AreExplored (table deck.now) (listed nodes.old) dead_ends.now known
         × LeadToKnown known query.now }
     ensures sound { IsSound deck.now (listed nodes.new) reductions.new }
+    ensures edges { HasEdges deck.now (listed nodes.new) edges.new }
     ensures keys { OnOk result (nodes.new.keys ≡ nodes.old.keys) }
     ensures answered { IsAnswered (table deck.now) (listed nodes.old) dead_ends.now query.now result
         (shown deck.now (listed nodes.old) reductions.old) (shown deck.now (listed nodes.new) reductions.new)
@@ -133,7 +145,7 @@ fn settle_query<L: Ledger>(
             Err(QueryFault::Name(fault))
         }
         None => {
-            settle(alloc, deck, nodes, reductions, walker.order(), steps)?;
+            settle(alloc, deck, nodes, edges, reductions, walker.order(), steps)?;
             Ok(())
         }
     }

@@ -1,5 +1,6 @@
 //! Laws of kept outcomes.
 
+ghost use Rattle.live_table.specs.KeptNames.{KeptLaw};
 ghost use Rattle.live_table.specs.New.{NewLaw};
 ghost use Rattle.live_table.specs.Right.{RightLaw};
 ghost use Rattle.live_table.specs.States.{OrderLaw};
@@ -17,4 +18,10 @@ pub fn order_law()
 /// What a query settles, by the names that are new.
 pub fn new_law()
     ensures { NewLaw }
+{}
+
+/// After any queries and edits the kept names are exactly those that the queries reached and no later edit affected,
+/// each with its outcome in the present table.
+pub fn kept_law()
+    ensures { KeptLaw }
 {}

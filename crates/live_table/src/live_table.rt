@@ -14,6 +14,8 @@ ghost use Rattle.live_table.specs.Calls.{ArePresent, AreQueries, IsQuery, all_na
 ghost use Rattle.live_table.specs.Shown.{IsRightTable};
 ghost use Rattle.live_table.specs.States.{AsksKey, AsksWords};
 
+mod editing;
+
 use crate::agenda::Agenda;
 use crate::asking::{ask_key, ask_words};
 use crate::counts::Counts;
@@ -23,6 +25,7 @@ use crate::nodes::Nodes;
 use deck::{Deck, key_lists_are_one, table_keys_are_whole};
 use def_entry::{Key, Kind};
 use expr_tree::{Tree, words};
+use name_edges::NameEdges;
 use name_walk::Walker;
 use quantity::Quantity;
 use std::alloc::{AllocError, Global};
@@ -32,19 +35,33 @@ use units_io::Steps;
 
 /// A deck with one kept outcome for each settled name. Contracts see the deck, a finite map from
 /// the settled names to their outcomes, and how many names were settled.
-#[derive(Drop)]
 pub struct LiveTable {
     deck: Deck,
     nodes: Nodes,
+    edges: NameEdges,
     // what queries use again
     agenda: Agenda,
     walker: Walker,
     reductions: u64,
 }
 
+// By hand, so that who drops a table proves nothing of what it holds.
+impl Drop for LiveTable {
+    fn drop(self) {
+        let LiveTable {
+            deck: _,
+            nodes: _,
+            edges: _,
+            agenda: _,
+            walker: _,
+            reductions: _,
+        } = self;
+    }
+}
+
 impl Model for LiveTable {
     ghost use Rattle.live_table.specs.Shown.{Shown, shown_code};
-    ghost use Rattle.live_table.specs.Sound.{IsSound};
+    ghost use Rattle.live_table.specs.Edged.{IsLive};
     ghost use Rattle.live_table.specs.Stored.{listed, shown};
 
     ghost Value = { Shown };
@@ -53,7 +70,7 @@ impl Model for LiveTable {
 
     ghost view = { λ t. shown t.deck (listed t.nodes) t.reductions };
 
-    ghost invariant = { λ t. IsSound t.deck (listed t.nodes) t.reductions };
+    ghost invariant = { λ t. IsLive t.deck (listed t.nodes) t.edges t.reductions };
 }
 
 impl LiveTable {
@@ -64,6 +81,7 @@ impl LiveTable {
         LiveTable {
             deck,
             nodes: Nodes::new(alloc),
+            edges: NameEdges::new(alloc),
             agenda: Agenda::new(alloc),
             walker: Walker::new(alloc),
             reductions: 0,
@@ -98,6 +116,7 @@ impl LiveTable {
             alloc,
             deck,
             &mut self.nodes,
+            &mut self.edges,
             &mut self.agenda,
             &mut self.walker,
             &mut self.reductions,
@@ -125,6 +144,7 @@ impl LiveTable {
             alloc,
             &self.deck,
             &mut self.nodes,
+            &mut self.edges,
             &mut self.agenda,
             &mut self.walker,
             &mut self.reductions,
@@ -187,6 +207,7 @@ impl LiveTable {
             alloc,
             &self.deck,
             &mut self.nodes,
+            &mut self.edges,
             &mut self.agenda,
             &mut self.walker,
             &mut self.reductions,

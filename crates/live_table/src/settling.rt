@@ -8,14 +8,17 @@ ghost use Rattle.tree_eval.specs.Entries.{rank_of_meaning};
 ghost use Rattle.table_names.specs.Meanings as names;
 ghost use Rattle.live_table.specs.Asked.{AreSettledBy, put_in};
 ghost use Rattle.live_table.specs.Due.{AreDue, IsDue, with_outcome};
+ghost use Rattle.live_table.specs.Edged.{HasEdges};
 ghost use Rattle.live_table.specs.Ranks as ranks;
 ghost use Rattle.live_table.specs.Sound.{IsSound};
 ghost use Rattle.live_table.specs.Stored.{key_at, listed, shown};
 
 use crate::callee::Callee;
+use crate::linking::link;
 use crate::nodes::Nodes;
 use crate::surroundings::{Asked, Surroundings, entry, steps_of};
 use deck::Deck;
+use name_edges::NameEdges;
 use name_walk::Step;
 use std::alloc::{AllocError, Global};
 use std::sync::ledger::Ledger;
@@ -27,20 +30,23 @@ pub(crate) fn settle<L: Ledger>(
     alloc: Global,
     deck: &Deck,
     nodes: &mut Nodes,
+    edges: &mut NameEdges,
     reductions: &mut u64,
     order: &[usize],
     steps: &mut Steps<L>,
 ) -> Result<(), AllocError>
     requires sound { IsSound deck.now (listed nodes.old) reductions.old }
+    requires edges { HasEdges deck.now (listed nodes.old) edges.old }
     requires order { AreDue (table deck.now) (listed nodes.old) order.now }
     ensures sound { IsSound deck.now (listed nodes.new) reductions.new }
+    ensures edges { HasEdges deck.now (listed nodes.new) edges.new }
     ensures settled { AreSettledBy (map (key_at nodes.old.keys) order.now) result
         (shown deck.now (listed nodes.old) reductions.old) (shown deck.now (listed nodes.new) reductions.new)
         steps.old steps.new }
     ensures keys { OnOk result (nodes.new.keys ≡ nodes.old.keys) }
 {
     for n in order {
-        settle_one(alloc, deck, nodes, reductions, *n, steps)?;
+        settle_one(alloc, deck, nodes, edges, reductions, *n, steps)?;
     }
     Ok(())
 }
@@ -50,13 +56,16 @@ fn settle_one<L: Ledger>(
     alloc: Global,
     deck: &Deck,
     nodes: &mut Nodes,
+    edges: &mut NameEdges,
     reductions: &mut u64,
     n: usize,
     steps: &mut Steps<L>,
 ) -> Result<(), AllocError>
     requires sound { IsSound deck.now (listed nodes.old) reductions.old }
+    requires edges { HasEdges deck.now (listed nodes.old) edges.old }
     requires due { IsDue (table deck.now) (listed nodes.old) n }
     ensures sound { IsSound deck.now (listed nodes.new) reductions.new }
+    ensures edges { HasEdges deck.now (listed nodes.new) edges.new }
     ensures nodes { OnOk result
         ((o : Outcome) × (c : Callee) × (listed nodes.new ≡ with_outcome n o c (listed nodes.old))) }
     ensures ok { OnOk result (shown deck.now (listed nodes.new) reductions.new
@@ -67,6 +76,7 @@ fn settle_one<L: Ledger>(
 {
     let outcome = outcome_of(alloc, deck, nodes, n, steps)?;
     let rank = rank_of(deck, nodes, n, &outcome);
+    link(alloc, deck, nodes, edges, n)?;
     put(nodes, n, outcome, rank);
     *reductions = reductions.saturating_add(1);
     Ok(())

@@ -1,4 +1,4 @@
-use Rattle.std.proofs.Common.{◌≡◌, ◌≤◌, length, arith}
+use Rattle.std.proofs.Common.{arith}
 use Rattle.std.specs.Result.{is_ok}
 use Rattle.live_table.proofs.Marking.{same_after}
 use Rattle.live_table.proofs.agenda.cover.Goals as goal

@@ -1,20 +1,18 @@
-use Rattle.std.proofs.Common.{◌≡◌, ◌∷◌, [], Err, ℕ, List, refl, true, sym, ◌∙◌, ap, subst}
+use Rattle.std.proofs.Common.{◌≡◌, ◌∷◌, [], Err, refl, sym, ◌∙◌, ap, subst}
 use Rattle.std.proofs.lemmas.Result.{err_from_is_err_and}
 use Rattle.def_entry.specs.Keys.{key as key_named}
-use Rattle.def_entry.specs.Tables.{is_present}
 use Rattle.name_walk.specs.declared.step.Step.TheVariants.{To}
 use Rattle.name_walk.specs.Closed.{IsSettled}
 use Rattle.deck.specs.Tables.{table}
 use Rattle.table_names.specs.Faults.{key_fault}
 use Rattle.table_names.specs.Reach.{key_reach}
 use Rattle.live_table.specs.Asked.{IsAsked}
-use Rattle.live_table.specs.Exploring.{IsKnown}
 use Rattle.live_table.specs.States.{AsksKey}
 use Rattle.live_table.specs.Stored.{key_at, listed, shown}
 use Rattle.live_table.proofs.AskedFor.{cut_short, grown_sound, key_explored, key_explored_fault, key_explored_settled}
 use Rattle.live_table.proofs.AskedFor.{key_query}
 use Rattle.live_table.proofs.Growing.{grown_both, none_listed}
-use Rattle.live_table.proofs.Queries.{cut_off}
+use Rattle.live_table.proofs.LinkedNames.{grown_edges}
 use Rattle.live_table.proofs.asking.ask_key.Goals as goal
 
 pub put_key-requires-clause-listed : goal.put_key-requires-clause-listed
@@ -155,3 +153,32 @@ returns-clause-asked g c =
     (listed c.settle_query.new.nodes) c.settle_query.new.reductions c.args.steps.now c.settle_query.new.steps
     c.settle_query.ensures.sound
     c.in_ok-settle_query.ensures.keys a.0 a.1 a.2
+
+pub returns-in_err-n-clause-edges : goal.returns-in_err-n-clause-edges
+returns-in_err-n-clause-edges g c =
+    let t = table c.args.deck.now in
+    let added = c.put_key.ensures.added [] in
+    grown_edges c.args.deck.now (listed c.args.nodes.now) (listed c.put_key.new.nodes) c.clear.new.self
+    c.put_key.new.agenda [] [] c.args.reductions.now added.grown c.requires.sound c.args.edges.now c.requires.edges
+
+pub returns-in_err-explore-clause-edges : goal.returns-in_err-explore-clause-edges
+returns-in_err-explore-clause-edges g c =
+    let t = table c.args.deck.now in
+    let added = c.put_key.ensures.added c.new-dead_ends.result.items in
+    grown_edges c.args.deck.now (listed c.args.nodes.now) (listed c.explore.new.nodes) c.clear.new.self
+    c.explore.new.agenda c.new-dead_ends.result.items c.explore.new.dead_ends.items c.args.reductions.now
+    (grown_both t (listed c.args.nodes.now) (listed c.put_key.new.nodes) (listed c.explore.new.nodes)
+    c.clear.new.self c.put_key.new.agenda c.explore.new.agenda
+    c.new-dead_ends.result.items c.new-dead_ends.result.items c.explore.new.dead_ends.items added.grown
+    c.explore.ensures.grown) c.requires.sound c.args.edges.now c.requires.edges
+
+pub settle_query-requires-clause-edges : goal.settle_query-requires-clause-edges
+settle_query-requires-clause-edges g c =
+    let t = table c.args.deck.now in
+    let added = c.put_key.ensures.added c.new-dead_ends.result.items in
+    grown_edges c.args.deck.now (listed c.args.nodes.now) (listed c.explore.new.nodes) c.clear.new.self
+    c.explore.new.agenda c.new-dead_ends.result.items c.explore.new.dead_ends.items c.args.reductions.now
+    (grown_both t (listed c.args.nodes.now) (listed c.put_key.new.nodes) (listed c.explore.new.nodes)
+    c.clear.new.self c.put_key.new.agenda c.explore.new.agenda
+    c.new-dead_ends.result.items c.new-dead_ends.result.items c.explore.new.dead_ends.items added.grown
+    c.explore.ensures.grown) c.requires.sound c.args.edges.now c.requires.edges

@@ -13,6 +13,7 @@ use Rattle.live_table.specs.Surrounded.{AreSettledWords}
 use Rattle.live_table.proofs.AskedFor.{cut_short, explored_fault, explored_settled, grown_sound, words_explored}
 use Rattle.live_table.proofs.AskedFor.{words_query}
 use Rattle.live_table.proofs.Growing.{grown_both, none_listed}
+use Rattle.live_table.proofs.LinkedNames.{grown_edges}
 use Rattle.live_table.proofs.asking.ask_words.Goals as goal
 
 pub put_words-requires-clause-listed : goal.put_words-requires-clause-listed
@@ -118,3 +119,27 @@ returns-clause-asked g c =
     (listed c.settle_query.new.nodes) c.settle_query.new.reductions c.args.steps.now c.settle_query.new.steps
     c.settle_query.ensures.sound
     c.in_ok-settle_query.ensures.keys c.in_ok-query.query refl a.0 a.1 a.2
+
+pub returns-in_err-query-clause-edges : goal.returns-in_err-query-clause-edges
+returns-in_err-query-clause-edges g c =
+    grown_edges c.args.deck.now (listed c.args.nodes.now) (listed c.put_words.new.nodes) c.clear.new.self
+    c.put_words.new.agenda c.new-dead_ends.result.items c.put_words.new.dead_ends.items c.args.reductions.now
+    c.put_words.ensures.added.grown c.requires.sound c.args.edges.now c.requires.edges
+
+pub settle_query-requires-clause-edges : goal.settle_query-requires-clause-edges
+settle_query-requires-clause-edges g c =
+    grown_edges c.args.deck.now (listed c.args.nodes.now) (listed c.explore.new.nodes) c.clear.new.self
+    c.explore.new.agenda c.new-dead_ends.result.items c.explore.new.dead_ends.items c.args.reductions.now
+    (grown_both (table c.args.deck.now) (listed c.args.nodes.now) (listed c.put_words.new.nodes)
+    (listed c.explore.new.nodes) c.clear.new.self c.put_words.new.agenda c.explore.new.agenda
+    c.new-dead_ends.result.items c.put_words.new.dead_ends.items c.explore.new.dead_ends.items
+    c.put_words.ensures.added.grown c.explore.ensures.grown) c.requires.sound c.args.edges.now c.requires.edges
+
+pub returns-in_err-explore-clause-edges : goal.returns-in_err-explore-clause-edges
+returns-in_err-explore-clause-edges g c =
+    grown_edges c.args.deck.now (listed c.args.nodes.now) (listed c.explore.new.nodes) c.clear.new.self
+    c.explore.new.agenda c.new-dead_ends.result.items c.explore.new.dead_ends.items c.args.reductions.now
+    (grown_both (table c.args.deck.now) (listed c.args.nodes.now) (listed c.put_words.new.nodes)
+    (listed c.explore.new.nodes) c.clear.new.self c.put_words.new.agenda c.explore.new.agenda
+    c.new-dead_ends.result.items c.put_words.new.dead_ends.items c.explore.new.dead_ends.items
+    c.put_words.ensures.added.grown c.explore.ensures.grown) c.requires.sound c.args.edges.now c.requires.edges

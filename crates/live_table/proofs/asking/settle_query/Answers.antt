@@ -1,4 +1,4 @@
-use Rattle.std.proofs.Common.{◌<◌, List, Bool, Option, Some, None, length, sym, subst, refl}
+use Rattle.std.proofs.Common.{◌<◌, List, Bool, Option, length, sym, subst, refl}
 use Rattle.name_walk.specs.declared.fault.Fault.{Fault}
 use Rattle.name_walk.specs.Steps.{Graph}
 use Rattle.name_walk.specs.Walks.{IsWalked, fault_view}

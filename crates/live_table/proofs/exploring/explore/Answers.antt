@@ -1,5 +1,4 @@
-use Rattle.std.proofs.Common.{◌≡◌, Some, sym, ◌∙◌}
-use Rattle.std.specs.List.{slice_get}
+use Rattle.std.proofs.Common.{sym, ◌∙◌}
 use Rattle.name_walk.proofs.Lists.{get_In}
 use Rattle.deck.specs.Tables.{table}
 use Rattle.live_table.specs.Stored.{listed}

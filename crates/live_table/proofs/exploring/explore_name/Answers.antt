@@ -1,4 +1,4 @@
-use Rattle.std.proofs.Common.{◌≡◌, ◌<◌, ◌≤◌, List, ℕ, length, nat_eq, arith, subst, sym}
+use Rattle.std.proofs.Common.{List, ℕ, nat_eq, arith, subst, sym}
 use Rattle.std.specs.List.{IsDistinct}
 use Rattle.live_table.specs.Looks.{AllLead, AreLooks}
 use Rattle.expr_tree.specs.declared.word_list.WordUse.{WordUse}

@@ -11,7 +11,7 @@ use Rattle.name_lookup.specs.Targets.{AreFound, count}
 use Rattle.name_walk.specs.Lists.{In}
 use Rattle.table_names.specs.Leads.{word_lookup}
 use Rattle.live_table.specs.declared.nodes.Nodes.{Nodes}
-use Rattle.live_table.specs.Stored.{key_at, listed}
+use Rattle.live_table.specs.Stored.{key_at}
 use Rattle.live_table.proofs.KeyNumbers.{flagged_by, kept_itself}
 use Rattle.live_table.proofs.Targets.{are_targets, in_front, is_lead}
 use Rattle.live_table.proofs.leading.lead_of.Goals as goal

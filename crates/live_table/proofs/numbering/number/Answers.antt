@@ -1,7 +1,6 @@
-use Rattle.std.proofs.Common.{◌≡◌, false, List, ℕ, sym, ◌∙◌, ap, refl}
+use Rattle.std.proofs.Common.{List, ℕ, sym, ◌∙◌, ap}
 use Rattle.def_entry.specs.Keys.{key as key_named}
 use Rattle.def_entry.specs.SameKeys.{is_among}
-use Rattle.live_table.specs.Stored.{listed}
 use Rattle.live_table.proofs.KeyNumbers.{kept_named, more_named}
 use Rattle.live_table.proofs.numbering.number.Goals as goal
 

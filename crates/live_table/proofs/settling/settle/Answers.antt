@@ -5,23 +5,31 @@ use Rattle.live_table.proofs.SettleAll.{is_due, standing_next, standing_start}
 use Rattle.live_table.proofs.settling.settle.Goals as goal
 
 pub loop-n-init : goal.loop-n-init
-loop-n-init g c =
-    standing_start c.args.deck.now (listed c.args.nodes.now) c.args.reductions.now c.args.order.now c.args.steps.now
-    c.requires.sound c.requires.order
+loop-n-init g c = (
+  standing_start c.args.deck.now (listed c.args.nodes.now) c.args.reductions.now c.args.order.now c.args.steps.now
+      c.requires.sound c.requires.order,
+  c.requires.edges,
+)
 
 pub settle_one-requires-clause-due : goal.settle_one-requires-clause-due
 settle_one-requires-clause-due g c =
     is_due c.args.deck.now (listed c.args.nodes.now) (listed c.loop-n.nodes) c.args.reductions.now
     c.loop-n.reductions c.args.order.now c.loop-n.n-index c.args.steps.now c.loop-n.steps
     (get_or c.args.order.now c.loop-n.n-index 0) (slice_get-get_or c.args.order.now c.loop-n.n-index 0 (omega arith))
-    c.loop-n.invariant
+    c.loop-n.invariant.0
 
 pub loop-n-preserved : goal.loop-n-preserved
 loop-n-preserved g c =
-    let h = c.in_ok-settle_one.ensures.nodes in
-    standing_next c.args.deck.now (listed c.args.nodes.now) (listed c.loop-n.nodes) c.args.reductions.now
-    c.loop-n.reductions c.args.order.now c.loop-n.n-index c.args.steps.now c.loop-n.steps
-    (get_or c.args.order.now c.loop-n.n-index 0) (slice_get-get_or c.args.order.now c.loop-n.n-index 0 (omega arith))
-    c.loop-n.invariant
-    (listed c.settle_one.new.nodes) c.settle_one.new.reductions c.settle_one.new.steps h.0 h.1
-    c.in_ok-settle_one.ensures.sound h.2 c.in_ok-settle_one.ensures.ok c.in_ok-settle_one.ensures.steps
+    let h = c.in_ok-settle_one.ensures.nodes in (
+      standing_next c.args.deck.now (listed c.args.nodes.now) (listed c.loop-n.nodes) c.args.reductions.now
+          c.loop-n.reductions c.args.order.now c.loop-n.n-index c.args.steps.now c.loop-n.steps
+          (get_or c.args.order.now c.loop-n.n-index 0)
+          (slice_get-get_or c.args.order.now c.loop-n.n-index 0 (omega arith))
+          c.loop-n.invariant.0
+          (listed c.settle_one.new.nodes) c.settle_one.new.reductions c.settle_one.new.steps h.0 h.1
+          c.in_ok-settle_one.ensures.sound h.2 c.in_ok-settle_one.ensures.ok c.in_ok-settle_one.ensures.steps,
+      c.settle_one.ensures.edges,
+    )
+
+pub settle_one-requires-clause-edges : goal.settle_one-requires-clause-edges
+settle_one-requires-clause-edges g c = c.loop-n.invariant.1

@@ -1,7 +1,9 @@
+use Rattle.live_table.specs.Edged.{HasEdges}
 use Rattle.live_table.specs.Stored.{listed}
 use Rattle.live_table.proofs.SettleAll.{IsStanding}
 use Rattle.live_table.proofs.settling.settle.Given as goal
 
 abbrev pub invariant-loop-n : goal.invariant-loop-n
-invariant-loop-n g l = IsStanding l.deck (listed l.fn.nodes) (listed l.nodes) l.fn.reductions l.reductions l.order
+invariant-loop-n g l = (IsStanding l.deck (listed l.fn.nodes) (listed l.nodes) l.fn.reductions l.reductions l.order
     l.n-index l.fn.steps l.steps
+    × HasEdges l.deck (listed l.nodes) l.edges)

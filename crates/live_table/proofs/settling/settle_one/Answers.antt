@@ -1,5 +1,7 @@
 use Rattle.std.proofs.Common.{◌≡◌, ◌<◌, length, arith}
-use Rattle.live_table.specs.Stored.{listed}
+use Rattle.std.proofs.Common.{sym, subst}
+use Rattle.live_table.specs.Edged.{HasEdges}
+use Rattle.live_table.specs.Stored.{Listed, listed}
 use Rattle.live_table.proofs.Flags.{count_room}
 use Rattle.live_table.proofs.Kept.{settled_count}
 use Rattle.live_table.proofs.SettleOne.{settled_nodes, settled_shown, settled_sound}
@@ -53,3 +55,14 @@ returns-clause-ok g c =
     c.requires.due c.in_ok-outcome.outcome c.in_ok-outcome.ensures.outcome c.rank_of-rank.result
     c.rank_of-rank.ensures
     c.saturating_add.result (omega (arith, c.saturating_add.ensures)) (listed c.put.new.nodes) c.put.ensures
+
+pub link-requires-clause-sound : goal.link-requires-clause-sound
+link-requires-clause-sound g c = (c.args.reductions.now, c.requires.sound)
+
+pub returns-clause-edges : goal.returns-clause-edges
+returns-clause-edges g c =
+    let s = settled_nodes c.args.deck.now (listed c.args.nodes.now) c.args.reductions.now c.args.n c.requires.sound
+    c.requires.due c.in_ok-outcome.outcome c.in_ok-outcome.ensures.outcome c.rank_of-rank.result
+    c.rank_of-rank.ensures
+    c.saturating_add.result (omega (arith, c.saturating_add.ensures)) (listed c.put.new.nodes) c.put.ensures in
+    subst (λ (x : Listed). HasEdges c.args.deck.now x c.link.new.edges) (sym s.2) (c.in_ok-link.ensures.ok s.0 s.1)

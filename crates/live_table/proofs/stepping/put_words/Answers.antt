@@ -1,4 +1,4 @@
-use Rattle.std.proofs.Common.{◌≡◌, ◌<◌, Some, List, sym, ◌∙◌, ap, arith}
+use Rattle.std.proofs.Common.{Some, List, sym, ◌∙◌, ap, arith}
 use Rattle.std.specs.List.{slice_get}
 use Rattle.std.proofs.lemmas.Option.{slice_get-get_or}
 use Rattle.expr_tree.specs.declared.word_list.WordUse.{WordUse}

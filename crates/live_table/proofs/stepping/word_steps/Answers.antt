@@ -1,4 +1,4 @@
-use Rattle.std.proofs.Common.{◌≡◌, ◌<◌, ◌∷◌, [], ℕ, List, length, sym, subst, inl, inr, refl}
+use Rattle.std.proofs.Common.{◌∷◌, [], length, subst, inl, inr, refl}
 use Rattle.deck.specs.Tables.{table}
 use Rattle.name_numbers.specs.Numbered.{ForOne, ForTwo}
 use Rattle.live_table.specs.Leading.{IsLead}

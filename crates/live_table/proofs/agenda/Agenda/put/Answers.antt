@@ -1,8 +1,8 @@
-use Rattle.std.proofs.Common.{◌≡◌, ◌++◌, ◌∷◌, [], List, ℕ, true, false, cond, length, set, sym, ◌∙◌, ap, subst}
-use Rattle.std.proofs.lemmas.Bool.{cond-false, cond-true}
+use Rattle.std.proofs.Common.{◌≡◌, ◌++◌, ◌∷◌, [], List, ℕ, true, false, set, sym, ◌∙◌, ap, subst}
+use Rattle.std.proofs.lemmas.Bool.{cond-false}
 use Rattle.name_walk.specs.Faults.{on}
 use Rattle.live_table.specs.Agendas.{IsMarked}
-use Rattle.live_table.proofs.Marking.{marked_on, marked_put, marked_same, unmarked_off}
+use Rattle.live_table.proofs.Marking.{marked_put, marked_same, unmarked_off}
 use Rattle.live_table.proofs.agenda.Agenda.put.Goals as goal
 
 pub invariant_of-self-2 : goal.invariant_of-self-2

@@ -1,4 +1,4 @@
-use Rattle.std.proofs.Common.{rules, ◌≡◌, Some, ℕ, false, List, slice_get, subst, sym, ap, ◌∙◌}
+use Rattle.std.proofs.Common.{◌≡◌, Some, false, List, slice_get, subst}
 use Rattle.std.specs.Prelude.{MatchOption}
 use Rattle.def_entry.specs.Keys.{key as key_named}
 use Rattle.def_entry.specs.SameKeys.{is_among}

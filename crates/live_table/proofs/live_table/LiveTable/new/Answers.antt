@@ -1,6 +1,10 @@
 use Rattle.live_table.specs.Stored.{listed}
+use Rattle.live_table.proofs.LinkedNames.{start_edges}
 use Rattle.live_table.proofs.Starting.{start_sound}
 use Rattle.live_table.proofs.live_table.LiveTable.new.Goals as goal
 
 pub invariant_of-result : goal.invariant_of-result
-invariant_of-result c = start_sound c.args.deck (listed c.new.result) c.new.ensures
+invariant_of-result c = record {
+  sound = start_sound c.args.deck (listed c.new.result) c.new.ensures;
+  edges = start_edges c.args.deck (listed c.new.result) c.new-2.result c.new.ensures c.new-2.ensures;
+}

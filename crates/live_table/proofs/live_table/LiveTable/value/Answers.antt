@@ -32,7 +32,7 @@ returns-in_err-words-clause-after g c =
     subst (λ r. IsQuery (AsksWords us) r c.args.self.now c.args.self.now c.args.steps.now c.args.steps.now)
     (sym (p.1 ∙ ap Err p.2))
     (cut_off (AsksWords us) (name_fault t us) (reach t us) c.args.self.now c.args.steps.now
-    (subst IsRightTable c.self.view_is c.self.invariant.right) (words_query t us))
+    (subst IsRightTable c.self.view_is c.self.invariant.sound.right) (words_query t us))
 
 pub returns-in_err-query-clause-answer : goal.returns-in_err-query-clause-answer
 returns-in_err-query-clause-answer g c =

@@ -1,4 +1,4 @@
-use Rattle.std.proofs.Common.{◌≡◌, ◌++◌, ◌∷◌, [], None, false, List, sym, ◌∙◌, ap}
+use Rattle.std.proofs.Common.{◌++◌, ◌∷◌, [], None, false, ◌∙◌}
 use Rattle.live_table.proofs.nodes.Nodes.add.Goals as goal
 
 pub returns-clause-ok : goal.returns-clause-ok

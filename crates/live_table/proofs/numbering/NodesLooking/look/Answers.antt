@@ -1,9 +1,7 @@
-use Rattle.std.proofs.Common.{◌≡◌, ◌<◌, ◌++◌, ◌∷◌, [], List, ℕ, length, map, sym, ◌∙◌, ap, subst, refl}
+use Rattle.std.proofs.Common.{◌<◌, ◌++◌, ◌∷◌, [], List, ℕ, length, map, sym, ◌∙◌, ap, subst}
 use Rattle.def_entry.specs.Keys.{key as key_named}
 use Rattle.name_walk.specs.Lists.{In}
-use Rattle.live_table.specs.Numbering.{CanLook, IsKept}
-use Rattle.live_table.specs.Stored.{key_at, listed}
-use Rattle.live_table.proofs.Growing.{more_length}
+use Rattle.live_table.specs.Stored.{key_at}
 use Rattle.live_table.proofs.KeyNumbers.{kept_on, looked_push, within_more, within_push}
 use Rattle.live_table.proofs.numbering.NodesLooking.look.Goals as goal
 

@@ -1,0 +1,257 @@
+-- Keys forgotten one after another.
+use Rattle.std.proofs.Common.{◌≡◌, ◌⊎◌, ◌+◌, ◌<◌, ◌≤◌, ℕ, zero, suc, Bool, true, false, List, [], ◌∷◌, ◌++◌, length}
+use Rattle.std.proofs.Common.{take, set, Contains}
+use Rattle.std.proofs.Common.{Option, Some, refl, sym, ◌∙◌, ap, subst, inl, inr, arith}
+use Rattle.std.specs.List.{slice_get}
+use Rattle.std.proofs.lemmas.Bool.{cases_Bool, true≢false}
+use Rattle.std.proofs.lemmas.List.{length-set}
+use Rattle.std.proofs.lemmas.Option.{slice_get-get_or}
+use Rattle.std.proofs.lemmas.List.Elements.{Contains-append_cases, Contains-append_left, Contains-append_right}
+use Rattle.def_entry.specs.declared.key.Key.{Key}
+use Rattle.def_entry.specs.SameKeys.{is_among}
+use Rattle.def_entry.specs.Tables.{Table, is_present}
+use Rattle.edge_links.specs.Reach.{IsCleared}
+use Rattle.name_edges.specs.Affected.{AreAffected, Forgets, IsAffected, IsCut}
+use Rattle.name_edges.specs.NameGraphs.{NameGraph}
+use Rattle.name_edges.proofs.Cutting.{alone, both, cleared_on, cut_on, in_alone}
+use Rattle.name_numbers.specs.EdgeLaws.{AreNumbersOf}
+use Rattle.name_walk.proofs.Marks.{get_set_other, get_set_same}
+use Rattle.table_names.proofs.KeyLists.{among_member, member_among}
+use Rattle.table_names.proofs.Members.{member_at, member_cases, member_first, no_member}
+use Rattle.tree_eval.specs.declared.outcome.Outcome.{Outcome}
+use Rattle.live_table.specs.Edged.{is_flagged}
+use Rattle.live_table.specs.Forgotten.{AreFlaggedAnew, AreForgotten, CanForget, IsRest}
+use Rattle.live_table.specs.Keeping.{IsLeft, left_at_first, left_on}
+use Rattle.live_table.specs.Stored.{Listed, key_at}
+use Rattle.live_table.proofs.Places.{get_lt, some_same}
+
+no_key : (g : NameGraph) (n : ℕ) → AreAffected g [] n → ⊥
+no_key g n a = no_member a.0 a.1
+
+-- ---- no key
+module _ (t : Table) (l : Listed) (g : NameGraph) where
+  nothing_cut : IsCut (AreAffected g []) g.uses g.uses
+  nothing_cut = record { gone = λ x y a. absurd (no_key g x a); kept = λ x y free. refl }
+
+  nothing_looked : IsCut (AreAffected g []) g.looks g.looks
+  nothing_looked = record { gone = λ x y a. absurd (no_key g x a); kept = λ x y free. refl }
+
+  same_rest : IsRest l l
+  same_rest = record { keys = refl; callees = refl; graph = refl; looks = refl }
+
+  -- nothing changes where none of the keys has a number
+  pub none_forgotten : (keys : List Key) → ((n : ℕ) → n < length l.keys → Contains keys (key_at l.keys n) → ⊥)
+      → g.names ≤ length l.keys → AreForgotten t keys l l g g
+  none_forgotten keys none few = record {
+    numbers = [];
+    of = record { of_keys = λ m i. absurd (no_member m i); every = λ m s i. absurd (none m (omega (arith, s, few)) i) };
+    edges = record { names = refl; uses = nothing_cut; looks = nothing_looked };
+    marks = record { gone = λ x a. absurd (no_key g x a); kept = λ x free. refl };
+    left = left_at_first l.settled l.count l.outcomes;
+    present = record { count = refl; changed = λ n s i. absurd (none n s i); others = λ n s free. refl };
+    rest = same_rest;
+  }
+
+-- ---- some keys, and then others
+module _ (t : Table) (keys others : List Key) (l mid new : Listed) (g gmid h : NameGraph)
+    (a : AreForgotten t keys l mid g gmid) (b : AreForgotten t others mid new gmid h) where
+  key_same : (n : ℕ) → key_at mid.keys n ≡ key_at l.keys n
+  key_same n = ap (λ (ks : List Key). key_at ks n) a.rest.keys
+
+  size_same : (n : ℕ) → n < length l.keys → n < length mid.keys
+  size_same n s = let e : length mid.keys ≡ length l.keys = ap length a.rest.keys in omega (arith, s, e)
+
+  of_both : AreNumbersOf (key_at l.keys) g.names (keys ++ others) (a.numbers ++ b.numbers)
+  of_both = record {
+    of_keys = λ m i. elim (Contains-append_cases a.numbers b.numbers m i) [
+      | inl j ↦ Contains-append_left keys others (key_at l.keys m) (a.of.of_keys m j)
+      | inr j ↦ Contains-append_right keys others (key_at l.keys m)
+          (subst (λ (k : Key). Contains others k) (key_same m) (b.of.of_keys m j))
+    ];
+    every = λ m s i. elim (Contains-append_cases keys others (key_at l.keys m) i) [
+      | inl j ↦ Contains-append_left a.numbers b.numbers m (a.of.every m s j)
+      | inr j ↦ Contains-append_right a.numbers b.numbers m
+          (b.of.every m (let e = a.edges.names in omega (arith, s, e))
+          (subst (λ (k : Key). Contains others k) (sym (key_same m)) j))
+    ];
+  }
+
+  flags_at : (n : ℕ) → n < length l.keys → Contains (keys ++ others) (key_at l.keys n)
+      → (is_among others (key_at l.keys n) ≡ true) ⊎ (is_among others (key_at l.keys n) ≡ false)
+      → slice_get new.present n ≡ Some (is_present t (key_at l.keys n))
+  flags_at n s i (inl e) =
+      b.present.changed n (size_same n s)
+      (subst (λ (k : Key). Contains others k) (sym (key_same n)) (member_among others (key_at l.keys n) e))
+      ∙ ap (λ (k : Key). Some (is_present t k)) (key_same n)
+  flags_at n s i (inr e) =
+      let off : Contains others (key_at l.keys n) → ⊥ = λ c.
+      true≢false (sym (among_member others (key_at l.keys n) c) ∙ e) in
+      b.present.others n (size_same n s) (λ c. off (subst (λ (k : Key). Contains others k) (key_same n) c))
+      ∙ a.present.changed n s
+      (elim (Contains-append_cases keys others (key_at l.keys n) i) [ inl j ↦ j | inr j ↦ absurd (off j) ])
+
+  flags_both : AreFlaggedAnew t (keys ++ others) l new
+  flags_both = record {
+    count = b.present.count ∙ a.present.count;
+    changed = λ n s i. flags_at n s i (cases_Bool (is_among others (key_at l.keys n)));
+    others = λ n s free.
+        b.present.others n (size_same n s)
+        (λ c. free (Contains-append_right keys others (key_at l.keys n)
+        (subst (λ (k : Key). Contains others k) (key_same n) c)))
+        ∙ a.present.others n s (λ c. free (Contains-append_left keys others (key_at l.keys n) c));
+  }
+
+  pub forgotten_on : AreForgotten t (keys ++ others) l new g h
+  forgotten_on = record {
+    numbers = a.numbers ++ b.numbers;
+    of = of_both;
+    edges = record {
+      names = b.edges.names ∙ a.edges.names;
+      uses = cut_on _ _ _ (both a.numbers b.numbers g gmid a.edges) g.uses gmid.uses h.uses a.edges.uses b.edges.uses;
+      looks = cut_on _ _ _ (both a.numbers b.numbers g gmid a.edges) g.looks gmid.looks h.looks a.edges.looks
+          b.edges.looks;
+    };
+    marks = cleared_on _ _ _ (both a.numbers b.numbers g gmid a.edges) (is_flagged l.settled) (is_flagged mid.settled)
+        (is_flagged new.settled) a.marks b.marks;
+    left = left_on l.settled mid.settled new.settled l.count mid.count new.count l.outcomes mid.outcomes new.outcomes
+        a.left b.left;
+    present = flags_both;
+    rest = record {
+      keys = b.rest.keys ∙ a.rest.keys;
+      callees = b.rest.callees ∙ a.rest.callees;
+      graph = b.rest.graph ∙ a.rest.graph;
+      looks = b.rest.looks ∙ a.rest.looks;
+    };
+  }
+
+-- ---- one key that has a number
+module _ (t : Table) (k : Key) (l : Listed) (n : ℕ) (found : slice_get l.keys n ≡ Some k)
+    (apart : (i j : ℕ) → i < length l.keys → j < length l.keys → key_at l.keys i ≡ key_at l.keys j → i ≡ j)
+    (sizes : length l.present ≡ length l.keys) (b : Bool) (flag : b ≡ is_present t k) where
+  there : n < length l.keys
+  there = get_lt l.keys n k found
+
+  its_key : key_at l.keys n ≡ k
+  its_key = some_same (key_at l.keys n) k (sym (slice_get-get_or l.keys n _ there) ∙ found)
+
+  only : (i : ℕ) → i < length l.keys → Contains (k ∷ []) (key_at l.keys i) → i ≡ n
+  only i s c = elim (member_cases (key_at l.keys i) k [] c) [
+    | inl e ↦ apart i n s there (e ∙ sym its_key)
+    | inr j ↦ absurd (no_member (key_at l.keys i) j)
+  ]
+
+  own : Contains (k ∷ []) (key_at l.keys n)
+  own = member_first (key_at l.keys n) k [] its_key
+
+  module _ (m : Listed) (put : m.present ≡ set l.present n b) where
+    pub flags_one : AreFlaggedAnew t (k ∷ []) l m
+    flags_one = record {
+      count = ap length put ∙ length-set l.present n b;
+      changed = λ i s c.
+          let e : i ≡ n = only i s c in
+          ap (λ (bs : List Bool). slice_get bs i) put
+          ∙ (ap (slice_get (set l.present n b)) e
+          ∙ (get_set_same l.present n b (let z = there in omega (arith, z, sizes))
+          ∙ ap Some (flag ∙ ap (is_present t) (sym its_key ∙ ap (key_at l.keys) (sym e)))));
+      others = λ i s free.
+          ap (λ (bs : List Bool). slice_get bs i) put
+          ∙ get_set_other l.present n i b (λ e. free (subst (λ x. Contains (k ∷ []) (key_at l.keys x)) (sym e) own));
+    }
+
+    module _ (rest : IsRest l m) (g h : NameGraph) where
+      -- it has edges
+      pub one_forgotten : n < g.names → g.names ≤ length l.keys → Forgets (IsAffected g n) g h
+          → IsCleared (IsAffected g n) (is_flagged l.settled) (is_flagged m.settled)
+          → IsLeft l.settled m.settled l.count m.count l.outcomes m.outcomes → AreForgotten t (k ∷ []) l m g h
+      one_forgotten within few edges marks left = record {
+        numbers = n ∷ [];
+        of = record {
+          of_keys = λ i c. subst (λ x. Contains (k ∷ []) (key_at l.keys x)) (sym (single i c)) own;
+          every = λ i s c. member_first i n [] (only i (omega (arith, s, few)) c);
+        };
+        edges = record {
+          names = edges.names;
+          uses = record {
+            gone = λ x y a. edges.uses.gone x y (alone g n x a);
+            kept = λ x y free.
+                edges.uses.kept x y (λ a. free (in_alone g n x a));
+          };
+          looks = record {
+            gone = λ x y a. edges.looks.gone x y (alone g n x a);
+            kept = λ x y free.
+                edges.looks.kept x y (λ a. free (in_alone g n x a));
+          };
+        };
+        marks = record {
+          gone = λ x a. marks.gone x (alone g n x a);
+          kept = λ x free.
+              marks.kept x (λ a. free (in_alone g n x a));
+        };
+        left = left;
+        present = flags_one;
+        rest = rest;
+      }
+        where
+          single : (i : ℕ) → Contains (n ∷ []) i → i ≡ n
+          single i c = elim (member_cases i n [] c) [ inl e ↦ e | inr j ↦ absurd (no_member i j) ]
+
+    -- it has none
+    module _ (rest : IsRest l m) (g : NameGraph) (settled : m.settled ≡ l.settled) (count : m.count ≡ l.count)
+        (outcomes : m.outcomes ≡ l.outcomes) where
+      pub flag_forgotten : (n < g.names → ⊥) → g.names ≤ length l.keys → AreForgotten t (k ∷ []) l m g g
+      flag_forgotten beyond few = record {
+        numbers = [];
+        of = record {
+          of_keys = λ i c. absurd (no_member i c);
+          every = λ i s c. absurd (beyond (subst (λ x. x < g.names) (only i (omega (arith, s, few)) c) s));
+        };
+        edges = record { names = refl; uses = nothing_cut t l g; looks = nothing_looked t l g };
+        marks = record {
+          gone = λ x a. absurd (no_key g x a);
+          kept = λ x free. ap (λ (bs : List Bool). is_flagged bs x) settled;
+        };
+        left = subst (λ (p : List Bool × (ℕ × List (Option Outcome))). IsLeft l.settled p.0 l.count p.1.0 l.outcomes
+            p.1.1)
+            (λ i. (sym settled i, (sym count i, sym outcomes i))) (left_at_first l.settled l.count l.outcomes);
+        present = flags_one;
+        rest = rest;
+      }
+
+-- ---- a key that has no number
+pub absent_forgotten : (t : Table) (k : Key) (l : Listed) (g : NameGraph) → g.names ≤ length l.keys
+    → is_among l.keys k ≡ false
+    → AreForgotten t (k ∷ []) l l g g
+absent_forgotten t k l g few absent = none_forgotten t l g (k ∷ []) none few
+  where
+    none : (n : ℕ) → n < length l.keys → Contains (k ∷ []) (key_at l.keys n) → ⊥
+    none n s c = elim (member_cases (key_at l.keys n) k [] c) [
+      | inl e ↦ true≢false (sym
+          (among_member l.keys k (member_at l.keys n k (slice_get-get_or l.keys n _ s ∙ ap Some e))) ∙ absent)
+      | inr j ↦ no_member (key_at l.keys n) j
+    ]
+
+-- ---- one key after another
+pub take_next : (ks : List Key) (i : ℕ) (k : Key) → slice_get ks i ≡ Some k → take (i + 1) ks ≡ take i ks ++ k ∷ []
+take_next [] i k e = cc
+take_next (x ∷ ks) zero k e = ap (λ (z : Key). z ∷ []) (some_same x k e)
+take_next (x ∷ ks) (suc i) k e = ap (λ n. take n (x ∷ ks)) (later i) ∙ ap (λ zs. x ∷ zs) (take_next ks i k e)
+  where
+    later : (i : ℕ) → suc i + 1 ≡ suc (i + 1)
+    later i = omega arith
+
+pub can_forget : (t : Table) (keys : List Key) (l m : Listed) (g h : NameGraph) → AreForgotten t keys l m g h
+    → CanForget l g → CanForget m h
+can_forget t keys l m g h f can = record {
+  apart = λ i j s u e. can.apart i j (size i s) (size j u) (sym (same i) ∙ (e ∙ same j));
+  flags = f.present.count ∙ (can.flags ∙ sym (ap length f.rest.keys));
+  names =
+      let a = can.names in
+      let b = f.edges.names in
+      let d : length m.keys ≡ length l.keys = ap length f.rest.keys in omega (arith, a, b, d);
+}
+  where
+    same : (i : ℕ) → key_at m.keys i ≡ key_at l.keys i
+    same i = ap (λ (ks : List Key). key_at ks i) f.rest.keys
+
+    size : (i : ℕ) → i < length m.keys → i < length l.keys
+    size i s = let d : length m.keys ≡ length l.keys = ap length f.rest.keys in omega (arith, s, d)

@@ -1,0 +1,55 @@
+-- One name less is settled.
+use Rattle.std.proofs.Common.{◌≡◌, ◌+◌, ◌-◌, ◌<◌, ℕ, zero, suc, Bool, true, false, List, [], ◌∷◌, filter, length}
+use Rattle.std.proofs.Common.{set}
+use Rattle.std.proofs.Common.{Option, Some, None, is_some, sym, ◌∙◌, ap, inl, inr, arith}
+use Rattle.std.specs.List.{slice_get}
+use Rattle.std.specs.Prelude.{count_by}
+use Rattle.std.proofs.lemmas.Bool.{cases_eq}
+use Rattle.std.proofs.lemmas.List.{length-set, map-set}
+use Rattle.std.proofs.lemmas.List.Sums.{length-filter}
+use Rattle.name_walk.proofs.Marks.{get_set_other, get_set_same}
+use Rattle.tree_eval.specs.declared.outcome.Outcome.{Outcome}
+use Rattle.live_table.specs.Keeping.{IsLeft}
+use Rattle.live_table.proofs.Places.{get_lt}
+
+fewer : (bs : List Bool) (n : ℕ) → slice_get bs n ≡ Some true → length (filter (λ b. b) (set bs n false)) + 1 ≡ length
+    (filter (λ b. b) bs)
+fewer [] n e = cc
+fewer (true ∷ bs) zero e = omega arith
+fewer (false ∷ bs) zero e = cc
+fewer (true ∷ bs) (suc n) e = let r = fewer bs n e in omega (arith, r)
+fewer (false ∷ bs) (suc n) e = fewer bs n e
+
+counted_less : (bs : List Bool) (n : ℕ) → slice_get bs n ≡ Some true → count_by (λ b. b) (set bs n false) + 1 ≡ count_by
+    (λ b. b) bs
+counted_less bs n e =
+    ap (λ k. k + 1) (sym (length-filter (λ b. b) (set bs n false))) ∙ (fewer bs n e ∙ length-filter (λ b. b) bs)
+
+module _ (settled : List Bool) (count rest n : ℕ) (outcomes : List (Option Outcome))
+    (is : slice_get settled n ≡ Some true)
+    (less : rest ≡ count - 1) where
+  counted : count ≡ count_by (λ b. b) settled → rest ≡ count_by (λ b. b) (set settled n false)
+  counted e = let r = counted_less settled n is in omega (arith, e, r, less)
+
+  none_else : (m : ℕ) (o : Outcome) → slice_get (set outcomes n None) m ≡ Some (Some o)
+      → slice_get outcomes m ≡ Some (Some o)
+  none_else m o e = elim (cases_eq m n) [
+    | inr ne ↦ sym (get_set_other outcomes n m None ne) ∙ e
+    | inl q ↦
+        let s : n < length outcomes = size (get_lt (set outcomes n None) m (Some o) e) q in
+        let z : Some None ≡ Some (Some o) = sym (get_set_same outcomes n None s)
+        ∙ (ap (slice_get (set outcomes n None)) (sym q) ∙ e) in cc
+  ]
+    where
+      size : m < length (set outcomes n None) → m ≡ n → n < length outcomes
+      size l q = let e : length (set outcomes n None) ≡ length outcomes = length-set outcomes n None in
+          omega (arith, l, q, e)
+
+  pub one_less : IsLeft settled (set settled n false) count rest outcomes (set outcomes n None)
+  one_less = record {
+    size = length-set settled n false;
+    outcome_count = length-set outcomes n None;
+    counted = counted;
+    marked = λ e. ap (λ (bs : List Bool). set bs n false) e ∙ sym (map-set is_some outcomes n None);
+    outcomes = none_else;
+  }

@@ -1,0 +1,26 @@
+use Rattle.deck.specs.Edits as deck_edit
+use Rattle.live_table.specs.Stored.{listed}
+use Rattle.live_table.proofs.Edited.{edit_done, live_can, live_edited, same_outcome}
+use Rattle.live_table.proofs.live_table.LiveTable.drop_last.Goals as goal
+
+pub forget-requires : goal.forget-requires
+forget-requires c =
+    live_can c.self.inside.deck (listed c.self.inside.nodes) c.self.inside.edges c.self.inside.reductions
+    c.self.invariant
+
+pub invariant_of-self-2 : goal.invariant_of-self-2
+invariant_of-self-2 c =
+    live_edited c.changes_are_computed.ensures c.self.inside.deck c.drop_last.new.self (listed c.self.inside.nodes)
+    (listed c.forget.new.nodes) c.self.inside.edges c.forget.new.edges c.self.inside.reductions c.in_ok-keys.keys
+    c.as_slice.result.now c.as_slice.ensures c.self.invariant c.in_ok-keys.ensures.1 c.forget.ensures
+
+pub returns : goal.returns
+returns c = (
+  same_outcome (λ d. deck_edit.after_drop c.args.key.now d) c.self.inside.deck c.drop_last.new.self
+      (listed c.self.inside.nodes)
+      c.self.inside.reductions c.args.self.now c.self.view_is c.in_ok-keys.ensures.0,
+  edit_done c.changes_are_computed.ensures c.self.inside.deck c.drop_last.new.self (listed c.self.inside.nodes)
+      (listed c.forget.new.nodes) c.self.inside.edges c.forget.new.edges c.self.inside.reductions c.in_ok-keys.keys
+      c.as_slice.result.now c.as_slice.ensures c.self.invariant c.in_ok-keys.ensures.1 c.forget.ensures
+      c.args.self.now c.self.view_is,
+)

@@ -1,0 +1,30 @@
+-- What is left of kept outcomes where some names are forgotten.
+use mathlib.Core.Path.{refl, ◌∙◌}
+use Rattle.std.specs.Prelude.{◌≡◌, ℕ, Bool, List, Option, Some, map, length, count_by, slice_get}
+use Rattle.std.specs.Option.{is_some}
+use Rattle.tree_eval.specs.declared.outcome.Outcome.{Outcome}
+
+-- no number is gone, the settled names are counted, an outcome stands where a name is settled, and none is another
+-- than before
+pub record IsLeft (settled still : List Bool) (count rest : ℕ) (old new : List (Option Outcome)) : Type 0 where
+  pub size : length still ≡ length settled
+  pub outcome_count : length new ≡ length old
+  pub counted : count ≡ count_by (λ b. b) settled → rest ≡ count_by (λ b. b) still
+  pub marked : settled ≡ map is_some old → still ≡ map is_some new
+  pub outcomes : (n : ℕ) (o : Outcome) → slice_get new n ≡ Some (Some o) → slice_get old n ≡ Some (Some o)
+
+abbrev pub left_at_first : (settled : List Bool) (count : ℕ) (outcomes : List (Option Outcome))
+    → IsLeft settled settled count count outcomes outcomes
+left_at_first settled count outcomes =
+    record { size = refl; outcome_count = refl; counted = λ e. e; marked = λ e. e; outcomes = λ n o e. e }
+
+abbrev pub left_on : (settled then still : List Bool) (count some rest : ℕ) (old mid new : List (Option Outcome))
+    → IsLeft settled then count some old mid → IsLeft then still some rest mid new
+    → IsLeft settled still count rest old new
+left_on settled then still count some rest old mid new a b = record {
+  size = b.size ∙ a.size;
+  outcome_count = b.outcome_count ∙ a.outcome_count;
+  counted = λ e. b.counted (a.counted e);
+  marked = λ e. b.marked (a.marked e);
+  outcomes = λ n o e. a.outcomes n o (b.outcomes n o e);
+}

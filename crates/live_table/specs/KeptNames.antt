@@ -1,0 +1,40 @@
+-- Which names are kept after queries and edits, and what is kept of them.
+use Rattle.std.specs.Prelude.{◌≡◌, ◌⊎◌, ◌↔◌, List, [], ◌∷◌, Some}
+use Rattle.std.specs.FinMap as map_of
+use Rattle.def_entry.specs.declared.key.Key.{Key}
+use Rattle.def_entry.specs.Tables.{Table}
+use Rattle.deck.specs.Changes.{changed_keys}
+use Rattle.table_names.specs.Affected.{IsAffected}
+use Rattle.table_names.specs.Closed.{AreClosed, IsClosed}
+use Rattle.table_names.specs.Leads.{Reaches, WordsReach}
+use Rattle.table_names.specs.Meanings.{outcome}
+use Rattle.tree_eval.specs.declared.outcome.Outcome.{Outcome}
+use Rattle.live_table.specs.Right.{IsRight, IsSettled}
+use Rattle.live_table.specs.States.{AllCanBe, AsksKey, AsksWords, Becomes, Event, State, after_all}
+
+-- the table after an event
+abbrev pub table_after : Event → Table → Table
+table_after (Becomes later) table = later
+table_after (AsksWords words) table = table
+table_after (AsksKey k) table = table
+
+-- a query without a name fault adds what it reaches, and an edit takes out what it affects
+abbrev pub IsKeptBy : Event → Table → (Key → Type 0) → Key → Type 0
+IsKeptBy (AsksWords words) table Kept n = Kept n ⊎ (AreClosed table words × WordsReach table words n)
+IsKeptBy (AsksKey k) table Kept n = Kept n ⊎ (IsClosed table k × ((n ≡ k) ⊎ Reaches table k n))
+IsKeptBy (Becomes later) table Kept n = Kept n × (IsAffected table (changed_keys table later) n → ⊥)
+
+-- one event after another, from a table of which some names are kept
+abbrev pub IsKeptByAll : List Event → Table → (Key → Type 0) → Key → Type 0
+IsKeptByAll [] table Kept = Kept
+IsKeptByAll (e ∷ es) table Kept = IsKeptByAll es (table_after e table) (IsKeptBy e table Kept)
+
+-- after these events exactly those names are kept, each with its outcome in the present table
+pub record KeptAfter (es : List Event) (s : State) : Type 0 where
+  pub names : (n : Key) → IsSettled (after_all es s) n ↔ IsKeptByAll es s.table (IsSettled s) n
+  pub outcomes : (n : Key) (o : Outcome) → map_of.get (after_all es s).kept n ≡ Some o
+      → o ≡ outcome (after_all es s).table n
+
+-- law: so it is after any queries and edits
+abbrev pub KeptLaw : Type 0
+KeptLaw = (es : List Event) (s : State) → AllCanBe es s → IsRight s → KeptAfter es s

@@ -1,0 +1,123 @@
+//! Edits of the deck, with what they forget.
+
+ghost use Rattle.std.specs.Prelude.{◌≡◌, Some, Ok, true, IfErr, MatchResult, OnOk, OnErr};
+ghost use Rattle.units_io.specs.FileMap.{FileMap};
+ghost use Rattle.def_lines.specs.Blanks.{trimmed};
+ghost use Rattle.deck.specs.Edits as deck_edit;
+ghost use Rattle.deck.specs.Loading as loading;
+ghost use Rattle.deck.specs.Splices.{CanSplice};
+ghost use Rattle.live_table.specs.Calls.{IsEdit};
+ghost use Rattle.live_table.specs.Edits as edit;
+
+use super::LiveTable;
+use crate::forgetting::forget;
+use deck::{DeckFault, Settings, Splice, changes_are_computed};
+use def_entry::Key;
+use std::alloc::{AllocError, Global};
+use units_io::Files;
+
+impl LiveTable {
+    /// Puts a line that defines a key at the end of the deck, as `Deck::define`, and forgets what that
+    /// affects. A refusal, want of memory too, changes nothing.
+    pub fn define(&mut self, alloc: Global, line: &[u8]) -> Result<(), DeckFault>
+        ensures { edit.IsEditOf (deck_edit.after_define (trimmed line.now) self.old.deck) self.old self.new result }
+    {
+        changes_are_computed();
+        let keys = self.deck.define(alloc, line)?;
+        forget(
+            alloc,
+            &self.deck,
+            &mut self.nodes,
+            &mut self.edges,
+            keys.as_slice(),
+        );
+        Ok(())
+    }
+
+    /// Takes out the last active line of a key, as `Deck::drop_last`, and forgets what that affects. A
+    /// refusal, want of memory too, changes nothing.
+    pub fn drop_last(&mut self, alloc: Global, key: &Key) -> Result<(), DeckFault>
+        ensures { edit.IsEditOf (deck_edit.after_drop key.now self.old.deck) self.old self.new result }
+    {
+        changes_are_computed();
+        let keys = self.deck.drop_last(alloc, key)?;
+        forget(
+            alloc,
+            &self.deck,
+            &mut self.nodes,
+            &mut self.edges,
+            keys.as_slice(),
+        );
+        Ok(())
+    }
+
+    /// Puts other settings in force, as `Deck::switch`, and forgets what that affects. The only error is
+    /// want of memory, which changes nothing.
+    pub fn switch(&mut self, alloc: Global, settings: Settings) -> Result<(), DeckFault>
+        ensures { edit.IsEditOf (Ok (deck_edit.after_switch settings self.old.deck)) self.old self.new result }
+    {
+        changes_are_computed();
+        let keys = self.deck.switch(alloc, settings)?;
+        forget(
+            alloc,
+            &self.deck,
+            &mut self.nodes,
+            &mut self.edges,
+            keys.as_slice(),
+        );
+        Ok(())
+    }
+
+    /// Puts the deck of a file at the end, as `Deck::append`, and forgets what that affects. A refusal, a
+    /// failed fetch and want of memory too, changes nothing.
+    pub fn append<F: Files>(
+        &mut self,
+        alloc: Global,
+        files: &mut F,
+        name: &[u8],
+    ) -> Result<(), DeckFault>
+        ensures told { (m : FileMap) → F.files files.old ≡ Some m
+            → edit.IsAppendOf (loading.after_append m name.now self.old.deck) self.new result }
+        ensures ok { OnOk result (IsEdit self.old self.new) }
+        ensures settings { self.new.deck.settings ≡ self.old.deck.settings }
+        ensures err { OnErr result (self.new ≡ self.old) }
+        ensures answers { IfErr result (λ fault. loading.is_load_fault fault ≡ true) }
+        ensures kept { F.files files.new ≡ F.files files.old }
+        ensures stores { F.store_faults files.new ≡ F.store_faults files.old }
+        ensures ends { MatchResult result
+            (λ _. loading.MayComeTo (F.files files.old) name.now (loading.lines_alone self.old.deck.lines)
+            (Ok (loading.excerpt_of self.new.deck)))
+            (loading.MayFailBy (F.files files.old) name.now (loading.lines_alone self.old.deck.lines)) }
+        ensures counted { F.faults files.new ≡ loading.faults_after_load (F.faults files.old) result }
+    {
+        changes_are_computed();
+        let keys = self.deck.append(alloc, files, name)?;
+        forget(
+            alloc,
+            &self.deck,
+            &mut self.nodes,
+            &mut self.edges,
+            keys.as_slice(),
+        );
+        Ok(())
+    }
+
+    /// Puts other lines in the place of some, as `Deck::splice`, forgets what that affects, and answers the
+    /// splice that gives back what was. The only error is want of memory, which hands the splice back and
+    /// changes nothing.
+    pub fn splice(&mut self, alloc: Global, change: Splice) -> Result<Splice, (Splice, AllocError)>
+        requires { CanSplice change self.old.deck }
+        ensures { edit.IsSpliceOf change self.old self.new result }
+    {
+        changes_are_computed();
+        let (keys, undo) = self.deck.splice(alloc, change)?;
+        forget(
+            alloc,
+            &self.deck,
+            &mut self.nodes,
+            &mut self.edges,
+            keys.as_slice(),
+        );
+        Ok(undo)
+    }
+}
