@@ -1,0 +1,67 @@
+#!/usr/bin/env bash
+# Times the program of crates/live_calls. Over a chain of 60,000 names, each of which is a multiple of the one before it: the
+# first query of the last one, later ones, queries of all names from the first on and from the last on, and the memory of a
+# settled name. Over a ring of as many names: a query, which ends in a cycle of all. Over the definitions of GNU units with their
+# includes, where they are there: all names settled. Prints the lowest of a few runs, less what the load takes.
+#   bench/live.sh [DEFINITIONS]
+# DEFINITIONS are those of Debian's package units where none are given.
+set -u
+root=$(cd "$(dirname "${BASH_SOURCE[0]}")/.." && pwd)
+program=$("$root/tools/built.sh" live_calls) || exit
+definitions=$(realpath -ms -- "${1:-/usr/share/units/definitions.units}") || exit
+PYTHONPATH="$root/bench" PYTHONDONTWRITEBYTECODE=1 exec python3 - "$program" "$definitions" <<'PYTHON'
+import functools
+import os
+import sys
+import tempfile
+from pathlib import Path
+
+import timing
+from timing import say
+
+REAL = sys.argv[2]
+COUNT, LATER = 60_000, 200_000
+timed = functools.partial(timing.timed, sys.argv[1])
+
+
+def say_each(what, cost):
+    print(f"{what:44} {cost.clock * 1e6:8.2f} µs, {cost.processor * 1e6:8.2f} of the processor", flush=True)
+
+
+def real():
+    if not os.path.exists(REAL):
+        print(f"no file {REAL}; on Debian: apt-get install units")
+        return
+    loading = timed([f"load {REAL}", "counts"], "0 settled, ", runs=40)
+    settling = timed([f"load {REAL}", "settle"], "ok", runs=40)
+    say("the definitions of GNU units, all settled", settling.less(loading))
+
+
+def chain():
+    lines = ["u_0 !", *(f"u_{i} {'2' if i % 2 else '0.5'} u_{i - 1}" for i in range(1, COUNT + 1))]
+    Path("chain").write_text("".join(line + "\n" for line in lines))
+    Path("ring").write_text("".join(line + "\n" for line in [f"u_0 u_{COUNT}", *lines[1:]]))
+    last = f"value u_{COUNT}"
+    loading = timed(["load chain", "counts"], "0 settled, ")
+    say(f"{COUNT} names, loaded", loading, f", {loading.memory >> 20} MiB")
+    first = timed(["load chain", last], "1 u_0")
+    settled = f"{COUNT + 1} settled, {COUNT + 1} names, {COUNT + 1} reductions"
+    memory = timed(["load chain", last, "counts"], settled).memory
+    say("the first query of the last one", first.less(loading), f", {(memory - loading.memory) // COUNT} bytes a name")
+    later = timed(["load chain", last, *[last] * LATER], "1 u_0").less(first, LATER)
+    say_each("a later one, with its line and its answer", later)
+    unread = timed(["load chain", last, *["X" + last] * LATER], "bad call").less(first, LATER)
+    say_each("a line that is no call", unread)
+    for what, order in [("first", range(COUNT + 1)), ("last", range(COUNT, -1, -1))]:
+        asked = timed(["load chain", *(f"value u_{i}" for i in order), "counts"], settled)
+        say(f"queries of all, from the {what} on", asked.less(loading))
+    say("all settled, by one call", timed(["load chain", "settle", "counts"], settled).less(loading))
+    ring = timed(["load ring", "counts"], "0 settled, ")
+    say("a query of a ring of as many", timed(["load ring", last], f"cycle: u_{COUNT} -> ").less(ring))
+
+
+with tempfile.TemporaryDirectory() as folder:
+    os.chdir(folder)
+    real()
+    chain()
+PYTHON

@@ -1,0 +1,4 @@
+pub mod ToldEdits
+pub mod Inverses
+pub mod Told
+pub mod Written

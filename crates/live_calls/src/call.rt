@@ -1,0 +1,48 @@
+//! The calls, and how a line spells one.
+
+// A call with its arguments.
+#[derive(Clone, Copy)]
+pub(crate) enum Call<'a> {
+    // What an expression is worth.
+    Value(&'a [u8]),
+    // The inverse of a function at what an expression is worth.
+    Inverse(&'a [u8], &'a [u8]),
+    // Asks for each name.
+    All,
+    Counts,
+    // Puts a line at the end.
+    Define(&'a [u8]),
+    // Drops the last line in force of a key.
+    Drop(&'a [u8]),
+    // Puts a locale in force.
+    Switch(&'a [u8]),
+    // Puts the deck of a file at the end.
+    Append(&'a [u8]),
+}
+
+// The call that a line spells: a word, and a space before each argument.
+pub(crate) fn read_call(line: &[u8]) -> Option<Call<'_>> {
+    let (word, rest) = split_at_space(line);
+    match word {
+        b"value" => Some(Call::Value(rest)),
+        b"unapply" => {
+            let (name, expression) = split_at_space(rest);
+            Some(Call::Inverse(name, expression))
+        }
+        b"settle" => Some(Call::All),
+        b"counts" => Some(Call::Counts),
+        b"define" => Some(Call::Define(rest)),
+        b"drop" => Some(Call::Drop(rest)),
+        b"switch" => Some(Call::Switch(rest)),
+        b"append" => Some(Call::Append(rest)),
+        _ => None,
+    }
+}
+
+// What stands before the first space, and what stands behind it.
+fn split_at_space(text: &[u8]) -> (&[u8], &[u8]) {
+    match text.iter().position(|byte| *byte == b' ') {
+        Some(end) => (&text[..end], &text[end + 1..]),
+        None => (text, b""),
+    }
+}

@@ -1,0 +1,136 @@
+//! Queries of a live table, and their answers.
+
+ghost use Rattle.std.specs.Prelude.{◌≡◌, ◌<◌, true, IfOk, None};
+ghost use Rattle.def_entry.specs.Keys.{key as key_named};
+ghost use Rattle.def_entry.specs.Tables.{is_present};
+ghost use Rattle.def_entry.specs.declared.key.Kind.TheVariants as kind;
+ghost use Rattle.deck.specs.Tables.{table};
+ghost use Rattle.expr_tree.specs.Parsed.{parsed};
+ghost use Rattle.expr_tree.specs.Trees.{syntax};
+ghost use Rattle.live_table.specs.Answers as asked;
+ghost use Rattle.live_calls.specs.Answers as answers;
+
+use crate::answers::{line_of, parse_fault_line, query_text};
+use def_entry::Kind;
+use expr_tree::{Tree, parse_expr};
+use live_table::{LiveTable, QueryFault};
+use quantity::Quantity;
+use std::alloc::{AllocError, Global};
+use std::marker::Brand;
+use std::sync::ledger::{Blank, Ledger};
+use units_io::Steps;
+
+// What an expression is worth.
+pub(crate) fn value_answer(
+    alloc: Global,
+    live: &mut LiveTable,
+    text: &[u8],
+) -> Result<Vec<u8>, AllocError>
+    ensures deck { live.new.deck ≡ live.old.deck }
+    ensures answer { IfOk result (λ line. line.items
+        ≡ answers.value_text (table live.old.deck) (parsed None text.now)) }
+{
+    match parse_expr(alloc, text, None) {
+        Ok(tree) => {
+            let worth = value_of::<Brand>(alloc, live, &tree, Blank::new(1));
+            query_text(alloc, &worth)
+        }
+        Err(fault) => parse_fault_line(alloc, fault),
+    }
+}
+
+// The inverse of a function at what an expression is worth.
+pub(crate) fn inverse_answer(
+    alloc: Global,
+    live: &mut LiveTable,
+    name: &[u8],
+    text: &[u8],
+) -> Result<Vec<u8>, AllocError>
+    ensures deck { live.new.deck ≡ live.old.deck }
+    ensures answer { IfOk result (λ line. line.items
+        ≡ answers.inverse_text (table live.old.deck) name.now (parsed None text.now)) }
+{
+    if live.deck().entry(Kind::Func, name).is_none() {
+        return line_of(alloc, b"no function");
+    }
+    match parse_expr(alloc, text, None) {
+        Ok(tree) => {
+            let inverse = inverse_at(alloc, live, name, &tree);
+            query_text(alloc, &inverse)
+        }
+        Err(fault) => parse_fault_line(alloc, fault),
+    }
+}
+
+// Asks for each name.
+pub(crate) fn all_answer(alloc: Global, live: &mut LiveTable) -> Result<Vec<u8>, AllocError>
+    ensures deck { live.new.deck ≡ live.old.deck }
+{
+    settle::<Brand>(alloc, live, Blank::new(1))?;
+    line_of(alloc, b"ok")
+}
+
+// The inverse of a function that has an entry at what a tree is worth.
+fn inverse_at(
+    alloc: Global,
+    live: &mut LiveTable,
+    name: &[u8],
+    tree: &Tree,
+) -> Result<Quantity, QueryFault>
+    requires { is_present (table live.old.deck) (key_named kind.Func name.now) ≡ true }
+    ensures deck { live.new.deck ≡ live.old.deck }
+    ensures answer { asked.Answers result
+        (answers.inverse_at (table live.old.deck) name.now (asked.answer (table live.old.deck) (syntax tree.now))) }
+{
+    match value_of::<Brand>(alloc, live, tree, Blank::new(1)) {
+        Ok(value) => inverse_of::<Brand>(alloc, live, name, &value, Blank::new(1)),
+        Err(fault) => Err(fault),
+    }
+}
+
+// The query of a tree, whose steps nobody counts.
+fn value_of<L: Ledger>(
+    alloc: Global,
+    live: &mut LiveTable,
+    tree: &Tree,
+    blank: Blank,
+) -> Result<Quantity, QueryFault>
+    requires name { blank.name ≡ L.name }
+    requires parts { blank.parts ≡ L.parts }
+    requires some { 0 < blank.parts }
+    ensures deck { live.new.deck ≡ live.old.deck }
+    ensures answer { asked.Answers result (asked.answer (table live.old.deck) (syntax tree.now)) }
+{
+    let mut steps: Steps<L> = Steps::new(blank);
+    live.value(alloc, tree, &mut steps)
+}
+
+// The query of a function that has an entry, at a value, whose steps nobody counts.
+fn inverse_of<L: Ledger>(
+    alloc: Global,
+    live: &mut LiveTable,
+    name: &[u8],
+    value: &Quantity,
+    blank: Blank,
+) -> Result<Quantity, QueryFault>
+    requires name { blank.name ≡ L.name }
+    requires parts { blank.parts ≡ L.parts }
+    requires some { 0 < blank.parts }
+    requires present { is_present (table live.old.deck) (key_named kind.Func name.now) ≡ true }
+    ensures deck { live.new.deck ≡ live.old.deck }
+    ensures answer { asked.Answers result (asked.inverse_answer (table live.old.deck) name.now value.now) }
+{
+    let mut steps: Steps<L> = Steps::new(blank);
+    live.unapply(alloc, name, value, &mut steps)
+}
+
+// The queries of all names, whose steps nobody counts.
+fn settle<L: Ledger>(alloc: Global, live: &mut LiveTable, blank: Blank) -> Result<(), AllocError>
+    requires name { blank.name ≡ L.name }
+    requires parts { blank.parts ≡ L.parts }
+    requires some { 0 < blank.parts }
+    ensures deck { live.new.deck ≡ live.old.deck }
+{
+    let mut steps: Steps<L> = Steps::new(blank);
+    live.settle_all(alloc, &mut steps)
+}

@@ -1,0 +1,118 @@
+//! A run: a load, and calls on the table of its deck.
+
+use crate::answers::{line_of, load_fault_text};
+use crate::call::{Call, read_call};
+use crate::counting::counts_answer;
+use crate::edits::{append_answer, define_answer, drop_answer, switch_answer};
+use crate::queries::{all_answer, inverse_answer, value_answer};
+use deck::{Deck, DeckFault, Settings};
+use live_table::LiveTable;
+use std::alloc::{AllocError, Global};
+use units_io::{Files, Text, Vars};
+
+// The answers to lines, one a line. The first line, `load FILE`, loads a deck; where it does not, its answer is the only
+// one. `value EXPRESSION` and `unapply NAME EXPRESSION` are queries of its live table, `settle` asks for each name,
+// `counts` tells the counts, and `define LINE`, `drop KEY`, `switch LOCALE` and `append FILE` are edits. The only error
+// is want of memory.
+pub(crate) fn answers_to<F: Files>(
+    alloc: Global,
+    files: &mut F,
+    lines: &[u8],
+) -> Result<Vec<u8>, AllocError> {
+    let (first, calls) = split_first_line(lines);
+    let Some(name) = first.strip_prefix(b"load ".as_slice()) else {
+        return line_of(alloc, b"no deck\n");
+    };
+    let settings = american_settings(alloc)?;
+    let outcome = Deck::load(alloc, files, name, settings);
+    answers_over(alloc, files, outcome, calls)
+}
+
+// The answers to a load and to calls behind it.
+fn answers_over<F: Files>(
+    alloc: Global,
+    files: &mut F,
+    outcome: Result<Deck, DeckFault>,
+    calls: &[u8],
+) -> Result<Vec<u8>, AllocError> {
+    match outcome {
+        Ok(deck) => table_answers(alloc, files, deck, calls),
+        Err(DeckFault::OutOfMemory) => Err(AllocError),
+        Err(fault) => line_of(alloc, load_fault_text(&fault)),
+    }
+}
+
+// The answers to calls on the table of a deck of which no name is settled.
+fn table_answers<F: Files>(
+    alloc: Global,
+    files: &mut F,
+    deck: Deck,
+    calls: &[u8],
+) -> Result<Vec<u8>, AllocError> {
+    let mut live = LiveTable::new(alloc, deck);
+    let mut answers = line_of(alloc, b"ok\n")?;
+    add_answers(alloc, files, &mut live, calls, &mut answers)?;
+    Ok(answers)
+}
+
+fn add_answers<F: Files>(
+    alloc: Global,
+    files: &mut F,
+    live: &mut LiveTable,
+    calls: &[u8],
+    answers: &mut Vec<u8>,
+) -> Result<(), AllocError> {
+    for line in calls.split_inclusive(|byte| *byte == b'\n') {
+        add_answer(alloc, files, live, line, answers)?;
+    }
+    Ok(())
+}
+
+// Adds the answer to a line, which may have its end with it.
+fn add_answer<F: Files>(
+    alloc: Global,
+    files: &mut F,
+    live: &mut LiveTable,
+    line: &[u8],
+    answers: &mut Vec<u8>,
+) -> Result<(), AllocError> {
+    let text = answer_to(alloc, files, live, line.strip_suffix(b"\n").unwrap_or(line))?;
+    answers.extend_from_slice(&text)?;
+    answers.push(b'\n')?;
+    Ok(())
+}
+
+// The answer to a line, which may be no call.
+fn answer_to<F: Files>(
+    alloc: Global,
+    files: &mut F,
+    live: &mut LiveTable,
+    line: &[u8],
+) -> Result<Vec<u8>, AllocError> {
+    match read_call(line) {
+        Some(Call::Value(text)) => value_answer(alloc, live, text),
+        Some(Call::Inverse(name, text)) => inverse_answer(alloc, live, name, text),
+        Some(Call::All) => all_answer(alloc, live),
+        Some(Call::Counts) => counts_answer(alloc, live),
+        Some(Call::Define(line)) => define_answer(alloc, live, line),
+        Some(Call::Drop(key)) => drop_answer(alloc, live, key),
+        Some(Call::Switch(locale)) => switch_answer(alloc, live, locale),
+        Some(Call::Append(name)) => append_answer(alloc, files, live, name),
+        None => line_of(alloc, b"bad call"),
+    }
+}
+
+// The settings of the United States with no variable.
+fn american_settings(alloc: Global) -> Result<Settings, AllocError> {
+    let locale = Text::from_bytes(alloc, b"en_US")?;
+    let vars = Vars::new(alloc);
+    Ok(Settings { locale, vars })
+}
+
+// What stands before the first line feed, and what stands behind it.
+fn split_first_line(lines: &[u8]) -> (&[u8], &[u8]) {
+    match lines.iter().position(|byte| *byte == b'\n') {
+        Some(end) => (&lines[..end], &lines[end + 1..]),
+        None => (lines, b""),
+    }
+}
