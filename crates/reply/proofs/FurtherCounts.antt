@@ -1,0 +1,40 @@
+-- The counts of parts, one behind another.
+use Rattle.std.proofs.Common.{◌≡◌, ◌∙◌, ◌++◌, ◌+◌, ◌≤◌, ◌<◌, ℕ, List, [], ◌∷◌, drop, length, refl, sym, ap}
+use Rattle.std.proofs.Common.{append_assoc, get_or}
+use Rattle.std.proofs.lemmas.List.{append-nil, drop_all, drop_more}
+use Rattle.frac128.specs.Fraction.{Fraction}
+use Rattle.reply.specs.declared.form.Form.{Form}
+use Rattle.reply.specs.Lines.{between, count_text, further_text}
+
+module _ (form : Form) where
+  -- without counts there is no text
+  pub further-none : (parts : List (List ℕ)) → further_text form parts [] ≡ []
+  further-none [] = refl
+  further-none (part ∷ parts) = refl
+
+  module _ (text : List ℕ) (parts : List (List ℕ)) (counts : List Fraction) (i : ℕ) where
+    -- one more count
+    pub further-more : (part : List ℕ) (rest : List (List ℕ)) (count : Fraction) → parts ≡ part ∷ rest
+        → i < length counts → count ≡ get_or counts i count
+        → ((text ++ between form.layout) ++ count_text form part count) ++ further_text form rest (drop (i + 1) counts)
+        ≡ text ++ further_text form parts (drop i counts)
+    further-more part rest count e within is =
+        append_assoc (text ++ between form.layout) (count_text form part count) behind
+        ∙ (append_assoc text (between form.layout) (count_text form part count ++ behind)
+        ∙ (ap (λ (w : List ℕ). text ++ w) (sym (append_assoc (between form.layout) (count_text form part count) behind))
+        ∙ (λ j. text ++ further_text form (sym e j) (sym next j))))
+      where
+        behind : List ℕ
+        behind = further_text form rest (drop (i + 1) counts)
+
+        next : drop i counts ≡ count ∷ drop (i + 1) counts
+        next =
+            drop_more counts i count within
+            ∙ ap (λ (c : Fraction). c ∷ drop (i + 1) counts) (sym is)
+
+    -- no more counts
+    pub further-done : length counts ≤ i → text ≡ text ++ further_text form parts (drop i counts)
+    further-done h =
+        sym (append-nil text)
+        ∙ ap (λ (w : List ℕ). text ++ w)
+        (sym (ap (further_text form parts) (drop_all i counts h) ∙ further-none parts))

@@ -1,0 +1,13 @@
+mod Composing
+mod Converting
+mod Examples
+pub mod Fronts
+mod FurtherCounts
+mod Parsing
+mod Replying
+pub mod Runs
+mod Targets
+mod ToldFaults
+mod UnitCounts
+mod UnlikeUnits
+mod Worths

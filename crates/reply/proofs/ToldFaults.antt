@@ -1,0 +1,148 @@
+-- No inquiry has want of memory as its fault.
+use Rattle.std.proofs.Common.{◌≡◌, ◌≢◌, refl, ℕ, Bool, true, false, if◌then◌else◌, List, [], ◌∷◌}
+use Rattle.std.specs.Prelude.{⊤, ◌&&◌, not, None, Option, Some, Result, Ok, Err}
+use Rattle.units_io.specs.Outcomes.{◌>>=◌}
+use Rattle.expr_tree.specs.declared.fault.ParseFault.{ParseFault}
+use Rattle.expr_tree.specs.declared.fault.ParseFault.TheVariants as parse
+use Rattle.expr_tree.specs.Laws.{ToldLaw}
+use Rattle.expr_tree.specs.Parsed.{parsed}
+use Rattle.expr_tree.specs.Syntax.{Syntax}
+use Rattle.expr_tree.specs.Words.{words_in}
+use Rattle.frac128.specs.declared.fault.FracFault.{FracFault}
+use Rattle.frac128.specs.Fraction.{Fraction}
+use Rattle.quantity.specs.Amount.{Amount, are_reciprocal, conform}
+use Rattle.unit_list.specs.Amounts.{checked, counts_in, is_not_positive, is_unlike, numbers_of, place_fault}
+use Rattle.unit_list.specs.Splits.{number_counts}
+use Rattle.std.specs.Prelude.{position}
+use Rattle.def_entry.specs.Tables.{Table}
+use Rattle.def_entry.specs.declared.key.Kind.TheVariants as kind
+use Rattle.def_entry.specs.Keys.{key}
+use Rattle.table_names.specs.declared.fault.NameFault.{NameFault}
+use Rattle.table_names.specs.Faults.{key_fault, name_fault}
+use Rattle.table_names.specs.Meanings.{expansion, key_meaning}
+use Rattle.tree_eval.specs.Steps.{Worth}
+use Rattle.tree_eval.specs.Value.{value}
+use Rattle.live_table.specs.Answers.{by_names, inverse_answer, inverse_at}
+use Rattle.live_table.specs.States.{AsksKey}
+use Rattle.reply.specs.declared.conversion.Conversion.TheVariants.{Inverse, Unlike}
+use Rattle.reply.specs.declared.fault.ReplyFault.{ReplyFault}
+use Rattle.reply.specs.declared.options.Options.{Options}
+use Rattle.reply.specs.declared.ratio.Ratio.{Ratio}
+use Rattle.reply.specs.declared.target.Target.{Target}
+use Rattle.reply.specs.declared.target.Target.TheVariants as target
+use Rattle.reply.specs.Conversions.{compared, conversion, converted_to, counted, linear, reciprocal}
+use Rattle.reply.specs.Faults.{is_told}
+use Rattle.reply.specs.Inquiries.{Inquiry, as_answer, asking, followed, given, text_worth, worth, worths}
+use Rattle.reply.specs.Ratios.{ratio_of, reciprocal_ratio}
+use Rattle.reply.specs.Targets as targets
+use Rattle.reply.specs.Trees.{as_parsed, tree_in, trees_in}
+
+abbrev pub IsTold : {A : Type 0} → Result A ReplyFault → Type 0
+IsTold (Ok x) = ⊤
+IsTold (Err fault) = is_told fault ≡ true
+
+followed-told : {A B : Type 0} (m : Inquiry A) (next : A → Inquiry B) → IsTold m.answer
+    → ((x : A) → IsTold (next x).answer) → IsTold (followed m.events m.answer next).answer
+followed-told {A = A} m next told h = go m.answer told
+  where
+    go : (said : Result A ReplyFault) → IsTold said → IsTold (followed m.events said next).answer
+    go (Ok x) told = h x
+    go (Err fault) told = told
+
+then-told : {A B : Type 0} (said : Result A ReplyFault) (next : A → Result B ReplyFault) → IsTold said
+    → ((x : A) → IsTold (next x)) → IsTold (said >>= next)
+then-told (Ok x) next told h = h x
+then-told (Err fault) next told h = told
+
+answer-told : (fault : Option NameFault) (w : Worth) → IsTold (as_answer (by_names fault w))
+answer-told (Some fault) w = refl
+answer-told None (Ok x) = tt
+answer-told None (Err fault) = refl
+
+worths-told : (t : Table) (trees : List Syntax) → IsTold (worths t trees).answer
+worths-told t [] = tt
+worths-told t (tree ∷ trees) =
+    followed-told (worth t tree)
+    (λ x. followed (worths t trees).events (worths t trees).answer (λ xs. given (Ok (x ∷ xs))))
+    (answer-told (name_fault t (words_in tree)) (value (expansion t tree) None))
+    (λ x. followed-told (worths t trees) (λ xs. given (Ok (x ∷ xs))) (worths-told t trees) (λ xs. tt))
+
+linear-told : (r : Result Ratio FracFault) → IsTold (linear r)
+linear-told (Ok x) = tt
+linear-told (Err fault) = refl
+
+reciprocal-told : (r : Result Ratio FracFault) → IsTold (reciprocal r)
+reciprocal-told (Ok x) = tt
+reciprocal-told (Err fault) = refl
+
+if-told : {A : Type 0} (b : Bool) (p q : Result A ReplyFault) → IsTold p → IsTold q → IsTold (if b then p else q)
+if-told true p q h k = h
+if-told false p q h k = k
+
+compared-told : (strict : Bool) (x y : Amount) → IsTold (compared strict x y)
+compared-told strict x y =
+    if-told (conform x.exponents y.exponents) (linear (ratio_of x.value y.value))
+    (if are_reciprocal x.exponents y.exponents && not strict
+    then reciprocal (reciprocal_ratio x.value y.value)
+    else Ok (Unlike x y))
+    (linear-told (ratio_of x.value y.value))
+    (if-told (are_reciprocal x.exponents y.exponents && not strict) (reciprocal (reciprocal_ratio x.value y.value))
+    (Ok (Unlike x y)) (reciprocal-told (reciprocal_ratio x.value y.value)) tt)
+
+counted-told : (round : Bool) (x : Amount) (list : List ℕ) (units : List Amount)
+    → IsTold (counted x list units (counts_in round x units))
+unfolding counts_in
+counted-told round x list units =
+    go (position (is_unlike x) units) (position is_not_positive units)
+    (number_counts round x.value (numbers_of units))
+  where
+    go : (p q : Option ℕ) (counts : Result (List Fraction) FracFault)
+        → IsTold (counted x list units (checked (place_fault p q) counts))
+    go (Some place) q counts = tt
+    go None (Some place) counts = refl
+    go None None (Ok counts) = tt
+    go None None (Err fault) = refl
+
+module _ (law : ToldLaw) where
+  tree-told : (text : List ℕ) → IsTold (tree_in text)
+  tree-told text = go (parsed None text) (law None text)
+    where
+      go : (r : Result Syntax ParseFault) → r ≢ Err parse.OutOfMemory → IsTold (as_parsed r)
+      go (Ok tree) h = tt
+      go (Err (parse.Syntax place)) h = refl
+      go (Err parse.NumeralTooLong) h = refl
+      go (Err parse.NestedTooDeep) h = refl
+      go (Err parse.OutOfMemory) h = absurd (h refl)
+
+  trees-told : (texts : List (List ℕ)) → IsTold (trees_in texts)
+  trees-told [] = tt
+  trees-told (text ∷ texts) =
+      then-told (tree_in text) (λ tree. trees_in texts >>= (λ trees. Ok (tree ∷ trees))) (tree-told text)
+      (λ tree. then-told (trees_in texts) (λ trees. Ok (tree ∷ trees)) (trees-told texts) (λ trees. tt))
+
+  pub text-told : (t : Table) (text : List ℕ) → IsTold (text_worth t text).answer
+  text-told t text =
+      followed-told (given (tree_in text)) (worth t) (tree-told text)
+      (λ tree. answer-told (name_fault t (words_in tree)) (value (expansion t tree) None))
+
+  converted-told : (t : Table) (options : Options) (to : List ℕ) (target : Target) (x : Amount)
+      → IsTold (converted_to t options to target x).answer
+  converted-told t options to target.Function x =
+      followed-told (asking (AsksKey (key kind.Func to)) (inverse_answer t to x)) (λ y. given (Ok (Inverse y)))
+      (answer-told (key_fault t (key kind.Func to)) (inverse_at (key_meaning t (key kind.Func to)) x)) (λ y. tt)
+  converted-told t options to (target.Parts list) x =
+      followed-told (given (trees_in (targets.parts_of list)))
+      (λ trees. followed (worths t trees).events (worths t trees).answer
+      (λ units. given (counted x list units (counts_in options.round x units))))
+      (trees-told (targets.parts_of list))
+      (λ trees. followed-told (worths t trees) (λ units. given (counted x list units (counts_in options.round x units)))
+      (worths-told t trees) (λ units. counted-told options.round x list units))
+  converted-told t options to target.Unit x =
+      followed-told (text_worth t to) (λ y. given (compared options.strict x y)) (text-told t to)
+      (λ y. compared-told options.strict x y)
+
+  pub conversion-told : (t : Table) (options : Options) (from to : List ℕ)
+      → IsTold (conversion t options from to).answer
+  conversion-told t options from to =
+      followed-told (text_worth t from) (converted_to t options to (targets.target t to)) (text-told t from)
+      (converted-told t options to (targets.target t to))

@@ -1,0 +1,47 @@
+-- The place of a unit that does not conform.
+use Rattle.std.proofs.Common.{◌≡◌, ◌⊎◌, inl, inr, ◌∙◌, ◌<◌, ℕ, Bool, List, length, refl, sym, ap, subst}
+use Rattle.std.proofs.lemmas.List.{get_or_default}
+use Rattle.std.proofs.lemmas.List.Quantifiers.{position-Some}
+use Rattle.std.specs.Prelude.{Option, Some, None, Result, Ok, Err, position, slice_index_or}
+use Rattle.frac128.specs.declared.fault.FracFault.{FracFault}
+use Rattle.frac128.specs.Fraction.{Fraction}
+use Rattle.quantity.specs.Amount.{Amount}
+use Rattle.unit_list.specs.Amounts.{checked, counts_in, is_not_positive, is_unlike, numbers_of, place_fault}
+use Rattle.unit_list.specs.Splits.{number_counts}
+use Rattle.reply.specs.declared.conversion.Conversion.TheVariants.{Unlike}
+use Rattle.reply.specs.Conversions.{counted}
+use Rattle.unit_list.specs.declared.fault.SplitFault.TheVariants.{NotConformable, OutOfMemory}
+
+module _ (round : Bool) (x : Amount) (units : List Amount) (place : ℕ) where
+  -- it is the place of a unit
+  within : counts_in round x units ≡ Err (NotConformable place) → place < length units
+  unfolding counts_in
+  within e =
+      go (position (is_unlike x) units) refl (position is_not_positive units)
+      (number_counts round x.value (numbers_of units)) e
+    where
+      go : (p : Option ℕ) → position (is_unlike x) units ≡ p
+          → (q : Option ℕ) (counts : Result (List Fraction) FracFault)
+          → checked (place_fault p q) counts ≡ Err (NotConformable place) → place < length units
+      go (Some k) is q counts e = let s : k ≡ place = cc in
+          (position-Some (is_unlike x) units place x (is ∙ ap Some s)).0
+      go None is (Some k) counts e = cc
+      go None is None (Ok counts) e = cc
+      go None is None (Err fault) e = cc
+
+  pub place-within : (NotConformable place ≡ OutOfMemory) ⊎ (counts_in round x units ≡ Err (NotConformable place))
+      → place < length units
+  place-within h = elim h [ inl e ↦ cc | inr e ↦ within e ]
+
+  -- and the unit there is the one that does not conform
+  pub counted-unlike : (list : List ℕ) (k : ℕ) (y : Amount)
+      → (NotConformable place ≡ OutOfMemory) ⊎ (counts_in round x units ≡ Err (NotConformable place))
+      → k ≡ place → y ≡ slice_index_or units k y
+      → counted x list units (counts_in round x units) ≡ Ok (Unlike x y)
+  counted-unlike list k y h e is = elim h [
+    | inl p ↦ cc
+    | inr p ↦
+        ap (counted x list units) p
+        ∙ ap (λ (u : Amount). Ok (Unlike x u))
+        (sym (subst (λ (i : ℕ). y ≡ slice_index_or units i y) e is ∙ get_or_default units place y x (within p)))
+  ]

@@ -1,0 +1,74 @@
+use Rattle.std.proofs.Common.{Err, IfOk, ap, subst, ◌∙◌, ◌≡◌}
+use Rattle.deck.specs.Tables.{table}
+use Rattle.reply.specs.declared.failure.Failure.{Failure}
+use Rattle.reply.specs.declared.reply.Reply.{Reply}
+use Rattle.reply.specs.Calls.{IsInquired, same}
+use Rattle.reply.specs.Conversions.{conversion}
+use Rattle.reply.specs.Faults.{is_told}
+use Rattle.reply.specs.Replies.{refusal}
+use Rattle.reply.proofs.Replying.{conversion-cut, conversion-fault-told, conversion-granted, conversion-made}
+use Rattle.reply.proofs.Replying.{conversion-refused}
+use Rattle.reply.proofs.reply.convert_reply.Goals as goal
+
+pub refusal-requires-clause-told : goal.refusal-requires-clause-told
+refusal-requires-clause-told g c =
+    ap is_told c.in-Err-Fault.fault-is
+    ∙ conversion-fault-told c.args.options.now c.args.from.now c.args.to.now c.trim-from.result.now c.trim-to.result.now
+    c.trim-from.ensures
+    c.trim-to.ensures c.args.table.now c.convert.new.table c.args.steps.now c.convert.new.steps c.told_law.ensures
+    c.in-Err-Fault.fault
+    (subst (λ (x : Failure).
+    IsInquired same (conversion (table c.args.table.now.deck) c.args.options.now c.trim-from.result.now
+    c.trim-to.result.now) (Err x) c.args.table.now c.convert.new.table c.args.steps.now c.convert.new.steps)
+    c.in-Err-Fault.field-0-is c.in-Err-Fault.ensures.inquired)
+
+pub returns-in-Ok-clause-reply : goal.returns-in-Ok-clause-reply
+returns-in-Ok-clause-reply g c =
+    subst (λ (w : Reply). IfOk c.granted.result (λ reply. reply ≡ w))
+    (conversion-granted c.args.options.now c.args.from.now c.args.to.now c.trim-from.result.now c.trim-to.result.now
+    c.trim-from.ensures
+    c.trim-to.ensures c.args.table.now c.convert.new.table c.args.steps.now c.convert.new.steps c.of-form.result
+    c.of-form.ensures.is c.in-Ok.conversion c.in-Ok.ensures.inquired)
+    c.granted.ensures
+
+pub returns-in-Ok-clause-queries : goal.returns-in-Ok-clause-queries
+returns-in-Ok-clause-queries g c =
+    conversion-made c.args.options.now c.args.from.now c.args.to.now c.trim-from.result.now c.trim-to.result.now
+    c.trim-from.ensures
+    c.trim-to.ensures c.args.table.now c.convert.new.table c.args.steps.now c.convert.new.steps c.granted.result
+    c.convert.ensures.deck (c.in-Ok.ensures.inquired).1
+
+pub returns-in-Err-Fault-clause-reply : goal.returns-in-Err-Fault-clause-reply
+returns-in-Err-Fault-clause-reply g c =
+    subst (λ (w : Reply). IfOk c.refusal.result (λ reply. reply ≡ w))
+    (ap (refusal c.of-form.result) c.in-Err-Fault.fault-is
+    ∙ conversion-refused c.args.options.now c.args.from.now c.args.to.now c.trim-from.result.now c.trim-to.result.now
+    c.trim-from.ensures
+    c.trim-to.ensures c.args.table.now c.convert.new.table c.args.steps.now c.convert.new.steps c.of-form.result
+    c.of-form.ensures.is c.in-Err-Fault.fault
+    (subst (λ (x : Failure).
+    IsInquired same (conversion (table c.args.table.now.deck) c.args.options.now c.trim-from.result.now
+    c.trim-to.result.now) (Err x) c.args.table.now c.convert.new.table c.args.steps.now c.convert.new.steps)
+    c.in-Err-Fault.field-0-is c.in-Err-Fault.ensures.inquired))
+    c.refusal.ensures
+
+pub returns-in-Err-Fault-clause-queries : goal.returns-in-Err-Fault-clause-queries
+returns-in-Err-Fault-clause-queries g c =
+    conversion-made c.args.options.now c.args.from.now c.args.to.now c.trim-from.result.now c.trim-to.result.now
+    c.trim-from.ensures
+    c.trim-to.ensures c.args.table.now c.convert.new.table c.args.steps.now c.convert.new.steps c.refusal.result
+    c.convert.ensures.deck
+    (subst (λ (x : Failure).
+    IsInquired same (conversion (table c.args.table.now.deck) c.args.options.now c.trim-from.result.now
+    c.trim-to.result.now) (Err x) c.args.table.now c.convert.new.table c.args.steps.now c.convert.new.steps)
+    c.in-Err-Fault.field-0-is c.in-Err-Fault.ensures.inquired).1
+
+pub returns-in-Err-OutOfMemory-clause-queries : goal.returns-in-Err-OutOfMemory-clause-queries
+returns-in-Err-OutOfMemory-clause-queries g c =
+    conversion-cut c.args.options.now c.args.from.now c.args.to.now c.trim-from.result.now c.trim-to.result.now
+    c.trim-from.ensures
+    c.trim-to.ensures c.args.table.now c.convert.new.table c.args.steps.now c.convert.new.steps
+    (subst (λ (x : Failure).
+    IsInquired same (conversion (table c.args.table.now.deck) c.args.options.now c.trim-from.result.now
+    c.trim-to.result.now) (Err x) c.args.table.now c.convert.new.table c.args.steps.now c.convert.new.steps)
+    c.in-Err-OutOfMemory.field-0-is c.in-Err-OutOfMemory.ensures.inquired)

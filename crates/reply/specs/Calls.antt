@@ -1,0 +1,48 @@
+-- What calls answer, and how they leave the live table and its steps.
+use Rattle.std.specs.Prelude.{◌≡◌, ⊤, ℕ, List, map, Result, Ok, Err}
+use Rattle.std.specs.declared.alloc.AllocError.{AllocError}
+use Rattle.expr_tree.specs.declared.tree.Tree.{Tree}
+use Rattle.expr_tree.specs.Syntax.{Syntax}
+use Rattle.expr_tree.specs.Trees.{syntax}
+use Rattle.live_table.specs.declared.fault.QueryFault.{QueryFault}
+use Rattle.live_table.specs.declared.fault.QueryFault.TheVariants as query
+use Rattle.live_table.specs.Shown.{Follows, IsCutOff, Shown}
+use Rattle.live_table.specs.States.{Event}
+use Rattle.reply.specs.declared.failure.Failure.{Failure}
+use Rattle.reply.specs.declared.failure.Failure.TheVariants.{Fault, OutOfMemory}
+use Rattle.reply.specs.declared.fault.ReplyFault.{ReplyFault}
+use Rattle.reply.specs.declared.fault.ReplyFault.TheVariants.{Name, Value}
+use Rattle.reply.specs.Inquiries.{Inquiry}
+
+-- all queries were made, or want of memory cut them off
+abbrev pub AreMade : {A : Type 0} → List Event → Result A AllocError → Shown → Shown → ℕ → ℕ → Type 0
+AreMade events (Ok _) before after old new = Follows events before after old new
+AreMade events (Err _) before after old new = IsCutOff events before after old new
+
+-- an inquiry has its answer or its fault, as it is seen, or want of memory cut it off
+abbrev pub IsInquired : {A B : Type 0} → (A → B) → Inquiry B → Result A Failure → Shown → Shown → ℕ → ℕ → Type 0
+IsInquired seen inquiry (Ok x) before after old new =
+    (inquiry.answer ≡ Ok (seen x)) × Follows inquiry.events before after old new
+IsInquired seen inquiry (Err (Fault fault)) before after old new =
+    (inquiry.answer ≡ Err fault) × Follows inquiry.events before after old new
+IsInquired seen inquiry (Err OutOfMemory) before after old new = IsCutOff inquiry.events before after old new
+
+-- a call that asks nothing has its answer or its fault, as it is seen, or there is no memory
+abbrev pub IsRead : {A B : Type 0} → (A → B) → Result B ReplyFault → Result A Failure → Type 0
+IsRead seen said (Ok x) = said ≡ Ok (seen x)
+IsRead seen said (Err (Fault fault)) = said ≡ Err fault
+IsRead seen said (Err OutOfMemory) = ⊤
+
+-- why a query has no answer, as why an inquiry has none
+abbrev pub IsFailureOf : QueryFault → Failure → Type 0
+IsFailureOf (query.Name fault) failure = failure ≡ Fault (Name fault)
+IsFailureOf (query.Value fault) failure = failure ≡ Fault (Value fault)
+IsFailureOf query.OutOfMemory failure = failure ≡ OutOfMemory
+
+-- trees that were made, as what they say
+abbrev pub syntaxes_of : List Tree → List Syntax
+syntaxes_of trees = map syntax trees
+
+-- as it is
+abbrev pub same : {A : Type 0} → A → A
+same x = x

@@ -1,0 +1,161 @@
+-- The replies of a few conversions over a small table, found by hand.
+use Rattle.std.specs.Prelude.{◌≡◌, ℕ, pos, true, false, List, [], ◌∷◌, codes, Result, Ok, Err}
+use Rattle.frac128.specs.declared.fault.FracFault.{FracFault}
+use Rattle.frac128.specs.Fraction.{Fraction, whole}
+use Rattle.expr_tree.specs.declared.word_list.WordKind.TheVariants as word
+use Rattle.expr_tree.specs.WordUses.{WordUse}
+use Rattle.expr_tree.specs.Syntax.{Word}
+use Rattle.def_entry.specs.declared.key.Kind.TheVariants as kind
+use Rattle.def_entry.specs.Entries.{Primitive, Table as PointTable, ListOf}
+use Rattle.def_entry.specs.Keys.{key}
+use Rattle.def_entry.specs.Tables.{Table}
+use Rattle.unit_list.specs.Splits.{number_counts}
+use Rattle.tree_eval.specs.declared.fault.ValueFault.TheVariants.{Number}
+use Rattle.live_table.specs.States.{AsksWords}
+use Rattle.reply.specs.declared.options.Options.{Options}
+use Rattle.reply.specs.declared.reply.Reply.{Reply}
+use Rattle.reply.specs.declared.target.Target.TheVariants.{Function, Parts, Unit}
+use Rattle.reply.specs.declared.conversion.Conversion.{Conversion}
+use Rattle.reply.specs.declared.conversion.Conversion.TheVariants.{Split}
+use Rattle.reply.specs.declared.fault.ReplyFault.{ReplyFault}
+use Rattle.reply.specs.declared.fault.ReplyFault.TheVariants.{Value, List as ListUnit}
+use Rattle.reply.specs.Conversions.{linear, reciprocal}
+use Rattle.reply.specs.Options.{form_of}
+use Rattle.reply.specs.Ratios.{ratio_of, reciprocal_ratio}
+use Rattle.reply.specs.Replies.{as_conversion, conversion_queries, conversion_reply, definition_reply}
+use Rattle.reply.specs.Targets.{parts_of, target}
+
+-- a word alone
+abbrev pub plain : List ℕ → WordUse
+plain w = record { text = w; kind = word.Plain }
+
+abbrev pub fraction : ℕ → ℕ → Fraction
+fraction n d = record { num = pos n; den = d }
+
+-- meters, seconds, a table of points and two lists, of which one has the name of the table
+abbrev pub small : Table
+small =
+    (key kind.Unit (codes "m"), record { text = codes "!"; what = Primitive })
+    ∷ (key kind.Unit (codes "s"), record { text = codes "!"; what = Primitive })
+    ∷ (
+      key kind.Func (codes "gauge"),
+      record {
+        text = codes "[m] 1 2, 3 6";
+        what = PointTable (record {
+          unit = Word (codes "m");
+          points = (whole (pos 1), whole (pos 2)) ∷ (whole (pos 3), whole (pos 6)) ∷ [];
+        });
+      },
+    )
+    ∷ (
+      key kind.List (codes "ftin"),
+      record {
+        text = codes "ft; in";
+        what = ListOf (Word (codes "ft") ∷ Word (codes "in") ∷ []);
+      },
+    )
+    ∷ (key kind.List (codes "gauge"), record { text = codes "m"; what = ListOf (Word (codes "m") ∷ []) })
+    ∷ []
+
+abbrev pub default : Options
+default = record {
+  digits = 8;
+  exact = false;
+  strict = false;
+  one_line = false;
+  compact = false;
+  quiet = false;
+  round = false;
+  verbose = false;
+}
+
+abbrev pub terse : Options
+terse = record default { compact = true; one_line = true }
+
+abbrev pub granted : List ℕ → Reply
+granted text = record { text = text; refused = false }
+
+abbrev pub refused : List ℕ → Reply
+refused text = record { text = text; refused = true }
+
+-- a number of one unit in another, by their numbers
+abbrev pub linearly : Options → (from to : List ℕ) → Fraction → Fraction → Reply
+linearly options from to x y = as_conversion (form_of options) from to (linear (ratio_of x y))
+
+-- the same where they are reciprocal
+abbrev pub reciprocally : Options → (from to : List ℕ) → Fraction → Fraction → Reply
+reciprocally options from to x y = as_conversion (form_of options) from to (reciprocal (reciprocal_ratio x y))
+
+-- ten meters in feet
+abbrev pub ten_meters : Options → Reply
+ten_meters options = linearly options (codes "10 m") (codes "ft") (whole (pos 10)) (fraction 381 1250)
+
+-- the counts of feet and inches in so much
+abbrev pub in_feet : Options → Fraction → Reply
+in_feet options x =
+    as_conversion (form_of options) (codes "x") (codes "ftin")
+    (split (number_counts options.round x (fraction 381 1250 ∷ fraction 127 5000 ∷ [])))
+  where
+    split : Result (List Fraction) FracFault → Result Conversion ReplyFault
+    split (Ok counts) = Ok (Split (codes "ft; in") counts)
+    split (Err fault) = Err (Value (Number fault))
+
+-- law: a linear conversion in each layout, and from 0
+abbrev pub LinearLaw : Type 0
+LinearLaw =
+    (ten_meters default ≡ granted (codes "\t* 32.808399\n\t/ 0.03048\n"))
+    × (ten_meters (record default { exact = true }) ≡ granted (codes "\t* 12500|381\n\t/ 381|12500\n"))
+    × (ten_meters (record default { digits = 3 }) ≡ granted (codes "\t* 32.8\n\t/ 0.0305\n"))
+    × (ten_meters (record default { compact = true; verbose = true }) ≡ granted (codes "32.808399\n0.03048\n"))
+    × (ten_meters (record default { one_line = true }) ≡ granted (codes "\t* 32.808399\n"))
+    × (ten_meters (record default { verbose = true })
+    ≡ granted (codes "\t10 m = 32.808399 ft\n\t10 m = (1 / 0.03048) ft\n"))
+    × (linearly default (codes "0 m") (codes "ft") (whole (pos 0)) (fraction 381 1250)
+    ≡ granted (codes "\t* 0\n\t/ inf\n"))
+    × (linearly default (codes "1 m") (codes "0 m") (whole (pos 1)) (whole (pos 0))
+    ≡ refused (codes "division by zero\n"))
+
+-- law: a reciprocal one, also of 0
+abbrev pub ReciprocalLaw : Type 0
+ReciprocalLaw =
+    (reciprocally default (codes "2 Hz") (codes "s") (whole (pos 2)) (whole (pos 1))
+    ≡ granted (codes "\treciprocal conversion\n\t* 0.5\n\t/ 2\n"))
+    × (reciprocally terse (codes "2 Hz") (codes "s") (whole (pos 2)) (whole (pos 1))
+    ≡ granted (codes "reciprocal conversion\n0.5\n"))
+    × (reciprocally (record default { verbose = true }) (codes "2 Hz") (codes "s") (whole (pos 2)) (whole (pos 1))
+    ≡ granted (codes "\treciprocal conversion\n\t1 / (2 Hz) = 0.5 s\n\t1 / (2 Hz) = (1 / 2) s\n"))
+    × (reciprocally default (codes "0 Hz") (codes "s") (whole (pos 0)) (whole (pos 1))
+    ≡ refused (codes "division by zero\n"))
+
+-- law: lists, and what targets mean
+abbrev pub ListsLaw : Type 0
+ListsLaw =
+    (in_feet default (fraction 7 5) ≡ granted (codes "\t4 ft + 7.1181102 in\n"))
+    × (in_feet (record default { compact = true }) (fraction 7 5) ≡ granted (codes "4;7.1181102\n"))
+    × (in_feet (record default { verbose = true }) (fraction 7 5) ≡ granted (codes "\tx = 4 ft + 7.1181102 in\n"))
+    × (in_feet (record default { round = true }) (fraction 75819 125000) ≡ granted (codes "\t2 ft + 0 in\n"))
+    × (as_conversion (form_of default) (codes "m") (codes "m;a") (Err (ListUnit 1))
+    ≡ refused (codes "list unit not positive: 2\n"))
+    × (target small (codes "gauge") ≡ Function)
+    × (target small (codes "ftin") ≡ Parts (codes "ft; in"))
+    × (target small (codes "m ;; s") ≡ Parts (codes "m ;; s"))
+    × (target small (codes "m s") ≡ Unit)
+    × (parts_of (codes "m ;; s") ≡ codes "m" ∷ [] ∷ codes "s" ∷ [])
+
+-- law: faults, each the whole reply, and the queries up to it
+abbrev pub FaultsLaw : Type 0
+FaultsLaw =
+    (conversion_reply small default (codes "2 +") (codes "nosuch") ≡ refused (codes "syntax error at 3\n"))
+    × (conversion_reply small default (codes " m ") (codes "nosuch") ≡ refused (codes "unknown unit: nosuch\n"))
+    × (conversion_reply small default (codes "m") (codes "m;;s") ≡ refused (codes "syntax error at 0\n"))
+    × (conversion_reply small default (codes "m") (codes "ftin") ≡ refused (codes "unknown unit: ft\n"))
+    × (definition_reply small default (codes "gauge") ≡ refused (codes "argument needed: gauge\n"))
+    × (definition_reply small default (codes "sin(1)") ≡ refused (codes "refused function: sin\n"))
+    × (conversion_queries small default (codes "m") (codes "s")
+    ≡ AsksWords (plain (codes "m") ∷ []) ∷ AsksWords (plain (codes "s") ∷ []) ∷ [])
+    × (conversion_queries small default (codes "nosuch") (codes "s") ≡ AsksWords (plain (codes "nosuch") ∷ []) ∷ [])
+    × (conversion_queries small default (codes "m") (codes "m;;s") ≡ AsksWords (plain (codes "m") ∷ []) ∷ [])
+
+-- law: all of them
+abbrev pub ExamplesLaw : Type 0
+ExamplesLaw = LinearLaw × ReciprocalLaw × ListsLaw × FaultsLaw

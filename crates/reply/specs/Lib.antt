@@ -1,0 +1,13 @@
+pub mod Options
+pub mod Targets
+pub mod Ratios
+pub mod Trees
+pub mod Inquiries
+pub mod Conversions
+pub mod Layouts
+pub mod Lines
+pub mod Subjects
+pub mod Faults
+pub mod Replies
+pub mod Calls
+pub mod Examples

@@ -1,0 +1,24 @@
+-- What the options say of how a reply is written.
+use Rattle.std.specs.Prelude.{◌≤◌, if◌then◌else◌}
+use Rattle.digits_print.specs.declared.style.Style.{Style}
+use Rattle.digits_print.specs.declared.style.Style.TheVariants.{Digits, Exact}
+use Rattle.reply.specs.declared.form.Form.{Form}
+use Rattle.reply.specs.declared.form.Layout.{Layout}
+use Rattle.reply.specs.declared.form.Layout.TheVariants.{Plain, Compact, Verbose}
+use Rattle.reply.specs.declared.options.Options.{Options}
+
+-- the digits are from 1 to 36
+pub record IsPrintable (options : Options) : Type 0 where
+  pub least : 1 ≤ options.digits
+  pub most : options.digits ≤ 36
+
+-- how numbers are written: with `exact` the digits have no effect
+abbrev pub style_of : Options → Style
+style_of options = if options.exact then Exact else Digits options.digits
+
+-- how lines are laid out: `compact` turns `verbose` off
+abbrev pub layout_of : Options → Layout
+layout_of options = if options.compact then Compact else (if options.verbose then Verbose else Plain)
+
+abbrev pub form_of : Options → Form
+form_of options = record { layout = layout_of options; style = style_of options; one_line = options.one_line }

@@ -1,0 +1,27 @@
+-- How often one number goes into another, and the other way round.
+use Rattle.std.specs.Prelude.{pos, Option, Some, None, Result, Ok, if◌then◌else◌}
+use Rattle.frac128.specs.declared.fault.FracFault.{FracFault}
+use Rattle.frac128.specs.Fraction.{Fraction, whole}
+use Rattle.frac128.specs.Sign.{is_zero}
+use Rattle.frac128.specs.Steps.{over}
+use Rattle.units_io.specs.Outcomes.{◌>>=◌}
+use Rattle.reply.specs.declared.ratio.Ratio.{Ratio}
+
+-- to/from, none where from is 0
+abbrev pub backward : (from to : Fraction) → Result (Option Fraction) FracFault
+backward from to = if is_zero from then Ok None else (do
+  back ← over to from
+  Ok (Some back))
+
+-- from/to, and then to/from
+abbrev pub ratio_of : (from to : Fraction) → Result Ratio FracFault
+ratio_of from to = do
+  forward ← over from to
+  back ← backward from to
+  Ok (record { forward = forward; back = back })
+
+-- the same with 1/from in the place of from
+abbrev pub reciprocal_ratio : (from to : Fraction) → Result Ratio FracFault
+reciprocal_ratio from to = do
+  inverse ← over (whole (pos 1)) from
+  ratio_of inverse to

@@ -1,0 +1,9 @@
+-- What a linear conversion is of, as the verbose layout writes it.
+use Rattle.std.specs.Prelude.{ℕ, List}
+use Rattle.reply.specs.declared.lines.Subject.{Subject}
+use Rattle.reply.specs.declared.lines.Subject.TheVariants.{Asked, OneOver}
+use Rattle.reply.specs.Lines.{reciprocal_from}
+
+abbrev pub subject_text : Subject → List ℕ
+subject_text (Asked from) = from.now
+subject_text (OneOver from) = reciprocal_from from.now

@@ -1,0 +1,99 @@
+//! What texts are worth.
+
+ghost use Rattle.std.specs.Prelude.{◌≡◌};
+ghost use Rattle.deck.specs.Tables.{table as table_of};
+ghost use Rattle.expr_tree.specs.Trees.{syntax};
+ghost use Rattle.live_table.specs.Shown.{IsRightTable};
+ghost use Rattle.reply.specs.Calls as call;
+ghost use Rattle.reply.specs.Inquiries as spec;
+ghost use Rattle.reply.specs.Targets.{parts_of};
+ghost use Rattle.reply.specs.Trees as trees;
+
+use crate::failure::Failure;
+use crate::fault::ReplyFault;
+use crate::parts::cut_part;
+use expr_tree::{ParseFault, Tree, parse_expr};
+use live_table::LiveTable;
+use quantity::Quantity;
+use std::alloc::Global;
+use std::sync::ledger::Ledger;
+use units_io::Steps;
+
+// The tree of a text.
+fn tree_in(alloc: Global, text: &[u8]) -> Result<Tree, Failure>
+    ensures { call.IsRead syntax (trees.tree_in text.now) result }
+{
+    match parse_expr(alloc, text, None) {
+        Ok(tree) => Ok(tree),
+        Err(ParseFault::OutOfMemory) => Err(Failure::OutOfMemory),
+        Err(fault) => Err(Failure::Fault(ReplyFault::Parse(fault))),
+    }
+}
+
+/// The trees of the parts of a list.
+pub(crate) fn part_trees(alloc: Global, list: &[u8]) -> Result<Vec<Tree>, Failure>
+    ensures { call.IsRead (λ trees. call.syntaxes_of trees.items) (trees.trees_in (parts_of list.now)) result }
+{
+    let mut trees = Vec::new(alloc);
+    let mut rest = Some(list);
+    while let Some(text) = rest {
+        let (part, behind) = cut_part(text);
+        let tree = tree_in(alloc, part)?;
+        trees.push(tree)?;
+        rest = behind;
+    }
+    Ok(trees)
+}
+
+// What a tree is worth.
+fn worth<L: Ledger>(
+    alloc: Global,
+    table: &mut LiveTable,
+    tree: &Tree,
+    steps: &mut Steps<L>,
+) -> Result<Quantity, Failure>
+    ensures deck { table.new.deck ≡ table.old.deck }
+    ensures inquired { call.IsInquired call.same (spec.worth (table_of table.old.deck) (syntax tree.now)) result
+        table.old table.new steps.old steps.new }
+{
+    let value = table.value(alloc, tree, steps)?;
+    Ok(value)
+}
+
+/// What trees are worth, one after another.
+pub(crate) fn worths<L: Ledger>(
+    alloc: Global,
+    table: &mut LiveTable,
+    trees: &[Tree],
+    steps: &mut Steps<L>,
+) -> Result<Vec<Quantity>, Failure>
+    requires { IsRightTable table.old }
+    ensures deck { table.new.deck ≡ table.old.deck }
+    ensures inquired { call.IsInquired (λ values. values.items)
+        (spec.worths (table_of table.old.deck) (call.syntaxes_of trees.now)) result
+        table.old table.new steps.old steps.new }
+{
+    let mut values = Vec::new(alloc);
+    for tree in trees {
+        let value = worth(alloc, table, tree, steps)?;
+        values.push(value)?;
+    }
+    Ok(values)
+}
+
+/// What a text is worth.
+pub(crate) fn text_worth<L: Ledger>(
+    alloc: Global,
+    table: &mut LiveTable,
+    text: &[u8],
+    steps: &mut Steps<L>,
+) -> Result<Quantity, Failure>
+    ensures deck { table.new.deck ≡ table.old.deck }
+    ensures inquired { call.IsInquired call.same (spec.text_worth (table_of table.old.deck) text.now) result
+        table.old table.new steps.old steps.new }
+{
+    // What is kept is right also where nothing is asked.
+    let _right = table.deck();
+    let tree = tree_in(alloc, text)?;
+    worth(alloc, table, &tree, steps)
+}

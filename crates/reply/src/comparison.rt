@@ -1,0 +1,52 @@
+//! What quantities that are there are converted to.
+
+ghost use Rattle.std.specs.Prelude.{◌<◌, length};
+ghost use Rattle.unit_list.specs.Amounts.{counts_in};
+ghost use Rattle.reply.specs.Calls as call;
+ghost use Rattle.reply.specs.Conversions as spec;
+
+use crate::conversion::Conversion;
+use crate::failure::Failure;
+use crate::fault::ReplyFault;
+use crate::ratio::{ratio_of, reciprocal_ratio};
+use quantity::Quantity;
+use std::alloc::Global;
+use unit_list::{SplitFault, split};
+use units_io::Text;
+
+/// One quantity in terms of another: linear where they conform, else reciprocal where they are and that is wanted,
+/// else unlike.
+pub(crate) fn compared(strict: bool, x: Quantity, y: Quantity) -> Result<Conversion, Failure>
+    ensures { call.IsRead call.same (spec.compared strict x y) result }
+{
+    if x.conforms(&y) {
+        return Ok(Conversion::Linear(ratio_of(&x.value(), &y.value())?));
+    }
+    if x.is_reciprocal(&y) && !strict {
+        return Ok(Conversion::Reciprocal(reciprocal_ratio(&x.value(), &y.value())?));
+    }
+    Ok(Conversion::Unlike(x, y))
+}
+
+/// The counts of the units of a list in a quantity.
+pub(crate) fn counted(
+    alloc: Global,
+    round: bool,
+    list: Text,
+    x: Quantity,
+    mut units: Vec<Quantity>,
+) -> Result<Conversion, Failure>
+    requires { 0 < length units.items }
+    ensures { call.IsRead call.same (spec.counted x list units.items (counts_in round x units.items)) result }
+{
+    match split(alloc, &x, units.as_slice(), round) {
+        Ok(split) => Ok(Conversion::Split(list, split.counts)),
+        Err(SplitFault::NotConformable(place)) => Ok(Conversion::Unlike(
+            x,
+            units.swap_remove(place),
+        )),
+        Err(SplitFault::ListUnitNotPositive(place)) => Err(Failure::Fault(ReplyFault::List(place))),
+        Err(SplitFault::Number(fault)) => Err(Failure::from(fault)),
+        Err(SplitFault::OutOfMemory) => Err(Failure::OutOfMemory),
+    }
+}

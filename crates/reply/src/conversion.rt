@@ -1,0 +1,136 @@
+//! Conversions.
+
+ghost use Rattle.std.specs.Prelude.{◌≡◌, true};
+ghost use Rattle.deck.specs.Tables.{table as table_of};
+ghost use Rattle.def_entry.specs.declared.key.Kind.TheVariants as kinds;
+ghost use Rattle.def_entry.specs.Keys.{key as key_named};
+ghost use Rattle.def_entry.specs.Tables.{is_present};
+ghost use Rattle.reply.specs.Calls as call;
+ghost use Rattle.reply.specs.Conversions as spec;
+ghost use Rattle.reply.specs.Targets as targets;
+
+use crate::asking::{part_trees, text_worth, worths};
+use crate::comparison::{compared, counted};
+use crate::failure::Failure;
+use crate::options::Options;
+use crate::ratio::Ratio;
+use crate::target::{Target, target_of};
+use live_table::LiveTable;
+use quantity::Quantity;
+use std::alloc::Global;
+use std::sync::ledger::Ledger;
+use unit_list::Fracs;
+use units_io::{Steps, Text};
+
+/// What a conversion comes to, before it is written.
+#[derive(Drop)]
+pub(crate) enum Conversion {
+    /// How often the target goes into what was asked, and the other way round.
+    Linear(Ratio),
+    /// The same for 1 over what was asked.
+    Reciprocal(Ratio),
+    /// What the function of the target is to be applied to.
+    Inverse(Quantity),
+    /// The counts of the parts of a list, whose text this is.
+    Split(Text, Fracs),
+    /// Two quantities that do not conform.
+    Unlike(Quantity, Quantity),
+}
+
+/// What the conversion of a text to another comes to.
+pub(crate) fn convert<L: Ledger>(
+    alloc: Global,
+    table: &mut LiveTable,
+    options: &Options,
+    from: &[u8],
+    to: &[u8],
+    steps: &mut Steps<L>,
+) -> Result<Conversion, Failure>
+    ensures deck { table.new.deck ≡ table.old.deck }
+    ensures inquired { call.IsInquired call.same
+        (spec.conversion (table_of table.old.deck) options.now from.now to.now) result
+        table.old table.new steps.old steps.new }
+{
+    let x = text_worth(alloc, table, from, steps)?;
+    let target = target_of(alloc, table.deck(), to)?;
+    converted_to(alloc, table, options, to, target, x, steps)
+}
+
+// A quantity to a target of this meaning.
+fn converted_to<L: Ledger>(
+    alloc: Global,
+    table: &mut LiveTable,
+    options: &Options,
+    to: &[u8],
+    target: Target,
+    x: Quantity,
+    steps: &mut Steps<L>,
+) -> Result<Conversion, Failure>
+    requires { target ≡ targets.target (table_of table.old.deck) to.now }
+    ensures deck { table.new.deck ≡ table.old.deck }
+    ensures inquired { call.IsInquired call.same
+        (spec.converted_to (table_of table.old.deck) options.now to.now target x) result
+        table.old table.new steps.old steps.new }
+{
+    match target {
+        Target::Function => inverted(alloc, table, to, x, steps),
+        Target::Parts(list) => split_into(alloc, table, options, list, x, steps),
+        Target::Unit => set_against(alloc, table, options, to, x, steps),
+    }
+}
+
+// To a unit.
+fn set_against<L: Ledger>(
+    alloc: Global,
+    table: &mut LiveTable,
+    options: &Options,
+    to: &[u8],
+    x: Quantity,
+    steps: &mut Steps<L>,
+) -> Result<Conversion, Failure>
+    ensures deck { table.new.deck ≡ table.old.deck }
+    ensures inquired { call.IsInquired call.same
+        (spec.set_against (table_of table.old.deck) options.now to.now x) result
+        table.old table.new steps.old steps.new }
+{
+    let y = text_worth(alloc, table, to, steps)?;
+    compared(options.strict, x, y)
+}
+
+// By the inverse of the function of this name.
+fn inverted<L: Ledger>(
+    alloc: Global,
+    table: &mut LiveTable,
+    name: &[u8],
+    x: Quantity,
+    steps: &mut Steps<L>,
+) -> Result<Conversion, Failure>
+    requires there { is_present (table_of table.old.deck) (key_named kinds.Func name.now) ≡ true }
+    ensures deck { table.new.deck ≡ table.old.deck }
+    ensures inquired { call.IsInquired call.same (spec.inverted (table_of table.old.deck) name.now x) result
+        table.old table.new steps.old steps.new }
+{
+    let y = table.unapply(alloc, name, &x, steps)?;
+    Ok(Conversion::Inverse(y))
+}
+
+// Into the units of a list.
+fn split_into<L: Ledger>(
+    alloc: Global,
+    table: &mut LiveTable,
+    options: &Options,
+    list: Text,
+    x: Quantity,
+    steps: &mut Steps<L>,
+) -> Result<Conversion, Failure>
+    ensures deck { table.new.deck ≡ table.old.deck }
+    ensures inquired { call.IsInquired call.same
+        (spec.split_into (table_of table.old.deck) options.now list x) result
+        table.old table.new steps.old steps.new }
+{
+    // What is kept is right also where nothing is asked.
+    let _right = table.deck();
+    let trees = part_trees(alloc, list.as_bytes())?;
+    let units = worths(alloc, table, trees.as_slice(), steps)?;
+    counted(alloc, options.round, list, x, units)
+}

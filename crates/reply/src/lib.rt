@@ -1,0 +1,25 @@
+//! The bytes of replies.
+#![tactic(auto)]
+
+mod asking;
+mod comparison;
+mod conversion;
+mod failure;
+mod fault;
+mod form;
+mod laws;
+mod lines;
+mod options;
+mod parts;
+mod put;
+mod ratio;
+mod reply;
+mod split_lines;
+mod target;
+mod telling;
+
+pub use fault::ReplyFault;
+pub use laws::examples_law;
+pub use options::Options;
+pub use reply::{FromValue, Reply, convert_reply, definition_reply, from_value};
+pub use telling::fault_text;

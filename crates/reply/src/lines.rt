@@ -1,0 +1,315 @@
+//! The lines of replies.
+
+ghost use Rattle.std.specs.Prelude.{◌≡◌, ◌++◌, OnOk, codes};
+ghost use Rattle.std.specs.Option.{option_copied};
+ghost use Rattle.digits_print.specs.Styles.{IsStyle, number_text};
+ghost use Rattle.quantity.specs.Text.{shown};
+ghost use Rattle.reply.specs.Layouts as layouts;
+ghost use Rattle.reply.specs.Lines as spec;
+ghost use Rattle.reply.specs.Subjects.{subject_text};
+
+use crate::conversion::Conversion;
+use crate::form::{Form, Layout};
+use crate::put::{put_number, put_quantity, put_some_number};
+use crate::ratio::Ratio;
+use crate::split_lines::put_split;
+use quantity::Quantity;
+use std::alloc::{AllocError, Global};
+
+/// What a linear conversion is of, as the verbose layout writes it.
+#[derive(Clone, Copy)]
+pub(crate) enum Subject<'a> {
+    /// What was asked.
+    Asked(&'a [u8]),
+    /// 1 over what was asked.
+    OneOver(&'a [u8]),
+}
+
+/// Puts a conversion.
+pub(crate) fn put_conversion(
+    alloc: Global,
+    text: &mut Vec<u8>,
+    form: Form,
+    from: &[u8],
+    to: &[u8],
+    conversion: &Conversion,
+) -> Result<(), AllocError>
+    requires { IsStyle form.style }
+    ensures { OnOk result (text.new.items
+        ≡ text.old.items ++ spec.conversion_text form from.now to.now conversion.now) }
+{
+    match conversion {
+        Conversion::Linear(ratio) => put_linear(alloc, text, form, Subject::Asked(from), to, ratio),
+        Conversion::Reciprocal(ratio) => put_reciprocal(alloc, text, form, from, to, ratio),
+        Conversion::Inverse(x) => put_inverse(alloc, text, form, from, to, x),
+        Conversion::Split(list, counts) => {
+            put_split(alloc, text, form, from, list.as_bytes(), counts.as_slice())
+        }
+        Conversion::Unlike(x, y) => put_unlike(alloc, text, form, x, y),
+    }
+}
+
+// Puts a linear conversion.
+fn put_linear(
+    alloc: Global,
+    text: &mut Vec<u8>,
+    form: Form,
+    subject: Subject<'_>,
+    to: &[u8],
+    ratio: &Ratio,
+) -> Result<(), AllocError>
+    requires { IsStyle form.style }
+    ensures { OnOk result (text.new.items
+        ≡ text.old.items ++ spec.linear_text form (subject_text subject.entry) to.now ratio.now) }
+{
+    put_forward(alloc, text, form, subject, to, ratio)?;
+    put_backward(alloc, text, form, subject, to, ratio)
+}
+
+// Puts the line that says how often the target goes into what was asked.
+fn put_forward(
+    alloc: Global,
+    text: &mut Vec<u8>,
+    form: Form,
+    subject: Subject<'_>,
+    to: &[u8],
+    ratio: &Ratio,
+) -> Result<(), AllocError>
+    requires { IsStyle form.style }
+    ensures { OnOk result (text.new.items ≡ text.old.items ++ layouts.laid form.layout
+        (layouts.forward_text form.layout (subject_text subject.entry) to.now
+        (number_text form.style ratio.now.forward))) }
+{
+    put_tab(text, form.layout)?;
+    match form.layout {
+        Layout::Plain => {
+            text.extend_from_slice(b"* ".as_slice())?;
+            put_number(alloc, text, form.style, &ratio.forward)?;
+        }
+        Layout::Compact => put_number(alloc, text, form.style, &ratio.forward)?,
+        Layout::Verbose => {
+            put_subject(text, subject)?;
+            text.extend_from_slice(b" = ".as_slice())?;
+            put_number(alloc, text, form.style, &ratio.forward)?;
+            text.extend_from_slice(b" ".as_slice())?;
+            text.extend_from_slice(to)?;
+        }
+    }
+    text.extend_from_slice(b"\n".as_slice())?;
+    Ok(())
+}
+
+// Puts the line that says the other way round, which one-line drops.
+fn put_backward(
+    alloc: Global,
+    text: &mut Vec<u8>,
+    form: Form,
+    subject: Subject<'_>,
+    to: &[u8],
+    ratio: &Ratio,
+) -> Result<(), AllocError>
+    requires { IsStyle form.style }
+    ensures { OnOk result (text.new.items
+        ≡ text.old.items ++ spec.backward_line form (subject_text subject.entry) to.now ratio.now.back) }
+{
+    if form.one_line {
+        return Ok(());
+    }
+    put_tab(text, form.layout)?;
+    match form.layout {
+        Layout::Plain => {
+            text.extend_from_slice(b"/ ".as_slice())?;
+            put_some_number(alloc, text, form.style, &ratio.back)?;
+        }
+        Layout::Compact => put_some_number(alloc, text, form.style, &ratio.back)?,
+        Layout::Verbose => {
+            put_subject(text, subject)?;
+            text.extend_from_slice(b" = (1 / ".as_slice())?;
+            put_some_number(alloc, text, form.style, &ratio.back)?;
+            text.extend_from_slice(b") ".as_slice())?;
+            text.extend_from_slice(to)?;
+        }
+    }
+    text.extend_from_slice(b"\n".as_slice())?;
+    Ok(())
+}
+
+// Puts what a linear conversion is of.
+fn put_subject(text: &mut Vec<u8>, subject: Subject<'_>) -> Result<(), AllocError>
+    ensures { OnOk result (text.new.items ≡ text.old.items ++ subject_text subject.entry) }
+{
+    match subject {
+        Subject::Asked(from) => {
+            text.extend_from_slice(from)?;
+            Ok(())
+        }
+        Subject::OneOver(from) => {
+            text.extend_from_slice(b"1 / (".as_slice())?;
+            text.extend_from_slice(from)?;
+            text.extend_from_slice(b")".as_slice())?;
+            Ok(())
+        }
+    }
+}
+
+// Puts a reciprocal conversion.
+fn put_reciprocal(
+    alloc: Global,
+    text: &mut Vec<u8>,
+    form: Form,
+    from: &[u8],
+    to: &[u8],
+    ratio: &Ratio,
+) -> Result<(), AllocError>
+    requires { IsStyle form.style }
+    ensures { OnOk result (text.new.items
+        ≡ text.old.items ++ spec.reciprocal_text form from.now to.now ratio.now) }
+{
+    put_line(text, form.layout, b"reciprocal conversion")?;
+    put_linear(alloc, text, form, Subject::OneOver(from), to, ratio)
+}
+
+// Puts what a function is to be applied to.
+fn put_inverse(
+    alloc: Global,
+    text: &mut Vec<u8>,
+    form: Form,
+    from: &[u8],
+    name: &[u8],
+    x: &Quantity,
+) -> Result<(), AllocError>
+    requires { IsStyle form.style }
+    ensures { OnOk result (text.new.items ≡ text.old.items ++ spec.inverse_text form from.now name.now x.now) }
+{
+    put_tab(text, form.layout)?;
+    put_front(text, form.layout, from)?;
+    put_call(alloc, text, form, name, x)?;
+    text.extend_from_slice(b"\n".as_slice())?;
+    Ok(())
+}
+
+// Puts an argument, in the verbose layout with its function.
+fn put_call(
+    alloc: Global,
+    text: &mut Vec<u8>,
+    form: Form,
+    name: &[u8],
+    x: &Quantity,
+) -> Result<(), AllocError>
+    requires { IsStyle form.style }
+    ensures { OnOk result (text.new.items
+        ≡ text.old.items ++ layouts.call_text form.layout name.now (shown form.style x.now)) }
+{
+    match form.layout {
+        Layout::Verbose => {
+            text.extend_from_slice(name)?;
+            text.extend_from_slice(b"(".as_slice())?;
+            put_quantity(alloc, text, form.style, x)?;
+            text.extend_from_slice(b")".as_slice())?;
+            Ok(())
+        }
+        Layout::Plain | Layout::Compact => put_quantity(alloc, text, form.style, x),
+    }
+}
+
+// Puts two quantities that do not conform.
+fn put_unlike(
+    alloc: Global,
+    text: &mut Vec<u8>,
+    form: Form,
+    x: &Quantity,
+    y: &Quantity,
+) -> Result<(), AllocError>
+    requires { IsStyle form.style }
+    ensures { OnOk result (text.new.items ≡ text.old.items ++ spec.unlike_text form x.now y.now) }
+{
+    text.extend_from_slice(b"conformability error\n".as_slice())?;
+    put_shown(alloc, text, form, x)?;
+    put_shown(alloc, text, form, y)
+}
+
+// Puts a line of a quantity.
+fn put_shown(alloc: Global, text: &mut Vec<u8>, form: Form, x: &Quantity) -> Result<(), AllocError>
+    requires { IsStyle form.style }
+    ensures { OnOk result (text.new.items
+        ≡ text.old.items ++ layouts.laid form.layout (shown form.style x.now)) }
+{
+    put_tab(text, form.layout)?;
+    put_quantity(alloc, text, form.style, x)?;
+    text.extend_from_slice(b"\n".as_slice())?;
+    Ok(())
+}
+
+/// Puts a definition, with the text of the expression that defines the unit.
+pub(crate) fn put_definition(
+    alloc: Global,
+    text: &mut Vec<u8>,
+    form: Form,
+    body: Option<&[u8]>,
+    x: &Quantity,
+) -> Result<(), AllocError>
+    requires { IsStyle form.style }
+    ensures { OnOk result (text.new.items
+        ≡ text.old.items ++ spec.definition_text form (option_copied body.entry) x.now) }
+{
+    match form.layout {
+        Layout::Compact => {}
+        Layout::Plain | Layout::Verbose => put_definition_front(text, body)?,
+    }
+    put_quantity(alloc, text, form.style, x)?;
+    text.extend_from_slice(b"\n".as_slice())?;
+    Ok(())
+}
+
+// Puts what stands before the value of a definition.
+fn put_definition_front(text: &mut Vec<u8>, body: Option<&[u8]>) -> Result<(), AllocError>
+    ensures { OnOk result (text.new.items
+        ≡ text.old.items ++ (codes "\tDefinition: " ++ spec.body_front (option_copied body.entry))) }
+{
+    text.extend_from_slice(b"\tDefinition: ".as_slice())?;
+    match body {
+        Some(body) => {
+            text.extend_from_slice(body)?;
+            text.extend_from_slice(b" = ".as_slice())?;
+            Ok(())
+        }
+        None => Ok(()),
+    }
+}
+
+// Puts a line of some words.
+fn put_line(text: &mut Vec<u8>, layout: Layout, words: &[u8]) -> Result<(), AllocError>
+    ensures { OnOk result (text.new.items ≡ text.old.items ++ layouts.laid layout words.now) }
+{
+    put_tab(text, layout)?;
+    text.extend_from_slice(words)?;
+    text.extend_from_slice(b"\n".as_slice())?;
+    Ok(())
+}
+
+/// Puts the front of a line: a tab, but for the compact layout.
+pub(crate) fn put_tab(text: &mut Vec<u8>, layout: Layout) -> Result<(), AllocError>
+    ensures { OnOk result (text.new.items ≡ text.old.items ++ layouts.tab layout) }
+{
+    match layout {
+        Layout::Compact => Ok(()),
+        Layout::Plain | Layout::Verbose => {
+            text.extend_from_slice(b"\t".as_slice())?;
+            Ok(())
+        }
+    }
+}
+
+/// Puts what was asked, which the verbose layout writes before what it is.
+pub(crate) fn put_front(text: &mut Vec<u8>, layout: Layout, from: &[u8]) -> Result<(), AllocError>
+    ensures { OnOk result (text.new.items ≡ text.old.items ++ layouts.equation_front layout from.now) }
+{
+    match layout {
+        Layout::Verbose => {
+            text.extend_from_slice(from)?;
+            text.extend_from_slice(b" = ".as_slice())?;
+            Ok(())
+        }
+        Layout::Plain | Layout::Compact => Ok(()),
+    }
+}

@@ -1,0 +1,19 @@
+//! The parts of a list.
+
+ghost use Rattle.std.specs.Prelude.{◌≡◌, ◌∷◌, ◌<◌, length, IfSome};
+ghost use Rattle.std.specs.Option.{option_copied};
+ghost use Rattle.reply.specs.Targets.{parts_behind, parts_of};
+
+use def_entry::cut_at;
+use def_lines::trim;
+
+/// The first part of the text of a list, and what stands behind its `;`.
+pub(crate) fn cut_part(text: &[u8]) -> (&[u8], Option<&[u8]>)
+    ensures parts { parts_of text.now ≡ result.0.now ∷ parts_behind (option_copied result.1) }
+    ensures shorter { IfSome (option_copied result.1) (λ behind. length behind < length text.now) }
+{
+    match cut_at(text, b';') {
+        Some((part, behind)) => (trim(part), Some(behind)),
+        None => (trim(text), None),
+    }
+}

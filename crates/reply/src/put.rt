@@ -1,0 +1,69 @@
+//! Words, numbers and quantities behind a text.
+
+ghost use Rattle.std.specs.Prelude.{◌≡◌, ◌++◌, OnOk};
+ghost use Rattle.digits_print.specs.Styles.{IsStyle, number_text};
+ghost use Rattle.quantity.specs.Text.{shown};
+ghost use Rattle.reply.specs.Lines as spec;
+
+use digits_print::{Style, print_number};
+use frac128::Frac;
+use quantity::Quantity;
+use std::alloc::{AllocError, Global};
+
+/// Puts words and what stands behind them.
+pub(crate) fn put_words(text: &mut Vec<u8>, words: &[u8], behind: &[u8]) -> Result<(), AllocError>
+    ensures { OnOk result (text.new.items ≡ text.old.items ++ (words.now ++ behind.now)) }
+{
+    text.extend_from_slice(words)?;
+    text.extend_from_slice(behind)?;
+    Ok(())
+}
+
+/// Puts a number.
+pub(crate) fn put_number(
+    alloc: Global,
+    text: &mut Vec<u8>,
+    style: Style,
+    x: &Frac,
+) -> Result<(), AllocError>
+    requires { IsStyle style }
+    ensures { OnOk result (text.new.items ≡ text.old.items ++ number_text style x.now) }
+{
+    let number = print_number(alloc, x, style)?;
+    text.extend_from_slice(number.as_bytes())?;
+    Ok(())
+}
+
+/// Puts a number, or `inf` where there is none.
+pub(crate) fn put_some_number(
+    alloc: Global,
+    text: &mut Vec<u8>,
+    style: Style,
+    x: &Option<Frac>,
+) -> Result<(), AllocError>
+    requires { IsStyle style }
+    ensures { OnOk result (text.new.items ≡ text.old.items ++ spec.some_number_text style x.now) }
+{
+    match x {
+        Some(x) => put_number(alloc, text, style, x),
+        None => {
+            text.extend_from_slice(b"inf".as_slice())?;
+            Ok(())
+        }
+    }
+}
+
+/// Puts a quantity.
+pub(crate) fn put_quantity(
+    alloc: Global,
+    text: &mut Vec<u8>,
+    style: Style,
+    x: &Quantity,
+) -> Result<(), AllocError>
+    requires { IsStyle style }
+    ensures { OnOk result (text.new.items ≡ text.old.items ++ shown style x.now) }
+{
+    let shown = x.show(alloc, style)?;
+    text.extend_from_slice(shown.as_bytes())?;
+    Ok(())
+}

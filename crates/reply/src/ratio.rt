@@ -1,0 +1,49 @@
+//! How often one number goes into another.
+
+ghost use Rattle.std.specs.Prelude.{◌≡◌, pos};
+ghost use Rattle.frac128.specs.Fraction.{whole};
+ghost use Rattle.reply.specs.Ratios as spec;
+
+use frac128::{Frac, FracFault};
+
+/// How often the target goes into what was asked, and the other way round, which is none where what was asked
+/// is 0.
+#[derive(Clone, Copy)]
+pub(crate) struct Ratio {
+    pub(crate) forward: Frac,
+    pub(crate) back: Option<Frac>,
+}
+
+/// How often `to` goes into `from`, and the other way round.
+pub(crate) fn ratio_of(from: &Frac, to: &Frac) -> Result<Ratio, FracFault>
+    ensures { result ≡ spec.ratio_of from.now to.now }
+{
+    let forward = from.div(to)?;
+    let back = backward(from, to)?;
+    Ok(Ratio { forward, back })
+}
+
+// How often `from` goes into `to`, unless it is 0.
+fn backward(from: &Frac, to: &Frac) -> Result<Option<Frac>, FracFault>
+    ensures { result ≡ spec.backward from.now to.now }
+{
+    if from.is_zero() {
+        return Ok(None);
+    }
+    let back = to.div(from)?;
+    Ok(Some(back))
+}
+
+/// The same with 1/from in the place of `from`.
+pub(crate) fn reciprocal_ratio(from: &Frac, to: &Frac) -> Result<Ratio, FracFault>
+    ensures { result ≡ spec.reciprocal_ratio from.now to.now }
+{
+    let inverse = one().div(from)?;
+    ratio_of(&inverse, to)
+}
+
+fn one() -> Frac
+    ensures { result ≡ whole (pos 1) }
+{
+    Frac::new(1, 1).unwrap()
+}

@@ -1,0 +1,219 @@
+//! Replies.
+
+ghost use Rattle.std.specs.Prelude.{◌≡◌, IfOk, true};
+ghost use Rattle.std.specs.Option.{option_copied};
+ghost use Rattle.deck.specs.Tables.{table as table_of};
+ghost use Rattle.def_entry.specs.declared.key.Kind.TheVariants as kinds;
+ghost use Rattle.def_entry.specs.Keys.{key as key_named};
+ghost use Rattle.def_entry.specs.Tables.{entry_at};
+ghost use Rattle.digits_print.specs.Styles.{IsStyle};
+ghost use Rattle.reply.specs.Calls as call;
+ghost use Rattle.reply.specs.Conversions as conversions;
+ghost use Rattle.reply.specs.Faults as faults;
+ghost use Rattle.reply.specs.Options.{IsPrintable, style_of};
+ghost use Rattle.reply.specs.declared.reply.FromValue.TheVariants.{Bad};
+ghost use Rattle.reply.specs.Replies as spec;
+
+use crate::asking::text_worth;
+use crate::conversion::{Conversion, convert};
+use crate::failure::Failure;
+use crate::fault::ReplyFault;
+use crate::form::Form;
+use crate::lines::{put_conversion, put_definition};
+use crate::options::Options;
+use crate::telling::{fault_text, put_fault};
+use deck::Deck;
+use def_entry::{Kind, What};
+use def_lines::trim;
+use expr_tree::told_law;
+use live_table::LiveTable;
+use quantity::Quantity;
+use std::alloc::{AllocError, Global};
+use std::sync::ledger::Ledger;
+use units_io::{Steps, Text};
+
+/// The bytes of a reply, and whether it is a fault or a conformability error.
+#[derive(Drop)]
+pub struct Reply {
+    /// The lines of the reply.
+    pub text: Text,
+    /// Whether it is a fault or a conformability error.
+    pub refused: bool,
+}
+
+/// What a text is worth.
+#[derive(Drop)]
+pub enum FromValue {
+    /// Its value.
+    Good(Quantity),
+    /// The text of its first fault.
+    Bad(Text),
+}
+
+/// The reply to the conversion of a text to another, both without the blanks at their ends. It makes the
+/// queries of FROM and then, where FROM has a value, those of TO, up to the first fault, and leaves the deck
+/// as it is. The only error is want of memory.
+pub fn convert_reply<L: Ledger>(
+    alloc: Global,
+    table: &mut LiveTable,
+    options: &Options,
+    from: &[u8],
+    to: &[u8],
+    steps: &mut Steps<L>,
+) -> Result<Reply, AllocError>
+    requires { IsPrintable options.now }
+    ensures reply { IfOk result (λ reply.
+        reply ≡ spec.conversion_reply (table_of table.old.deck) options.now from.now to.now) }
+    ensures queries { call.AreMade (spec.conversion_queries (table_of table.old.deck) options.now from.now to.now)
+        result table.old table.new steps.old steps.new }
+    ensures deck { table.new.deck ≡ table.old.deck }
+{
+    told_law();
+    let form = Form::of(options);
+    let from = trim(from);
+    let to = trim(to);
+    match convert(alloc, table, options, from, to, steps) {
+        Ok(conversion) => granted(alloc, form, from, to, &conversion),
+        Err(Failure::Fault(fault)) => refusal(alloc, form, &fault),
+        Err(Failure::OutOfMemory) => Err(AllocError),
+    }
+}
+
+/// The reply to a text alone, without the blanks at its ends: what it is worth, or its first fault. Where it is
+/// the name of a unit that an expression defines, the text of that stands before the value. It makes the query
+/// of the text, and leaves the deck as it is. The only error is want of memory.
+pub fn definition_reply<L: Ledger>(
+    alloc: Global,
+    table: &mut LiveTable,
+    options: &Options,
+    from: &[u8],
+    steps: &mut Steps<L>,
+) -> Result<Reply, AllocError>
+    requires { IsPrintable options.now }
+    ensures reply { IfOk result (λ reply.
+        reply ≡ spec.definition_reply (table_of table.old.deck) options.now from.now) }
+    ensures queries { call.AreMade (spec.value_queries (table_of table.old.deck) from.now)
+        result table.old table.new steps.old steps.new }
+    ensures deck { table.new.deck ≡ table.old.deck }
+{
+    told_law();
+    let form = Form::of(options);
+    let from = trim(from);
+    match text_worth(alloc, table, from, steps) {
+        Ok(x) => defined(alloc, form, table.deck(), from, &x),
+        Err(Failure::Fault(fault)) => refusal(alloc, form, &fault),
+        Err(Failure::OutOfMemory) => Err(AllocError),
+    }
+}
+
+/// The value of a text without the blanks at its ends, or the text of its first fault, without a line feed. It
+/// makes the query of the text, and leaves the deck as it is. The only error is want of memory.
+pub fn from_value<L: Ledger>(
+    alloc: Global,
+    table: &mut LiveTable,
+    options: &Options,
+    from: &[u8],
+    steps: &mut Steps<L>,
+) -> Result<FromValue, AllocError>
+    requires { IsPrintable options.now }
+    ensures value { IfOk result (λ value.
+        value ≡ spec.from_value (table_of table.old.deck) options.now from.now) }
+    ensures queries { call.AreMade (spec.value_queries (table_of table.old.deck) from.now)
+        result table.old table.new steps.old steps.new }
+    ensures deck { table.new.deck ≡ table.old.deck }
+{
+    told_law();
+    let from = trim(from);
+    match text_worth(alloc, table, from, steps) {
+        Ok(x) => Ok(FromValue::Good(x)),
+        Err(Failure::Fault(fault)) => bad(alloc, options, &fault),
+        Err(Failure::OutOfMemory) => Err(AllocError),
+    }
+}
+
+// A fault in the place of a value.
+fn bad(alloc: Global, options: &Options, fault: &ReplyFault) -> Result<FromValue, AllocError>
+    requires told { faults.is_told fault.now ≡ true }
+    requires printable { IsPrintable options.now }
+    ensures { IfOk result (λ value. value ≡ Bad (faults.fault_text (style_of options.now) fault.now)) }
+{
+    let text = fault_text(alloc, fault, options)?;
+    Ok(FromValue::Bad(text))
+}
+
+// The reply to a conversion that has no fault.
+fn granted(
+    alloc: Global,
+    form: Form,
+    from: &[u8],
+    to: &[u8],
+    conversion: &Conversion,
+) -> Result<Reply, AllocError>
+    requires { IsStyle form.style }
+    ensures { IfOk result (λ reply. reply ≡ spec.conversion_as form from.now to.now conversion.now) }
+{
+    let mut text = Vec::new(alloc);
+    put_conversion(alloc, &mut text, form, from, to, conversion)?;
+    Ok(Reply {
+        text: Text::from(text),
+        refused: !is_granted(conversion),
+    })
+}
+
+// Whether a conversion is no conformability error.
+fn is_granted(conversion: &Conversion) -> bool
+    ensures { result ≡ conversions.is_granted conversion.now }
+{
+    match conversion {
+        Conversion::Unlike(_, _) => false,
+        _ => true,
+    }
+}
+
+// The reply to a text that has a value.
+fn defined(
+    alloc: Global,
+    form: Form,
+    deck: &Deck,
+    from: &[u8],
+    x: &Quantity,
+) -> Result<Reply, AllocError>
+    requires { IsStyle form.style }
+    ensures { IfOk result (λ reply. reply
+        ≡ spec.definition_as form (spec.body_of (entry_at (table_of deck.now) (key_named kinds.Unit from.now))) x.now) }
+{
+    let mut text = Vec::new(alloc);
+    put_definition(alloc, &mut text, form, body_text(deck, from), x)?;
+    Ok(Reply {
+        text: Text::from(text),
+        refused: false,
+    })
+}
+
+// The text of the expression that defines the unit of this name.
+fn body_text<'a>(deck: &'a Deck, name: &[u8]) -> Option<&'a [u8]>
+    ensures { option_copied result ≡ spec.body_of (entry_at (table_of deck.now) (key_named kinds.Unit name.now)) }
+{
+    let Some(entry) = deck.entry(Kind::Unit, name) else {
+        return None;
+    };
+    match entry.what {
+        What::Body(_) => Some(entry.text()),
+        _ => None,
+    }
+}
+
+// A fault as a reply.
+fn refusal(alloc: Global, form: Form, fault: &ReplyFault) -> Result<Reply, AllocError>
+    requires told { faults.is_told fault.now ≡ true }
+    requires style { IsStyle form.style }
+    ensures { IfOk result (λ reply. reply ≡ spec.refusal form fault.now) }
+{
+    let mut text = Vec::new(alloc);
+    put_fault(alloc, &mut text, fault, form.style)?;
+    text.extend_from_slice(b"\n".as_slice())?;
+    Ok(Reply {
+        text: Text::from(text),
+        refused: true,
+    })
+}

@@ -1,0 +1,114 @@
+//! The line with the counts of the parts of a list.
+
+ghost use Rattle.std.specs.Prelude.{◌≡◌, ◌++◌, OnOk};
+ghost use Rattle.std.specs.Option.{option_copied};
+ghost use Rattle.digits_print.specs.Styles.{IsStyle};
+ghost use Rattle.reply.specs.Lines as spec;
+ghost use Rattle.reply.specs.Targets.{parts_behind, parts_of};
+
+use crate::form::{Form, Layout};
+use crate::lines::{put_front, put_tab};
+use crate::parts::cut_part;
+use crate::put::put_number;
+use frac128::Frac;
+use std::alloc::{AllocError, Global};
+
+/// Puts the counts of the parts of a list.
+pub(crate) fn put_split(
+    alloc: Global,
+    text: &mut Vec<u8>,
+    form: Form,
+    from: &[u8],
+    list: &[u8],
+    counts: &[Frac],
+) -> Result<(), AllocError>
+    requires { IsStyle form.style }
+    ensures { OnOk result (text.new.items
+        ≡ text.old.items ++ spec.split_text form from.now list.now counts.now) }
+{
+    put_tab(text, form.layout)?;
+    put_front(text, form.layout, from)?;
+    put_counts(alloc, text, form, list, counts)?;
+    text.extend_from_slice(b"\n".as_slice())?;
+    Ok(())
+}
+
+// Puts the counts of all parts.
+fn put_counts(
+    alloc: Global,
+    text: &mut Vec<u8>,
+    form: Form,
+    list: &[u8],
+    counts: &[Frac],
+) -> Result<(), AllocError>
+    requires { IsStyle form.style }
+    ensures { OnOk result (text.new.items
+        ≡ text.old.items ++ spec.counts_text form (parts_of list.now) counts.now) }
+{
+    let (part, behind) = cut_part(list);
+    match counts.split_first() {
+        Some((count, further)) => {
+            put_count(alloc, text, form, part, count)?;
+            put_further(alloc, text, form, behind, further)
+        }
+        None => Ok(()),
+    }
+}
+
+// Puts the counts of the parts behind the first.
+fn put_further(
+    alloc: Global,
+    text: &mut Vec<u8>,
+    form: Form,
+    list: Option<&[u8]>,
+    counts: &[Frac],
+) -> Result<(), AllocError>
+    requires { IsStyle form.style }
+    ensures { OnOk result (text.new.items
+        ≡ text.old.items ++ spec.further_text form (parts_behind (option_copied list.entry)) counts.now) }
+{
+    let mut rest = list;
+    for count in counts {
+        let Some(list) = rest else {
+            return Ok(());
+        };
+        let (part, behind) = cut_part(list);
+        put_between(text, form.layout)?;
+        put_count(alloc, text, form, part, count)?;
+        rest = behind;
+    }
+    Ok(())
+}
+
+// Puts the count of a part.
+fn put_count(
+    alloc: Global,
+    text: &mut Vec<u8>,
+    form: Form,
+    part: &[u8],
+    count: &Frac,
+) -> Result<(), AllocError>
+    requires { IsStyle form.style }
+    ensures { OnOk result (text.new.items ≡ text.old.items ++ spec.count_text form part.now count.now) }
+{
+    put_number(alloc, text, form.style, count)?;
+    match form.layout {
+        Layout::Compact => Ok(()),
+        Layout::Plain | Layout::Verbose => {
+            text.extend_from_slice(b" ".as_slice())?;
+            text.extend_from_slice(part)?;
+            Ok(())
+        }
+    }
+}
+
+// Puts what stands between two counts.
+fn put_between(text: &mut Vec<u8>, layout: Layout) -> Result<(), AllocError>
+    ensures { OnOk result (text.new.items ≡ text.old.items ++ spec.between layout) }
+{
+    match layout {
+        Layout::Compact => text.extend_from_slice(b";".as_slice())?,
+        Layout::Plain | Layout::Verbose => text.extend_from_slice(b" + ".as_slice())?,
+    }
+    Ok(())
+}

@@ -1,0 +1,67 @@
+//! The options of replies, and how words spell them.
+
+ghost use Rattle.std.specs.Prelude.{◌≤◌, IfSome};
+ghost use Rattle.reply.specs.Options.{IsPrintable};
+
+use reply::Options;
+use std::str;
+
+// No option, with eight digits.
+pub(crate) fn default_options() -> Options
+    ensures { IsPrintable result }
+{
+    Options {
+        digits: 8,
+        exact: false,
+        strict: false,
+        one_line: false,
+        compact: false,
+        quiet: false,
+        round: false,
+        verbose: false,
+    }
+}
+
+// The options that words with spaces between them spell: the flags that are there, and a number of
+// digits, which is eight where there is none.
+pub(crate) fn read_options(words: &[u8]) -> Option<Options>
+    ensures { IfSome result IsPrintable }
+{
+    let mut options = default_options();
+    for word in words.split(|byte| *byte == b' ') {
+        options = with_option(options, word)?;
+    }
+    Some(options)
+}
+
+// The options with one more, which a word spells.
+fn with_option(mut options: Options, word: &[u8]) -> Option<Options>
+    requires { IsPrintable options }
+    ensures { IfSome result IsPrintable }
+{
+    match word {
+        b"" => {}
+        b"exact" => options.exact = true,
+        b"strict" => options.strict = true,
+        b"one-line" => options.one_line = true,
+        b"compact" => options.compact = true,
+        b"quiet" => options.quiet = true,
+        b"round" => options.round = true,
+        b"verbose" => options.verbose = true,
+        _ => options.digits = read_digits(word)?,
+    }
+    Some(options)
+}
+
+// A number of digits.
+fn read_digits(word: &[u8]) -> Option<u8>
+    ensures least { IfSome result (λ digits. 1 ≤ digits) }
+    ensures most { IfSome result (λ digits. digits ≤ 36) }
+{
+    let digits: u8 = str::from_utf8(word).ok()?.parse().ok()?;
+    if 1 <= digits && digits <= 36 {
+        Some(digits)
+    } else {
+        None
+    }
+}
