@@ -1,0 +1,12 @@
+mod Examples
+mod Findings
+mod Holding
+mod Inquiring
+mod Opening
+mod PrefixAnswers
+mod Prefixed
+mod Questions
+mod Surveying
+mod Turning
+mod UnitRows
+mod Values

@@ -1,0 +1,113 @@
+-- What trees are worth, asked one after another.
+use Rattle.std.proofs.Common.{◌≡◌, ◌∙◌, sym, ap, subst, refl, ℕ, List, [], ◌∷◌, ◌++◌, append_assoc}
+use Rattle.std.proofs.lemmas.List.{append-nil}
+use Rattle.std.specs.Prelude.{Result, Ok, Err}
+use Rattle.expr_tree.specs.Syntax.{Syntax}
+use Rattle.expr_tree.specs.Words.{words_in}
+use Rattle.quantity.specs.Amount.{Amount}
+use Rattle.def_entry.specs.Tables.{Table}
+use Rattle.live_table.specs.declared.fault.QueryFault.{QueryFault}
+use Rattle.live_table.specs.declared.fault.QueryFault.TheVariants as query
+use Rattle.live_table.specs.Shown.{Follows, IsCutOff, IsRightTable, Shown}
+use Rattle.live_table.specs.States.{AsksWords, Event}
+use Rattle.live_table.proofs.Following.{cut_both, follows_both, follows_none}
+use Rattle.reply.specs.declared.fault.ReplyFault.{ReplyFault}
+use Rattle.reply.specs.Calls.{same}
+use Rattle.reply.specs.Inquiries.{Inquiry, followed, given, worth, worths}
+use Rattle.reply.proofs.Fronts.{with_front, with_front-none}
+use Rattle.reply.proofs.Runs.{cut_behind, cut_between}
+use Rattle.survey.specs.Calls.{IsInquired}
+
+-- an inquiry behind these queries, whose answer stands behind these values
+abbrev pub behind : List Event → List Amount → Inquiry (List Amount) → Inquiry (List Amount)
+behind es xs m = record { events = es ++ m.events; answer = with_front xs m.answer }
+
+-- some trees have these values, the rest is to be asked
+pub record IsValuing (t : Table) (trees rest : List Syntax) (values : List Amount) (a b : Shown) (n m : ℕ) : Type 0
+  where
+    pub events : List Event
+    pub whole : worths t trees ≡ behind events values (worths t rest)
+    pub deck : b.deck ≡ a.deck
+    pub follows : Follows events a b n m
+
+pub valuing-start : (t : Table) (trees : List Syntax) (a : Shown) (n : ℕ) → IsRightTable a
+    → IsValuing t trees trees [] a a n n
+valuing-start t trees a n right = record {
+  events = [];
+  whole = λ i. record { events = (worths t trees).events; answer = sym (with_front-none (worths t trees).answer) i };
+  deck = refl;
+  follows = follows_none a n right;
+}
+
+-- a value in front of those of an inquiry
+abbrev onto : Inquiry (List Amount) → Amount → Inquiry (List Amount)
+onto m x = followed m.events m.answer (λ ys. given (Ok (x ∷ ys)))
+
+module _ (es : List Event) (xs : List Amount) (e : Event) (x : Amount) (gs : List Event) where
+  more : (r : Result (List Amount) ReplyFault)
+      → behind es xs (followed (e ∷ []) (Ok x) (onto (record { events = gs; answer = r })))
+      ≡ behind (es ++ e ∷ []) (xs ++ x ∷ []) (record { events = gs; answer = r })
+  more (Ok ys) = λ i. record {
+    events = (ap (λ (hs : List Event). es ++ (e ∷ hs)) (append-nil gs) ∙ sym (append_assoc es (e ∷ []) gs)) i;
+    answer = Ok (sym (append_assoc xs (x ∷ []) ys) i);
+  }
+  more (Err fault) = λ i. record { events = sym (append_assoc es (e ∷ []) gs) i; answer = Err fault }
+
+module _ (t : Table) (trees rest : List Syntax) (tree : Syntax) (values : List Amount) (a b : Shown) (n m : ℕ)
+    (u : IsValuing t trees (tree ∷ rest) values a b n m) (c : Shown) (k : ℕ) (same_deck : c.deck ≡ b.deck) where
+  abbrev event : Event
+  event = AsksWords (words_in tree)
+
+  -- by what the next tree is worth
+  abbrev whole_by : Result Amount ReplyFault → Inquiry (List Amount)
+  whole_by said = behind u.events values (followed (event ∷ []) said (onto (worths t rest)))
+
+  -- it has a value
+  pub valuing-next : (x : Amount) → IsInquired same (worth t tree) (Ok x) b c m k
+      → IsValuing t trees rest (values ++ x ∷ []) a c n k
+  valuing-next x h = record {
+    events = u.events ++ event ∷ [];
+    whole =
+        u.whole
+        ∙ (ap whole_by h.0 ∙ more u.events values event x (worths t rest).events (worths t rest).answer);
+    deck = same_deck ∙ u.deck;
+    follows = follows_both u.events (event ∷ []) a b c n m k u.follows h.1;
+  }
+
+  -- it has none
+  pub valuing-failed : {A : Type 0} (seen : A → List Amount) (fault : QueryFault)
+      → IsInquired same (worth t tree) (Err fault) b c m k → IsInquired seen (worths t trees) (Err fault) a c n k
+  valuing-failed seen fault h =
+      subst (λ (w : Inquiry (List Amount)). IsInquired seen w (Err fault) a c n k) (sym u.whole) (go fault h)
+    where
+      cut : (said : Result Amount ReplyFault) → IsCutOff (event ∷ []) b c m k → IsCutOff (whole_by said).events a c n k
+      cut (Ok x) q =
+          cut_both u.events (event ∷ []) (onto (worths t rest) x).events a b c n m k u.deck u.follows q
+      cut (Err fault) q = cut_behind u.events (event ∷ []) a b c n m k u.deck u.follows q
+
+      go : (fault : QueryFault) → IsInquired same (worth t tree) (Err fault) b c m k
+          → IsInquired seen (whole_by (worth t tree).answer) (Err fault) a c n k
+      go (query.Name f) h =
+          subst (λ (s : Result Amount ReplyFault). IsInquired seen (whole_by s) (Err (query.Name f)) a c n k) (sym h.0)
+          (refl, follows_both u.events (event ∷ []) a b c n m k u.follows h.1)
+      go (query.Value f) h =
+          subst (λ (s : Result Amount ReplyFault). IsInquired seen (whole_by s) (Err (query.Value f)) a c n k) (sym h.0)
+          (refl, follows_both u.events (event ∷ []) a b c n m k u.follows h.1)
+      go query.OutOfMemory h = cut (worth t tree).answer h
+
+module _ {A : Type 0} (seen : A → List Amount) (t : Table) (trees : List Syntax) (a b : Shown) (n m : ℕ) where
+  -- want of memory between two of them
+  pub valuing-stopped : (rest : List Syntax) (values : List Amount) → IsValuing t trees rest values a b n m
+      → IsInquired seen (worths t trees) (Err query.OutOfMemory) a b n m
+  valuing-stopped rest values u =
+      subst (λ (w : Inquiry (List Amount)). IsCutOff w.events a b n m) (sym u.whole)
+      (cut_between u.events (worths t rest).events a b n m u.deck u.follows)
+
+  -- all have values
+  pub valuing-done : (v : A) → IsValuing t trees [] (seen v) a b n m → IsInquired seen (worths t trees) (Ok v) a b n m
+  valuing-done v u =
+      subst (λ (w : Inquiry (List Amount)). IsInquired seen w (Ok v) a b n m) (sym u.whole) (
+        ap Ok (append-nil (seen v)),
+        subst (λ (es : List Event). Follows es a b n m) (sym (append-nil u.events))
+            u.follows,
+      )

@@ -1,0 +1,33 @@
+use Rattle.std.proofs.Common.{◌≡◌, ◌∙◌, List, ap, subst, sym, ℕ}
+use Rattle.std.specs.Prelude.{Result}
+use Rattle.std.specs.declared.alloc.AllocError.{AllocError}
+use Rattle.std.proofs.lemmas.Result.{err_from_is_err_and}
+use Rattle.def_entry.specs.declared.key.Key.{Key}
+use Rattle.deck.specs.Decks.{Contents}
+use Rattle.deck.specs.KeyLists.{table_keys}
+use Rattle.deck.specs.Tables.{table}
+use Rattle.live_table.proofs.NameQueries.{cut_at_once}
+use Rattle.reply.specs.Calls.{AreMade}
+use Rattle.survey.specs.Conformable.{conformable_queries, unit_queries}
+use Rattle.survey.proofs.Findings.{made}
+use Rattle.survey.proofs.conforming.conformable_report.Goals as goal
+
+pub returns-in_err-keys-clause-queries : goal.returns-in_err-keys-clause-queries
+returns-in_err-keys-clause-queries g c =
+    let p = err_from_is_err_and c.from_residual.result c.from_residual.ensures.1 in
+    subst (λ (r : Result (List ℕ) AllocError). AreMade (conformable_queries (table c.args.table.now.deck)) r
+    c.args.table.now c.args.table.now c.args.steps.now c.args.steps.now) (sym p.1)
+    (cut_at_once (conformable_queries (table c.args.table.now.deck)) c.args.table.now c.args.steps.now
+    c.deck.ensures.right)
+
+pub returns-clause-queries : goal.returns-clause-queries
+returns-clause-queries g c =
+    let keys : c.as_slice.result.now ≡ table_keys (table c.args.table.now.deck) =
+    c.as_slice.ensures
+    ∙ (c.key_lists_are_one.ensures (table c.deck.result.now) c.in_ok-keys.keys (c.in_ok-keys.ensures {u = tt}).all
+    ∙ ap (λ (d : Contents). table_keys (table d)) c.deck.ensures.deck) in
+    subst (λ (ks : List Key). AreMade (unit_queries (table c.args.table.now.deck) ks) c.rows_or_none.result
+    c.args.table.now c.put_conforming_rows.new.table c.args.steps.now c.put_conforming_rows.new.steps) keys
+    (made (unit_queries (table c.args.table.now.deck) c.as_slice.result.now) c.args.table.now
+    c.put_conforming_rows.new.table c.args.steps.now c.put_conforming_rows.new.steps c.put_conforming_rows.ensures.deck
+    c.in_ok-put_conforming_rows.ensures.queries c.rows_or_none.result)

@@ -1,0 +1,5 @@
+use Rattle.survey.proofs.Prefixed.{prefix_law}
+use Rattle.survey.proofs.laws.prefix_law.Goals as goal
+
+pub returns : goal.returns
+returns c = prefix_law

@@ -1,0 +1,134 @@
+-- The check report.
+use Rattle.std.specs.Prelude.{◌++◌, ℕ, List, [], ◌∷◌, codes, Option, Some, None, Result, Ok, Err, position}
+use Rattle.std.specs.Prelude.{if◌then◌else◌}
+use Rattle.std.specs.List.{flat_map, list_any}
+use Rattle.expr_tree.specs.Syntax.{Syntax, Word}
+use Rattle.quantity.specs.Amount.{Amount}
+use Rattle.digits_print.specs.declared.style.Style.{Style}
+use Rattle.unit_list.specs.Amounts.{is_not_positive, is_unlike}
+use Rattle.def_entry.specs.declared.key.Key.{Key}
+use Rattle.def_entry.specs.declared.key.Kind.{Kind}
+use Rattle.def_entry.specs.declared.key.Kind.TheVariants as kind
+use Rattle.def_entry.specs.Entries as entry
+use Rattle.def_entry.specs.Entries.{Entry, What}
+use Rattle.def_entry.specs.Keys.{key_text}
+use Rattle.def_entry.specs.Tables.{Table, entry_at}
+use Rattle.deck.specs.KeyLists.{table_keys}
+use Rattle.tree_eval.specs.Expansion.{called_word}
+use Rattle.table_names.specs.declared.fault.NameFault.{NameFault}
+use Rattle.table_names.specs.Faults.{name_fault}
+use Rattle.live_table.specs.Calls.{all_names}
+use Rattle.live_table.specs.States.{Event, AsksWords}
+use Rattle.reply.specs.declared.fault.ReplyFault.{ReplyFault}
+use Rattle.reply.specs.declared.fault.ReplyFault.TheVariants.{Name, List as ListUnit}
+use Rattle.reply.specs.Faults.{fault_text}
+use Rattle.reply.specs.Inquiries.{◌>>=◌, Inquiry, given, worths}
+use Rattle.survey.specs.declared.finding.Finding.{Finding}
+use Rattle.survey.specs.declared.finding.Finding.TheVariants.{Sound, Unlike, NotPositive}
+use Rattle.survey.specs.PrefixFaults.{prefix_fault}
+
+abbrev pub tree_if : Option Syntax → List Syntax
+tree_if None = []
+tree_if (Some tree) = tree ∷ []
+
+-- the expressions of an entry that have to have values: the body; the in unit and the out unit of a function; the
+-- unit of a table; the parts of a list
+abbrev pub trees_in : What → List Syntax
+trees_in (entry.Body tree) = tree ∷ []
+trees_in (entry.Function d) = tree_if d.in_unit ++ tree_if d.out_unit
+trees_in (entry.Table d) = d.unit ∷ []
+trees_in (entry.ListOf trees) = trees
+trees_in _ = []
+
+abbrev pub trees_at : Option Entry → List Syntax
+trees_at None = []
+trees_at (Some e) = trees_in e.what
+
+-- those of a key: a unit is asked for by its word
+abbrev pub valued : Key → Kind → Option Entry → List Syntax
+valued k kind.Unit e = Word k.name ∷ []
+valued k _ e = trees_at e
+
+abbrev pub place_finding : Option ℕ → Finding
+place_finding None = Sound
+place_finding (Some place) = NotPositive place
+
+-- whether a part does not conform to the first one, and then the first that is not above 0
+abbrev pub parts_finding : List Amount → Finding
+parts_finding [] = Sound
+parts_finding (part ∷ parts) =
+    if list_any (is_unlike part) parts then Unlike else place_finding (position is_not_positive (part ∷ parts))
+
+abbrev pub names_answer : Option NameFault → Result (Unit {0}) ReplyFault
+names_answer None = Ok tt
+names_answer (Some fault) = Err (Name fault)
+
+-- all values are there
+abbrev pub sound : Inquiry (List Amount) → Inquiry Finding
+sound values = do
+  _ ← values
+  given (Ok Sound)
+
+-- and the parts of a list go together
+abbrev pub parted : Inquiry (List Amount) → Inquiry Finding
+parted values = do
+  parts ← values
+  given (Ok (parts_finding parts))
+
+abbrev pub prefix_answer : {A : Type 0} → Key → Result A ReplyFault → Result A ReplyFault
+prefix_answer k (Err (Name fault)) = Err (Name (prefix_fault k fault))
+prefix_answer k answer = answer
+
+-- the body of a prefix, whose name fault is told as that of the prefix
+abbrev pub of_prefix : Key → Inquiry (List Amount) → Inquiry (List Amount)
+of_prefix k values = record { events = values.events; answer = prefix_answer k values.answer }
+
+module _ (table : Table) where
+  -- a function is asked for by a call of it, for the faults of its names alone
+  abbrev pub names_of : Key → Inquiry (Unit {0})
+  names_of k = record {
+    events = AsksWords (called_word k.name ∷ []) ∷ [];
+    answer = names_answer (name_fault table (called_word k.name ∷ []));
+  }
+
+  -- a unit and a prefix by value; a function, an alias and a table by the faults of its names, and then by the
+  -- values of its units; a list by the values of its parts, and then by how they go together
+  abbrev pub checked_by : Kind → Key → Inquiry (List Amount) → Inquiry Finding
+  checked_by kind.Unit k values = sound values
+  checked_by kind.Prefix k values = sound (of_prefix k values)
+  checked_by kind.Func k values = do
+    _ ← names_of k
+    sound values
+  checked_by kind.List k values = parted values
+
+  abbrev pub checked : Key → Inquiry Finding
+  checked k = checked_by k.kind k (worths table (valued k k.kind (entry_at table k)))
+
+-- a line that tells something of a key
+abbrev pub told_line : Key → (text : List ℕ) → List ℕ
+told_line k text = ((key_text k ++ codes ": ") ++ text) ++ codes "\n"
+
+-- a line for what is found, unless the key is sound
+abbrev pub finding_line : Style → Key → Result Finding ReplyFault → List ℕ
+finding_line style k (Ok Sound) = []
+finding_line style k (Ok Unlike) = told_line k (codes "conformability error")
+finding_line style k (Ok (NotPositive place)) = told_line k (fault_text style (ListUnit place))
+finding_line style k (Err fault) = told_line k (fault_text style fault)
+
+module _ (table : Table) where
+  abbrev pub check_line : Style → Key → List ℕ
+  check_line style k = finding_line style k (checked table k).answer
+
+  -- the lines of some keys, and what is asked for them
+  abbrev pub check_among : Style → List Key → List ℕ
+  check_among style keys = flat_map (check_line style) keys
+
+  abbrev pub queries_among : List Key → List Event
+  queries_among keys = flat_map (λ k. (checked table k).events) keys
+
+  -- those of all keys; all names are asked for before
+  abbrev pub check_report : Style → List ℕ
+  check_report style = check_among style (table_keys table)
+
+  abbrev pub check_queries : List Event
+  check_queries = all_names table ++ queries_among (table_keys table)

@@ -1,0 +1,42 @@
+-- The report of what conforms to a quantity.
+use Rattle.std.specs.Prelude.{ℕ, List, Bool, false, Result, Ok, Err, [], if◌then◌else◌}
+use Rattle.std.specs.List.{flat_map}
+use Rattle.expr_tree.specs.Syntax.{Word}
+use Rattle.quantity.specs.Amount.{Amount, conform}
+use Rattle.def_entry.specs.declared.key.Key.{Key}
+use Rattle.def_entry.specs.declared.key.Kind.TheVariants as kind
+use Rattle.def_entry.specs.Tables.{Table, entry_at}
+use Rattle.deck.specs.KeyLists.{of_kind, table_keys}
+use Rattle.live_table.specs.States.{Event}
+use Rattle.reply.specs.declared.fault.ReplyFault.{ReplyFault}
+use Rattle.reply.specs.Inquiries.{Inquiry, worth}
+use Rattle.survey.specs.Rows.{entry_row, or_none}
+
+-- there is a value, and it conforms
+abbrev pub is_conforming : (from : Amount) → Result Amount ReplyFault → Bool
+is_conforming from (Ok x) = conform x.exponents from.exponents
+is_conforming from (Err fault) = false
+
+module _ (table : Table) where
+  -- a unit is asked for by its word
+  abbrev pub unit_worth : Key → Inquiry Amount
+  unit_worth k = worth table (Word k.name)
+
+  -- the row of a unit that has a value which conforms
+  abbrev pub conforming_row : (from : Amount) → Key → List ℕ
+  conforming_row from k =
+      if is_conforming from (unit_worth k).answer then entry_row k.name (entry_at table k) else []
+
+  -- those of the units among some keys
+  abbrev pub conformable_among : (from : Amount) → List Key → List ℕ
+  conformable_among from keys = or_none (flat_map (conforming_row from) (of_kind kind.Unit keys))
+
+  abbrev pub unit_queries : List Key → List Event
+  unit_queries keys = flat_map (λ k. (unit_worth k).events) (of_kind kind.Unit keys)
+
+  -- those of all units, and the query of each
+  abbrev pub conformable_report : (from : Amount) → List ℕ
+  conformable_report from = conformable_among from (table_keys table)
+
+  abbrev pub conformable_queries : List Event
+  conformable_queries = unit_queries (table_keys table)

@@ -1,0 +1,17 @@
+-- The rows of reports.
+use Rattle.std.specs.Prelude.{◌++◌, ℕ, List, [], ◌∷◌, codes, Option, Some, None}
+use Rattle.def_entry.specs.Entries.{Entry}
+
+-- a tab, a name, a tab and a text
+abbrev pub row : (name text : List ℕ) → List ℕ
+row name text = (((codes "\t" ++ name) ++ codes "\t") ++ text) ++ codes "\n"
+
+-- the row of an entry, where there is one
+abbrev pub entry_row : (name : List ℕ) → Option Entry → List ℕ
+entry_row name None = []
+entry_row name (Some e) = row name e.text
+
+-- rows, or a line that says that there are none
+abbrev pub or_none : List ℕ → List ℕ
+or_none [] = codes "no matching names\n"
+or_none (b ∷ bytes) = b ∷ bytes

@@ -1,0 +1,93 @@
+//! What is asked of a live table.
+
+ghost use Rattle.std.specs.Prelude.{◌≡◌, ◌++◌, ◌∷◌, [], IfOk, OnOk};
+ghost use Rattle.deck.specs.Tables.{table as table_of};
+ghost use Rattle.expr_tree.specs.Trees.{syntax};
+ghost use Rattle.expr_tree.specs.Words.{words_in};
+ghost use Rattle.tree_eval.specs.Expansion.{called_word};
+ghost use Rattle.live_table.specs.Shown.{IsRightTable};
+ghost use Rattle.reply.specs.Calls as call;
+ghost use Rattle.reply.specs.Inquiries as inquiries;
+ghost use Rattle.survey.specs.Calls as calls;
+ghost use Rattle.survey.specs.Checks as spec;
+
+use def_entry::Key;
+use expr_tree::{Quotient, Tree};
+use frac128::read_numeral;
+use live_table::{LiveTable, QueryFault};
+use quantity::Quantity;
+use std::alloc::{AllocError, Global};
+use std::sync::ledger::Ledger;
+use units_io::{Steps, Text};
+
+/// What trees are worth, one after another, up to the first fault.
+pub(crate) fn worths<L: Ledger>(
+    alloc: Global,
+    table: &mut LiveTable,
+    trees: &[Tree],
+    steps: &mut Steps<L>,
+) -> Result<Vec<Quantity>, QueryFault>
+    requires { IsRightTable table.old }
+    ensures inquired { calls.IsInquired (λ values. values.items)
+        (inquiries.worths (table_of table.old.deck) (call.syntaxes_of trees.now)) result
+        table.old table.new steps.old steps.new }
+    ensures deck { table.new.deck ≡ table.old.deck }
+{
+    let mut values = Vec::new(alloc);
+    for tree in trees {
+        let value = table.value(alloc, tree, steps)?;
+        put_value(&mut values, value)?;
+    }
+    Ok(values)
+}
+
+// Puts a value behind others.
+fn put_value(values: &mut Vec<Quantity>, value: Quantity) -> Result<(), AllocError>
+    ensures { OnOk result (values.new.items ≡ values.old.items ++ value ∷ []) }
+{
+    values.push(value)?;
+    Ok(())
+}
+
+/// The fault of the names of a function, where it has one.
+pub(crate) fn ask_function<L: Ledger>(
+    alloc: Global,
+    table: &mut LiveTable,
+    key: &Key,
+    steps: &mut Steps<L>,
+) -> Result<(), QueryFault>
+    requires { IsRightTable table.old }
+    ensures inquired { calls.IsInquired call.same (spec.names_of (table_of table.old.deck) key.now) result
+        table.old table.new steps.old steps.new }
+    ensures deck { table.new.deck ≡ table.old.deck }
+{
+    let call = faulty_call(alloc, key.name.as_bytes())?;
+    names_alone(table.value(alloc, &call, steps))
+}
+
+// An answer without what it says of a value.
+fn names_alone(answer: Result<Quantity, QueryFault>) -> Result<(), QueryFault>
+    ensures { result ≡ calls.names_alone answer }
+{
+    match answer {
+        Ok(_) | Err(QueryFault::Value(_)) => Ok(()),
+        Err(fault) => Err(fault),
+    }
+}
+
+// A call whose operand has no value, so that the function is not applied.
+fn faulty_call(alloc: Global, name: &[u8]) -> Result<Tree, AllocError>
+    ensures { IfOk result (λ tree. words_in (syntax tree) ≡ called_word name.now ∷ []) }
+{
+    let zero = read_numeral(b"0").unwrap();
+    let quotient = Box::new(
+        alloc,
+        Quotient {
+            top: zero,
+            bottom: zero,
+        },
+    )?;
+    let operand = Box::new(alloc, Tree::Bar(quotient))?;
+    let name = Box::new(alloc, Text::from_bytes(alloc, name)?)?;
+    Ok(Tree::Call(name, operand))
+}

@@ -1,0 +1,188 @@
+//! The check report.
+
+ghost use Rattle.std.specs.Prelude.{◌≡◌, ◌++◌, IfOk, OnOk};
+ghost use Rattle.deck.specs.Tables.{table as table_of};
+ghost use Rattle.def_entry.specs.declared.key.Kind.TheVariants as kinds;
+ghost use Rattle.live_table.specs.Shown.{IsRightTable};
+ghost use Rattle.reply.specs.Calls as call;
+ghost use Rattle.reply.specs.Inquiries as inquiries;
+ghost use Rattle.reply.specs.Options.{IsPrintable, style_of};
+ghost use Rattle.survey.specs.Calls as calls;
+ghost use Rattle.survey.specs.Checks as spec;
+
+use crate::asking::{ask_function, worths};
+use crate::finding::{Finding, parts_finding};
+use crate::finding_lines::put_finding;
+use crate::prefix_faults::prefix_fault;
+use crate::valued::valued_trees;
+use deck::key_lists_are_one;
+use def_entry::{Key, Kind};
+use expr_tree::Tree;
+use live_table::{LiveTable, QueryFault};
+use reply::Options;
+use std::alloc::{AllocError, Global};
+use std::sync::ledger::Ledger;
+use units_io::{Steps, Text};
+
+/// A line for each key that has a fault, in the order of keys. All names are asked for, and then what each key needs,
+/// and the deck is left as it is. The only error is want of memory.
+pub fn check_report<L: Ledger>(
+    alloc: Global,
+    table: &mut LiveTable,
+    options: &Options,
+    steps: &mut Steps<L>,
+) -> Result<Text, AllocError>
+    requires { IsPrintable options.now }
+    ensures report { IfOk result (λ text.
+        text ≡ spec.check_report (table_of table.old.deck) (style_of options.now)) }
+    ensures queries { call.AreMade (spec.check_queries (table_of table.old.deck)) result
+        table.old table.new steps.old steps.new }
+    ensures deck { table.new.deck ≡ table.old.deck }
+{
+    key_lists_are_one();
+    let keys = table.deck().keys(alloc)?;
+    table.settle_all(alloc, steps)?;
+    let mut lines = Vec::new(alloc);
+    put_checks(alloc, &mut lines, table, options, keys.as_slice(), steps)?;
+    Ok(Text::from(lines))
+}
+
+// Puts a line for each of some keys that has a fault.
+fn put_checks<L: Ledger>(
+    alloc: Global,
+    lines: &mut Vec<u8>,
+    table: &mut LiveTable,
+    options: &Options,
+    keys: &[Key],
+    steps: &mut Steps<L>,
+) -> Result<(), AllocError>
+    requires printable { IsPrintable options.now }
+    requires right { IsRightTable table.old }
+    ensures lines { OnOk result (lines.new.items ≡ lines.old.items
+        ++ spec.check_among (table_of table.old.deck) (style_of options.now) keys.now) }
+    ensures queries { call.AreMade (spec.queries_among (table_of table.old.deck) keys.now) result
+        table.old table.new steps.old steps.new }
+    ensures deck { table.new.deck ≡ table.old.deck }
+{
+    for key in keys {
+        put_check(alloc, lines, table, options, key, steps)?;
+    }
+    Ok(())
+}
+
+// Puts the line of a key, where it has a fault.
+fn put_check<L: Ledger>(
+    alloc: Global,
+    lines: &mut Vec<u8>,
+    table: &mut LiveTable,
+    options: &Options,
+    key: &Key,
+    steps: &mut Steps<L>,
+) -> Result<(), AllocError>
+    requires printable { IsPrintable options.now }
+    requires right { IsRightTable table.old }
+    ensures line { OnOk result (lines.new.items ≡ lines.old.items
+        ++ spec.check_line (table_of table.old.deck) (style_of options.now) key.now) }
+    ensures queries { call.AreMade (spec.checked (table_of table.old.deck) key.now).events result
+        table.old table.new steps.old steps.new }
+    ensures deck { table.new.deck ≡ table.old.deck }
+{
+    let found = checked(alloc, table, key, steps);
+    put_finding(alloc, lines, options, key, found)
+}
+
+// What is found at a key.
+fn checked<L: Ledger>(
+    alloc: Global,
+    table: &mut LiveTable,
+    key: &Key,
+    steps: &mut Steps<L>,
+) -> Result<Finding, QueryFault>
+    requires { IsRightTable table.old }
+    ensures inquired { calls.IsInquired call.same (spec.checked (table_of table.old.deck) key.now) result
+        table.old table.new steps.old steps.new }
+    ensures deck { table.new.deck ≡ table.old.deck }
+{
+    let trees = valued_trees(alloc, table.deck(), key)?;
+    let trees = trees.as_slice();
+    match key.kind {
+        Kind::Unit => unit_checked(alloc, table, trees, steps),
+        Kind::Prefix => prefix_checked(alloc, table, key, trees, steps),
+        Kind::Func => function_checked(alloc, table, key, trees, steps),
+        Kind::List => list_checked(alloc, table, trees, steps),
+    }
+}
+
+// What is found at a unit.
+fn unit_checked<L: Ledger>(
+    alloc: Global,
+    table: &mut LiveTable,
+    trees: &[Tree],
+    steps: &mut Steps<L>,
+) -> Result<Finding, QueryFault>
+    requires { IsRightTable table.old }
+    ensures inquired { calls.IsInquired call.same (spec.sound
+        (inquiries.worths (table_of table.old.deck) (call.syntaxes_of trees.now))) result
+        table.old table.new steps.old steps.new }
+    ensures deck { table.new.deck ≡ table.old.deck }
+{
+    worths(alloc, table, trees, steps)?;
+    Ok(Finding::Sound)
+}
+
+// What is found at a prefix.
+fn prefix_checked<L: Ledger>(
+    alloc: Global,
+    table: &mut LiveTable,
+    key: &Key,
+    trees: &[Tree],
+    steps: &mut Steps<L>,
+) -> Result<Finding, QueryFault>
+    requires { IsRightTable table.old }
+    ensures inquired { calls.IsInquired call.same (spec.checked_by (table_of table.old.deck) kinds.Prefix key.now
+        (inquiries.worths (table_of table.old.deck) (call.syntaxes_of trees.now))) result
+        table.old table.new steps.old steps.new }
+    ensures deck { table.new.deck ≡ table.old.deck }
+{
+    match worths(alloc, table, trees, steps) {
+        Ok(_) => Ok(Finding::Sound),
+        Err(QueryFault::Name(fault)) => Err(QueryFault::Name(prefix_fault(alloc, key, fault)?)),
+        Err(fault) => Err(fault),
+    }
+}
+
+// What is found at a function, an alias or a table.
+fn function_checked<L: Ledger>(
+    alloc: Global,
+    table: &mut LiveTable,
+    key: &Key,
+    trees: &[Tree],
+    steps: &mut Steps<L>,
+) -> Result<Finding, QueryFault>
+    requires { IsRightTable table.old }
+    ensures inquired { calls.IsInquired call.same (spec.checked_by (table_of table.old.deck) kinds.Func key.now
+        (inquiries.worths (table_of table.old.deck) (call.syntaxes_of trees.now))) result
+        table.old table.new steps.old steps.new }
+    ensures deck { table.new.deck ≡ table.old.deck }
+{
+    ask_function(alloc, table, key, steps)?;
+    worths(alloc, table, trees, steps)?;
+    Ok(Finding::Sound)
+}
+
+// What is found at a list.
+fn list_checked<L: Ledger>(
+    alloc: Global,
+    table: &mut LiveTable,
+    trees: &[Tree],
+    steps: &mut Steps<L>,
+) -> Result<Finding, QueryFault>
+    requires { IsRightTable table.old }
+    ensures inquired { calls.IsInquired call.same (spec.parted
+        (inquiries.worths (table_of table.old.deck) (call.syntaxes_of trees.now))) result
+        table.old table.new steps.old steps.new }
+    ensures deck { table.new.deck ≡ table.old.deck }
+{
+    let parts = worths(alloc, table, trees, steps)?;
+    Ok(parts_finding(parts.as_slice()))
+}

@@ -1,0 +1,57 @@
+//! What is found at a key whose expressions have values.
+
+ghost use Rattle.std.specs.Prelude.{◌≡◌, position};
+ghost use Rattle.std.specs.List.{list_any};
+ghost use Rattle.frac128.specs.Sign.{is_positive as is_positive_of};
+ghost use Rattle.unit_list.specs.Amounts.{is_not_positive, is_unlike};
+ghost use Rattle.survey.specs.Checks as spec;
+
+use quantity::Quantity;
+
+/// What is found at a key whose expressions have values.
+#[derive(Clone, Copy, Debug, PartialEq, Eq, Drop)]
+pub(crate) enum Finding {
+    /// Nothing that would have to be told.
+    Sound,
+    /// A part of a list does not conform to the first one.
+    Unlike,
+    /// The part of a list at this place, from 0, is the first that is not above 0.
+    NotPositive(usize),
+}
+
+/// What is found at a list whose parts have these values.
+pub(crate) fn parts_finding(parts: &[Quantity]) -> Finding
+    ensures { result ≡ spec.parts_finding parts.now }
+{
+    let Some((first, others)) = parts.split_first() else {
+        return Finding::Sound;
+    };
+    if has_unlike(first, others) {
+        return Finding::Unlike;
+    }
+    match first_not_positive(parts) {
+        Some(place) => Finding::NotPositive(place),
+        None => Finding::Sound,
+    }
+}
+
+// Whether one of the parts does not conform to the first.
+fn has_unlike(first: &Quantity, others: &[Quantity]) -> bool
+    ensures { result ≡ list_any (is_unlike first.now) others.now }
+{
+    others.iter().any(|part| !first.conforms(part))
+}
+
+// The place of the first part whose number is not above 0.
+fn first_not_positive(parts: &[Quantity]) -> Option<usize>
+    ensures { result ≡ position is_not_positive parts.now }
+{
+    parts.iter().position(|part| !is_positive(part))
+}
+
+// Whether the number of a part is above 0.
+fn is_positive(part: &Quantity) -> bool
+    ensures { result ≡ is_positive_of part.now.value }
+{
+    part.value().num() > 0
+}

@@ -1,0 +1,72 @@
+//! The lines of a check report.
+
+ghost use Rattle.std.specs.Prelude.{◌≡◌, ◌++◌, Err, OnOk, true};
+ghost use Rattle.live_table.specs.declared.fault.QueryFault.TheVariants.{OutOfMemory};
+ghost use Rattle.reply.specs.Faults.{fault_text as fault_text_of, is_told};
+ghost use Rattle.reply.specs.Inquiries.{as_answer};
+ghost use Rattle.reply.specs.Options.{IsPrintable, style_of};
+ghost use Rattle.survey.specs.Checks as spec;
+
+use crate::finding::Finding;
+use def_entry::{Key, key_text};
+use live_table::QueryFault;
+use reply::{Options, ReplyFault, fault_text};
+use std::alloc::{AllocError, Global};
+
+/// Puts the line of a key for what was found there, unless it is sound. Want of memory there is want of memory here.
+pub(crate) fn put_finding(
+    alloc: Global,
+    text: &mut Vec<u8>,
+    options: &Options,
+    key: &Key,
+    found: Result<Finding, QueryFault>,
+) -> Result<(), AllocError>
+    requires { IsPrintable options.now }
+    ensures line { OnOk result (text.new.items
+        ≡ text.old.items ++ spec.finding_line (style_of options.now) key.now (as_answer found)) }
+    ensures memory { OnOk result (found ≡ Err OutOfMemory → ⊥) }
+{
+    match found {
+        Ok(Finding::Sound) => Ok(()),
+        Ok(Finding::Unlike) => put_told(alloc, text, key, b"conformability error"),
+        Ok(Finding::NotPositive(place)) => {
+            put_fault(alloc, text, options, key, &ReplyFault::List(place))
+        }
+        Err(QueryFault::Name(fault)) => {
+            put_fault(alloc, text, options, key, &ReplyFault::Name(fault))
+        }
+        Err(QueryFault::Value(fault)) => {
+            put_fault(alloc, text, options, key, &ReplyFault::Value(fault))
+        }
+        Err(QueryFault::OutOfMemory) => Err(AllocError),
+    }
+}
+
+// Puts the line of a key that has a fault.
+fn put_fault(
+    alloc: Global,
+    text: &mut Vec<u8>,
+    options: &Options,
+    key: &Key,
+    fault: &ReplyFault,
+) -> Result<(), AllocError>
+    requires printable { IsPrintable options.now }
+    requires told { is_told fault.now ≡ true }
+    ensures { OnOk result (text.new.items
+        ≡ text.old.items ++ spec.told_line key.now (fault_text_of (style_of options.now) fault.now)) }
+{
+    let fault = fault_text(alloc, fault, options)?;
+    put_told(alloc, text, key, fault.as_bytes())
+}
+
+// Puts a line that tells something of a key.
+fn put_told(alloc: Global, text: &mut Vec<u8>, key: &Key, told: &[u8]) -> Result<(), AllocError>
+    ensures { OnOk result (text.new.items ≡ text.old.items ++ spec.told_line key.now told.now) }
+{
+    let key = key_text(alloc, key)?;
+    text.extend_from_slice(key.as_bytes())?;
+    text.extend_from_slice(b": ".as_slice())?;
+    text.extend_from_slice(told)?;
+    text.extend_from_slice(b"\n".as_slice())?;
+    Ok(())
+}

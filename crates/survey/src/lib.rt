@@ -1,0 +1,18 @@
+//! Reports on all definitions.
+#![tactic(auto)]
+
+mod asking;
+mod checking;
+mod conforming;
+mod finding;
+mod finding_lines;
+mod laws;
+mod prefix_faults;
+mod rows;
+mod searching;
+mod valued;
+
+pub use checking::check_report;
+pub use conforming::conformable_report;
+pub use laws::{examples_law, prefix_law};
+pub use searching::search_report;

@@ -1,0 +1,87 @@
+//! The name faults of the bodies of prefixes.
+
+ghost use Rattle.std.specs.Prelude.{◌≡◌, ◌++◌, ◌<◌, IfOk, OnOk, drop, length, position, take};
+ghost use Rattle.def_entry.specs.SameKeys.{is_same as is_same_key};
+ghost use Rattle.survey.specs.PrefixFaults as spec;
+
+use def_entry::{Key, Keys};
+use std::alloc::{AllocError, Global};
+use table_names::NameFault;
+
+/// A name fault of the body of a prefix, as one of the prefix: a word in the body stands in the prefix, and a chain
+/// that holds the prefix begins and ends with it.
+pub(crate) fn prefix_fault(
+    alloc: Global,
+    prefix: &Key,
+    fault: NameFault,
+) -> Result<NameFault, AllocError>
+    ensures { IfOk result (λ told. told ≡ spec.prefix_fault prefix.now fault) }
+{
+    match fault {
+        NameFault::Unknown(word, None) => Ok(NameFault::Unknown(
+            word,
+            Some(copied(alloc, prefix)?),
+        )),
+        NameFault::Refused(word, None) => Ok(NameFault::Refused(
+            word,
+            Some(copied(alloc, prefix)?),
+        )),
+        NameFault::Cycle(chain) => Ok(NameFault::Cycle(turned(alloc, prefix, chain)?)),
+        fault => Ok(fault),
+    }
+}
+
+// A chain that begins and ends with a key, where it holds that.
+fn turned(alloc: Global, key: &Key, chain: Keys) -> Result<Keys, AllocError>
+    ensures { IfOk result (λ keys. keys ≡ spec.turned key.now chain) }
+{
+    match place_of(key, chain.as_slice()) {
+        Some(place) => turned_to(alloc, place, chain.as_slice()),
+        None => Ok(chain),
+    }
+}
+
+// A chain from a place on, and then round to that place again.
+fn turned_to(alloc: Global, place: usize, chain: &[Key]) -> Result<Keys, AllocError>
+    requires { place < length chain.now }
+    ensures { IfOk result (λ keys. keys ≡ drop place chain.now ++ take place (drop 1 chain.now)) }
+{
+    let mut keys = Keys::new(alloc);
+    put_copies(alloc, &mut keys, &chain[place..])?;
+    put_copies(alloc, &mut keys, &chain[1..=place])?;
+    Ok(keys)
+}
+
+// Puts copies of keys behind some keys.
+fn put_copies(alloc: Global, keys: &mut Keys, further: &[Key]) -> Result<(), AllocError>
+    ensures { OnOk result (keys.new ≡ keys.old ++ further.now) }
+{
+    for key in further {
+        keys.push(alloc, copied(alloc, key)?)?;
+    }
+    Ok(())
+}
+
+// An equal key.
+fn copied(alloc: Global, key: &Key) -> Result<Key, AllocError>
+    ensures { IfOk result (λ copy. copy ≡ key.now) }
+{
+    Ok(Key {
+        kind: key.kind,
+        name: key.name.copy(alloc)?,
+    })
+}
+
+// The first place of a key.
+fn place_of(key: &Key, chain: &[Key]) -> Option<usize>
+    ensures { result ≡ position (is_same_key key.now) chain.now }
+{
+    chain.iter().position(|other| is_same(key, other))
+}
+
+// One kind and one name.
+fn is_same(key: &Key, other: &Key) -> bool
+    ensures { result ≡ is_same_key key.now other.now }
+{
+    key.kind == other.kind && key.name.as_bytes() == other.name.as_bytes()
+}
