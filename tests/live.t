@@ -1,7 +1,8 @@
 Live tables, by the calls of the crate live_table: a first `load FILE` makes the table of a file's deck, `value EXPRESSION` and
 `unapply NAME EXPRESSION` (the inverse of a function at what the expression is worth) are queries, `settle` asks for
 each name, and `counts` tells how many names are settled, how many have an entry, and how many were settled since the
-load. A value is printed exactly. The answers are those of plain recursion in Python (tools/compare_live.py --answer).
+load. `define LINE`, `drop KEY`, `switch LOCALE`, `append FILE`, `splice AT CUT LINE;LINE..` and `back`, which takes the last
+splice back, are edits. A value is printed exactly. The answers are those of plain recursion in Python (tools/compare_live.py --answer).
 
 A cycle has the chain of the name by which it is entered. No name fault is kept: each query gives its own.
 
@@ -803,3 +804,42 @@ Both locales to and fro, and an append that redefines half of the names.
   1 settled, 4 names, 8 reductions
   10 m
   8 m
+
+Every splice of a small deck, with a few puts, and then its inverse: which are refused, and what each answers, counts too, is
+worth before and behind it.
+
+  $ cat > spliced.units <<'END'
+  > m !
+  > k- 1000
+  > !locale en_GB
+  > b 2 m
+  > !endlocale
+  > b 3 km
+  > d b kb
+  > f(x) x b
+  > END
+  $ puts() {
+  >   printf '%s\n' '' 'b 7 m' '~b 7 m;kb 4 m' '!locale en_US;k- 10;!endlocale' '!endlocale;!locale en_US' 'km m;d m'
+  > }
+  $ asked() { printf 'counts\nvalue b\nvalue d\nvalue kd\nvalue f(2)\ncounts\n'; }
+  $ splices() {
+  >   for at in $(seq 0 9); do
+  >     for cut in $(seq 0 $((9 - at))); do
+  >       puts | while IFS= read -r put; do
+  >         printf 'splice %s %s %s\n' $at $cut "$put"
+  >         asked
+  >         echo back
+  >         asked
+  >       done
+  >     done
+  >   done
+  > }
+  $ (printf 'load spliced.units\n'; asked; splices) | live_calls > spliced
+  $ grep -c '^no such splice$' spliced
+  172
+  $ grep -c '^no splice$' spliced
+  172
+  $ grep -c '^ok$' spliced
+  317
+  $ md5sum < spliced
+  fd5307b16a9b1d78cb6188c3f8efc9ea  -

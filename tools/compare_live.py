@@ -5,8 +5,8 @@
 
 makes TABLES tables (400 where none is given) from the SEED (1 where none is given), with cycles,
 prefixes, plurals, functions, aliases, tables of points and lists, has the program of
-crates/live_calls answer queries of each, and compares each answer, and the counts after each
-query. Then it does the same with a ring of 20,000 names and with a chain of 60,000.
+crates/live_calls answer queries of each, and then queries with edits between them, and compares each answer, and
+the counts after each query and edit. Then it does the same with a ring of 20,000 names and with a chain of 60,000.
 
     tools/compare_live.py --definitions FILE
 
@@ -14,7 +14,7 @@ asks for each name of a file in turn, in a random order, and compares the answer
 
     tools/compare_live.py --answer < CALLS
 
-answers calls by the recursion, over the files of the folder it stands in.
+answers calls by the recursion, edits too, over the files of the folder it stands in.
 
 Decks are those of compare_decks.py, and values those of compare_values.py. A name fault is sought
 along each path, and what is reached from each query on; in large tables no name is gone through again.
@@ -40,6 +40,7 @@ PROGRAM = Path(__file__).resolve().parent.parent / "crates/live_calls/out/live_c
 SHOWN = 5  # how many differences are printed
 LARGE = 100  # how many entries a table has that is gone through once
 RING, CHAIN = 20_000, 60_000
+EDITS = ["define", "drop", "switch", "append", "splice", "back"]
 
 
 class Expression(compare_values.Reader):
@@ -131,11 +132,13 @@ class Live(compare_values.Table):
 
     # Names
 
-    def targets(self, use):
-        """The targets of a word at its place."""
+    def targets(self, use, looked=None):
+        """The targets of a word at its place. The keys at which it looks are put into a list, where one is given."""
         place, word = use
 
         def found(*key):
+            if looked is not None:
+                looked.append(key)
             return [key] if key in self.entries else []
 
         def behind_prefix(word):
@@ -285,13 +288,50 @@ class Live(compare_values.Table):
                 except Fault:
                     pass
 
+    # Edits
+
+    def affected(self, changed):
+        """The settled names that a change of keys affects."""
+        users = {}
+        for key in self.settled:
+            for use in self.uses(key):
+                looked = []
+                self.targets(use, looked)
+                for other in looked:
+                    users.setdefault(other, set()).add(key)
+        # What is affected is forgotten through names alone: a key at which a word looked has users, and is none itself.
+        affected, left = set(), [key for at in changed for key in {at} | users.get(at, set()) if key in self.settled]
+        while left:
+            key = left.pop()
+            if key not in affected:
+                affected.add(key)
+                left += (user for user in users.get(key, ()) if key in targets_of(self, user))
+        return affected
+
+    def after(self, entries):
+        """The table of other entries, in which what the change affects is forgotten."""
+        keys = self.entries.keys() | entries.keys()
+        live = Live(entries)
+        live.settled = self.settled - self.affected({k for k in keys if self.entries.get(k) != entries.get(k)})
+        live.reductions = self.reductions
+        return live
+
     def counts(self):
         names = sum(kind != "list" for kind, _ in self.entries)
         return f"{len(self.settled)} settled, {names} names, {self.reductions} reductions"
 
 
+def targets_of(live, key):
+    """The keys to which the words of a key lead."""
+    return {target for use in live.uses(key) for target in live.targets(use)}
+
+
 def standing_in(path):
     return f" in {key_text(path[-1])}" if path else ""
+
+
+def entries_of(deck):
+    return {key: text for key, (text, _) in deck.table().items()}
 
 
 class Board:
@@ -303,7 +343,7 @@ class Board:
         if load.startswith("load "):
             try:
                 self.refusal = self.decks.load(compare_decks.Files(), load.removeprefix("load "))
-                self.live = Live({key: text for key, (text, _) in self.decks.deck.table().items()})
+                self.live = Live(entries_of(self.decks.deck))
             except Refusal as refusal:
                 self.refusal = str(refusal)
 
@@ -315,8 +355,20 @@ class Board:
             return self.live.inverse_of(name, text).text()
         if word == "counts":
             return self.live.counts()
+        if word in EDITS:
+            return self.edit(word, rest)
         need(word == "settle", "bad call")
         self.live.settle()
+        return "ok"
+
+    def edit(self, word, rest):
+        """Whether an edit is made. A switch names its locale, and a splice leaves the settings."""
+        deck = self.decks.deck
+        self.decks.locale, self.decks.vars = (rest, {}) if word == "switch" else (deck.locale, dict(deck.vars))
+        answer = self.decks.answer(f"{word} {rest}" if rest and word != "switch" else word)
+        if not answer.startswith("changed: "):
+            return answer if answer in ("not a key", "no splice", "no such splice") else "refused"
+        self.live = self.live.after(entries_of(self.decks.deck))
         return "ok"
 
     def answer(self, line):
@@ -378,11 +430,32 @@ def show(board, calls, want, got):
 
 
 def random_runs(r, tables):
-    """Writes tables into the present folder, and gives calls on each."""
+    """Writes tables into the present folder, and gives calls on each, and then the same with edits."""
     for at in range(tables):
-        lines, queries = tables_at_random.table(r)
+        (lines, queries), (others, _) = tables_at_random.table(r), tables_at_random.table(r)
         Path(f"{at}.units").write_text("".join(line + "\n" for line in lines))
+        Path(f"{at}_more.units").write_text("".join(line + "\n" for line in others[::2]))
         yield [f"load {at}.units", *(call for query in queries for call in (query, "counts"))]
+        edits = (random_edit(r, lines, others, f"{at}_more.units") for _ in queries)
+        calls = ((query, edit, "counts", r.choice(queries), "counts") for query, edit in zip(queries, edits))
+        yield [f"load {at}.units", *itertools.chain.from_iterable(calls)]
+
+
+def random_edit(r, lines, others, more):
+    """An edit of a deck of some lines, with lines of another one."""
+    kind = r.choices(EDITS, [4, 4, 4, 1, 4, 4])[0]
+    if kind == "define":
+        return f"define {r.choice(others)}"
+    if kind == "drop":
+        return f"drop {r.choice(lines + others).split()[0].split('(')[0]}"
+    if kind == "switch":
+        return f"switch {r.choice(['en_GB', 'en_US'])}"
+    if kind == "append":
+        return f"append {more}"
+    if kind == "splice":
+        put = ";".join(line for line in r.sample(others, 2) if ";" not in line)
+        return f"splice {r.randrange(len(lines))} {r.randrange(3)} {put}"
+    return kind
 
 
 def long_runs():

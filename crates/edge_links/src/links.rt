@@ -7,6 +7,7 @@ ghost use Rattle.edge_links.specs.Into.{AreUsers};
 
 use crate::marks::Marks;
 use crate::places::Places;
+use crate::slots::{Place, place_of};
 use std::alloc::{AllocError, Global};
 use std::marker::Model;
 use units_io::List;
@@ -20,7 +21,7 @@ pub struct Links {
     places: Places,
 
     // the place of each node, whose name is the node
-    nodes: Vec<usize>,
+    nodes: Vec<Place>,
 }
 
 impl Model for Links {
@@ -53,8 +54,9 @@ impl Links {
     {
         self.places.begin()?;
         let node = self.nodes.len();
+        let name = place_of(node)?;
         self.nodes.reserve(1)?;
-        let place = self.places.add_head(node)?;
+        let place = self.places.add_head(name)?;
         self.nodes.push_reserved(place);
         Ok(node)
     }
@@ -121,7 +123,7 @@ impl Links {
         let mut users = List::new(alloc);
         for &place in &places {
             let user = self.places.user_of(place);
-            users.push(alloc, self.places.name(user))?;
+            users.push(alloc, self.places.name(user) as usize)?;
         }
         Ok(users)
     }

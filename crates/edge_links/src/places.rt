@@ -7,7 +7,7 @@ ghost use Rattle.edge_links.specs.Owners.{AreEdges, no_owners, owned, with_head}
 ghost use Rattle.edge_links.specs.Rings.{AreMembers};
 
 use crate::rings::Rings;
-use crate::slots::Side;
+use crate::slots::{Place, Side};
 use std::alloc::{AllocError, Global};
 use std::marker::Model;
 
@@ -59,7 +59,7 @@ impl Places {
     }
 
     // One more place, a head that owns itself alone. A refusal changes nothing.
-    pub(crate) fn add_head(&mut self, name: usize) -> Result<usize, AllocError>
+    pub(crate) fn add_head(&mut self, name: u32) -> Result<Place, AllocError>
         ensures was { AreEdges self.old.users self.old.keys }
         ensures ok { IfOk result (λ p. (p ≡ length self.old.users) × (self.new ≡ with_head self.old p name)) }
         ensures err { OnErr result (self.new ≡ self.old) }
@@ -68,7 +68,7 @@ impl Places {
     }
 
     // Makes a head that owns itself alone a free place. It takes no memory.
-    pub(crate) fn add_free(&mut self, place: usize)
+    pub(crate) fn add_free(&mut self, place: Place)
         requires there { (place < length self.old.users) × (place ≡ 0 → ⊥) }
         requires alone { (p : ℕ) → p < length self.old.users
             → (slice_index self.old.users p ≡ place → p ≡ place) × (slice_index self.old.keys p ≡ place → p ≡ place) }
@@ -81,7 +81,7 @@ impl Places {
     }
 
     // Makes a free place an edge. It takes no memory.
-    pub(crate) fn fill(&mut self, user: usize, key: usize)
+    pub(crate) fn fill(&mut self, user: Place, key: Place)
         requires there { (user < length self.old.users) × (key < length self.old.users) }
         requires some { (user ≡ 0 → ⊥) × (key ≡ 0 → ⊥) }
         requires heads { (slice_index self.old.users user ≡ user) × (slice_index self.old.users key ≡ key) }
@@ -98,7 +98,7 @@ impl Places {
     }
 
     // Takes an edge out, which leaves a free place. It takes no memory.
-    pub(crate) fn free(&mut self, place: usize)
+    pub(crate) fn free(&mut self, place: Place)
         requires there { place < length self.old.users }
         requires edge { (slice_index self.old.users place ≡ place → ⊥) × (slice_index self.old.users place ≡ 0 → ⊥) }
         ensures { self.new ≡ with_both self.old place 0 0 }
@@ -109,7 +109,7 @@ impl Places {
     }
 
     // The name of a place.
-    pub(crate) fn name(&self, place: usize) -> usize
+    pub(crate) fn name(&self, place: Place) -> u32
         requires { place < length self.now.users }
         ensures { result ≡ slice_index self.now.names place }
     {
@@ -117,7 +117,7 @@ impl Places {
     }
 
     // The user of an edge.
-    pub(crate) fn user_of(&self, place: usize) -> usize
+    pub(crate) fn user_of(&self, place: Place) -> Place
         requires { place < length self.now.users }
         ensures { (result ≡ slice_index self.now.users place) × (result < length self.now.users)
             × (slice_index self.now.users result ≡ result) }
@@ -126,7 +126,7 @@ impl Places {
     }
 
     // The edges to a key, each once.
-    pub(crate) fn edges_into(&self, alloc: Global, key: usize) -> Result<Vec<usize>, AllocError>
+    pub(crate) fn edges_into(&self, alloc: Global, key: Place) -> Result<Vec<Place>, AllocError>
         requires there { key < length self.now.users }
         requires head { slice_index self.now.users key ≡ key }
         ensures edges { AreEdges self.now.users self.now.keys }
@@ -136,7 +136,7 @@ impl Places {
     }
 
     // A place of a user, other than its own.
-    pub(crate) fn first_of(&self, user: usize) -> Option<usize>
+    pub(crate) fn first_of(&self, user: Place) -> Option<Place>
         requires there { user < length self.now.users }
         requires head { slice_index self.now.users user ≡ user }
         ensures edges { AreEdges self.now.users self.now.keys }
@@ -148,7 +148,7 @@ impl Places {
     }
 
     // A place of a key, other than its own.
-    pub(crate) fn first_into(&self, key: usize) -> Option<usize>
+    pub(crate) fn first_into(&self, key: Place) -> Option<Place>
         requires there { key < length self.now.users }
         requires head { slice_index self.now.users key ≡ key }
         ensures edges { AreEdges self.now.users self.now.keys }

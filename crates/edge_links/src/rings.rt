@@ -5,7 +5,7 @@ ghost use Rattle.std.specs.Prelude.{slice_index, MatchOption, IfOk, OnErr};
 ghost use Rattle.edge_links.specs.Owners.{no_owners, owners_of, with_owner, with_head};
 ghost use Rattle.edge_links.specs.Rings.{AreMembers};
 
-use crate::slots::{Seat, Side, Slots};
+use crate::slots::{Place, Seat, Side, Slots};
 use std::alloc::{AllocError, Global};
 use std::marker::Model;
 
@@ -14,7 +14,7 @@ use std::marker::Model;
 #[derive(Drop)]
 pub(crate) struct Rings {
     pub(crate) slots: Slots,
-    pub(crate) last_waiting: Option<usize>,
+    pub(crate) last_waiting: Option<Place>,
 }
 
 impl Model for Rings {
@@ -47,7 +47,7 @@ impl Rings {
     }
 
     // One more place, a head that owns itself alone. A refusal changes nothing.
-    pub(crate) fn add_head(&mut self, name: usize) -> Result<usize, AllocError>
+    pub(crate) fn add_head(&mut self, name: u32) -> Result<Place, AllocError>
         ensures ok { IfOk result (λ place. (place ≡ length self.old.users) × (place + 1 < 2 ^ 64)
             × (self.new ≡ with_head self.old place name)) }
         ensures err { OnErr result (self.new ≡ self.old) }
@@ -56,7 +56,7 @@ impl Rings {
     }
 
     // A place that the head owns, and not the head.
-    pub(crate) fn first(&self, side: Side, head: usize) -> Option<usize>
+    pub(crate) fn first(&self, side: Side, head: Place) -> Option<Place>
         requires there { head < length (owners_of side self.now) }
         requires head { slice_index (owners_of side self.now) head ≡ head }
         ensures { MatchOption result
@@ -69,7 +69,7 @@ impl Rings {
     }
 
     // The head that owns a place.
-    pub(crate) fn owner(&self, side: Side, place: usize) -> usize
+    pub(crate) fn owner(&self, side: Side, place: Place) -> Place
         requires { place < length (owners_of side self.now) }
         ensures { result ≡ slice_index (owners_of side self.now) place }
     {
@@ -77,7 +77,7 @@ impl Rings {
     }
 
     // The name of a place.
-    pub(crate) fn name(&self, place: usize) -> usize
+    pub(crate) fn name(&self, place: Place) -> u32
         requires { place < length self.now.users }
         ensures { result ≡ slice_index self.now.names place }
     {
@@ -85,7 +85,7 @@ impl Rings {
     }
 
     // Gives a place another owner. It takes no memory.
-    pub(crate) fn move_to(&mut self, side: Side, place: usize, head: usize)
+    pub(crate) fn move_to(&mut self, side: Side, place: Place, head: Place)
         requires there { (place < length (owners_of side self.old)) × (head < length (owners_of side self.old)) }
         requires place { slice_index (owners_of side self.old) place ≡ place → ⊥ }
         requires head { slice_index (owners_of side self.old) head ≡ head }
@@ -96,7 +96,7 @@ impl Rings {
     }
 
     // Takes a place out of its ring, which leaves it alone as its own head.
-    fn leave(&mut self, side: Side, place: usize)
+    fn leave(&mut self, side: Side, place: Place)
         requires there { place < length (owners_of side self.old) }
         requires place { slice_index (owners_of side self.old) place ≡ place → ⊥ }
         ensures owner { self.new ≡ with_owner side self.old place place }
@@ -115,7 +115,7 @@ impl Rings {
     }
 
     // Gives a head that owns itself alone to another head. It takes no memory.
-    pub(crate) fn join(&mut self, side: Side, place: usize, head: usize)
+    pub(crate) fn join(&mut self, side: Side, place: Place, head: Place)
         requires there { (place < length (owners_of side self.old)) × (head < length (owners_of side self.old)) }
         requires other { place ≡ head → ⊥ }
         requires alone { (p : ℕ) → p < length (owners_of side self.old)
@@ -140,8 +140,8 @@ impl Rings {
         &self,
         alloc: Global,
         side: Side,
-        head: usize,
-    ) -> Result<Vec<usize>, AllocError>
+        head: Place,
+    ) -> Result<Vec<Place>, AllocError>
         requires there { head < length (owners_of side self.now) }
         requires head { slice_index (owners_of side self.now) head ≡ head }
         ensures { IfOk result (λ places. AreMembers (owners_of side self.now) head places.items) }

@@ -14,12 +14,15 @@ pub(crate) enum Side {
     Key,
 }
 
+// The number of a place, half as wide as an index: a table has many places, and never so many.
+pub(crate) type Place = u32;
+
 // A place in a ring: the places beside it, and the head that owns it.
 #[derive(Clone, Copy, Drop)]
 pub(crate) struct Seat {
-    pub(crate) next: usize,
-    pub(crate) prev: usize,
-    pub(crate) owner: usize,
+    pub(crate) next: Place,
+    pub(crate) prev: Place,
+    pub(crate) owner: Place,
 }
 
 // What stands at a place. A place that waits leads to the one that waited before it.
@@ -27,9 +30,9 @@ pub(crate) struct Seat {
 struct Slot {
     user: Seat,
     key: Seat,
+    behind: Option<Place>,
+    name: u32,
     waits: bool,
-    behind: Option<usize>,
-    name: usize,
 }
 
 // What stands at each place.
@@ -64,12 +67,12 @@ impl Slots {
     }
 
     // One more place, alone in both rings. A refusal changes nothing.
-    pub(crate) fn push(&mut self, name: usize) -> Result<usize, AllocError>
+    pub(crate) fn push(&mut self, name: u32) -> Result<Place, AllocError>
         ensures ok { IfOk result (λ place. (place ≡ length self.old.names) × (place + 1 < 2 ^ 64)
             × (self.new ≡ with_slot self.old place name)) }
         ensures err { OnErr result (self.new ≡ self.old) }
     {
-        let place = self.slots.len();
+        let place = place_of(self.slots.len())?;
         let alone = Seat {
             next: place,
             prev: place,
@@ -78,91 +81,101 @@ impl Slots {
         self.slots.push(Slot {
             user: alone,
             key: alone,
-            waits: false,
             behind: None,
             name,
+            waits: false,
         })?;
         Ok(place)
     }
 
     // Where a place sits in its ring.
-    pub(crate) fn seat(&self, side: Side, place: usize) -> Seat
+    pub(crate) fn seat(&self, side: Side, place: Place) -> Seat
         requires { place < length self.now.names }
         ensures next { result.next ≡ slice_index (ring_of side self.now).next place }
         ensures prev { result.prev ≡ slice_index (ring_of side self.now).prev place }
         ensures owner { result.owner ≡ slice_index (ring_of side self.now).owner place }
     {
         match side {
-            Side::User => self.slots[place].user,
-            Side::Key => self.slots[place].key,
+            Side::User => self.slots[place as usize].user,
+            Side::Key => self.slots[place as usize].key,
         }
     }
 
     // The name of a place.
-    pub(crate) fn name(&self, place: usize) -> usize
+    pub(crate) fn name(&self, place: Place) -> u32
         requires { place < length self.now.names }
         ensures { result ≡ slice_index self.now.names place }
     {
-        self.slots[place].name
+        self.slots[place as usize].name
     }
 
     // Whether a place waits.
-    pub(crate) fn waits(&self, place: usize) -> bool
+    pub(crate) fn waits(&self, place: Place) -> bool
         requires { place < length self.now.names }
         ensures { result ≡ slice_index_or self.now.waits place false }
     {
-        self.slots[place].waits
+        self.slots[place as usize].waits
     }
 
     // The place that waited before this one.
-    pub(crate) fn behind(&self, place: usize) -> Option<usize>
+    pub(crate) fn behind(&self, place: Place) -> Option<Place>
         requires { place < length self.now.names }
         ensures { result ≡ slice_index_or self.now.behind place None }
     {
-        self.slots[place].behind
+        self.slots[place as usize].behind
     }
 
-    pub(crate) fn set_next(&mut self, side: Side, place: usize, next: usize)
+    pub(crate) fn set_next(&mut self, side: Side, place: Place, next: Place)
         requires { place < length self.old.names }
         ensures { self.new ≡ with_next side self.old place next }
     {
         match side {
-            Side::User => self.slots[place].user.next = next,
-            Side::Key => self.slots[place].key.next = next,
+            Side::User => self.slots[place as usize].user.next = next,
+            Side::Key => self.slots[place as usize].key.next = next,
         }
     }
 
-    pub(crate) fn set_prev(&mut self, side: Side, place: usize, prev: usize)
+    pub(crate) fn set_prev(&mut self, side: Side, place: Place, prev: Place)
         requires { place < length self.old.names }
         ensures { self.new ≡ with_prev side self.old place prev }
     {
         match side {
-            Side::User => self.slots[place].user.prev = prev,
-            Side::Key => self.slots[place].key.prev = prev,
+            Side::User => self.slots[place as usize].user.prev = prev,
+            Side::Key => self.slots[place as usize].key.prev = prev,
         }
     }
 
-    pub(crate) fn set_seat(&mut self, side: Side, place: usize, seat: Seat)
+    pub(crate) fn set_seat(&mut self, side: Side, place: Place, seat: Seat)
         requires { place < length self.old.names }
         ensures { self.new ≡ with_seat side self.old place seat }
     {
         match side {
-            Side::User => self.slots[place].user = seat,
-            Side::Key => self.slots[place].key = seat,
+            Side::User => self.slots[place as usize].user = seat,
+            Side::Key => self.slots[place as usize].key = seat,
         }
     }
 
-    pub(crate) fn set_waits(&mut self, place: usize, waits: bool)
+    pub(crate) fn set_waits(&mut self, place: Place, waits: bool)
         requires { place < length self.old.names }
         ensures { self.new ≡ with_waits self.old place waits }
     {
-        self.slots[place].waits = waits;
+        self.slots[place as usize].waits = waits;
     }
 
-    pub(crate) fn set_behind(&mut self, place: usize, behind: Option<usize>)
+    pub(crate) fn set_behind(&mut self, place: Place, behind: Option<Place>)
         requires { place < length self.old.names }
         ensures { self.new ≡ with_behind self.old place behind }
     {
-        self.slots[place].behind = behind;
+        self.slots[place as usize].behind = behind;
+    }
+}
+
+// An index as the number of a place. Beyond the last there is no memory for a place.
+pub(crate) fn place_of(index: usize) -> Result<Place, AllocError>
+    ensures { IfOk result (λ place. (place ≡ index) × (place + 1 < 2 ^ 64)) }
+{
+    match u32::try_from(index) {
+        Ok(place) => Ok(place),
+        Err(_) => Err(AllocError),
     }
 }

@@ -9,11 +9,12 @@ ghost use Rattle.edge_links.specs.Waiting.{waiting_count};
 
 use crate::marks::Marks;
 use crate::places::Places;
+use crate::slots::Place;
 
 impl Places {
     // Clears the names of a key and of what leads to it, and takes out the edges of which these are
     // the users. It takes no memory.
-    pub(crate) fn unsettle<K: Marks>(&mut self, key: usize, marks: &mut K)
+    pub(crate) fn unsettle<K: Marks>(&mut self, key: Place, marks: &mut K)
         requires there { IsHead self.old key }
         requires idle { (x : ℕ) → slice_index_or self.old.waits x false ≡ false }
         ensures edges { AreEdges self.old.users self.old.keys }
@@ -30,14 +31,14 @@ impl Places {
     {
         self.wait(key);
         while let Some(place) = self.take() {
-            marks.clear(self.name(place));
+            marks.clear(self.name(place) as usize);
             self.cut_users(place);
             self.cut_keys(place);
         }
     }
 
     // Lets a place wait.
-    fn wait(&mut self, place: usize)
+    fn wait(&mut self, place: Place)
         requires { place < length self.old.users }
         ensures was { AreEdges self.old.users self.old.keys }
         ensures rest { self.new ≡ record self.old { waits = self.new.waits } }
@@ -48,7 +49,7 @@ impl Places {
     }
 
     // One that waits, which waits no more.
-    fn take(&mut self) -> Option<usize>
+    fn take(&mut self) -> Option<Place>
         ensures edges { AreEdges self.new.users self.new.keys }
         ensures taken { MatchOption result
             (((x : ℕ) → slice_index_or self.old.waits x false ≡ false) × (self.new ≡ self.old))
@@ -58,7 +59,7 @@ impl Places {
     }
 
     // Takes out the edges of a user.
-    fn cut_users(&mut self, user: usize)
+    fn cut_users(&mut self, user: Place)
         requires there { (user < length self.old.users) × (user ≡ 0 → ⊥) }
         requires head { slice_index self.old.users user ≡ user }
         ensures size { length self.new.users ≡ length self.old.users }
@@ -73,7 +74,7 @@ impl Places {
     }
 
     // Takes out the edges to a key. Their users wait.
-    fn cut_keys(&mut self, key: usize)
+    fn cut_keys(&mut self, key: Place)
         requires there { (key < length self.old.users) × (key ≡ 0 → ⊥) }
         requires head { slice_index self.old.users key ≡ key }
         ensures size { length self.new.users ≡ length self.old.users }

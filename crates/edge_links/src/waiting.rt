@@ -6,10 +6,11 @@ ghost use Rattle.edge_links.specs.Owners.{Waits, with_waits};
 ghost use Rattle.edge_links.specs.Waiting.{waiting_count};
 
 use crate::rings::Rings;
+use crate::slots::Place;
 
 impl Rings {
     // Lets a place wait, unless it does.
-    pub(crate) fn wait(&mut self, place: usize)
+    pub(crate) fn wait(&mut self, place: Place)
         requires { place < length self.old.users }
         ensures rest { self.new ≡ record self.old { waits = self.new.waits } }
         ensures waits { (x : ℕ) → Waits self.new x ↔ (Waits self.old x ⊎ (x ≡ place)) }
@@ -21,7 +22,7 @@ impl Rings {
     }
 
     // Lets a place wait that does not.
-    fn push_waiting(&mut self, place: usize)
+    fn push_waiting(&mut self, place: Place)
         requires there { place < length self.old.users }
         requires new { slice_index_or self.old.waits place false ≡ false }
         ensures { self.new ≡ with_waits self.old place true }
@@ -32,7 +33,7 @@ impl Rings {
     }
 
     // One that waits, which waits no more.
-    pub(crate) fn pop_waiting(&mut self) -> Option<usize>
+    pub(crate) fn pop_waiting(&mut self) -> Option<Place>
         ensures { MatchOption result
             (((x : ℕ) → slice_index_or self.old.waits x false ≡ false) × (self.new ≡ self.old))
             (λ x. (x < length self.old.users) × Waits self.old x × (self.new ≡ with_waits self.old x false)) }

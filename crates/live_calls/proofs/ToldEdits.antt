@@ -1,23 +1,28 @@
 -- What is told of edits.
-use Rattle.std.proofs.Common.{◌≡◌, ℕ, List, Result, Ok, Err, IfOk, inl, inr, ap, sym, ◌∙◌}
+use Rattle.std.proofs.Common.{◌≡◌, ◌⊎◌, ℕ, List, Result, Ok, Err, IfOk, inl, inr, ap, sym, ◌∙◌}
 use Rattle.std.specs.declared.alloc.AllocError.{AllocError}
 use Rattle.deck.specs.Decks.{Contents}
 use Rattle.deck.specs.declared.fault.DeckFault.{DeckFault}
-use Rattle.deck.specs.declared.fault.DeckFault.TheVariants as fault
+use Rattle.deck.specs.declared.fault.DeckFault.TheVariants.{OutOfMemory}
 use Rattle.live_table.specs.Edits.{IsEditOf}
 use Rattle.live_table.specs.Shown.{Shown}
-use Rattle.live_calls.specs.Edits.{edit_text}
+use Rattle.live_calls.specs.Edits.{IsEditText, edit_text, refusal_text}
 
--- an edit that is told is made exactly where its outcome is a deck
+-- an edit is made exactly where its outcome is a deck, but for want of memory
 made_as : (outcome : Result Contents DeckFault) (before after : Shown) (made : Result (Unit {0}) DeckFault)
-    → (made ≡ Err fault.OutOfMemory → ⊥) → IsEditOf outcome before after made → edit_text made ≡ edit_text outcome
-made_as outcome before after (Ok x) told is = sym (ap edit_text is.0)
-made_as outcome before after (Err f) told (same, inl none) = absurd (told (ap Err none))
-made_as outcome before after (Err f) told (same, inr is) = sym (ap edit_text is)
+    → IsEditOf outcome before after made → IsEditText outcome (edit_text made)
+made_as outcome before after (Ok x) is = inl (sym (ap edit_text is.0))
+made_as outcome before after (Err f) (same, inl none) = inr (ap refusal_text none)
+made_as outcome before after (Err f) (same, inr is) = inl (sym (ap edit_text is))
+
+told_as : (outcome : Result Contents DeckFault) (text said : List ℕ) → text ≡ said → IsEditText outcome said
+    → IsEditText outcome text
+told_as outcome text said is (inl e) = inl (is ∙ e)
+told_as outcome text said is (inr e) = inr (is ∙ e)
 
 pub edit_told : {A : Type 0} (r : Result A AllocError) (items : A → List ℕ) (outcome : Result Contents DeckFault)
-    (before after : Shown) (made : Result (Unit {0}) DeckFault) → IfOk r (λ x. made ≡ Err fault.OutOfMemory → ⊥)
-    → IfOk r (λ x. items x ≡ edit_text made) → IsEditOf outcome before after made
-    → IfOk r (λ x. items x ≡ edit_text outcome)
-edit_told (Ok x) items outcome before after made told is edit = is ∙ made_as outcome before after made told edit
-edit_told (Err e) items outcome before after made told is edit = tt
+    (before after : Shown) (made : Result (Unit {0}) DeckFault) → IfOk r (λ x. items x ≡ edit_text made)
+    → IsEditOf outcome before after made → IfOk r (λ x. IsEditText outcome (items x))
+edit_told (Ok x) items outcome before after made is edit =
+    told_as outcome (items x) (edit_text made) is (made_as outcome before after made edit)
+edit_told (Err e) items outcome before after made is edit = tt

@@ -1,9 +1,8 @@
 //! Edits of the deck, and whether they are made.
 
-ghost use Rattle.std.specs.Prelude.{◌≡◌, IfOk, Err, Ok};
+ghost use Rattle.std.specs.Prelude.{◌≡◌, IfOk};
 ghost use Rattle.def_lines.specs.Blanks.{trimmed};
 ghost use Rattle.deck.specs.Edits as edits;
-ghost use Rattle.deck.specs.declared.fault.DeckFault.TheVariants as fault;
 ghost use Rattle.live_calls.specs.Edits as spec;
 
 use crate::answers::line_of;
@@ -19,7 +18,7 @@ pub(crate) fn define_answer(
     live: &mut LiveTable,
     line: &[u8],
 ) -> Result<Vec<u8>, AllocError>
-    ensures { IfOk result (λ text. text.items ≡ spec.edit_text (edits.after_define (trimmed line.now) live.old.deck)) }
+    ensures { IfOk result (λ text. spec.IsEditText (edits.after_define (trimmed line.now) live.old.deck) text.items) }
 {
     made_text(alloc, live.define(alloc, line))
 }
@@ -39,7 +38,7 @@ pub(crate) fn drop_answer(
 
 // Drops the last line in force of a key.
 fn key_drop_answer(alloc: Global, live: &mut LiveTable, key: &Key) -> Result<Vec<u8>, AllocError>
-    ensures { IfOk result (λ text. text.items ≡ spec.edit_text (edits.after_drop key.now live.old.deck)) }
+    ensures { IfOk result (λ text. spec.IsEditText (edits.after_drop key.now live.old.deck) text.items) }
 {
     made_text(alloc, live.drop_last(alloc, key))
 }
@@ -65,14 +64,13 @@ pub(crate) fn append_answer<F: Files>(
     made_text(alloc, live.append(alloc, files, name))
 }
 
-// Whether an edit is made.
+// Whether an edit is made. Want of memory is told too, and what is asked next shows that it changed nothing.
 fn made_text(alloc: Global, made: Result<(), DeckFault>) -> Result<Vec<u8>, AllocError>
-    ensures told { IfOk result (λ _. made ≡ Err fault.OutOfMemory → ⊥) }
-    ensures text { IfOk result (λ text. text.items ≡ spec.edit_text made) }
+    ensures { IfOk result (λ text. text.items ≡ spec.edit_text made) }
 {
     match made {
         Ok(()) => line_of(alloc, b"ok"),
-        Err(DeckFault::OutOfMemory) => Err(AllocError),
+        Err(DeckFault::OutOfMemory) => line_of(alloc, b"out of memory"),
         Err(_) => line_of(alloc, b"refused"),
     }
 }

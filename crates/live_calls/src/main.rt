@@ -8,6 +8,7 @@ mod counting;
 mod edits;
 mod queries;
 mod run;
+mod splices;
 
 use run::answers_to;
 use std::io;

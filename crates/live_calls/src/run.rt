@@ -5,15 +5,16 @@ use crate::call::{Call, read_call};
 use crate::counting::counts_answer;
 use crate::edits::{append_answer, define_answer, drop_answer, switch_answer};
 use crate::queries::{all_answer, inverse_answer, value_answer};
-use deck::{Deck, DeckFault, Settings};
+use crate::splices::{back_answer, splice_answer};
+use deck::{Deck, DeckFault, Settings, Splice};
 use live_table::LiveTable;
 use std::alloc::{AllocError, Global};
 use units_io::{Files, Text, Vars};
 
 // The answers to lines, one a line. The first line, `load FILE`, loads a deck; where it does not, its answer is the only
 // one. `value EXPRESSION` and `unapply NAME EXPRESSION` are queries of its live table, `settle` asks for each name,
-// `counts` tells the counts, and `define LINE`, `drop KEY`, `switch LOCALE` and `append FILE` are edits. The only error
-// is want of memory.
+// `counts` tells the counts, and `define LINE`, `drop KEY`, `switch LOCALE`, `append FILE`, `splice AT CUT LINE;LINE..`
+// and `back`, which takes the last splice back, are edits. The only error is want of memory.
 pub(crate) fn answers_to<F: Files>(
     alloc: Global,
     files: &mut F,
@@ -50,8 +51,9 @@ fn table_answers<F: Files>(
     calls: &[u8],
 ) -> Result<Vec<u8>, AllocError> {
     let mut live = LiveTable::new(alloc, deck);
+    let mut back = None;
     let mut answers = line_of(alloc, b"ok\n")?;
-    add_answers(alloc, files, &mut live, calls, &mut answers)?;
+    add_answers(alloc, files, &mut live, &mut back, calls, &mut answers)?;
     Ok(answers)
 }
 
@@ -59,11 +61,12 @@ fn add_answers<F: Files>(
     alloc: Global,
     files: &mut F,
     live: &mut LiveTable,
+    back: &mut Option<Splice>,
     calls: &[u8],
     answers: &mut Vec<u8>,
 ) -> Result<(), AllocError> {
     for line in calls.split_inclusive(|byte| *byte == b'\n') {
-        add_answer(alloc, files, live, line, answers)?;
+        add_answer(alloc, files, live, back, line, answers)?;
     }
     Ok(())
 }
@@ -73,10 +76,17 @@ fn add_answer<F: Files>(
     alloc: Global,
     files: &mut F,
     live: &mut LiveTable,
+    back: &mut Option<Splice>,
     line: &[u8],
     answers: &mut Vec<u8>,
 ) -> Result<(), AllocError> {
-    let text = answer_to(alloc, files, live, line.strip_suffix(b"\n").unwrap_or(line))?;
+    let text = answer_to(
+        alloc,
+        files,
+        live,
+        back,
+        line.strip_suffix(b"\n").unwrap_or(line),
+    )?;
     answers.extend_from_slice(&text)?;
     answers.push(b'\n')?;
     Ok(())
@@ -87,6 +97,7 @@ fn answer_to<F: Files>(
     alloc: Global,
     files: &mut F,
     live: &mut LiveTable,
+    back: &mut Option<Splice>,
     line: &[u8],
 ) -> Result<Vec<u8>, AllocError> {
     match read_call(line) {
@@ -98,6 +109,8 @@ fn answer_to<F: Files>(
         Some(Call::Drop(key)) => drop_answer(alloc, live, key),
         Some(Call::Switch(locale)) => switch_answer(alloc, live, locale),
         Some(Call::Append(name)) => append_answer(alloc, files, live, name),
+        Some(Call::Splice(change)) => splice_answer(alloc, live, back, change),
+        Some(Call::Back) => back_answer(alloc, live, back),
         None => line_of(alloc, b"bad call"),
     }
 }

@@ -1,4 +1,5 @@
 -- What is answered where words, or a key, are asked for.
+use Rattle.smallvec.specs.SmallVec.{SmallVec}
 use Rattle.std.proofs.Common.{◌≡◌, ◌⊎◌, ◌↔◌, ◌<◌, ℕ, Bool, true, List, [], ◌∷◌, map, length, Contains, Option}
 use Rattle.std.proofs.Common.{None, is_none, option_map, refl, sym, ◌∙◌, ap, subst, inl, inr, arith}
 use Rattle.std.specs.Prelude.{Ok, Err, Vec}
@@ -120,15 +121,15 @@ module _ (faults : NumberedFaultLaw) (settles : SettlingLaw) (deck : Contents) (
       (reach_law.listed (table deck) us) new Given now old later right q a
 
   pub words_settled : (now : Listed) (count old later : ℕ) → IsSound deck now count → now.keys ≡ l.keys
-      → (v : Vec Step Global) → v.items ≡ query
+      → (v : SmallVec Step) → v.items ≡ query
       → (order : List ℕ) → IsClosing l query order → AreAllSettled (map (key_at l.keys) order) (shown deck l r)
       (shown deck now count) old later
-      → IsAsked (AsksWords us) fault (λ (x : Vec Step Global). AreSettledWords (table deck) now us x.items) (Ok v)
+      → IsAsked (AsksWords us) fault (λ (x : SmallVec Step). AreSettledWords (table deck) now us x.items) (Ok v)
       (shown deck l r) (shown deck now count) old later
   words_settled now count old later after keys v is order c all =
       asked_none (AsksWords us) fault (reach (table deck) us) (WordsReach (table deck) us) deck l r ends query sound
       (words_query (table deck) us) by_name
-      (reach_law.listed (table deck) us) new (λ (x : Vec Step Global). AreSettledWords (table deck) now us x.items)
+      (reach_law.listed (table deck) us) new (λ (x : SmallVec Step). AreSettledWords (table deck) now us x.items)
       (shown deck now count) old later after.right v order c all
       (subst (λ (xs : List Step). AreSettledWords (table deck) now us xs) (sym is) (record {
         dead_end = fault_at ends;
@@ -245,15 +246,15 @@ module _ (deck : Contents) (l m k : Listed) (r : ℕ) (here list there : List �
         later) (λ i. (e i, q i)) a))
 
     pub explored_settled : (now : Listed) (count old later : ℕ) → IsSound deck now count → now.keys ≡ k.keys
-        → (v : Vec Step Global) → v.items ≡ xs
+        → (v : SmallVec Step) → v.items ≡ xs
         → (order : List ℕ) → IsClosing k walked order → AreAllSettled (map (key_at k.keys) order) (shown deck k r)
         (shown deck now count) old later
-        → IsAsked (AsksWords us) (name_fault (table deck) us) (λ (x : Vec Step Global). AreSettledWords (table deck)
+        → IsAsked (AsksWords us) (name_fault (table deck) us) (λ (x : SmallVec Step). AreSettledWords (table deck)
         now us x.items) (Ok v) (shown deck l r)
         (shown deck now count) old later
     explored_settled now count old later after keys v is order c all =
         subst (λ (s : Shown). IsAsked (AsksWords us) (name_fault (table deck) us)
-        (λ (x : Vec Step Global). AreSettledWords (table deck) now us x.items) (Ok v) s
+        (λ (x : SmallVec Step). AreSettledWords (table deck) now us x.items) (Ok v) s
         (shown deck now count) old later) same_start
         (words_settled faults settles deck k r most (is_known k.settled there) us xs sound_start explored
         still_written.words all_known now count old later after keys v is order

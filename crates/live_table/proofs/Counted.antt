@@ -13,16 +13,14 @@ use Rattle.def_entry.specs.declared.key.Kind.TheVariants as kind
 use Rattle.def_entry.specs.SameKeys.{is_among, is_same_kind}
 use Rattle.def_entry.specs.Tables.{Table, keys_of}
 use Rattle.def_entry.proofs.SameKeys.{key_order}
-use Rattle.deck_lines.specs.Limits.{pass_limit}
 use Rattle.deck.specs.Changes.{each_once}
 use Rattle.deck.specs.Decks.{Contents}
 use Rattle.deck.specs.KeyLists.{WholeLaw, key_count, of_kind, table_keys}
-use Rattle.deck.specs.Tables.{table}
+use Rattle.deck.specs.Tables.{TableLaw, table}
 use Rattle.tree_eval.specs.declared.outcome.Outcome.{Outcome}
 use Rattle.live_table.specs.Calls.{is_name_kind, names_among, names_in}
 use Rattle.live_table.specs.Sound.{AreNodes}
 use Rattle.live_table.specs.Stored.{Listed, kept_of}
-use Rattle.live_table.proofs.DeckTables.{lines_few, table_short}
 use Rattle.live_table.proofs.Kept.{AreApart, absent, apart_tail, first_apart}
 
 -- ---- names by their kinds
@@ -71,15 +69,15 @@ once_short : (ks : List Key) → length (each_once ks) ≤ length ks
 once_short [] = omega arith
 once_short (k ∷ ks) = shorter (is_among ks k) k (each_once ks) ks (once_short ks)
 
-names_few : (d : Contents) → name_count (table d) ≤ length d.lines
-names_few d =
+names_few : TableLaw → (d : Contents) → name_count (table d) ≤ length d.lines
+names_few law d =
     let ks : List Key = each_once (keys_of (table d)) in
     let a : name_count (table d) ≡ length (names_among ks) = by_kinds ks in
     let b : length (names_among ks) ≡ count_by (λ (k : Key). is_name_kind k.kind) ks = length-filter _ ks in
     let c : count_by (λ (k : Key). is_name_kind k.kind) ks ≤ length ks = count_by-le-length _ ks in
     let e : length ks ≤ length (keys_of (table d)) = once_short (keys_of (table d)) in
     let f : length (keys_of (table d)) ≡ length (table d) = length-map (table d) _ in
-    let g : length (table d) ≤ length d.lines = table_short d in
+    let g : length (table d) ≤ length d.lines = law.short d in
     omega (arith, a, b, c, e, f, g)
 
 module _ (d : Contents) (units prefixes functions : ℕ) (are : AreCounts (table d) units prefixes functions) where
@@ -89,10 +87,9 @@ module _ (d : Contents) (units prefixes functions : ℕ) (are : AreCounts (table
   pub names_counted : WholeLaw → (units + prefixes) + functions ≡ length (names_in (table d))
   names_counted law = is ∙ all_counted law (table d)
 
-  pub names_within : pass_limit d.lines ≡ false → (units + prefixes) + functions ≤ 100000
-  names_within within =
-      let a : name_count (table d) ≤ length d.lines = names_few d in
-      let b : length d.lines ≤ 100000 = lines_few d.lines within in
+  pub names_within : TableLaw → length d.lines ≤ 100000 → (units + prefixes) + functions ≤ 100000
+  names_within law b =
+      let a : name_count (table d) ≤ length d.lines = names_few law d in
       let c : (units + prefixes) + functions ≡ name_count (table d) = is in
       omega (arith, a, b, c)
 

@@ -1,10 +1,8 @@
--- The table of a deck: what lines define fits the kinds of their keys, and no line defines more than one.
-use Rattle.std.proofs.Common.{◌≡◌, ◌≤◌, ◌+◌, ℕ, List, [], ◌∷◌, ◌++◌, Bool, true, false, cond}
-use Rattle.std.proofs.Common.{length, reverse, Option, Some, None, Result, Ok, Err, nat_lt, refl, sym, ap, subst}
-use Rattle.std.proofs.Common.{◌∙◌, arith, length-append}
+-- The table of a deck: what its lines define fits the kinds of their keys.
+use Rattle.std.proofs.Common.{◌≡◌, ◌+◌, ℕ, List, [], ◌∷◌, Bool, true, false, cond}
+use Rattle.std.proofs.Common.{reverse, Option, Some, None, Result, Ok, Err, refl, sym, ap, subst, ◌∙◌}
 use Rattle.std.specs.List.{AllByRecursion}
-use Rattle.std.proofs.lemmas.List.{length-map, length-reverse, reverse-append}
-use Rattle.std.proofs.lemmas.Bool.{ltb-false, or_left, true≢false}
+use Rattle.std.proofs.lemmas.List.{reverse-append}
 use Rattle.def_lines.specs.Kinds as line
 use Rattle.def_lines.specs.Kinds.{Kind, kind_of}
 use Rattle.def_entry.specs.declared.fault.EntryFault.{EntryFault}
@@ -13,7 +11,6 @@ use Rattle.def_entry.specs.Entries.{Entry}
 use Rattle.def_entry.specs.Reading.{entry_of}
 use Rattle.def_entry.specs.SameKeys.{is_same}
 use Rattle.deck_lines.specs.declared.line.DeckLine.{DeckLine}
-use Rattle.deck_lines.specs.Limits.{most_lines, pass_limit}
 use Rattle.deck_lines.specs.Readings.{defined_by, entry_in, of_entry, reading_by, reading_of}
 use Rattle.deck.specs.Active.{active_lines}
 use Rattle.deck.specs.Decks.{Contents}
@@ -102,40 +99,3 @@ pub fits_kinds : (d : Contents) → FitsKinds (table d)
 unfolding definitions
 fits_kinds d = found_fits (definitions d.settings d.lines) (all_reverse Fits _
     (from_fits 0 (active_lines d.settings d.lines) d.lines))
-
--- ---- a table has no more entries than the deck has lines
-one_at_most : (place : ℕ) (active : Bool) (o : Option (Key × Entry)) → length (definition_by place active o) ≤ 1
-one_at_most place active None = omega arith
-one_at_most place true (Some p) = omega arith
-one_at_most place false (Some p) = omega arith
-
-from_short : (place : ℕ) (flags : List Bool) (lines : List DeckLine)
-    → length (definitions_from place flags lines) ≤ length lines
-from_short place [] lines = omega arith
-from_short place (f ∷ flags) [] = omega arith
-from_short place (f ∷ flags) (x ∷ lines) =
-    let a : length (definition_by place f (entry_in x)) ≤ 1 = one_at_most place f (entry_in x) in
-    let b : length (definitions_from (place + 1) flags lines) ≤ length lines = from_short (place + 1) flags lines in
-    let c : length (definition_by place f (entry_in x) ++ definitions_from (place + 1) flags lines)
-    ≡ length (definition_by place f (entry_in x)) + length (definitions_from (place + 1) flags lines) =
-    length-append _ _ in
-    omega (arith, a, b, c)
-
-pub table_short : (d : Contents) → length (table d) ≤ length d.lines
-unfolding definitions
-table_short d =
-    let a : length (table d) ≡ length (definitions d.settings d.lines) =
-    length-map (definitions d.settings d.lines) _ in
-    let b : length (definitions d.settings d.lines) ≡ length
-    (definitions_from 0 (active_lines d.settings d.lines) d.lines) = length-reverse _ in
-    let c : length (definitions_from 0 (active_lines d.settings d.lines) d.lines) ≤ length d.lines =
-    from_short 0 (active_lines d.settings d.lines) d.lines in
-    omega (arith, a, b, c)
-
-pub lines_few : (lines : List DeckLine) → pass_limit lines ≡ false → length lines ≤ 100000
-unfolding pass_limit
-lines_few lines e = by (nat_lt most_lines (length lines)) refl
-  where
-    by : (b : Bool) → nat_lt most_lines (length lines) ≡ b → length lines ≤ 100000
-    by true q = absurd (true≢false (sym (or_left _ _ q) ∙ e))
-    by false q = ltb-false most_lines (length lines) q

@@ -12,7 +12,7 @@ use Rattle.std.proofs.lemmas.List.{take_all}
 abbrev pub IsGathering : List ℕ → List ℕ → List ℕ → ℕ → Type 0
 IsGathering old now ns i = (m : ℕ) → In m now ↔ (In m old ⊎ In m (take i ns))
 
-put_one : (now next : List ℕ) (n : ℕ) → next ≡ cond (on now n) now (now ++ n ∷ []) → (m : ℕ)
+pub put_one : (now next : List ℕ) (n : ℕ) → next ≡ cond (on now n) now (now ++ n ∷ []) → (m : ℕ)
     → In m next ↔ (In m now ⊎ (m ≡ n))
 put_one now next n e m = elim (cases_Bool (on now n)) [
   | inl q ↦ subst (λ (xs : List ℕ). In m xs ↔ (In m now ⊎ (m ≡ n)))

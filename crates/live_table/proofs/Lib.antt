@@ -31,6 +31,7 @@ pub mod Putting
 pub mod Queries
 pub mod Ranking
 pub mod Reached
+pub mod Runs
 pub mod SettleAll
 pub mod SettleOne
 pub mod Starting

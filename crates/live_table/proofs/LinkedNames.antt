@@ -18,6 +18,7 @@ use Rattle.name_numbers.specs.EdgeLaws.{AreEdges}
 use Rattle.name_numbers.specs.Numbered.{AreWords}
 use Rattle.name_numbers.proofs.EdgeChanges.{edges_grown, edges_linked}
 use Rattle.name_numbers.proofs.Reached.{lead_of_step, step_of_lead}
+use Rattle.name_walk.specs.declared.step.Step.{Step}
 use Rattle.name_walk.specs.declared.step.Step.TheVariants.{To}
 use Rattle.name_walk.specs.Closed.{IsSettled}
 use Rattle.name_walk.specs.Lists.{In}
@@ -52,6 +53,16 @@ in_member m (n ∷ ns) (inr i) = member_later m n ns (in_member m ns i)
 pub member_in : (m : ℕ) (ns : List ℕ) → Contains ns m → In m ns
 member_in m [] c = absurd (no_member m c)
 member_in m (n ∷ ns) c = elim (member_cases m n ns c) [ inl e ↦ inl e | inr j ↦ inr (member_in m ns j) ]
+
+-- the names to which the steps of a name that is due lead
+pub target_within : (deck : Contents) (l : Listed) (r : ℕ) (sound : IsSound deck l r) (n : ℕ)
+    → IsDue (table deck) l n → (xs : List Step) → xs ≡ steps l.graph n → (k : ℕ) → In (To k) xs → k < length l.keys
+target_within deck l r sound n due xs is k i =
+    settled_within deck l r sound.numbers k (due.below k (subst (λ (ys : List Step). In (To k) ys) is i))
+
+pub gathered : (targets : List ℕ) (xs : List Step) → ((m : ℕ) → In m targets ↔ In (To m) xs) → (m : ℕ)
+    → Contains targets m ↔ In (To m) xs
+gathered targets xs are m = (λ c. (are m).0 (member_in m targets c), λ i. in_member m targets ((are m).1 i))
 
 -- ---- names are added
 module _ (deck : Contents) (l m : Listed) (here there : List ℕ) (ends more : List DeadEnd) (r : ℕ)

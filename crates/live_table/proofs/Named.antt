@@ -1,4 +1,5 @@
 -- One more name at the end changes nothing of the others.
+use Rattle.smallvec.specs.SmallVec.{SmallVec}
 use Rattle.std.proofs.Common.{◌≡◌, ◌+◌, ◌<◌, ℕ, zero, suc, Bool, true, false, List, [], ◌∷◌, ◌++◌}
 use Rattle.std.proofs.Common.{length, Vec, Option, Some, None, nat_eq, refl, sym, ◌∙◌, ap, subst, inl, inr, arith}
 use Rattle.std.proofs.Common.{length-append}
@@ -50,7 +51,7 @@ was_true [] (suc n) e = cc
 was_true (b ∷ bs) zero e = e
 was_true (b ∷ bs) (suc n) e = was_true bs n e
 
-steps_front : (g : Graph) (v : Vec Step Global) (n : ℕ) → v.items ≡ [] → steps (g ++ v ∷ []) n ≡ steps g n
+steps_front : (g : Graph) (v : SmallVec Step) (n : ℕ) → v.items ≡ [] → steps (g ++ v ∷ []) n ≡ steps g n
 steps_front [] v zero e = e
 steps_front [] v (suc n) e = refl
 steps_front (w ∷ g) v zero e = refl
@@ -76,7 +77,7 @@ not_there ks k e n h q =
     let t : is_among ks k ≡ true = among_member ks k (member_at ks n k (key_read ks n h ∙ ap Some q)) in
     let z : true ≡ false = sym t ∙ e in cc
 
-module _ (t : Table) (l : Listed) (k : Key) (b : Bool) (c : Callee) (v : Vec Step Global) (w : Vec ℕ Global)
+module _ (t : Table) (l : Listed) (k : Key) (b : Bool) (c : Callee) (v : SmallVec Step) (w : Vec ℕ Global)
     (empty : v.items ≡ []) (none : w.items ≡ [])
     (flag : b ≡ is_present t k) (nodes : AreNodes t l)
     (new : (n : ℕ) → n < length l.keys → key_at l.keys n ≡ k → ⊥) where

@@ -8,9 +8,8 @@ use Rattle.def_entry.specs.declared.key.Key.{Key}
 use Rattle.def_entry.specs.Entries as what
 use Rattle.def_entry.specs.Entries.{Entry, What}
 use Rattle.def_entry.specs.Tables.{entry_at}
-use Rattle.deck_lines.specs.Limits.{pass_limit}
 use Rattle.deck.specs.Decks.{Contents}
-use Rattle.deck.specs.Tables.{table}
+use Rattle.deck.specs.Tables.{TableLaw, table}
 use Rattle.name_walk.specs.declared.step.Step.{Step}
 use Rattle.name_walk.specs.declared.step.Step.TheVariants.{To}
 use Rattle.name_walk.specs.Closed.{IsSettled}
@@ -37,7 +36,6 @@ use Rattle.live_table.specs.Scenes.{IsLed, Scene, is_at_hand, is_callee}
 use Rattle.live_table.specs.Sound.{IsSound}
 use Rattle.live_table.specs.Stored.{Listed, key_at}
 use Rattle.live_table.specs.Surrounded.{AreSettledWords, IsSurrounding, scene}
-use Rattle.live_table.proofs.DeckTables.{lines_few, table_short}
 use Rattle.live_table.proofs.Kept.{settled_within}
 use Rattle.live_table.proofs.Places.{element, some_same}
 use Rattle.live_table.proofs.SettleOne.{surrounded}
@@ -183,10 +181,9 @@ module _ (deck : Contents) (l : Listed) (r n : ℕ) (sound : IsSound deck l r) (
   pub rank_is : g + 1 ≡ rank_of_meaning (key_meaning (table deck) (key_at l.keys n))
   rank_is = omega (arith, due_rank, greatest)
 
-  pub rank_few : pass_limit deck.lines ≡ false → g + 1 ≤ 100000
-  rank_few h =
-      let a : length deck.lines ≤ 100000 = lines_few deck.lines h in
-      let b : length (table deck) ≤ length deck.lines = table_short deck in
+  pub rank_few : TableLaw → length deck.lines ≤ 100000 → g + 1 ≤ 100000
+  rank_few law a =
+      let b : length (table deck) ≤ length deck.lines = law.short deck in
       let c : rank_of_meaning (key_meaning (table deck) (key_at l.keys n)) ≤ length (table deck) =
       rank_law (table deck) (key_at l.keys n) in
       omega (arith, a, b, c, rank_is)

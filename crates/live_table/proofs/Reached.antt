@@ -1,4 +1,5 @@
 -- The names below a query get their steps, one name after another.
+use Rattle.smallvec.specs.SmallVec.{SmallVec}
 use Rattle.std.proofs.Common.{◌≡◌, ◌+◌, ◌<◌, ◌≤◌, ◌||◌, ℕ, zero, suc, Bool, true, false, List, [], ◌∷◌, ◌++◌, set}
 use Rattle.std.proofs.Common.{take, length, Vec, Option, Some, None, nat_eq, refl, sym, ◌∙◌, ap, subst, inl, inr, arith}
 use Rattle.std.specs.declared.alloc.Global.{Global}
@@ -34,10 +35,10 @@ use Rattle.live_table.proofs.Looking.{looks_more}
 use Rattle.live_table.proofs.Places.{get_lt, some_same}
 
 -- ---- other steps of a name that is not settled
-steps_other : (g : Graph) (n m : ℕ) (v : Vec Step Global) → (m ≡ n → ⊥) → steps (set g n v) m ≡ steps g m
+steps_other : (g : Graph) (n m : ℕ) (v : SmallVec Step) → (m ≡ n → ⊥) → steps (set g n v) m ≡ steps g m
 steps_other g n m v ne = ap items_of (get_set_other g n m v ne)
 
-steps_same : (g : Graph) (n : ℕ) (v : Vec Step Global) → n < length g → steps (set g n v) n ≡ v.items
+steps_same : (g : Graph) (n : ℕ) (v : SmallVec Step) → n < length g → steps (set g n v) n ≡ v.items
 steps_same g n v h = ap items_of (get_set_same g n v h)
 
 looks_other : (g : Looks) (n m : ℕ) (w : Vec ℕ Global) → (m ≡ n → ⊥) → looks_of (set g n w) m ≡ looks_of g m
@@ -51,7 +52,7 @@ no_steps [] x s h j = j
 no_steps (w ∷ g) zero s h j = absurd (omega arith)
 no_steps (w ∷ g) (suc x) s h j = no_steps g x s (omega arith) j
 
-module _ (t : Table) (l : Listed) (n : ℕ) (c : Callee) (v : Vec Step Global) (w : Vec ℕ Global) (nodes : AreNodes t l)
+module _ (t : Table) (l : Listed) (n : ℕ) (c : Callee) (v : SmallVec Step) (w : Vec ℕ Global) (nodes : AreNodes t l)
     (fresh : IsSettled l.settled n → ⊥)
     (inside : (m : ℕ) → In (To m) v.items → m < length l.keys) where
   abbrev later : Listed
@@ -120,7 +121,7 @@ module _ (t : Table) (l : Listed) (n : ℕ) (c : Callee) (v : Vec Step Global) (
 
 -- a name on the list gets its steps, behind what was added for its words
 module _ (t : Table) (l m : Listed) (here there : List ℕ) (ends more : List DeadEnd) (n : ℕ) (c : Callee)
-    (v : Vec Step Global) (w : Vec ℕ Global)
+    (v : SmallVec Step) (w : Vec ℕ Global)
     (added : AreAdded t l m here there ends more) (right : AreListed t l here) (is_listed : In n here)
     (written : AreWritten t m there more (key_words t (key_at l.keys n)) v.items) where
   in_there : In n there

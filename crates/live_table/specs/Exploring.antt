@@ -3,6 +3,7 @@ use Rattle.std.specs.Prelude.{◌≡◌, ◌⊎◌, ◌||◌, ◌++◌, ◌∷�
 use Rattle.std.specs.Prelude.{None, Vec, nat_eq, slice_get, slice_set}
 use Rattle.std.specs.declared.alloc.Global.{Global}
 use Rattle.std.specs.List.{IsDistinct}
+use Rattle.smallvec.specs.SmallVec.{SmallVec}
 use Rattle.expr_tree.specs.declared.word_list.WordUse.{WordUse}
 use Rattle.def_entry.specs.declared.key.Key.{Key}
 use Rattle.def_entry.specs.Tables.{Table, is_present}
@@ -87,7 +88,7 @@ pub record IsWritten (table : Table) (l : Listed) (list : List ℕ) (ends : List
   pub looks : HasLooksIfLed table l n
 
 -- one more name, with no steps yet
-abbrev pub with_name : Key → Bool → Callee → Vec Step Global → Vec ℕ Global → Listed → Listed
+abbrev pub with_name : Key → Bool → Callee → SmallVec Step → Vec ℕ Global → Listed → Listed
 with_name k b c v w l = record {
   keys = l.keys ++ k ∷ [];
   present = l.present ++ b ∷ [];
@@ -101,14 +102,14 @@ with_name k b c v w l = record {
 
 pub record IsNamed (k : Key) (b : Bool) (l m : Listed) : Type 0 where
   pub callee : Callee
-  pub steps : Vec Step Global
+  pub steps : SmallVec Step
   pub looks : Vec ℕ Global
   pub no_steps : steps.items ≡ []
   pub no_looks : looks.items ≡ []
   pub named : m ≡ with_name k b callee steps looks l
 
 -- other steps and looks of one name, with where its trees begin
-abbrev pub with_steps : ℕ → Callee → Vec Step Global → Vec ℕ Global → Listed → Listed
+abbrev pub with_steps : ℕ → Callee → SmallVec Step → Vec ℕ Global → Listed → Listed
 with_steps n c v w l = record l {
   callees = slice_set l.callees n c;
   graph = slice_set l.graph n v;

@@ -18,6 +18,7 @@ pub mod New
 pub mod Numbering
 pub mod Ranks
 pub mod Right
+pub mod Runs
 pub mod Scenes
 pub mod Shown
 pub mod Sound

@@ -75,6 +75,13 @@ impl Agenda {
         Ok(())
     }
 
+    /// The numbers, in order.
+    pub(crate) fn as_slice(&self) -> &[usize]
+        ensures { result.now ≡ self.now }
+    {
+        &self.numbers
+    }
+
     /// A copy of the numbers. The only error is want of memory.
     pub(crate) fn to_vec(&self, alloc: Global) -> Result<Vec<usize>, AllocError>
         ensures copy { IfOk result (λ numbers. numbers.items ≡ self.now) }

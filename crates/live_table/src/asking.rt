@@ -29,7 +29,7 @@ use def_entry::Kind;
 use expr_tree::Words;
 use name_edges::NameEdges;
 use name_numbers::{numbered_fault_law, settling_law};
-use name_walk::{Net, Step, Walker};
+use name_walk::{Net, Step, StepList, Walker};
 use std::alloc::Global;
 use std::sync::ledger::Ledger;
 use units_io::Steps;
@@ -46,7 +46,7 @@ pub(crate) fn ask_words<L: Ledger>(
     reductions: &mut u64,
     words: &Words<'_>,
     steps: &mut Steps<L>,
-) -> Result<Vec<Step>, QueryFault>
+) -> Result<StepList, QueryFault>
     requires sound { IsSound deck.now (listed nodes.old) reductions.old }
     requires edges { HasEdges deck.now (listed nodes.old) edges.old }
     ensures sound { IsSound deck.now (listed nodes.new) reductions.new }
@@ -63,7 +63,16 @@ pub(crate) fn ask_words<L: Ledger>(
     let query = put_words(alloc, deck, nodes, agenda, &mut dead_ends, words)?;
     explore(alloc, deck, nodes, agenda, &mut dead_ends)?;
     settle_query(
-        alloc, deck, nodes, edges, walker, reductions, &dead_ends, &query, steps,
+        alloc,
+        deck,
+        nodes,
+        edges,
+        agenda,
+        walker,
+        reductions,
+        &dead_ends,
+        query.as_slice(),
+        steps,
     )?;
     Ok(query)
 }
@@ -102,6 +111,7 @@ pub(crate) fn ask_key<L: Ledger>(
         deck,
         nodes,
         edges,
+        agenda,
         walker,
         reductions,
         &dead_ends,
@@ -117,6 +127,7 @@ fn settle_query<L: Ledger>(
     deck: &Deck,
     nodes: &mut Nodes,
     edges: &mut NameEdges,
+    agenda: &mut Agenda,
     walker: &mut Walker,
     reductions: &mut u64,
     dead_ends: &[DeadEnd],
@@ -140,13 +151,22 @@ fn settle_query<L: Ledger>(
         settled: &nodes.settled,
     };
     match walker.walk(alloc, &net, query)? {
+        None => {
+            settle(
+                alloc,
+                deck,
+                nodes,
+                edges,
+                agenda,
+                reductions,
+                walker.order(),
+                steps,
+            )?;
+            Ok(())
+        }
         Some(fault) => {
             let fault = named_fault(alloc, &nodes.keys, dead_ends, &fault)?;
             Err(QueryFault::Name(fault))
-        }
-        None => {
-            settle(alloc, deck, nodes, edges, reductions, walker.order(), steps)?;
-            Ok(())
         }
     }
 }

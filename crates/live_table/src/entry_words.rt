@@ -66,11 +66,11 @@ fn function_words<'a>(
 {
     let mut words = Vec::new(alloc);
     put_words(alloc, &mut words, function.in_unit.as_ref())?;
-    let out_unit = words.len();
+    let out_unit = start_of(words.len())?;
     put_words(alloc, &mut words, function.out_unit.as_ref())?;
-    let forward = words.len();
+    let forward = start_of(words.len())?;
     put_words(alloc, &mut words, Some(&function.forward))?;
-    let inverse = words.len();
+    let inverse = start_of(words.len())?;
     put_words(alloc, &mut words, function.inverse.as_ref())?;
     let starts = PartStarts {
         out_unit,
@@ -81,6 +81,16 @@ fn function_words<'a>(
         words: Words::from(words),
         starts,
     })
+}
+
+// A count of words as a start. No memory holds so many words that it would not fit.
+fn start_of(count: usize) -> Result<u32, AllocError>
+    ensures { IfOk result (λ start. start ≡ count) }
+{
+    match u32::try_from(count) {
+        Ok(start) => Ok(start),
+        Err(_) => Err(AllocError),
+    }
 }
 
 // Puts the words of a tree, where there is one, behind others.

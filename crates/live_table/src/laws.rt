@@ -3,6 +3,7 @@
 ghost use Rattle.live_table.specs.KeptNames.{KeptLaw};
 ghost use Rattle.live_table.specs.New.{NewLaw};
 ghost use Rattle.live_table.specs.Right.{RightLaw};
+ghost use Rattle.live_table.specs.Runs.{RunLaw, StepsLaw};
 ghost use Rattle.live_table.specs.States.{OrderLaw};
 
 /// After any queries and edits each kept outcome is that of the present table.
@@ -13,6 +14,16 @@ pub fn right_law()
 /// What stands after events depends on them one behind another.
 pub fn order_law()
     ensures { OrderLaw }
+{}
+
+/// Queries one behind another, where one of them may be cut off.
+pub fn run_law()
+    ensures { RunLaw }
+{}
+
+/// What stands after events does not depend on the steps that were counted before.
+pub fn steps_law()
+    ensures { StepsLaw }
 {}
 
 /// What a query settles, by the names that are new.

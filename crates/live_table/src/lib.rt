@@ -27,5 +27,5 @@ mod surroundings;
 
 pub use counts::Counts;
 pub use fault::QueryFault;
-pub use laws::{kept_law, new_law, order_law, right_law};
+pub use laws::{kept_law, new_law, order_law, right_law, run_law, steps_law};
 pub use live_table::LiveTable;

@@ -1,6 +1,6 @@
 //! The edges of a name that is to be settled.
 
-ghost use Rattle.std.specs.Prelude.{◌≡◌, ◌⊎◌, ◌↔◌, ◌<◌, ℕ, Contains, IfOk, OnErr, OnOk, length};
+ghost use Rattle.std.specs.Prelude.{◌≡◌, ◌⊎◌, ◌↔◌, ◌<◌, ℕ, OnErr, OnOk};
 ghost use Rattle.deck.specs.Tables.{table};
 ghost use Rattle.name_walk.specs.Lists.{In};
 ghost use Rattle.tree_eval.specs.declared.outcome.Outcome.{Outcome};
@@ -10,6 +10,7 @@ ghost use Rattle.live_table.specs.Edged.{HasEdges};
 ghost use Rattle.live_table.specs.Sound.{IsSound};
 ghost use Rattle.live_table.specs.Stored.{listed};
 
+use crate::agenda::Agenda;
 use crate::nodes::Nodes;
 use crate::surroundings::steps_of;
 use deck::Deck;
@@ -17,13 +18,14 @@ use name_edges::{NameEdges, linking_law};
 use name_walk::Step;
 use std::alloc::{AllocError, Global};
 
-/// Adds the edges of a name that is due: to each name to which its words lead, and to each other key at which they
-/// look. Want of memory adds none.
+/// Adds the edges of a name that is due: to each name to which its words lead, which are gathered in `targets`, and to
+/// each other key at which they look. Want of memory adds none.
 pub(crate) fn link(
     alloc: Global,
     deck: &Deck,
     nodes: &Nodes,
     edges: &mut NameEdges,
+    targets: &mut Agenda,
     n: usize,
 ) -> Result<(), AllocError>
     requires sound { (reductions : ℕ) × IsSound deck.now (listed nodes.now) reductions }
@@ -34,32 +36,35 @@ pub(crate) fn link(
     ensures err { OnErr result (HasEdges deck.now (listed nodes.now) edges.new) }
 {
     linking_law();
-    let targets = targets_of(alloc, steps_of(nodes, n))?;
-    edges.cover(alloc, nodes.keys.len())?;
-    edges.link(alloc, n, &targets, &nodes.looks[n])?;
+    let count = nodes.keys.len();
+    gather_targets(targets, steps_of(nodes, n), count)?;
+    edges.cover(alloc, count)?;
+    edges.link(alloc, n, targets.as_slice(), &nodes.looks[n])?;
     Ok(())
 }
 
-// The names to which steps lead.
-fn targets_of(alloc: Global, steps: &[Step]) -> Result<Vec<usize>, AllocError>
-    ensures { IfOk result (λ targets. (m : ℕ) → Contains targets.items m ↔ In (Step.To m) steps.now) }
+// Gathers the names to which steps lead, which are below `end`, each once.
+fn gather_targets(targets: &mut Agenda, steps: &[Step], end: usize) -> Result<(), AllocError>
+    requires { (m : ℕ) → In (Step.To m) steps.now → m < end }
+    ensures { OnOk result ((m : ℕ) → In m targets.new ↔ In (Step.To m) steps.now) }
 {
-    let mut targets = Vec::new(alloc);
+    targets.clear();
     for step in steps {
-        match step {
-            Step::To(m) => push_other(&mut targets, *m)?,
-            Step::Nowhere(_) => {}
-        }
-    }
-    Ok(targets)
-}
-
-// Puts a name behind others, but not behind itself: both steps of a word lead to its one target.
-fn push_other(names: &mut Vec<usize>, name: usize) -> Result<(), AllocError>
-    ensures { OnOk result ((n : ℕ) → Contains names.new.items n ↔ (Contains names.old.items n ⊎ (n ≡ name))) }
-{
-    if names.last() != Some(&name) {
-        names.push(name)?;
+        gather_target(targets, *step, end)?;
     }
     Ok(())
+}
+
+// Gathers the name to which a step leads.
+fn gather_target(targets: &mut Agenda, step: Step, end: usize) -> Result<(), AllocError>
+    requires { (m : ℕ) → step ≡ Step.To m → m < end }
+    ensures { OnOk result ((m : ℕ) → In m targets.new ↔ (In m targets.old ⊎ (step ≡ Step.To m))) }
+{
+    match step {
+        Step::To(n) => {
+            targets.put(n, end)?;
+            Ok(())
+        }
+        Step::Nowhere(_) => Ok(()),
+    }
 }

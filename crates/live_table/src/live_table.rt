@@ -22,7 +22,7 @@ use crate::counts::Counts;
 use crate::evaluating::{inverse_worth, worth};
 use crate::fault::QueryFault;
 use crate::nodes::Nodes;
-use deck::{Deck, key_lists_are_one, table_keys_are_whole};
+use deck::{Deck, key_lists_are_one, table_keys_are_whole, tables_are_of_lines};
 use def_entry::{Key, Kind};
 use expr_tree::{Tree, words};
 use name_edges::NameEdges;
@@ -88,6 +88,13 @@ impl LiveTable {
         }
     }
 
+    /// A law of each live table: what is kept is right.
+    pub fn kept_right(&self)
+        ensures { IsRightTable self.now }
+    {
+        let _ = &self.deck;
+    }
+
     /// The deck.
     pub fn deck(&self) -> &Deck
         ensures deck { result.now ≡ self.now.deck }
@@ -123,7 +130,7 @@ impl LiveTable {
             &words,
             steps,
         )?;
-        worth(alloc, deck, &self.nodes, tree, &words, &query)
+        worth(alloc, deck, &self.nodes, tree, &words, query.as_slice())
     }
 
     /// The inverse of a function that has an entry at a value, as `value` answers. It asks for the function.
@@ -226,7 +233,8 @@ impl LiveTable {
     {
         table_keys_are_whole();
         // No deck has so many lines that the sum would not fit.
-        let _within = self.deck.lines();
+        tables_are_of_lines();
+        self.deck.lines_few();
         let units = self.deck.key_count(Kind::Unit);
         let prefixes = self.deck.key_count(Kind::Prefix);
         let functions = self.deck.key_count(Kind::Func);

@@ -9,7 +9,7 @@ use crate::agenda::Agenda;
 use crate::callee::{Callee, PartStarts};
 use crate::key_index::KeyIndex;
 use def_entry::Key;
-use name_walk::Step;
+use name_walk::StepList;
 use std::alloc::{AllocError, Global};
 use tree_eval::Outcome;
 
@@ -22,7 +22,7 @@ pub(crate) struct Nodes {
     pub(crate) present: Vec<bool>,
     pub(crate) callees: Vec<Callee>,
     pub(crate) outcomes: Vec<Option<Outcome>>,
-    pub(crate) steps: Vec<Vec<Step>>,
+    pub(crate) steps: Vec<StepList>,
     pub(crate) looks: Vec<Vec<usize>>,
     pub(crate) settled: Vec<bool>,
     pub(crate) settled_count: usize,
@@ -74,7 +74,7 @@ impl Nodes {
         self.present.push(is_present)?;
         self.callees.push(no_callee())?;
         self.outcomes.push(None)?;
-        self.steps.push(Vec::new(alloc))?;
+        self.steps.push(StepList::new(alloc))?;
         self.looks.push(Vec::new(alloc))?;
         self.settled.push(false)?;
         Ok(())

@@ -13,11 +13,12 @@ ghost use Rattle.live_table.specs.Ranks as ranks;
 ghost use Rattle.live_table.specs.Sound.{IsSound};
 ghost use Rattle.live_table.specs.Stored.{key_at, listed, shown};
 
+use crate::agenda::Agenda;
 use crate::callee::Callee;
 use crate::linking::link;
 use crate::nodes::Nodes;
 use crate::surroundings::{Asked, Surroundings, entry, steps_of};
-use deck::Deck;
+use deck::{Deck, tables_are_of_lines};
 use name_edges::NameEdges;
 use name_walk::Step;
 use std::alloc::{AllocError, Global};
@@ -25,12 +26,13 @@ use std::sync::ledger::Ledger;
 use tree_eval::{Outcome, reduce};
 use units_io::Steps;
 
-/// Settles the names of a walk, targets before users, each with one step.
+/// Settles the names of a walk, targets before users, each with one step. The agenda is one to gather in.
 pub(crate) fn settle<L: Ledger>(
     alloc: Global,
     deck: &Deck,
     nodes: &mut Nodes,
     edges: &mut NameEdges,
+    targets: &mut Agenda,
     reductions: &mut u64,
     order: &[usize],
     steps: &mut Steps<L>,
@@ -46,7 +48,7 @@ pub(crate) fn settle<L: Ledger>(
     ensures keys { OnOk result (nodes.new.keys ≡ nodes.old.keys) }
 {
     for n in order {
-        settle_one(alloc, deck, nodes, edges, reductions, *n, steps)?;
+        settle_one(alloc, deck, nodes, edges, targets, reductions, *n, steps)?;
     }
     Ok(())
 }
@@ -57,6 +59,7 @@ fn settle_one<L: Ledger>(
     deck: &Deck,
     nodes: &mut Nodes,
     edges: &mut NameEdges,
+    targets: &mut Agenda,
     reductions: &mut u64,
     n: usize,
     steps: &mut Steps<L>,
@@ -76,7 +79,7 @@ fn settle_one<L: Ledger>(
 {
     let outcome = outcome_of(alloc, deck, nodes, n, steps)?;
     let rank = rank_of(deck, nodes, n, &outcome);
-    link(alloc, deck, nodes, edges, n)?;
+    link(alloc, deck, nodes, edges, targets, n)?;
     put(nodes, n, outcome, rank);
     *reductions = reductions.saturating_add(1);
     Ok(())
@@ -134,7 +137,8 @@ fn rank_of(deck: &Deck, nodes: &Nodes, n: usize, outcome: &Outcome) -> u32
     ensures { result ≡ rank_of_meaning (names.key_meaning (table deck.now) (key_at nodes.now.keys n)) }
 {
     // No deck has so many lines that a rank would not fit.
-    let _within = deck.lines();
+    tables_are_of_lines();
+    deck.lines_few();
     match outcome {
         Outcome::Callable => greatest_rank(&nodes.callees, steps_of(nodes, n)) + 1,
         _ => 0,

@@ -14,7 +14,7 @@ use crate::nodes::Nodes;
 use crate::numbering::put_target;
 use deck::Deck;
 use expr_tree::{WordUse, Words};
-use name_walk::Step;
+use name_walk::{Step, StepList};
 use std::alloc::{AllocError, Global};
 use units_io::Text;
 
@@ -27,7 +27,7 @@ pub(crate) fn put_words(
     agenda: &mut Agenda,
     dead_ends: &mut Vec<DeadEnd>,
     words: &Words<'_>,
-) -> Result<Vec<Step>, AllocError>
+) -> Result<StepList, AllocError>
     requires nodes { AreNodes (table deck.now) (listed nodes.old) }
     requires listed { AreListed (table deck.now) (listed nodes.old) agenda.old }
     ensures added { AreAdded (table deck.now) (listed nodes.old) (listed nodes.new)
@@ -38,7 +38,7 @@ pub(crate) fn put_words(
         → AreLooks (table deck.now) nodes.new.keys words.now steps.items nodes.new.gathered) }
 {
     nodes.gathered.clear();
-    let mut steps = Vec::new(alloc);
+    let mut steps = StepList::new(alloc);
     for u in words.as_slice() {
         put_word(alloc, deck, nodes, agenda, dead_ends, u, &mut steps)?;
     }
@@ -53,7 +53,7 @@ fn put_word(
     agenda: &mut Agenda,
     dead_ends: &mut Vec<DeadEnd>,
     u: &WordUse<'_>,
-    steps: &mut Vec<Step>,
+    steps: &mut StepList,
 ) -> Result<(), AllocError>
     requires nodes { AreNodes (table deck.now) (listed nodes.old) }
     requires listed { AreListed (table deck.now) (listed nodes.old) agenda.old }

@@ -156,7 +156,7 @@ pub(crate) fn steps_of(nodes: &Nodes, n: usize) -> &[Step]
     ensures is { result.now ≡ steps nodes.now.steps.items n }
     ensures few { length result.now < 2 ^ 63 }
 {
-    &nodes.steps[n]
+    nodes.steps[n].as_slice()
 }
 
 // Where the words of a part begin among those of the entry of a number.
@@ -166,9 +166,9 @@ fn start_of(nodes: &Nodes, n: usize, part: Part) -> usize
 {
     let starts = &nodes.callees[n].starts;
     match part {
-        Part::OutUnit => starts.out_unit,
-        Part::Forward => starts.forward,
-        Part::Inverse => starts.inverse,
+        Part::OutUnit => starts.out_unit as usize,
+        Part::Forward => starts.forward as usize,
+        Part::Inverse => starts.inverse as usize,
         Part::InUnit | Part::TableUnit | Part::Body => 0,
     }
 }

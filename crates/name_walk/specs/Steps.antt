@@ -1,15 +1,15 @@
 -- Names by number, and what each leads to.
-use Rattle.std.specs.Prelude.{◌<◌, ℕ, List, [], length, Option, Some, None, slice_get, Vec}
-use Rattle.std.specs.declared.alloc.Global.{Global}
+use Rattle.std.specs.Prelude.{◌<◌, ℕ, List, [], length, Option, Some, None, slice_get}
+use Rattle.smallvec.specs.SmallVec.{SmallVec}
 use Rattle.name_walk.specs.declared.step.Step.{Step}
 use Rattle.name_walk.specs.declared.step.Step.TheVariants.{To}
 use Rattle.name_walk.specs.Lists.{In}
 
 -- the steps of each name
 abbrev pub Graph : Type 0
-Graph = List (Vec Step Global)
+Graph = List (SmallVec Step)
 
-abbrev pub items_of : Option (Vec Step Global) → List Step
+abbrev pub items_of : Option (SmallVec Step) → List Step
 items_of None = []
 items_of (Some v) = v.items
 

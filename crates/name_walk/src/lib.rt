@@ -14,5 +14,5 @@ mod walk;
 pub use fault::Fault;
 pub use laws::{closed_law, fault_law, path_law, settled_law};
 pub use net::Net;
-pub use step::Step;
+pub use step::{Step, StepList};
 pub use walk::Walker;

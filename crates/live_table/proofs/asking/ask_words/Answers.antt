@@ -1,3 +1,4 @@
+use Rattle.smallvec.specs.SmallVec.{SmallVec}
 use Rattle.std.proofs.Common.{Err, refl, sym, ◌∙◌, ap, subst}
 use Rattle.std.specs.Prelude.{Vec}
 use Rattle.std.specs.declared.alloc.Global.{Global}
@@ -39,7 +40,7 @@ pub returns-in_err-query-clause-asked : goal.returns-in_err-query-clause-asked
 returns-in_err-query-clause-asked g c =
     let p = err_from_is_err_and c.from_residual.result c.from_residual.ensures.1 in
     subst (λ r. IsAsked (AsksWords c.args.words.now) (name_fault (table c.args.deck.now) c.args.words.now)
-    (λ (query : Vec Step Global). AreSettledWords (table c.args.deck.now) (listed c.put_words.new.nodes)
+    (λ (query : SmallVec Step). AreSettledWords (table c.args.deck.now) (listed c.put_words.new.nodes)
     c.args.words.now query.items) r
     (shown c.args.deck.now (listed c.args.nodes.now) c.args.reductions.now)
     (shown c.args.deck.now (listed c.put_words.new.nodes) c.args.reductions.now) c.args.steps.now c.args.steps.now)
@@ -58,14 +59,14 @@ settle_query-requires-clause-explored g c =
     c.put_words.new.dead_ends.items c.explore.new.dead_ends.items
     c.args.words.now c.in_ok-query.query.items c.requires.sound c.put_words.ensures.added.grown c.explore.ensures.grown
     c.in_ok-query.ensures.written
-    c.in_ok-explore.ensures.explored c.deref.result.now c.deref-2.result.now c.deref.ensures.value
-    c.deref-2.ensures.value
+    c.in_ok-explore.ensures.explored c.deref.result.now c.as_slice.result.now c.deref.ensures.value
+    c.as_slice.ensures
 
 pub returns-in_err-explore-clause-asked : goal.returns-in_err-explore-clause-asked
 returns-in_err-explore-clause-asked g c =
     let p = err_from_is_err_and c.from_residual-in_err-explore.result c.from_residual-in_err-explore.ensures.1 in
     subst (λ r. IsAsked (AsksWords c.args.words.now) (name_fault (table c.args.deck.now) c.args.words.now)
-    (λ (query : Vec Step Global). AreSettledWords (table c.args.deck.now) (listed c.explore.new.nodes) c.args.words.now
+    (λ (query : SmallVec Step). AreSettledWords (table c.args.deck.now) (listed c.explore.new.nodes) c.args.words.now
     query.items) r
     (shown c.args.deck.now (listed c.args.nodes.now) c.args.reductions.now)
     (shown c.args.deck.now (listed c.explore.new.nodes) c.args.reductions.now) c.args.steps.now c.args.steps.now)
@@ -85,7 +86,7 @@ returns-in_err-settle_query-clause-asked g c =
     let p = err_from_is_err_and c.from_residual-in_err-settle_query.result
     c.from_residual-in_err-settle_query.ensures.1 in
     subst (λ r. IsAsked (AsksWords c.args.words.now) (name_fault (table c.args.deck.now) c.args.words.now)
-    (λ (query : Vec Step Global). AreSettledWords (table c.args.deck.now) (listed c.settle_query.new.nodes)
+    (λ (query : SmallVec Step). AreSettledWords (table c.args.deck.now) (listed c.settle_query.new.nodes)
     c.args.words.now query.items) r
     (shown c.args.deck.now (listed c.args.nodes.now) c.args.reductions.now)
     (shown c.args.deck.now (listed c.settle_query.new.nodes) c.settle_query.new.reductions)
@@ -98,8 +99,8 @@ returns-in_err-settle_query-clause-asked g c =
     c.args.words.now c.in_ok-query.query.items c.requires.sound c.put_words.ensures.added.grown c.explore.ensures.grown
     c.in_ok-query.ensures.written
     c.in_ok-explore.ensures.explored c.numbered_fault_law.ensures c.settling_law.ensures c.deref.result.now
-    c.deref-2.result.now c.deref.ensures.value c.deref-2.ensures.value
-    (λ (query : Vec Step Global). AreSettledWords (table c.args.deck.now) (listed c.settle_query.new.nodes)
+    c.as_slice.result.now c.deref.ensures.value c.as_slice.ensures
+    (λ (query : SmallVec Step). AreSettledWords (table c.args.deck.now) (listed c.settle_query.new.nodes)
     c.args.words.now query.items)
     (shown c.args.deck.now (listed c.settle_query.new.nodes) c.settle_query.new.reductions) c.args.steps.now
     c.settle_query.new.steps c.settle_query.ensures.sound.right
@@ -115,7 +116,7 @@ returns-clause-asked g c =
     c.args.words.now c.in_ok-query.query.items c.requires.sound c.put_words.ensures.added.grown c.explore.ensures.grown
     c.in_ok-query.ensures.written
     c.in_ok-explore.ensures.explored c.numbered_fault_law.ensures c.settling_law.ensures c.deref.result.now
-    c.deref-2.result.now c.deref.ensures.value c.deref-2.ensures.value
+    c.as_slice.result.now c.deref.ensures.value c.as_slice.ensures
     (listed c.settle_query.new.nodes) c.settle_query.new.reductions c.args.steps.now c.settle_query.new.steps
     c.settle_query.ensures.sound
     c.in_ok-settle_query.ensures.keys c.in_ok-query.query refl a.0 a.1 a.2

@@ -17,7 +17,7 @@ pub settle-requires-clause-order : goal.settle-requires-clause-order
 settle-requires-clause-order g c =
     let walked = subst (λ (p : (Graph × List Bool) × Option Fault). IsWalked p.0.0 p.0.1 c.args.query.now
     c.walk.new.self p.1)
-    (λ i. ((c.deref.ensures.value i, c.deref-2.ensures.value i), c.in-None.is i)) c.in_ok-fault.ensures.walked in
+    (λ i. ((c.deref.ensures.value i, c.deref-2.ensures.value i), c.in-None.is i)) c.in_ok-walk.ensures.walked in
     subst (AreDue (table c.args.deck.now) (listed c.args.nodes.now)) (sym c.order.ensures)
     (are_due c.numbered_fault_law.ensures (table c.args.deck.now) (listed c.args.nodes.now) c.args.dead_ends.now
     c.requires.explored.0 c.args.query.now c.walk.new.self
@@ -27,7 +27,7 @@ pub returns-in_ok-fault-in-Some-clause-answered : goal.returns-in_ok-fault-in-So
 returns-in_ok-fault-in-Some-clause-answered g c =
     let walked = subst (λ (p : (Graph × List Bool) × Option Fault). IsWalked p.0.0 p.0.1 c.args.query.now
     c.walk.new.self p.1)
-    (λ i. ((c.deref.ensures.value i, c.deref-2.ensures.value i), c.in-Some.is i)) c.in_ok-fault.ensures.walked in (
+    (λ i. ((c.deref.ensures.value i, c.deref-2.ensures.value i), c.in-Some.is i)) c.in_ok-walk.ensures.walked in (
       record {
         fault = fault_view c.in-Some.fault;
         some = walked;

@@ -4,24 +4,31 @@ use Rattle.name_walk.specs.declared.step.Step.TheVariants.{To}
 use Rattle.name_walk.specs.Lists.{In}
 use Rattle.live_table.specs.Edged.{HasEdges}
 use Rattle.live_table.specs.Stored.{listed}
-use Rattle.live_table.proofs.Kept.{settled_within}
-use Rattle.live_table.proofs.LinkedNames.{covered_edges, linked_edges, looks_at, member_in, on_err}
+use Rattle.live_table.proofs.LinkedNames.{covered_edges, gathered, linked_edges, looks_at, member_in, on_err}
+use Rattle.live_table.proofs.LinkedNames.{target_within}
 use Rattle.live_table.proofs.linking.link.Goals as goal
 
 pub returns-in_err-cover-clause-err : goal.returns-in_err-cover-clause-err
 returns-in_err-cover-clause-err c = on_err _ _
     (covered_edges c.args.deck.now (listed c.args.nodes.now) c.args.edges.now c.cover.new.self c.cover.ensures.rest
     c.cover.ensures.no_less
-    (subst (λ k. c.cover.new.self.names ≤ max c.args.edges.now.names k) c.len.ensures c.cover.ensures.within)
+    (subst (λ k. c.cover.new.self.names ≤ max c.args.edges.now.names k) c.len-count.ensures c.cover.ensures.within)
     c.requires.edges)
+
+pub gather_targets-requires : goal.gather_targets-requires
+gather_targets-requires c k i =
+    let w = target_within c.args.deck.now (listed c.args.nodes.now) c.requires.sound.0 c.requires.sound.1 c.args.n
+    c.requires.due c.steps_of.result.now c.steps_of.ensures.is k i in
+    let e = c.len-count.ensures in
+    omega (arith, w, e)
 
 pub link-requires-clause-used : goal.link-requires-clause-used
 link-requires-clause-used c k i =
-    let j = (c.in_ok-targets.ensures k).0 (subst (λ (ns : List ℕ). Contains ns k) c.deref.ensures.value i) in
-    let s = c.requires.due.below k (subst (λ (xs : List Step). In (To k) xs) c.steps_of.ensures.is j) in
-    let w = settled_within c.args.deck.now (listed c.args.nodes.now) c.requires.sound.0 c.requires.sound.1.numbers k s
-    in
-    let e = c.len.ensures in
+    let j = (c.in_ok-gather_targets.ensures k).0 (member_in k c.gather_targets.new.targets
+    (subst (λ (ns : List ℕ). Contains ns k) c.as_slice.ensures i)) in
+    let w = target_within c.args.deck.now (listed c.args.nodes.now) c.requires.sound.0 c.requires.sound.1 c.args.n
+    c.requires.due c.steps_of.result.now c.steps_of.ensures.is k j in
+    let e = c.len-count.ensures in
     let a = c.in_ok-cover.ensures.covered in
     omega (arith, w, e, a)
 
@@ -29,10 +36,10 @@ pub link-requires-clause-looked : goal.link-requires-clause-looked
 link-requires-clause-looked c k i =
     let n = c.requires.due.within in
     let d = c.requires.sound.1.numbers.look_count in
-    let same = c.deref-2.ensures.value ∙ looks_at (listed c.args.nodes.now).looks c.args.n c.index.result.now
+    let same = c.deref.ensures.value ∙ looks_at (listed c.args.nodes.now).looks c.args.n c.index.result.now
     (omega (arith, n, d)) c.index.ensures in
     let w = c.requires.due.looks.looks.within k (member_in k _ (subst (λ (ns : List ℕ). Contains ns k) same i)) in
-    let e = c.len.ensures in
+    let e = c.len-count.ensures in
     let a = c.in_ok-cover.ensures.covered in
     omega (arith, w, e, a)
 
@@ -41,25 +48,26 @@ returns-in_err-link-clause-err c = on_err _ _
     (subst (HasEdges c.args.deck.now (listed c.args.nodes.now)) (sym c.in_err-link.ensures.err)
     (covered_edges c.args.deck.now (listed c.args.nodes.now) c.args.edges.now c.cover.new.self c.cover.ensures.rest
     c.cover.ensures.no_less
-    (subst (λ k. c.cover.new.self.names ≤ max c.args.edges.now.names k) c.len.ensures c.cover.ensures.within)
+    (subst (λ k. c.cover.new.self.names ≤ max c.args.edges.now.names k) c.len-count.ensures c.cover.ensures.within)
     c.requires.edges))
 
 pub returns-clause-ok : goal.returns-clause-ok
 returns-clause-ok c o d =
     let n = c.requires.due.within in
     let z = c.requires.sound.1.numbers.look_count in
-    let e = c.len.ensures in
+    let e = c.len-count.ensures in
     let a = c.in_ok-cover.ensures.covered in
     linked_edges c.linking_law.ensures c.args.deck.now (listed c.args.nodes.now) c.requires.sound.0 c.args.n
     c.cover.new.self c.link.new.self
-    c.deref.result.now c.deref-2.result.now c.requires.sound.1 c.requires.due
+    c.as_slice.result.now c.deref.result.now c.requires.sound.1 c.requires.due
     (covered_edges c.args.deck.now (listed c.args.nodes.now) c.args.edges.now c.cover.new.self c.cover.ensures.rest
     c.cover.ensures.no_less
-    (subst (λ k. c.cover.new.self.names ≤ max c.args.edges.now.names k) c.len.ensures c.cover.ensures.within)
+    (subst (λ k. c.cover.new.self.names ≤ max c.args.edges.now.names k) c.len-count.ensures c.cover.ensures.within)
     c.requires.edges)
     (omega (arith, n, e, a)) c.link.ensures.names c.in_ok-link.ensures.uses c.in_ok-link.ensures.looks
     (subst (λ (p : List ℕ × List Step). (m : ℕ) → Contains p.0 m ↔ In (To m) p.1)
-    (λ i. (sym c.deref.ensures.value i, c.steps_of.ensures.is i)) c.in_ok-targets.ensures)
-    (c.deref-2.ensures.value ∙ looks_at (listed c.args.nodes.now).looks c.args.n c.index.result.now
+    (λ i. (sym c.as_slice.ensures i, c.steps_of.ensures.is i))
+    (gathered c.gather_targets.new.targets c.steps_of.result.now c.in_ok-gather_targets.ensures))
+    (c.deref.ensures.value ∙ looks_at (listed c.args.nodes.now).looks c.args.n c.index.result.now
     (omega (arith, n, z)) c.index.ensures)
     (omega (arith, e, a)) o d

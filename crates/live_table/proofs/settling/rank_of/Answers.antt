@@ -35,7 +35,7 @@ overflow_add-result c =
     (c.greatest_rank.ensures ∙ (ap (λ (cs : List Callee). greatest_step_rank cs c.steps_of.result.now)
     c.deref.ensures.value
     ∙ ap (greatest_step_rank (listed c.args.nodes.now).callees) c.steps_of.ensures.is))
-    c.lines-within.ensures.within in
+    c.tables_are_of_lines.ensures c.lines_few.ensures in
     omega (arith, few)
 
 pub returns-in-Callable : goal.returns-in-Callable

@@ -28,46 +28,46 @@ close-requires c = (there_at c.requires.net c.loop-step.invariant).1
 
 pub returns-in_default-pop-clause-entered : goal.returns-in_default-pop-clause-entered
 returns-in_default-pop-clause-entered c =
-    entered_at c.requires.net c.loop-step.invariant (none_full _ _ c.step.ensures c.in_default.is) c.in_ok-close.ensures.ok
+    entered_at c.requires.net c.loop-step.invariant (none_full _ _ c.step.ensures.step c.in_default.is) c.in_ok-close.ensures.ok
     c.pop.new.self c.in_default-pop.ensures.0
 
 pub returns-in_default-pop-clause-visited : goal.returns-in_default-pop-clause-visited
 returns-in_default-pop-clause-visited c =
-    finish_at c.requires.net c.loop-step.invariant (none_full _ _ c.step.ensures c.in_default.is) c.in_ok-close.ensures.ok
+    finish_at c.requires.net c.loop-step.invariant (none_full _ _ c.step.ensures.step c.in_default.is) c.in_ok-close.ensures.ok
     c.args.traces.now c.pop.new.self refl c.in_default-pop.ensures.0 c.in_default-pop.ensures.1
 
 pub overflow_add-place : goal.overflow_add-place
 overflow_add-place c =
     let h : c.in-Some-pop.frame.place + 1 < 2 ^ 64 =
-    room_at c.requires.net c.loop-step.invariant (none_full _ _ c.step.ensures c.in_default.is) c.in_ok-close.ensures.ok
+    room_at c.requires.net c.loop-step.invariant (none_full _ _ c.step.ensures.step c.in_default.is) c.in_ok-close.ensures.ok
     c.in-Some-pop.frame c.pop.new.self c.in-Some-pop.ensures in
     search rules
 
 pub loop-step-smaller-in_default : goal.loop-step-smaller-in_default
 loop-step-smaller-in_default c =
-    leave_less_at c.requires.net c.loop-step.invariant (none_full _ _ c.step.ensures c.in_default.is) c.in_ok-close.ensures.ok
+    leave_less_at c.requires.net c.loop-step.invariant (none_full _ _ c.step.ensures.step c.in_default.is) c.in_ok-close.ensures.ok
     c.in-Some-pop.frame c.pop.new.self c.in-Some-pop.ensures
 
 pub loop-step-preserved-in_default : goal.loop-step-preserved-in_default
 loop-step-preserved-in_default c =
-    leave_at c.requires.net c.loop-step.invariant (none_full _ _ c.step.ensures c.in_default.is) c.in_ok-close.ensures.ok
+    leave_at c.requires.net c.loop-step.invariant (none_full _ _ c.step.ensures.step c.in_default.is) c.in_ok-close.ensures.ok
     c.in-Some-pop.frame c.pop.new.self c.in-Some-pop.ensures
 
 pub returns-in-Nowhere-clause-visited : goal.returns-in-Nowhere-clause-visited
 returns-in-Nowhere-clause-visited c =
-    dead_end_at c.requires.net c.loop-step.invariant c.in-Nowhere.word (step_is c.step.ensures c.in-Some.is c.in-Nowhere.is)
+    dead_end_at c.requires.net c.loop-step.invariant c.in-Nowhere.word (step_is c.step.ensures.step c.in-Some.is c.in-Nowhere.is)
 
 pub mark_of-requires-clause-settled : goal.mark_of-requires-clause-settled
 mark_of-requires-clause-settled c =
-    (next_at c.requires.net c.loop-step.invariant c.in-To.next (step_is c.step.ensures c.in-Some.is c.in-To.is)).1
+    (next_at c.requires.net c.loop-step.invariant c.in-To.next (step_is c.step.ensures.step c.in-Some.is c.in-To.is)).1
 
 pub mark_of-requires-clause-marked : goal.mark_of-requires-clause-marked
 mark_of-requires-clause-marked c =
-    (next_at c.requires.net c.loop-step.invariant c.in-To.next (step_is c.step.ensures c.in-Some.is c.in-To.is)).2
+    (next_at c.requires.net c.loop-step.invariant c.in-To.next (step_is c.step.ensures.step c.in-Some.is c.in-To.is)).2
 
 pub loop-step-preserved-in-Closed : goal.loop-step-preserved-in-Closed
 loop-step-preserved-in-Closed c =
-    pass_at c.requires.net c.loop-step.invariant c.in-To.next (step_is c.step.ensures c.in-Some.is c.in-To.is) c.in-Closed.ensures
+    pass_at c.requires.net c.loop-step.invariant c.in-To.next (step_is c.step.ensures.step c.in-Some.is c.in-To.is) c.in-Closed.ensures
 
 pub chain-requires : goal.chain-requires
 chain-requires c =
@@ -76,21 +76,21 @@ chain-requires c =
 pub returns-in-OnPath-clause-visited : goal.returns-in-OnPath-clause-visited
 returns-in-OnPath-clause-visited c =
     cycle_at c.requires.net c.loop-step.invariant c.in-To.next c.frames.result.now c.in_ok-names-in-OnPath.names.items
-    (step_is c.step.ensures c.in-Some.is c.in-To.is) c.in-OnPath.ensures c.frames.ensures c.in_ok-names-in-OnPath.ensures
+    (step_is c.step.ensures.step c.in-Some.is c.in-To.is) c.in-OnPath.ensures c.frames.ensures c.in_ok-names-in-OnPath.ensures
 
 pub enter-requires-in-Open : goal.enter-requires-in-Open
 enter-requires-in-Open c =
     subst (λ (t : Trace). c.in-To.next < length t.marks) (sym c.in_ok-push-in-Open.ensures.ok)
-    (next_at c.requires.net c.loop-step.invariant c.in-To.next (step_is c.step.ensures c.in-Some.is c.in-To.is)).2
+    (next_at c.requires.net c.loop-step.invariant c.in-To.next (step_is c.step.ensures.step c.in-Some.is c.in-To.is)).2
 
 pub loop-step-smaller : goal.loop-step-smaller
 loop-step-smaller c =
     (enter_at c.requires.net c.loop-step.invariant c.in-To.next c.push.new.self c.enter-in-Open.new.self
-    (step_is c.step.ensures c.in-Some.is c.in-To.is) c.in-Open.ensures (search rules)
+    (step_is c.step.ensures.step c.in-Some.is c.in-To.is) c.in-Open.ensures c.in-Some.ensures.few
     c.in_ok-push-in-Open.ensures.ok c.in_ok-enter-in-Open.ensures.ok).1
 
 pub loop-step-preserved : goal.loop-step-preserved
 loop-step-preserved c =
     (enter_at c.requires.net c.loop-step.invariant c.in-To.next c.push.new.self c.enter-in-Open.new.self
-    (step_is c.step.ensures c.in-Some.is c.in-To.is) c.in-Open.ensures (search rules)
+    (step_is c.step.ensures.step c.in-Some.is c.in-To.is) c.in-Open.ensures c.in-Some.ensures.few
     c.in_ok-push-in-Open.ensures.ok c.in_ok-enter-in-Open.ensures.ok).0

@@ -7,14 +7,16 @@ use Rattle.edge_links.proofs.links.Links.add_node.Goals as goal
 
 pub invariant_of-self-in_err-place : goal.invariant_of-self-in_err-place
 invariant_of-self-in_err-place c =
-    let begun = begun_links c.self.inside.places c.begin.new.self c.self.inside.nodes.items c.self.invariant c.begin.ensures.begun in
+    let begun = begun_links c.self.inside.places c.begin.new.self c.self.inside.nodes.items c.self.invariant
+    c.begin.ensures.begun in
     subst (λ (xs : List ℕ). AreLinks c.add_head.new.self xs) (sym c.reserve.ensures.items)
     (subst (λ (s : Owners). AreLinks s c.self.inside.nodes.items) (sym c.in_err-place.ensures.err) begun)
 
 pub returns-in_err-place-clause-err : goal.returns-in_err-place-clause-err
 returns-in_err-place-clause-err c =
     let before : shown c.begin.new.self c.self.inside.nodes.items ≡ c.args.self.now =
-    begun_shown c.self.inside.places c.begin.new.self c.self.inside.nodes.items c.self.invariant c.begin.ensures.begun ∙ c.self.view_is in
+    begun_shown c.self.inside.places c.begin.new.self c.self.inside.nodes.items c.self.invariant c.begin.ensures.begun
+    ∙ c.self.view_is in
     let same : shown c.add_head.new.self c.reserve.new.self.items ≡ c.args.self.now =
     ap (λ xs. shown c.add_head.new.self xs) c.reserve.ensures.items ∙
     (ap (λ (s : Owners). shown s c.self.inside.nodes.items) c.in_err-place.ensures.err ∙ before) in
@@ -22,21 +24,29 @@ returns-in_err-place-clause-err c =
 
 pub invariant_of-self-2 : goal.invariant_of-self-2
 invariant_of-self-2 c =
-    let begun = begun_links c.self.inside.places c.begin.new.self c.self.inside.nodes.items c.self.invariant c.begin.ensures.begun in
-    let named : c.len-node.result ≡ length c.self.inside.nodes.items = search rules in
-    node_links c.begin.new.self c.add_head.new.self c.self.inside.nodes.items c.in_ok-place.place c.len-node.result
+    let begun = begun_links c.self.inside.places c.begin.new.self c.self.inside.nodes.items c.self.invariant
+    c.begin.ensures.begun in
+    let node : c.len-node.result ≡ length c.self.inside.nodes.items = search rules in
+    let named : c.in_ok-name.name ≡ length c.self.inside.nodes.items = c.in_ok-name.ensures.0 ∙ node in
+    node_links c.begin.new.self c.add_head.new.self c.self.inside.nodes.items c.in_ok-place.place c.in_ok-name.name
     c.in_ok-place.ensures.was begun c.in_ok-begin.ensures.some c.in_ok-place.ensures.ok.0 c.in_ok-place.ensures.ok.1
-    c.push_reserved.new.self.items named (c.push_reserved.ensures.items ∙ ap (λ xs. xs ++ c.in_ok-place.place ∷ []) c.reserve.ensures.items)
+    c.push_reserved.new.self.items named
+    (c.push_reserved.ensures.items ∙ ap (λ xs. xs ++ c.in_ok-place.place ∷ []) c.reserve.ensures.items)
 
 pub returns-clause-ok : goal.returns-clause-ok
 returns-clause-ok c =
-    let begun = begun_links c.self.inside.places c.begin.new.self c.self.inside.nodes.items c.self.invariant c.begin.ensures.begun in
-    let named : c.len-node.result ≡ length c.self.inside.nodes.items = search rules in
+    let begun = begun_links c.self.inside.places c.begin.new.self c.self.inside.nodes.items c.self.invariant
+    c.begin.ensures.begun in
+    let node : c.len-node.result ≡ length c.self.inside.nodes.items = search rules in
+    let named : c.in_ok-name.name ≡ length c.self.inside.nodes.items = c.in_ok-name.ensures.0 ∙ node in
     let before : shown c.begin.new.self c.self.inside.nodes.items ≡ c.args.self.now =
-    begun_shown c.self.inside.places c.begin.new.self c.self.inside.nodes.items c.self.invariant c.begin.ensures.begun ∙ c.self.view_is in (
-      named ∙ ap (λ (g : Graph). g.nodes) before,
-      node_shown c.begin.new.self c.add_head.new.self c.self.inside.nodes.items c.in_ok-place.place c.len-node.result
-          c.in_ok-place.ensures.was begun c.in_ok-begin.ensures.some c.in_ok-place.ensures.ok.0 c.in_ok-place.ensures.ok.1
-          c.push_reserved.new.self.items named (c.push_reserved.ensures.items ∙ ap (λ xs. xs ++ c.in_ok-place.place ∷ []) c.reserve.ensures.items)
+    begun_shown c.self.inside.places c.begin.new.self c.self.inside.nodes.items c.self.invariant c.begin.ensures.begun
+    ∙ c.self.view_is in (
+      node ∙ ap (λ (g : Graph). g.nodes) before,
+      node_shown c.begin.new.self c.add_head.new.self c.self.inside.nodes.items c.in_ok-place.place c.in_ok-name.name
+          c.in_ok-place.ensures.was begun c.in_ok-begin.ensures.some c.in_ok-place.ensures.ok.0
+          c.in_ok-place.ensures.ok.1
+          c.push_reserved.new.self.items named
+          (c.push_reserved.ensures.items ∙ ap (λ xs. xs ++ c.in_ok-place.place ∷ []) c.reserve.ensures.items)
           ∙ ap (λ (g : Graph). record g { nodes = g.nodes + 1 }) before,
     )

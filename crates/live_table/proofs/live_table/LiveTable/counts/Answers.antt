@@ -17,7 +17,7 @@ overflow_add-result c =
       functions =
           c.key_count-functions.ensures;
     })
-    c.lines-within.ensures.within in
+    c.tables_are_of_lines.ensures c.lines_few.ensures in
     omega (arith, few)
 
 pub overflow_add-result-2 : goal.overflow_add-result-2
@@ -30,7 +30,7 @@ overflow_add-result-2 c =
       functions =
           c.key_count-functions.ensures;
     })
-    c.lines-within.ensures.within in
+    c.tables_are_of_lines.ensures c.lines_few.ensures in
     omega (arith, few)
 
 pub returns-clause-settled : goal.returns-clause-settled

@@ -1,3 +1,4 @@
+use Rattle.smallvec.specs.SmallVec.{SmallVec}
 use Rattle.std.proofs.Common.{◌∷◌, [], Err, None, List, sym, ◌∙◌, ap, subst}
 use Rattle.std.specs.Prelude.{Vec}
 use Rattle.std.specs.declared.alloc.Global.{Global}
@@ -43,7 +44,7 @@ returns-in_err-query-clause-answer g c =
     (spec.by_names (name_fault (table x.1) x.0) (value (expansion (table x.1) (syntax c.args.tree.now)) None)))
     (λ i. (c.in_ok-words.ensures i, (c.self.view_is i).deck))
     (fault_answer (AsksWords c.in_ok-words.words) (name_fault (table c.self.inside.deck) c.in_ok-words.words)
-    (λ (query : Vec Step Global). AreSettledWords (table c.self.inside.deck) (listed c.ask_words.new.nodes)
+    (λ (query : SmallVec Step). AreSettledWords (table c.self.inside.deck) (listed c.ask_words.new.nodes)
     c.in_ok-words.words query.items) (shown c.self.inside.deck (listed c.self.inside.nodes) c.self.inside.reductions)
     (shown c.self.inside.deck (listed c.ask_words.new.nodes) c.ask_words.new.reductions) c.args.steps.now
     c.ask_words.new.steps (value (expansion (table c.self.inside.deck) (syntax c.args.tree.now)) None)
@@ -60,7 +61,7 @@ returns-in_err-query-clause-after g c =
     c.ask_words.new.steps)
     (λ i. (c.in_ok-words.ensures i, c.self.view_is i))
     (fault_query (AsksWords c.in_ok-words.words) (name_fault (table c.self.inside.deck) c.in_ok-words.words)
-    (λ (query : Vec Step Global). AreSettledWords (table c.self.inside.deck) (listed c.ask_words.new.nodes)
+    (λ (query : SmallVec Step). AreSettledWords (table c.self.inside.deck) (listed c.ask_words.new.nodes)
     c.in_ok-words.words query.items) (shown c.self.inside.deck (listed c.self.inside.nodes) c.self.inside.reductions)
     (shown c.self.inside.deck (listed c.ask_words.new.nodes) c.ask_words.new.reductions) c.args.steps.now
     c.ask_words.new.steps c.in_err-query.field-0.0 c.in_err-query.ensures.asked))
@@ -72,7 +73,7 @@ worth-requires-clause-sound g c =
 pub worth-requires-clause-settled : goal.worth-requires-clause-settled
 worth-requires-clause-settled g c =
     subst (AreSettledWords (table c.self.inside.deck) (listed c.ask_words.new.nodes) c.in_ok-words.words)
-    (sym c.deref.ensures.value) c.in_ok-query.ensures.asked.1
+    (sym c.as_slice.ensures) c.in_ok-query.ensures.asked.1
 
 pub returns-clause-answer : goal.returns-clause-answer
 returns-clause-answer g c =

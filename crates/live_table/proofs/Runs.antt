@@ -1,0 +1,88 @@
+-- Events one behind another, of which the last may have been cut off, and the steps that they take.
+use Rattle.std.proofs.Common.{◌≡◌, ◌+◌, ◌≤◌, ℕ, Bool, true, false, List, [], ◌∷◌, ◌++◌, refl, sym, ◌∙◌, ap, subst}
+use Rattle.std.proofs.Common.{arith}
+use Rattle.std.specs.Option.{is_none}
+use Rattle.std.proofs.lemmas.List.{append-nil}
+use Rattle.def_entry.specs.declared.key.Key.{Key}
+use Rattle.table_names.specs.Faults.{key_fault, name_fault}
+use Rattle.table_names.specs.Reach.{key_reach, reach}
+use Rattle.live_table.specs.Runs.{RunLaw, StepsLaw}
+use Rattle.live_table.specs.Shown.{Follows, IsCutOff, Shown, state}
+use Rattle.live_table.specs.States.{AsksKey, AsksWords, Becomes, Event, State, after, after_all, after_query}
+use Rattle.live_table.proofs.Events.{order_law}
+use Rattle.live_table.proofs.Following.{cut_both, follows_both, follows_none, steps_rise}
+
+-- ---- events that are cut off among others
+steps_both : (es fs : List Event) (s : State)
+    → (after_all (es ++ fs) s).steps ≡ (after_all fs (after_all es s)).steps
+steps_both es fs s = ap (λ (s : State). s.steps) (order_law es fs s)
+
+cut_before : (es fs : List Event) (a b : Shown) (n m : ℕ) → IsCutOff es a b n m → IsCutOff (es ++ fs) a b n m
+cut_before es fs a b n m q = record {
+  deck = q.deck;
+  right = q.right;
+  least = q.least;
+  most =
+      let x : (after_all (es ++ fs) (state a n)).steps ≡ (after_all fs (after_all es (state a n))).steps =
+      steps_both es fs (state a n) in
+      let y : (after_all es (state a n)).steps ≤ (after_all fs (after_all es (state a n))).steps =
+      steps_rise fs (after_all es (state a n)) in
+      let z : m ≤ (after_all es (state a n)).steps = q.most in
+      omega arith;
+}
+
+cut_behind : (es fs : List Event) (a b c : Shown) (n m k : ℕ) → b.deck ≡ a.deck → Follows es a b n m
+    → IsCutOff fs b c m k → IsCutOff (es ++ fs) a c n k
+cut_behind es fs a b c n m k same p q =
+    subst (λ (gs : List Event). IsCutOff (es ++ gs) a c n k) (append-nil fs) (cut_both es fs [] a b c n m k same p q)
+
+cut_after : (es : List Event) (a b : Shown) (n m : ℕ) → b.deck ≡ a.deck → Follows es a b n m → IsCutOff es a b n m
+cut_after es a b n m same p = record {
+  deck = same;
+  right = p.right;
+  least =
+      let x : n ≤ (after_all es (state a n)).steps = steps_rise es (state a n) in
+      let y : m ≡ (after_all es (state a n)).steps = ap (λ (s : State). s.steps) p.stands in
+      omega arith;
+  most = let y : m ≡ (after_all es (state a n)).steps = ap (λ (s : State). s.steps) p.stands in omega arith;
+}
+
+pub run_law : RunLaw
+run_law = record {
+  none = follows_none;
+  both = follows_both;
+  cut_before = cut_before;
+  cut_behind = cut_behind;
+  cut_between = λ es fs a b n m same p. cut_before es fs a b n m (cut_after es a b n m same p);
+}
+
+-- ---- steps that were counted before
+-- so many steps more
+abbrev later : ℕ → State → State
+later n s = record s { steps = n + s.steps }
+
+query_later : (b : Bool) (keys : List Key) (n : ℕ) (s : State)
+    → after_query b keys (later n s) ≡ later n (after_query b keys s)
+query_later true keys n s = ap (λ k. record (after_query true keys s) { steps = k }) (regroup n s.steps _)
+  where
+    regroup : (n k m : ℕ) → (n + k) + m ≡ n + (k + m)
+    regroup n k m = omega arith
+query_later false keys n s = refl
+
+event_later : (e : Event) (n : ℕ) (s : State) → after e (later n s) ≡ later n (after e s)
+event_later (AsksWords words) n s = query_later (is_none (name_fault s.table words)) (reach s.table words) n s
+event_later (AsksKey k) n s = query_later (is_none (key_fault s.table k)) (k ∷ key_reach s.table k) n s
+event_later (Becomes t) n s = refl
+
+all_later : (es : List Event) (n : ℕ) (s : State) → after_all es (later n s) ≡ later n (after_all es s)
+all_later [] n s = refl
+all_later (e ∷ es) n s = ap (after_all es) (event_later e n s) ∙ all_later es n (after e s)
+
+counted_before : (s : Shown) (n : ℕ) → state s n ≡ later n (state s 0)
+counted_before s n = ap (state s) (plain n)
+  where
+    plain : (n : ℕ) → n ≡ n + 0
+    plain n = omega arith
+
+pub steps_law : StepsLaw
+steps_law es s n = ap (after_all es) (counted_before s n) ∙ all_later es n (state s 0)

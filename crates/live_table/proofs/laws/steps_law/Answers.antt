@@ -1,0 +1,5 @@
+use Rattle.live_table.proofs.Runs as laws
+use Rattle.live_table.proofs.laws.steps_law.Goals as goal
+
+pub returns : goal.returns
+returns c = laws.steps_law

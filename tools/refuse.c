@@ -1,0 +1,38 @@
+// Refuses allocations of a program before which it is put by LD_PRELOAD. Each allocation gets a number from 1. The one of the
+// number REFUSED is refused, and where LATER is set each behind it too. A byte on stream 9 tells each that is.
+#include <errno.h>
+#include <stddef.h>
+#include <stdlib.h>
+#include <unistd.h>
+
+extern void *__libc_malloc(size_t), *__libc_calloc(size_t, size_t), *__libc_realloc(void *, size_t), *__libc_memalign(size_t, size_t);
+
+static unsigned long at, number;
+static int later;
+
+__attribute__((constructor)) static void begin(void) {
+    const char *refused = getenv("REFUSED");
+    at = refused ? strtoul(refused, NULL, 10) : 0;
+    later = getenv("LATER") != NULL;
+}
+
+static int is_refused(void) {
+    if (at == 0) return 0;
+    number += 1;
+    if (later ? number < at : number != at) return 0;
+    if (write(9, ".", 1) != 1) abort();
+    errno = ENOMEM;
+    return 1;
+}
+
+void *malloc(size_t size) { return is_refused() ? NULL : __libc_malloc(size); }
+void *calloc(size_t count, size_t size) { return is_refused() ? NULL : __libc_calloc(count, size); }
+void *realloc(void *old, size_t size) { return is_refused() ? NULL : __libc_realloc(old, size); }
+void *memalign(size_t align, size_t size) { return is_refused() ? NULL : __libc_memalign(align, size); }
+void *aligned_alloc(size_t align, size_t size) { return memalign(align, size); }
+int posix_memalign(void **place, size_t align, size_t size) {
+    void *made = memalign(align, size);
+    if (made == NULL) return ENOMEM;
+    *place = made;
+    return 0;
+}
