@@ -5,8 +5,8 @@ digits. Behind a reply that is refused, and behind a fault in the place of a val
 
 A conversion to a unit, in each layout.
 
-  $ reply_calls <<END
-  > load $TESTDATA/builtin.units
+  $ answer_calls <<END
+  > load $BUILTIN
   > convert 10 meters to feet
   > convert   10 meters   to 	feet 
   > convert 60 miles per hour to m/s
@@ -65,8 +65,8 @@ A conversion to a unit, in each layout.
 
 Digits, and numbers that are exact whatever the digits are.
 
-  $ reply_calls <<END
-  > load $TESTDATA/builtin.units
+  $ answer_calls <<END
+  > load $BUILTIN
   > options 3
   > convert 10 meters to feet
   > options 36
@@ -111,8 +111,8 @@ Digits, and numbers that are exact whatever the digits are.
 
 What is 0 goes in no whole number of times, and nothing goes into a unit of 0.
 
-  $ reply_calls <<END
-  > load $TESTDATA/builtin.units
+  $ answer_calls <<END
+  > load $BUILTIN
   > convert 0 m to ft
   > convert tempF(-459.67) to K
   > convert 1 m to 0 m
@@ -152,8 +152,8 @@ What is 0 goes in no whole number of times, and nothing goes into a unit of 0.
 
 A reciprocal conversion, in each layout. The line that says so does not stand before a fault.
 
-  $ reply_calls <<END
-  > load $TESTDATA/builtin.units
+  $ answer_calls <<END
+  > load $BUILTIN
   > convert 2 Hz to s
   > convert sqrt(m) to 1/sqrt(m)
   > convert 0 Hz to s
@@ -212,8 +212,8 @@ A reciprocal conversion, in each layout. The line that says so does not stand be
 
 Numbers conform to numbers. With `strict` there is no reciprocal conversion.
 
-  $ reply_calls <<END
-  > load $TESTDATA/builtin.units
+  $ answer_calls <<END
+  > load $BUILTIN
   > options strict
   > convert 2 Hz to s
   > convert 2 radian to percent
@@ -275,8 +275,8 @@ Numbers conform to numbers. With `strict` there is no reciprocal conversion.
 A target that is the name of a function, an alias or a table, in each layout. `to` a name with anything behind it is
 to an expression.
 
-  $ reply_calls <<END
-  > load $TESTDATA/builtin.units
+  $ answer_calls <<END
+  > load $BUILTIN
   > convert tempF(45) to tempC
   > convert tempcelsius(100) to tempF
   > convert 300 K to tempcelsius
@@ -346,7 +346,7 @@ function may have a unit.
   > t[m] 1 5, 2 5, 3 4
   > back[m] 3 1, 4 -1
   > END
-  $ reply_calls <<END
+  $ answer_calls <<END
   > load names.units
   > convert 4 m to gauge
   > convert 4 m to pair
@@ -391,8 +391,8 @@ function may have a unit.
 
 A target that is a list, by its name or with semicolons, in each layout.
 
-  $ reply_calls <<END
-  > load $TESTDATA/builtin.units
+  $ answer_calls <<END
+  > load $BUILTIN
   > convert 1.4 m to ft;in
   > convert 1.4 m to   ft ;  in  
   > convert 1.4 m to ftin
@@ -470,7 +470,7 @@ the list has a definition.
   > !unitlist one m
   > !unitlist spread  m ; 1|10   m
   > END
-  $ reply_calls <<END
+  $ answer_calls <<END
   > load lists.units
   > convert m to nosuch;m+
   > convert m to m;
@@ -562,7 +562,7 @@ that an expression defines.
   > d 3  (m  +  m)  # of all
   > p- 7
   > END
-  $ reply_calls <<END
+  $ answer_calls <<END
   > load texts.units
   > define m
   > define rad
@@ -607,8 +607,8 @@ that an expression defines.
   \tDefinition: 3|2 m (esc)
   \tDefinition: 1|6 m (esc)
 
-  $ reply_calls <<END
-  > load $TESTDATA/builtin.units
+  $ answer_calls <<END
+  > load $BUILTIN
   > define 1/2 m
   > define m/s s/day
   > define J / mol K
@@ -688,7 +688,7 @@ The text of each fault, which is the whole reply in every layout.
   > f_1(x) x
   > $(for i in $(seq 2 17); do echo "f_$i(x) f_$((i - 1))(x)"; done)
   > END
-  $ reply_calls <<END
+  $ answer_calls <<END
   > load faults.units
   > define 2 +
   > define
@@ -795,7 +795,7 @@ The text of each fault, which is the whole reply in every layout.
 The faults of FROM come before those of TO, those of a text before those of its names, and these before those of its
 value. The quantities of a fault are written as the options ask.
 
-  $ reply_calls <<END
+  $ answer_calls <<END
   > load faults.units
   > convert nosuch to 2 +
   > convert 1/0 to 2 +
@@ -859,8 +859,8 @@ value. The quantities of a fault are written as the options ask.
 
 What texts are worth, in whatever layout.
 
-  $ reply_calls <<END
-  > load $TESTDATA/builtin.units
+  $ answer_calls <<END
+  > load $BUILTIN
   > value 2 ft
   > value   2 ft  
   > value 1/3
@@ -888,10 +888,10 @@ What texts are worth, in whatever layout.
 
 Lines that are no call, and no deck.
 
-  $ reply_calls <<END
-  > load $TESTDATA/builtin.units
+  $ answer_calls <<END
+  > load $BUILTIN
   > 
-  > load $TESTDATA/builtin.units
+  > load $BUILTIN
   > convert
   > convert m
   > values m
@@ -903,13 +903,13 @@ Lines that are no call, and no deck.
   bad call
   bad call
 
-  $ reply_calls <<END
+  $ answer_calls <<END
   > load none.units
   > define m
   > END
   no deck
 
-  $ reply_calls <<END
+  $ answer_calls <<END
   > define m
   > END
   no deck

@@ -1,11 +1,9 @@
 -- Entries are those that lines give.
-use Rattle.std.proofs.Common.{◌≡◌, ◌⊎◌, inl, inr, ◌∙◌, ℕ, List, Bool, true, false, cond, refl, ap, Option, Some, None, Ok, Err, Result, slice_get}
-use Rattle.std.proofs.lemmas.Option.{same_Some}
+use Rattle.std.proofs.Common.{◌≡◌, ◌⊎◌, inl, inr, ◌∙◌, ℕ, List, true, refl, ap, Option, Some, None, Ok, slice_get}
 use Rattle.std.proofs.lemmas.Slice.Eq.{bytes_eq-Decides}
 use Rattle.std.specs.Option.{option_and_then}
 use Rattle.def_lines.specs.Kinds.{Kind as LineKind, kind_of}
 use Rattle.def_lines.specs.Kinds as line
-use Rattle.def_entry.specs.declared.fault.EntryFault.{EntryFault}
 use Rattle.def_entry.specs.declared.key.Key.{Key}
 use Rattle.def_entry.specs.Entries.{Entry}
 use Rattle.def_entry.specs.Reading.{SameTextLaw, entry_of}

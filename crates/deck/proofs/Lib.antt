@@ -17,6 +17,7 @@ mod Marking
 mod Numbered
 mod Numbering
 mod OneKeyList
+mod PlacedKeys
 mod Placing
 mod Pushing
 mod Sameness

@@ -9,5 +9,6 @@ pub mod LastPlaces
 pub mod Loading
 pub mod Messages
 pub mod Numbers
+pub mod PlacedKeys
 pub mod Splices
 pub mod Tables

@@ -10,11 +10,12 @@ mod places;
 mod settings;
 mod splice;
 
-pub use deck::Deck;
+pub use deck::{BorrowedKey, Deck};
 pub use fault::DeckFault;
 pub use laws::{
     changes_are_computed, key_lists_are_one, splices_are_undone, table_keys_are_whole,
     tables_are_of_lines,
 };
+pub use no_files::NoFiles;
 pub use settings::Settings;
 pub use splice::Splice;

@@ -1,5 +1,7 @@
 //! No files at all.
 
+ghost use Rattle.std.specs.Prelude.{◌≡◌};
+
 use std::alloc::Global;
 use units_io::{FetchFault, Files, StoreFault, Text};
 
@@ -11,7 +13,9 @@ pub struct NoFiles {
 
 impl NoFiles {
     /// No file, and no fault.
-    pub fn new() -> NoFiles {
+    pub fn new() -> NoFiles
+        ensures { result.store_faults ≡ 0 }
+    {
         NoFiles { store_faults: 0 }
     }
 }

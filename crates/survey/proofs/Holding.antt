@@ -1,5 +1,5 @@
 -- Where a text stands in bytes.
-use Rattle.std.proofs.Common.{◌≡◌, ◌∙◌, ◌+◌, ◌<◌, ◌≤◌, ◌||◌, ℕ, List, [], ◌∷◌, drop, length, get_or, sym, ap, refl, nat_eq}
+use Rattle.std.proofs.Common.{◌≡◌, ◌∙◌, ◌+◌, ◌<◌, ◌≤◌, ◌||◌, ℕ, List, [], ◌∷◌, drop, length, get_or, sym, ap, nat_eq}
 use Rattle.std.proofs.Common.{◌-◌, add-one, drop-cons, length-drop, take}
 use Rattle.std.proofs.Math.Seq.{take-length}
 use Rattle.std.proofs.lemmas.List.{drop_all}

@@ -1,5 +1,5 @@
 -- Inquiries one behind another.
-use Rattle.std.proofs.Common.{◌≡◌, ◌⊎◌, inl, inr, sym, ap, subst, refl, ℕ, []}
+use Rattle.std.proofs.Common.{◌≡◌, inl, inr, sym, ap, subst, refl, ℕ}
 use Rattle.std.specs.Prelude.{Result, Ok, Err}
 use Rattle.quantity.specs.Amount.{Amount}
 use Rattle.live_table.specs.declared.fault.QueryFault.{QueryFault}
@@ -11,10 +11,9 @@ use Rattle.live_table.specs.States.{Event}
 use Rattle.live_table.proofs.Following.{follows_both, follows_none}
 use Rattle.live_table.proofs.NameQueries.{cut_at_once}
 use Rattle.reply.specs.declared.fault.ReplyFault.{ReplyFault}
-use Rattle.reply.specs.declared.fault.ReplyFault.TheVariants.{Name, Value}
 use Rattle.reply.specs.Calls.{same}
 use Rattle.reply.specs.Inquiries.{◌>>=◌, Inquiry, as_answer, asking, followed, given}
-use Rattle.reply.proofs.Runs.{cut_before, cut_behind, cut_between}
+use Rattle.reply.proofs.Runs.{cut_before, cut_behind}
 use Rattle.survey.specs.Calls.{IsInquired}
 
 -- a query that was answered is an inquiry

@@ -3,6 +3,7 @@ mod Findings
 mod Holding
 mod Inquiring
 mod Opening
+mod Places
 mod PrefixAnswers
 mod Prefixed
 mod Questions

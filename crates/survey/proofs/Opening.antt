@@ -15,7 +15,7 @@ use Rattle.table_names.specs.declared.fault.NameFault.TheVariants.{Unknown, Refu
 use Rattle.table_names.specs.Closed.{IsClosed}
 use Rattle.table_names.specs.FaultLaws.{IsPath}
 use Rattle.table_names.specs.Faults.{Deeper, chain, fault, fault_within, first, key_fault, last, target_fault, targets_fault, word_fault}
-use Rattle.table_names.specs.Leads.{Reaches, WordsReach, targets}
+use Rattle.table_names.specs.Leads.{Reaches, targets}
 use Rattle.table_names.specs.Words.{entry_words, key_words}
 use Rattle.table_names.proofs.Closing.{closed_law}
 use Rattle.table_names.proofs.Ending.{words_end}

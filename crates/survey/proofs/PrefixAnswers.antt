@@ -1,6 +1,6 @@
 -- What the body of a prefix answers, told of the prefix.
 use Rattle.std.proofs.Common.{◌≡◌, ap, refl, ℕ, List}
-use Rattle.std.specs.Prelude.{Result, Ok, Err}
+use Rattle.std.specs.Prelude.{Ok, Err}
 use Rattle.def_entry.specs.declared.key.Key.{Key}
 use Rattle.quantity.specs.Amount.{Amount}
 use Rattle.table_names.specs.declared.fault.NameFault.{NameFault}
@@ -10,7 +10,6 @@ use Rattle.live_table.specs.Shown.{Shown}
 use Rattle.reply.specs.Calls.{same}
 use Rattle.reply.specs.Inquiries.{Inquiry, given}
 use Rattle.reply.proofs.Runs.{cut_after}
-use Rattle.survey.specs.declared.finding.Finding.{Finding}
 use Rattle.survey.specs.declared.finding.Finding.TheVariants.{Sound}
 use Rattle.survey.specs.Calls.{IsInquired}
 use Rattle.survey.specs.Checks.{of_prefix, prefix_answer, sound}

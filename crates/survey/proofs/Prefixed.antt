@@ -1,6 +1,6 @@
 -- The fault of the words of a key, told as that of the key.
 use Rattle.std.proofs.Common.{◌≡◌, ◌⊎◌, ◌∙◌, ◌+◌, ◌-◌, ◌≤◌, ◌||◌, ℕ, zero, suc, Bool, true, false, if◌then◌else◌, List, [], ◌∷◌, ◌++◌}
-use Rattle.std.proofs.Common.{length, Option, Some, None, refl, sym, ap, subst, inl, inr, arith, append_assoc, length-append}
+use Rattle.std.proofs.Common.{length, Option, Some, None, refl, sym, ap, subst, inl, inr, arith, length-append}
 use Rattle.std.specs.Option.{option_map}
 use Rattle.std.proofs.lemmas.Bool.{false_from_ne_true}
 use Rattle.expr_tree.specs.declared.word_list.WordUse.{WordUse}
@@ -16,7 +16,7 @@ use Rattle.table_names.specs.Words.{key_words}
 use Rattle.table_names.proofs.KeyLists.{off_longer, on_longer, one_key, same_itself}
 use Rattle.table_names.proofs.Paths.{empty, key_words_closed, longer, short, words_closed_key}
 use Rattle.survey.specs.PrefixFaults.{PrefixLaw, prefix_fault}
-use Rattle.survey.proofs.Opening.{AreOpen, Barred, Fits, Lost, Open, Step, by_words, fits_words, meet, never, open_present, step}
+use Rattle.survey.proofs.Opening.{AreOpen, Barred, Fits, Lost, Open, Step, by_words, fits_words, never, open_present, step}
 use Rattle.survey.proofs.Turning.{chain_off, turned_back, turned_here, turned_off}
 
 -- ---- where a word stands

@@ -1,9 +1,7 @@
 -- The fault of names, by a query whose value does not matter.
-use Rattle.std.proofs.Common.{◌≡◌, ◌⊎◌, inl, inr, refl, sym, ap, subst, ℕ, List, [], ◌∷◌}
+use Rattle.std.proofs.Common.{◌≡◌, inl, inr, refl, sym, ap, subst, ℕ, [], ◌∷◌}
 use Rattle.std.specs.Prelude.{Result, Ok, Err, Option, Some, None}
-use Rattle.expr_tree.specs.declared.word_list.WordUse.{WordUse}
 use Rattle.quantity.specs.Amount.{Amount}
-use Rattle.tree_eval.specs.declared.fault.ValueFault.{ValueFault}
 use Rattle.tree_eval.specs.Steps.{Worth}
 use Rattle.table_names.specs.declared.fault.NameFault.{NameFault}
 use Rattle.live_table.specs.declared.fault.QueryFault.{QueryFault}
@@ -12,8 +10,6 @@ use Rattle.live_table.specs.Answers.{Answers, by_names}
 use Rattle.live_table.specs.Calls.{IsQuery}
 use Rattle.live_table.specs.Shown.{Follows, Shown}
 use Rattle.live_table.specs.States.{Event}
-use Rattle.reply.specs.declared.fault.ReplyFault.{ReplyFault}
-use Rattle.reply.specs.declared.fault.ReplyFault.TheVariants.{Name}
 use Rattle.reply.specs.Calls.{same}
 use Rattle.reply.specs.Inquiries.{Inquiry}
 use Rattle.survey.specs.Calls.{IsInquired, names_alone}

@@ -1,14 +1,13 @@
 -- Chains that are turned to begin with one of their keys.
 use Rattle.std.proofs.Common.{◌≡◌, ◌∙◌, ◌+◌, ◌||◌, ℕ, Bool, true, false, cond, List, [], ◌∷◌, ◌++◌, length, take, drop}
-use Rattle.std.proofs.Common.{Option, Some, None, refl, sym, ap, arith, append_assoc, length-append}
+use Rattle.std.proofs.Common.{Some, None, refl, sym, ap, arith, append_assoc, length-append}
 use Rattle.std.specs.List.{position, position_from}
 use Rattle.std.proofs.Math.Seq.{drop-append_seam, take-append_seam}
-use Rattle.std.proofs.lemmas.Bool.{false_from_ne_true}
 use Rattle.std.proofs.lemmas.Iterator.Adapters.{position_from-zero}
 use Rattle.def_entry.specs.declared.key.Key.{Key}
 use Rattle.def_entry.specs.SameKeys.{is_among, is_same}
 use Rattle.table_names.specs.Faults.{chain}
-use Rattle.table_names.proofs.KeyLists.{off_longer, one_key, same_itself}
+use Rattle.table_names.proofs.KeyLists.{off_longer, same_itself}
 use Rattle.survey.specs.PrefixFaults.{turned, turned_to}
 
 neither : (b c : Bool) → (b || c) ≡ false → (b ≡ false) × (c ≡ false)

@@ -1,6 +1,5 @@
 -- The reports on a small table, found by hand.
 use Rattle.std.specs.Prelude.{◌≡◌, ℕ, pos, List, [], ◌∷◌, codes, Some, None, Ok}
-use Rattle.frac128.specs.Decimals.{Decimal}
 use Rattle.frac128.specs.Fraction.{whole}
 use Rattle.digits_print.specs.declared.style.Style.TheVariants.{Digits}
 use Rattle.expr_tree.specs.Syntax.{Syntax, Number, Word, Argument}

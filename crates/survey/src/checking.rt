@@ -1,6 +1,7 @@
 //! The check report.
 
 ghost use Rattle.std.specs.Prelude.{◌≡◌, ◌++◌, IfOk, OnOk};
+ghost use Rattle.deck.specs.PlacedKeys.{key_there, keys_there};
 ghost use Rattle.deck.specs.Tables.{table as table_of};
 ghost use Rattle.def_entry.specs.declared.key.Kind.TheVariants as kinds;
 ghost use Rattle.live_table.specs.Shown.{IsRightTable};
@@ -9,10 +10,12 @@ ghost use Rattle.reply.specs.Inquiries as inquiries;
 ghost use Rattle.reply.specs.Options.{IsPrintable, style_of};
 ghost use Rattle.survey.specs.Calls as calls;
 ghost use Rattle.survey.specs.Checks as spec;
+ghost use Rattle.survey.specs.Places.{given_by};
 
 use crate::asking::{ask_function, worths};
 use crate::finding::{Finding, parts_finding};
 use crate::finding_lines::put_finding;
+use crate::keys::copied;
 use crate::prefix_faults::prefix_fault;
 use crate::valued::valued_trees;
 use deck::key_lists_are_one;
@@ -40,34 +43,61 @@ pub fn check_report<L: Ledger>(
     ensures deck { table.new.deck ≡ table.old.deck }
 {
     key_lists_are_one();
-    let keys = table.deck().keys(alloc)?;
+    let places = table.deck().key_places(alloc)?;
     table.settle_all(alloc, steps)?;
     let mut lines = Vec::new(alloc);
-    put_checks(alloc, &mut lines, table, options, keys.as_slice(), steps)?;
+    put_checks(alloc, &mut lines, table, options, places.as_slice(), steps)?;
     Ok(Text::from(lines))
 }
 
-// Puts a line for each of some keys that has a fault.
+// Puts a line for each of the keys at some places that has a fault.
 fn put_checks<L: Ledger>(
     alloc: Global,
     lines: &mut Vec<u8>,
     table: &mut LiveTable,
     options: &Options,
-    keys: &[Key],
+    places: &[usize],
     steps: &mut Steps<L>,
 ) -> Result<(), AllocError>
     requires printable { IsPrintable options.now }
     requires right { IsRightTable table.old }
     ensures lines { OnOk result (lines.new.items ≡ lines.old.items
-        ++ spec.check_among (table_of table.old.deck) (style_of options.now) keys.now) }
-    ensures queries { call.AreMade (spec.queries_among (table_of table.old.deck) keys.now) result
+        ++ spec.check_among (table_of table.old.deck) (style_of options.now)
+        (keys_there table.old.deck.lines places.now)) }
+    ensures queries { call.AreMade
+        (spec.queries_among (table_of table.old.deck) (keys_there table.old.deck.lines places.now)) result
         table.old table.new steps.old steps.new }
     ensures deck { table.new.deck ≡ table.old.deck }
 {
-    for key in keys {
-        put_check(alloc, lines, table, options, key, steps)?;
+    for place in places {
+        put_check_at(alloc, lines, table, options, *place, steps)?;
     }
     Ok(())
+}
+
+// Puts the line of the key at a place, where it has a fault.
+fn put_check_at<L: Ledger>(
+    alloc: Global,
+    lines: &mut Vec<u8>,
+    table: &mut LiveTable,
+    options: &Options,
+    place: usize,
+    steps: &mut Steps<L>,
+) -> Result<(), AllocError>
+    requires printable { IsPrintable options.now }
+    requires right { IsRightTable table.old }
+    ensures line { OnOk result (lines.new.items ≡ lines.old.items
+        ++ given_by (spec.check_line (table_of table.old.deck) (style_of options.now))
+        (key_there table.old.deck.lines place)) }
+    ensures queries { call.AreMade (given_by (λ k. (spec.checked (table_of table.old.deck) k).events)
+        (key_there table.old.deck.lines place)) result table.old table.new steps.old steps.new }
+    ensures deck { table.new.deck ≡ table.old.deck }
+{
+    let Some(key) = table.deck().key_at(place) else {
+        return Ok(());
+    };
+    let key = copied(alloc, key.kind, key.name)?;
+    put_check(alloc, lines, table, options, &key, steps)
 }
 
 // Puts the line of a key, where it has a fault.

@@ -5,6 +5,7 @@ ghost use Rattle.std.specs.List.{flat_map};
 ghost use Rattle.def_entry.specs.declared.key.Kind.TheVariants as kinds;
 ghost use Rattle.def_entry.specs.Tables.{entry_at};
 ghost use Rattle.deck.specs.KeyLists.{of_kind};
+ghost use Rattle.deck.specs.PlacedKeys.{key_there, keys_there};
 ghost use Rattle.deck.specs.Tables.{table as table_of};
 ghost use Rattle.live_table.specs.Shown.{IsRightTable};
 ghost use Rattle.live_table.specs.declared.fault.QueryFault.TheVariants.{OutOfMemory};
@@ -12,8 +13,10 @@ ghost use Rattle.reply.specs.Calls as call;
 ghost use Rattle.reply.specs.Inquiries.{as_answer};
 ghost use Rattle.survey.specs.Calls as calls;
 ghost use Rattle.survey.specs.Conformable as spec;
+ghost use Rattle.survey.specs.Places.{given_by, if_unit};
 ghost use Rattle.survey.specs.Rows.{entry_row};
 
+use crate::keys::copied;
 use crate::rows::{put_entry_row, rows_or_none};
 use deck::{Deck, key_lists_are_one};
 use def_entry::{Key, Kind};
@@ -38,32 +41,58 @@ pub fn conformable_report<L: Ledger>(
     ensures deck { table.new.deck ≡ table.old.deck }
 {
     key_lists_are_one();
-    let keys = table.deck().keys(alloc)?;
+    let places = table.deck().key_places(alloc)?;
     let mut rows = Vec::new(alloc);
-    put_conforming_rows(alloc, &mut rows, table, keys.as_slice(), from, steps)?;
+    put_conforming_rows(alloc, &mut rows, table, places.as_slice(), from, steps)?;
     rows_or_none(rows)
 }
 
-// Puts a row for each unit among some keys that has a value which conforms.
+// Puts a row for each unit among the keys at some places that has a value which conforms.
 fn put_conforming_rows<L: Ledger>(
     alloc: Global,
     rows: &mut Vec<u8>,
     table: &mut LiveTable,
-    keys: &[Key],
+    places: &[usize],
     from: &Quantity,
     steps: &mut Steps<L>,
 ) -> Result<(), AllocError>
     requires { IsRightTable table.old }
     ensures rows { OnOk result (rows.new.items ≡ rows.old.items
-        ++ flat_map (spec.conforming_row (table_of table.old.deck) from.now) (of_kind kinds.Unit keys.now)) }
-    ensures queries { call.AreMade (spec.unit_queries (table_of table.old.deck) keys.now) result
+        ++ flat_map (spec.conforming_row (table_of table.old.deck) from.now)
+        (of_kind kinds.Unit (keys_there table.old.deck.lines places.now))) }
+    ensures queries { call.AreMade
+        (spec.unit_queries (table_of table.old.deck) (keys_there table.old.deck.lines places.now)) result
         table.old table.new steps.old steps.new }
     ensures deck { table.new.deck ≡ table.old.deck }
 {
-    for key in keys {
-        put_if_unit(alloc, rows, table, key, from, steps)?;
+    for place in places {
+        put_row_at(alloc, rows, table, *place, from, steps)?;
     }
     Ok(())
+}
+
+// Puts the row of the key at a place, where it is a unit that has a value which conforms.
+fn put_row_at<L: Ledger>(
+    alloc: Global,
+    rows: &mut Vec<u8>,
+    table: &mut LiveTable,
+    place: usize,
+    from: &Quantity,
+    steps: &mut Steps<L>,
+) -> Result<(), AllocError>
+    requires { IsRightTable table.old }
+    ensures rows { OnOk result (rows.new.items ≡ rows.old.items
+        ++ given_by (if_unit (spec.conforming_row (table_of table.old.deck) from.now))
+        (key_there table.old.deck.lines place)) }
+    ensures queries { call.AreMade (given_by (if_unit (λ k. (spec.unit_worth (table_of table.old.deck) k).events))
+        (key_there table.old.deck.lines place)) result table.old table.new steps.old steps.new }
+    ensures deck { table.new.deck ≡ table.old.deck }
+{
+    let Some(key) = table.deck().key_at(place) else {
+        return Ok(());
+    };
+    let key = copied(alloc, key.kind, key.name)?;
+    put_if_unit(alloc, rows, table, &key, from, steps)
 }
 
 // Puts the row of a key, where it is a unit that has a value which conforms.
@@ -77,8 +106,8 @@ fn put_if_unit<L: Ledger>(
 ) -> Result<(), AllocError>
     requires { IsRightTable table.old }
     ensures rows { OnOk result (rows.new.items ≡ rows.old.items
-        ++ flat_map (spec.conforming_row (table_of table.old.deck) from.now) (of_kind kinds.Unit (key.now ∷ []))) }
-    ensures queries { call.AreMade (spec.unit_queries (table_of table.old.deck) (key.now ∷ [])) result
+        ++ if_unit (spec.conforming_row (table_of table.old.deck) from.now) key.now) }
+    ensures queries { call.AreMade (if_unit (λ k. (spec.unit_worth (table_of table.old.deck) k).events) key.now) result
         table.old table.new steps.old steps.new }
     ensures deck { table.new.deck ≡ table.old.deck }
 {
@@ -153,5 +182,6 @@ fn put_row_if(rows: &mut Vec<u8>, wanted: bool, deck: &Deck, key: &Key) -> Resul
     if !wanted {
         return Ok(());
     }
-    put_entry_row(rows, deck, key, key.name.as_bytes())
+    let name = key.name.as_bytes();
+    put_entry_row(rows, deck, key.kind, name, name)
 }

@@ -8,7 +8,8 @@ ghost use Rattle.reply.specs.Options.{IsPrintable, style_of};
 ghost use Rattle.survey.specs.Checks as spec;
 
 use crate::finding::Finding;
-use def_entry::{Key, key_text};
+use crate::keys::put_key;
+use def_entry::Key;
 use live_table::QueryFault;
 use reply::{Options, ReplyFault, fault_text};
 use std::alloc::{AllocError, Global};
@@ -28,7 +29,7 @@ pub(crate) fn put_finding(
 {
     match found {
         Ok(Finding::Sound) => Ok(()),
-        Ok(Finding::Unlike) => put_told(alloc, text, key, b"conformability error"),
+        Ok(Finding::Unlike) => put_told(text, key, b"conformability error"),
         Ok(Finding::NotPositive(place)) => {
             put_fault(alloc, text, options, key, &ReplyFault::List(place))
         }
@@ -56,15 +57,14 @@ fn put_fault(
         ≡ text.old.items ++ spec.told_line key.now (fault_text_of (style_of options.now) fault.now)) }
 {
     let fault = fault_text(alloc, fault, options)?;
-    put_told(alloc, text, key, fault.as_bytes())
+    put_told(text, key, fault.as_bytes())
 }
 
 // Puts a line that tells something of a key.
-fn put_told(alloc: Global, text: &mut Vec<u8>, key: &Key, told: &[u8]) -> Result<(), AllocError>
+fn put_told(text: &mut Vec<u8>, key: &Key, told: &[u8]) -> Result<(), AllocError>
     ensures { OnOk result (text.new.items ≡ text.old.items ++ spec.told_line key.now told.now) }
 {
-    let key = key_text(alloc, key)?;
-    text.extend_from_slice(key.as_bytes())?;
+    put_key(text, key.kind, key.name.as_bytes())?;
     text.extend_from_slice(b": ".as_slice())?;
     text.extend_from_slice(told)?;
     text.extend_from_slice(b"\n".as_slice())?;

@@ -6,6 +6,7 @@ mod checking;
 mod conforming;
 mod finding;
 mod finding_lines;
+mod keys;
 mod laws;
 mod prefix_faults;
 mod rows;

@@ -4,6 +4,7 @@ ghost use Rattle.std.specs.Prelude.{◌≡◌, ◌++◌, ◌<◌, IfOk, OnOk, dr
 ghost use Rattle.def_entry.specs.SameKeys.{is_same as is_same_key};
 ghost use Rattle.survey.specs.PrefixFaults as spec;
 
+use crate::keys::copied;
 use def_entry::{Key, Keys};
 use std::alloc::{AllocError, Global};
 use table_names::NameFault;
@@ -20,11 +21,11 @@ pub(crate) fn prefix_fault(
     match fault {
         NameFault::Unknown(word, None) => Ok(NameFault::Unknown(
             word,
-            Some(copied(alloc, prefix)?),
+            Some(copied(alloc, prefix.kind, prefix.name.as_bytes())?),
         )),
         NameFault::Refused(word, None) => Ok(NameFault::Refused(
             word,
-            Some(copied(alloc, prefix)?),
+            Some(copied(alloc, prefix.kind, prefix.name.as_bytes())?),
         )),
         NameFault::Cycle(chain) => Ok(NameFault::Cycle(turned(alloc, prefix, chain)?)),
         fault => Ok(fault),
@@ -57,19 +58,9 @@ fn put_copies(alloc: Global, keys: &mut Keys, further: &[Key]) -> Result<(), All
     ensures { OnOk result (keys.new ≡ keys.old ++ further.now) }
 {
     for key in further {
-        keys.push(alloc, copied(alloc, key)?)?;
+        keys.push(alloc, copied(alloc, key.kind, key.name.as_bytes())?)?;
     }
     Ok(())
-}
-
-// An equal key.
-fn copied(alloc: Global, key: &Key) -> Result<Key, AllocError>
-    ensures { IfOk result (λ copy. copy ≡ key.now) }
-{
-    Ok(Key {
-        kind: key.kind,
-        name: key.name.copy(alloc)?,
-    })
 }
 
 // The first place of a key.

@@ -1,27 +1,29 @@
 //! The rows of reports.
 
 ghost use Rattle.std.specs.Prelude.{◌≡◌, ◌++◌, IfOk, OnOk};
+ghost use Rattle.def_entry.specs.Keys.{key as key_named};
 ghost use Rattle.def_entry.specs.Tables.{entry_at};
 ghost use Rattle.deck.specs.Tables.{table as table_of};
 ghost use Rattle.survey.specs.Rows as spec;
 
 use deck::Deck;
-use def_entry::Key;
+use def_entry::Kind;
 use std::alloc::AllocError;
 use units_io::Text;
 
-/// Puts the row of the entry of a key, where there is one, under this name.
+/// Puts the row of the entry of a key, where there is one, in which the key is shown so.
 pub(crate) fn put_entry_row(
     text: &mut Vec<u8>,
     deck: &Deck,
-    key: &Key,
+    kind: Kind,
     name: &[u8],
+    shown: &[u8],
 ) -> Result<(), AllocError>
     ensures { OnOk result (text.new.items
-        ≡ text.old.items ++ spec.entry_row name.now (entry_at (table_of deck.now) key.now)) }
+        ≡ text.old.items ++ spec.entry_row shown.now (entry_at (table_of deck.now) (key_named kind name.now))) }
 {
-    match deck.entry(key.kind, key.name.as_bytes()) {
-        Some(entry) => put_row(text, name, entry.text()),
+    match deck.entry(kind, name) {
+        Some(entry) => put_row(text, shown, entry.text()),
         None => Ok(()),
     }
 }

@@ -2,12 +2,14 @@
 
 ghost use Rattle.std.specs.Prelude.{◌≡◌, ◌++◌, IfOk, OnOk};
 ghost use Rattle.std.specs.List.{flat_map};
+ghost use Rattle.deck.specs.PlacedKeys.{key_there, keys_there, lent_key};
 ghost use Rattle.deck.specs.Tables.{table as table_of};
+ghost use Rattle.survey.specs.Places.{given_by};
 ghost use Rattle.survey.specs.Searches as spec;
 
+use crate::keys::put_key;
 use crate::rows::{put_entry_row, rows_or_none};
-use deck::{Deck, key_lists_are_one};
-use def_entry::{Key, key_text};
+use deck::{BorrowedKey, Deck, key_lists_are_one};
 use live_table::LiveTable;
 use std::alloc::{AllocError, Global};
 use units_io::Text;
@@ -19,27 +21,44 @@ pub fn search_report(alloc: Global, table: &LiveTable, text: &[u8]) -> Result<Te
 {
     key_lists_are_one();
     let deck = table.deck();
-    let keys = deck.keys(alloc)?;
+    let places = deck.key_places(alloc)?;
     let mut rows = Vec::new(alloc);
-    put_found_rows(alloc, &mut rows, deck, keys.as_slice(), text)?;
+    put_found_rows(alloc, &mut rows, deck, places.as_slice(), text)?;
     rows_or_none(rows)
 }
 
-// Puts a row for each of some keys whose name holds a text.
+// Puts a row for each of the keys at some places whose name holds a text.
 fn put_found_rows(
     alloc: Global,
     rows: &mut Vec<u8>,
     deck: &Deck,
-    keys: &[Key],
+    places: &[usize],
     text: &[u8],
 ) -> Result<(), AllocError>
-    ensures { OnOk result (rows.new.items
-        ≡ rows.old.items ++ flat_map (spec.found_row (table_of deck.now) text.now) keys.now) }
+    ensures { OnOk result (rows.new.items ≡ rows.old.items
+        ++ flat_map (spec.found_row (table_of deck.now) text.now) (keys_there deck.now.lines places.now)) }
 {
-    for key in keys {
-        put_found_row(alloc, rows, deck, key, text)?;
+    for place in places {
+        put_row_at(alloc, rows, deck, *place, text)?;
     }
     Ok(())
+}
+
+// Puts the row of the key at a place, where its name holds a text.
+fn put_row_at(
+    alloc: Global,
+    rows: &mut Vec<u8>,
+    deck: &Deck,
+    place: usize,
+    text: &[u8],
+) -> Result<(), AllocError>
+    ensures { OnOk result (rows.new.items ≡ rows.old.items
+        ++ given_by (spec.found_row (table_of deck.now) text.now) (key_there deck.now.lines place)) }
+{
+    match deck.key_at(place) {
+        Some(key) => put_found_row(alloc, rows, deck, key, text),
+        None => Ok(()),
+    }
 }
 
 // Puts the row of a key, where its name holds a text.
@@ -47,16 +66,18 @@ fn put_found_row(
     alloc: Global,
     rows: &mut Vec<u8>,
     deck: &Deck,
-    key: &Key,
+    key: BorrowedKey<'_>,
     text: &[u8],
 ) -> Result<(), AllocError>
-    ensures { OnOk result (rows.new.items ≡ rows.old.items ++ spec.found_row (table_of deck.now) text.now key.now) }
+    ensures { OnOk result (rows.new.items
+        ≡ rows.old.items ++ spec.found_row (table_of deck.now) text.now (lent_key key.entry)) }
 {
-    if !holds(key.name.as_bytes(), text) {
+    if !holds(key.name, text) {
         return Ok(());
     }
-    let name = key_text(alloc, key)?;
-    put_entry_row(rows, deck, key, name.as_bytes())
+    let mut shown = Vec::new(alloc);
+    put_key(&mut shown, key.kind, key.name)?;
+    put_entry_row(rows, deck, key.kind, key.name, shown.as_slice())
 }
 
 // Whether a text stands somewhere in the bytes.

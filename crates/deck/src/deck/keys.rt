@@ -1,22 +1,24 @@
 //! The keys of a deck.
 
-ghost use Rattle.std.specs.Prelude.{◌≡◌, ◌++◌, IfOk, OnOk, is_some};
-ghost use Rattle.std.specs.List.Sorted.{IsPermutation, IsSorted};
-ghost use Rattle.def_entry.specs.KeyOrder.{KeyOrderLaw, key_cmp, kind_number};
-ghost use Rattle.deck_lines.specs.Names.{key_at, names_of};
-ghost use Rattle.deck_lines.specs.Numbering.{IsNumbering};
+ghost use Rattle.std.specs.Prelude.{◌≡◌, ◌++◌, ◌∷◌, [], map, option_map, IfOk, OnOk};
 ghost use Rattle.deck.specs.KeyLists.{IsWhole};
-ghost use Rattle.deck.specs.LastPlaces.{place_at};
-ghost use Rattle.deck.specs.Numbers.{key_if, keys_where};
+ghost use Rattle.deck.specs.PlacedKeys.{key_there, keys_there, lent_key, placed_key};
 ghost use Rattle.deck.specs.Tables.{table};
 
 use super::Deck;
-use crate::places::LastPlaces;
-use deck_lines::{KeyNumber, LineStore};
-use def_entry::{Key, Keys, Kind, key_order_law};
+use super::placed_keys::PlacedKey;
+use def_entry::{Key, Keys, Kind};
 use std::alloc::{AllocError, Global};
-use std::cmp::Ordering;
 use units_io::Text;
+
+/// A key whose name is lent.
+#[derive(Clone, Copy, Debug, PartialEq, Eq)]
+pub struct BorrowedKey<'a> {
+    /// What it names.
+    pub kind: Kind,
+    /// Its name, that of a prefix without its `-`.
+    pub name: &'a [u8],
+}
 
 impl Deck {
     /// All keys that have an entry, each once, in the byte order of their names, and then units,
@@ -24,83 +26,65 @@ impl Deck {
     pub fn keys(&self, alloc: Global) -> Result<Keys, AllocError>
         ensures { IfOk result (λ keys. IsWhole (table self.now) keys) }
     {
-        key_order_law();
-        let mut keys = Keys::new(alloc);
-        push_placed(alloc, &mut keys, &self.store, &self.last, Kind::Unit)?;
-        push_placed(alloc, &mut keys, &self.store, &self.last, Kind::Prefix)?;
-        push_placed(alloc, &mut keys, &self.store, &self.last, Kind::Func)?;
-        push_placed(alloc, &mut keys, &self.store, &self.last, Kind::List)?;
-        Ok(in_order(keys))
+        let placed = self.placed_keys(alloc)?;
+        copied_keys(alloc, placed.as_slice())
+    }
+
+    /// The places in `lines`, from 0, of the last active lines of all keys that have an entry, in the
+    /// order of `keys`; `key_at` lends the key of each. The only error is want of memory.
+    pub fn key_places(&self, alloc: Global) -> Result<Vec<usize>, AllocError>
+        ensures { IfOk result (λ places. IsWhole (table self.now) (keys_there self.now.lines places.items)) }
+    {
+        let placed = self.placed_keys(alloc)?;
+        let places = places_of(alloc, placed.as_slice())?;
+        Ok(places)
+    }
+
+    /// The key that the line at a place in `lines`, from 0, defines, or `None` where it defines none.
+    /// It takes no memory.
+    pub fn key_at(&self, place: usize) -> Option<BorrowedKey<'_>>
+        ensures { option_map lent_key result ≡ key_there self.now.lines place }
+    {
+        let Some(number) = self.store.key_number(place) else {
+            return None;
+        };
+        let Some(name) = self.store.name(number) else {
+            return None;
+        };
+        Some(BorrowedKey {
+            kind: number.kind,
+            name,
+        })
     }
 }
 
-// Puts the keys of a kind that have a last place behind some keys.
-fn push_placed(
-    alloc: Global,
-    keys: &mut Keys,
-    store: &LineStore,
-    last: &LastPlaces,
-    kind: Kind,
-) -> Result<(), AllocError>
-    ensures numbering { IsNumbering store.now }
-    ensures keys { OnOk result (keys.new ≡ keys.old
-        ++ keys_where (λ n. is_some (place_at last.now n)) kind 0 (names_of store.now.names kind)) }
+// Keys of their own.
+fn copied_keys(alloc: Global, placed: &[PlacedKey<'_>]) -> Result<Keys, AllocError>
+    ensures { IfOk result (λ keys. keys ≡ map placed_key placed.now) }
 {
-    for number in 0..store.name_count(kind) {
-        push_if_placed(alloc, keys, store, last, KeyNumber { kind, number })?;
+    let mut keys = Keys::new(alloc);
+    for key in placed {
+        push_copy(alloc, &mut keys, key)?;
     }
-    Ok(())
+    Ok(keys)
 }
 
-// Puts the key of this number behind some keys, where it has a last place.
-fn push_if_placed(
-    alloc: Global,
-    keys: &mut Keys,
-    store: &LineStore,
-    last: &LastPlaces,
-    n: KeyNumber,
-) -> Result<(), AllocError>
-    ensures { OnOk result (keys.new ≡ keys.old ++ key_if (is_some (place_at last.now n)) (key_at store.now.names n)) }
+// Puts a key of its own behind others.
+fn push_copy(alloc: Global, keys: &mut Keys, key: &PlacedKey<'_>) -> Result<(), AllocError>
+    ensures { OnOk result (keys.new ≡ keys.old ++ placed_key key.now ∷ []) }
 {
-    if last.get(n).is_none() {
-        return Ok(());
-    }
-    let Some(name) = store.name(n) else {
-        return Ok(());
-    };
-    let kind = n.kind;
-    let name = Text::from_bytes(alloc, name)?;
+    let kind = key.kind;
+    let name = Text::from_bytes(alloc, key.name)?;
     keys.push(alloc, Key { kind, name })
 }
 
-// The same keys in order.
-fn in_order(keys: Keys) -> Keys
-    ensures same { IsPermutation keys result }
-    ensures sorted { KeyOrderLaw → IsSorted key_cmp result }
+// The places of keys.
+fn places_of(alloc: Global, placed: &[PlacedKey<'_>]) -> Result<Vec<usize>, AllocError>
+    ensures { IfOk result (λ places. places.items ≡ map (λ k. k.place) placed.now) }
 {
-    let mut keys = keys.into_vec();
-    keys.sort_unstable_by(|a, b| compare(a, b));
-    Keys::from(keys)
-}
-
-// The order of two keys.
-fn compare(a: &Key, b: &Key) -> Ordering
-    ensures { result ≡ key_cmp a.now b.now }
-{
-    a.name
-        .as_bytes()
-        .cmp(b.name.as_bytes())
-        .then(rank(a.kind).cmp(&rank(b.kind)))
-}
-
-// The place of a kind in the order of kinds.
-fn rank(kind: Kind) -> u8
-    ensures { result ≡ kind_number kind }
-{
-    match kind {
-        Kind::Unit => 0,
-        Kind::Prefix => 1,
-        Kind::Func => 2,
-        Kind::List => 3,
+    let mut places = Vec::with_capacity(alloc, placed.len())?;
+    for key in placed {
+        places.push(key.place)?;
     }
+    Ok(places)
 }

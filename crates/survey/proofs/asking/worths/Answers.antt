@@ -90,7 +90,7 @@ loop-tree-preserved g c =
     (syntaxes_of (drop (c.loop-tree.tree-index + 1) c.args.trees.now)) xs c.args.table.now c.value.new.self
     c.args.steps.now
     c.value.new.steps)
-    (sym c.in_ok-put_value.ensures)
+    (sym {A = List Amount} c.in_ok-put_value.ensures)
     (valuing-next (table c.args.table.now.deck) (syntaxes_of c.args.trees.now)
     (syntaxes_of (drop (c.loop-tree.tree-index + 1) c.args.trees.now)) (syntax c.tree-item.result)
     c.loop-tree.values.items

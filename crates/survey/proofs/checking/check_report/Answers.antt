@@ -5,6 +5,7 @@ use Rattle.std.proofs.lemmas.Result.{err_from_is_err_and}
 use Rattle.def_entry.specs.declared.key.Key.{Key}
 use Rattle.deck.specs.Decks.{Contents}
 use Rattle.deck.specs.KeyLists.{table_keys}
+use Rattle.deck.specs.PlacedKeys.{keys_there}
 use Rattle.deck.specs.Tables.{table}
 use Rattle.live_table.specs.Calls.{all_names}
 use Rattle.live_table.specs.Shown.{Follows, IsCutOff}
@@ -15,8 +16,8 @@ use Rattle.reply.proofs.Runs.{cut_before, cut_behind}
 use Rattle.survey.specs.Checks.{check_queries, queries_among}
 use Rattle.survey.proofs.checking.check_report.Goals as goal
 
-pub returns-in_err-keys-clause-queries : goal.returns-in_err-keys-clause-queries
-returns-in_err-keys-clause-queries g c =
+pub returns-in_err-places-clause-queries : goal.returns-in_err-places-clause-queries
+returns-in_err-places-clause-queries g c =
     let p = err_from_is_err_and c.from_residual.result c.from_residual.ensures.1 in
     subst (λ (r : Result (List ℕ) AllocError). AreMade (check_queries (table c.args.table.now.deck)) r
     c.args.table.now c.args.table.now c.args.steps.now c.args.steps.now) (sym p.1)
@@ -35,10 +36,11 @@ returns-in_err-settle_all-clause-queries g c =
 pub returns-in_err-put_checks-clause-queries : goal.returns-in_err-put_checks-clause-queries
 returns-in_err-put_checks-clause-queries g c =
     let p = err_from_is_err_and c.from_residual-in_err-put_checks.result c.from_residual-in_err-put_checks.ensures.1 in
-    let keys : c.as_slice.result.now ≡ table_keys (table c.args.table.now.deck) =
-    c.as_slice.ensures
-    ∙ (c.key_lists_are_one.ensures (table c.deck.result.now) c.in_ok-keys.keys (c.in_ok-keys.ensures {u = tt}).all
-    ∙ ap (λ (d : Contents). table_keys (table d)) c.deck.ensures.deck) in
+    let keys : keys_there c.args.table.now.deck.lines c.as_slice.result.now ≡ table_keys (table c.args.table.now.deck) =
+    ap (keys_there c.args.table.now.deck.lines) c.as_slice.ensures.value
+    ∙ subst (λ (d : Contents). keys_there d.lines c.in_ok-places.places.items ≡ table_keys (table d)) c.deck.ensures.deck
+    (c.key_lists_are_one.ensures (table c.deck.result.now) (keys_there c.deck.result.now.lines c.in_ok-places.places.items)
+    (c.in_ok-places.ensures {u = tt}).all) in
     subst (λ (r : Result (List ℕ) AllocError). AreMade (check_queries (table c.args.table.now.deck)) r
     c.args.table.now c.put_checks.new.table c.args.steps.now c.put_checks.new.steps) (sym p.1)
     (cut_behind (all_names (table c.args.table.now.deck))
@@ -47,22 +49,23 @@ returns-in_err-put_checks-clause-queries g c =
     c.put_checks.new.steps c.settle_all.ensures.deck c.in_ok-settle_all.ensures.after
     (subst (λ (ks : List Key). IsCutOff (queries_among (table c.args.table.now.deck) ks) c.settle_all.new.self
     c.put_checks.new.table c.settle_all.new.steps c.put_checks.new.steps) keys
-    (subst (λ (d : Contents). IsCutOff (queries_among (table d) c.as_slice.result.now) c.settle_all.new.self
+    (subst (λ (d : Contents). IsCutOff (queries_among (table d) (keys_there d.lines c.as_slice.result.now)) c.settle_all.new.self
     c.put_checks.new.table c.settle_all.new.steps c.put_checks.new.steps) c.settle_all.ensures.deck
     c.in_err-put_checks.ensures.queries)))
 
 pub returns-clause-queries : goal.returns-clause-queries
 returns-clause-queries g c =
-    let keys : c.as_slice.result.now ≡ table_keys (table c.args.table.now.deck) =
-    c.as_slice.ensures
-    ∙ (c.key_lists_are_one.ensures (table c.deck.result.now) c.in_ok-keys.keys (c.in_ok-keys.ensures {u = tt}).all
-    ∙ ap (λ (d : Contents). table_keys (table d)) c.deck.ensures.deck) in
+    let keys : keys_there c.args.table.now.deck.lines c.as_slice.result.now ≡ table_keys (table c.args.table.now.deck) =
+    ap (keys_there c.args.table.now.deck.lines) c.as_slice.ensures.value
+    ∙ subst (λ (d : Contents). keys_there d.lines c.in_ok-places.places.items ≡ table_keys (table d)) c.deck.ensures.deck
+    (c.key_lists_are_one.ensures (table c.deck.result.now) (keys_there c.deck.result.now.lines c.in_ok-places.places.items)
+    (c.in_ok-places.ensures {u = tt}).all) in
     follows_both (all_names (table c.args.table.now.deck))
     (queries_among (table c.args.table.now.deck) (table_keys (table c.args.table.now.deck)))
     c.args.table.now c.settle_all.new.self c.put_checks.new.table c.args.steps.now c.settle_all.new.steps
     c.put_checks.new.steps c.in_ok-settle_all.ensures.after
     (subst (λ (ks : List Key). Follows (queries_among (table c.args.table.now.deck) ks) c.settle_all.new.self
     c.put_checks.new.table c.settle_all.new.steps c.put_checks.new.steps) keys
-    (subst (λ (d : Contents). Follows (queries_among (table d) c.as_slice.result.now) c.settle_all.new.self
+    (subst (λ (d : Contents). Follows (queries_among (table d) (keys_there d.lines c.as_slice.result.now)) c.settle_all.new.self
     c.put_checks.new.table c.settle_all.new.steps c.put_checks.new.steps) c.settle_all.ensures.deck
     c.in_ok-put_checks.ensures.queries))

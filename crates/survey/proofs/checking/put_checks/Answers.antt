@@ -1,62 +1,71 @@
-use Rattle.std.proofs.Common.{◌≡◌, ◌∙◌, ◌++◌, Some, ap, arith, subst, sym}
+use Rattle.std.proofs.Common.{◌≡◌, ◌∙◌, ◌++◌, List, ap, arith, get_or, subst, sym, ℕ}
 use Rattle.std.specs.Prelude.{Result}
 use Rattle.std.specs.declared.alloc.AllocError.{AllocError}
 use Rattle.std.proofs.lemmas.Option.{slice_get-get_or}
 use Rattle.std.proofs.lemmas.Result.{err_from_is_err_and}
 use Rattle.def_entry.specs.declared.key.Key.{Key}
 use Rattle.deck.specs.Decks.{Contents}
+use Rattle.deck.specs.PlacedKeys.{keys_there}
 use Rattle.deck.specs.Tables.{table}
 use Rattle.live_table.specs.Shown.{Follows, IsCutOff}
+use Rattle.live_table.specs.States.{Event}
 use Rattle.reply.specs.Calls.{AreMade}
 use Rattle.reply.specs.Options.{style_of}
 use Rattle.survey.specs.Checks.{check_line, checked, queries_among}
+use Rattle.survey.proofs.Places.{each-place, line_at, queries_at}
 use Rattle.survey.proofs.Surveying.{underway-cut, underway-follows, underway-next, underway-text}
 use Rattle.survey.proofs.checking.put_checks.Goals as goal
 
-pub loop-key-preserved : goal.loop-key-preserved
-loop-key-preserved g c =
-    underway-next (check_line (table c.args.table.now.deck) (style_of c.args.options.now))
-    (λ (k : Key). (checked (table c.args.table.now.deck) k).events) c.args.keys.now c.loop-key.key-index
-    c.args.lines.now.items c.loop-key.lines.items c.args.table.now c.loop-key.table c.args.steps.now c.loop-key.steps
-    c.loop-key.invariant c.key-item.result
-    (slice_get-get_or c.args.keys.now c.loop-key.key-index c.key-item.result (omega arith)
-    ∙ ap Some (sym c.key-item.is))
-    c.put_check.new.table c.put_check.new.steps c.put_check.new.lines.items
-    (subst (λ (d : Contents). c.put_check.new.lines.items
-    ≡ c.loop-key.lines.items ++ check_line (table d) (style_of c.args.options.now) c.key-item.result)
-    c.loop-key.invariant.deck c.in_ok-put_check.ensures.line)
-    c.put_check.ensures.deck
-    (subst (λ (d : Contents). Follows (checked (table d) c.key-item.result).events
-    c.loop-key.table c.put_check.new.table c.loop-key.steps c.put_check.new.steps)
-    c.loop-key.invariant.deck c.in_ok-put_check.ensures.queries)
+pub loop-place-preserved : goal.loop-place-preserved
+loop-place-preserved g c =
+    let place = get_or c.args.places.now c.loop-place.place-index 0 in
+    underway-next (line_at c.args.table.now.deck (style_of c.args.options.now)) (queries_at c.args.table.now.deck)
+    c.args.places.now c.loop-place.place-index c.args.lines.now.items c.loop-place.lines.items c.args.table.now
+    c.loop-place.table c.args.steps.now c.loop-place.steps c.loop-place.invariant place
+    (slice_get-get_or c.args.places.now c.loop-place.place-index 0 (omega arith))
+    c.put_check_at.new.table c.put_check_at.new.steps c.put_check_at.new.lines.items
+    (subst (λ (d : Contents). c.put_check_at.new.lines.items
+    ≡ c.loop-place.lines.items ++ line_at d (style_of c.args.options.now) place)
+    c.loop-place.invariant.deck c.in_ok-put_check_at.ensures.line)
+    c.put_check_at.ensures.deck
+    (subst (λ (d : Contents). Follows (queries_at d place)
+    c.loop-place.table c.put_check_at.new.table c.loop-place.steps c.put_check_at.new.steps)
+    c.loop-place.invariant.deck c.in_ok-put_check_at.ensures.queries)
 
-pub returns-in_err-put_check-clause-queries : goal.returns-in_err-put_check-clause-queries
-returns-in_err-put_check-clause-queries g c =
+pub returns-in_err-put_check_at-clause-queries : goal.returns-in_err-put_check_at-clause-queries
+returns-in_err-put_check_at-clause-queries g c =
+    let place = get_or c.args.places.now c.loop-place.place-index 0 in
     let p = err_from_is_err_and c.from_residual.result c.from_residual.ensures.1 in
+    let deck = c.args.table.now.deck in
     subst (λ (r : Result (Unit {0}) AllocError). AreMade
-    (queries_among (table c.args.table.now.deck) c.args.keys.now) r c.args.table.now
-    c.put_check.new.table c.args.steps.now c.put_check.new.steps) (sym p.1)
-    (underway-cut (check_line (table c.args.table.now.deck) (style_of c.args.options.now))
-    (λ (k : Key). (checked (table c.args.table.now.deck) k).events) c.args.keys.now c.loop-key.key-index
-    c.args.lines.now.items c.loop-key.lines.items c.args.table.now c.loop-key.table c.args.steps.now c.loop-key.steps
-    c.loop-key.invariant c.key-item.result
-    (slice_get-get_or c.args.keys.now c.loop-key.key-index c.key-item.result (omega arith)
-    ∙ ap Some (sym c.key-item.is))
-    c.put_check.new.table c.put_check.new.steps
-    (subst (λ (d : Contents). IsCutOff (checked (table d) c.key-item.result).events
-    c.loop-key.table c.put_check.new.table c.loop-key.steps c.put_check.new.steps)
-    c.loop-key.invariant.deck c.in_err-put_check.ensures.queries))
+    (queries_among (table deck) (keys_there deck.lines c.args.places.now)) r c.args.table.now
+    c.put_check_at.new.table c.args.steps.now c.put_check_at.new.steps) (sym p.1)
+    (subst (λ (es : List Event). IsCutOff es c.args.table.now c.put_check_at.new.table c.args.steps.now
+    c.put_check_at.new.steps)
+    (sym (each-place (λ (k : Key). (checked (table deck) k).events) deck c.args.places.now))
+    (underway-cut (line_at deck (style_of c.args.options.now)) (queries_at deck) c.args.places.now
+    c.loop-place.place-index c.args.lines.now.items c.loop-place.lines.items c.args.table.now c.loop-place.table
+    c.args.steps.now c.loop-place.steps c.loop-place.invariant place
+    (slice_get-get_or c.args.places.now c.loop-place.place-index 0 (omega arith))
+    c.put_check_at.new.table c.put_check_at.new.steps
+    (subst (λ (d : Contents). IsCutOff (queries_at d place)
+    c.loop-place.table c.put_check_at.new.table c.loop-place.steps c.put_check_at.new.steps)
+    c.loop-place.invariant.deck c.in_err-put_check_at.ensures.queries)))
 
 pub returns-clause-lines : goal.returns-clause-lines
 returns-clause-lines g c =
-    underway-text (check_line (table c.args.table.now.deck) (style_of c.args.options.now))
-    (λ (k : Key). (checked (table c.args.table.now.deck) k).events) c.args.keys.now c.loop-key.key-index
-    c.args.lines.now.items c.loop-key.lines.items c.args.table.now c.loop-key.table c.args.steps.now c.loop-key.steps
-    c.loop-key.invariant (omega arith)
+    let deck = c.args.table.now.deck in
+    underway-text (line_at deck (style_of c.args.options.now)) (queries_at deck) c.args.places.now
+    c.loop-place.place-index c.args.lines.now.items c.loop-place.lines.items c.args.table.now c.loop-place.table
+    c.args.steps.now c.loop-place.steps c.loop-place.invariant (omega arith)
+    ∙ ap (λ (xs : List ℕ). c.args.lines.now.items ++ xs)
+    (sym (each-place (check_line (table deck) (style_of c.args.options.now)) deck c.args.places.now))
 
 pub returns-clause-queries : goal.returns-clause-queries
 returns-clause-queries g c =
-    underway-follows (check_line (table c.args.table.now.deck) (style_of c.args.options.now))
-    (λ (k : Key). (checked (table c.args.table.now.deck) k).events) c.args.keys.now c.loop-key.key-index
-    c.args.lines.now.items c.loop-key.lines.items c.args.table.now c.loop-key.table c.args.steps.now c.loop-key.steps
-    c.loop-key.invariant (omega arith)
+    let deck = c.args.table.now.deck in
+    subst (λ (es : List Event). Follows es c.args.table.now c.loop-place.table c.args.steps.now c.loop-place.steps)
+    (sym (each-place (λ (k : Key). (checked (table deck) k).events) deck c.args.places.now))
+    (underway-follows (line_at deck (style_of c.args.options.now)) (queries_at deck) c.args.places.now
+    c.loop-place.place-index c.args.lines.now.items c.loop-place.lines.items c.args.table.now c.loop-place.table
+    c.args.steps.now c.loop-place.steps c.loop-place.invariant (omega arith))

@@ -5,6 +5,7 @@ use Rattle.std.proofs.lemmas.Result.{err_from_is_err_and}
 use Rattle.def_entry.specs.declared.key.Key.{Key}
 use Rattle.deck.specs.Decks.{Contents}
 use Rattle.deck.specs.KeyLists.{table_keys}
+use Rattle.deck.specs.PlacedKeys.{keys_there}
 use Rattle.deck.specs.Tables.{table}
 use Rattle.live_table.proofs.NameQueries.{cut_at_once}
 use Rattle.reply.specs.Calls.{AreMade}
@@ -12,8 +13,8 @@ use Rattle.survey.specs.Conformable.{conformable_queries, unit_queries}
 use Rattle.survey.proofs.Findings.{made}
 use Rattle.survey.proofs.conforming.conformable_report.Goals as goal
 
-pub returns-in_err-keys-clause-queries : goal.returns-in_err-keys-clause-queries
-returns-in_err-keys-clause-queries g c =
+pub returns-in_err-places-clause-queries : goal.returns-in_err-places-clause-queries
+returns-in_err-places-clause-queries g c =
     let p = err_from_is_err_and c.from_residual.result c.from_residual.ensures.1 in
     subst (λ (r : Result (List ℕ) AllocError). AreMade (conformable_queries (table c.args.table.now.deck)) r
     c.args.table.now c.args.table.now c.args.steps.now c.args.steps.now) (sym p.1)
@@ -22,12 +23,13 @@ returns-in_err-keys-clause-queries g c =
 
 pub returns-clause-queries : goal.returns-clause-queries
 returns-clause-queries g c =
-    let keys : c.as_slice.result.now ≡ table_keys (table c.args.table.now.deck) =
-    c.as_slice.ensures
-    ∙ (c.key_lists_are_one.ensures (table c.deck.result.now) c.in_ok-keys.keys (c.in_ok-keys.ensures {u = tt}).all
-    ∙ ap (λ (d : Contents). table_keys (table d)) c.deck.ensures.deck) in
+    let keys : keys_there c.args.table.now.deck.lines c.as_slice.result.now ≡ table_keys (table c.args.table.now.deck) =
+    ap (keys_there c.args.table.now.deck.lines) c.as_slice.ensures.value
+    ∙ subst (λ (d : Contents). keys_there d.lines c.in_ok-places.places.items ≡ table_keys (table d)) c.deck.ensures.deck
+    (c.key_lists_are_one.ensures (table c.deck.result.now) (keys_there c.deck.result.now.lines c.in_ok-places.places.items)
+    (c.in_ok-places.ensures {u = tt}).all) in
     subst (λ (ks : List Key). AreMade (unit_queries (table c.args.table.now.deck) ks) c.rows_or_none.result
     c.args.table.now c.put_conforming_rows.new.table c.args.steps.now c.put_conforming_rows.new.steps) keys
-    (made (unit_queries (table c.args.table.now.deck) c.as_slice.result.now) c.args.table.now
+    (made (unit_queries (table c.args.table.now.deck) (keys_there c.args.table.now.deck.lines c.as_slice.result.now)) c.args.table.now
     c.put_conforming_rows.new.table c.args.steps.now c.put_conforming_rows.new.steps c.put_conforming_rows.ensures.deck
     c.in_ok-put_conforming_rows.ensures.queries c.rows_or_none.result)

@@ -1,70 +1,81 @@
-use Rattle.std.proofs.Common.{◌≡◌, ◌∙◌, ◌++◌, List, Some, ap, arith, subst, sym, ℕ}
+use Rattle.std.proofs.Common.{◌≡◌, ◌∙◌, ◌++◌, List, ap, arith, get_or, subst, sym, ℕ}
 use Rattle.std.specs.Prelude.{Result}
 use Rattle.std.specs.declared.alloc.AllocError.{AllocError}
+use Rattle.std.specs.List.{flat_map}
 use Rattle.std.proofs.lemmas.Option.{slice_get-get_or}
 use Rattle.std.proofs.lemmas.Result.{err_from_is_err_and}
 use Rattle.def_entry.specs.declared.key.Key.{Key}
+use Rattle.def_entry.specs.declared.key.Kind.TheVariants as kind
 use Rattle.deck.specs.Decks.{Contents}
+use Rattle.deck.specs.KeyLists.{of_kind}
+use Rattle.deck.specs.PlacedKeys.{key_there, keys_there}
 use Rattle.deck.specs.Tables.{table}
 use Rattle.live_table.specs.Shown.{Follows, IsCutOff}
 use Rattle.live_table.specs.States.{Event}
 use Rattle.reply.specs.Calls.{AreMade}
 use Rattle.survey.specs.Conformable.{conforming_row, unit_queries, unit_worth}
+use Rattle.survey.specs.Places.{given_by, if_unit}
+use Rattle.survey.proofs.Places.{each-place, row_at, unit_queries_at}
 use Rattle.survey.proofs.Surveying.{underway-cut, underway-follows, underway-next, underway-text}
-use Rattle.survey.proofs.UnitRows.{if-unit, units-each}
+use Rattle.survey.proofs.UnitRows.{units-each}
 use Rattle.survey.proofs.conforming.put_conforming_rows.Goals as goal
 
-pub loop-key-preserved : goal.loop-key-preserved
-loop-key-preserved g c =
-    underway-next (if-unit (conforming_row (table c.args.table.now.deck) c.args.from.now))
-    (if-unit (λ (k : Key). (unit_worth (table c.args.table.now.deck) k).events)) c.args.keys.now c.loop-key.key-index
-    c.args.rows.now.items c.loop-key.rows.items c.args.table.now c.loop-key.table c.args.steps.now c.loop-key.steps
-    c.loop-key.invariant c.key-item.result
-    (slice_get-get_or c.args.keys.now c.loop-key.key-index c.key-item.result (omega arith)
-    ∙ ap Some (sym c.key-item.is))
-    c.put_if_unit.new.table c.put_if_unit.new.steps c.put_if_unit.new.rows.items
-    (subst (λ (d : Contents). c.put_if_unit.new.rows.items
-    ≡ c.loop-key.rows.items ++ if-unit (conforming_row (table d) c.args.from.now) c.key-item.result)
-    c.loop-key.invariant.deck c.in_ok-put_if_unit.ensures.rows)
-    c.put_if_unit.ensures.deck
-    (subst (λ (d : Contents). Follows (if-unit (λ (k : Key). (unit_worth (table d) k).events) c.key-item.result)
-    c.loop-key.table c.put_if_unit.new.table c.loop-key.steps c.put_if_unit.new.steps)
-    c.loop-key.invariant.deck c.in_ok-put_if_unit.ensures.queries)
+pub loop-place-preserved : goal.loop-place-preserved
+loop-place-preserved g c =
+    let place = get_or c.args.places.now c.loop-place.place-index 0 in
+    underway-next (row_at c.args.table.now.deck c.args.from.now) (unit_queries_at c.args.table.now.deck)
+    c.args.places.now c.loop-place.place-index c.args.rows.now.items c.loop-place.rows.items c.args.table.now
+    c.loop-place.table c.args.steps.now c.loop-place.steps c.loop-place.invariant place
+    (slice_get-get_or c.args.places.now c.loop-place.place-index 0 (omega arith))
+    c.put_row_at.new.table c.put_row_at.new.steps c.put_row_at.new.rows.items
+    (subst (λ (d : Contents). c.put_row_at.new.rows.items
+    ≡ c.loop-place.rows.items ++ row_at d c.args.from.now place)
+    c.loop-place.invariant.deck c.in_ok-put_row_at.ensures.rows)
+    c.put_row_at.ensures.deck
+    (subst (λ (d : Contents). Follows (unit_queries_at d place)
+    c.loop-place.table c.put_row_at.new.table c.loop-place.steps c.put_row_at.new.steps)
+    c.loop-place.invariant.deck c.in_ok-put_row_at.ensures.queries)
 
-pub returns-in_err-put_if_unit-clause-queries : goal.returns-in_err-put_if_unit-clause-queries
-returns-in_err-put_if_unit-clause-queries g c =
+-- what units among the keys at places give is what each place gives
+each-unit : {A : Type 0} (f : Key → List A) (deck : Contents) (places : List ℕ)
+    → flat_map f (of_kind kind.Unit (keys_there deck.lines places))
+    ≡ flat_map (λ place. given_by (if_unit f) (key_there deck.lines place)) places
+each-unit f deck places = units-each f (keys_there deck.lines places) ∙ each-place (if_unit f) deck places
+
+pub returns-in_err-put_row_at-clause-queries : goal.returns-in_err-put_row_at-clause-queries
+returns-in_err-put_row_at-clause-queries g c =
+    let place = get_or c.args.places.now c.loop-place.place-index 0 in
     let p = err_from_is_err_and c.from_residual.result c.from_residual.ensures.1 in
+    let deck = c.args.table.now.deck in
     subst (λ (r : Result (Unit {0}) AllocError). AreMade
-    (unit_queries (table c.args.table.now.deck) c.args.keys.now) r c.args.table.now
-    c.put_if_unit.new.table c.args.steps.now c.put_if_unit.new.steps) (sym p.1)
-    (subst (λ (es : List Event). IsCutOff es c.args.table.now c.put_if_unit.new.table c.args.steps.now
-    c.put_if_unit.new.steps)
-    (sym (units-each (λ (k : Key). (unit_worth (table c.args.table.now.deck) k).events) c.args.keys.now))
-    (underway-cut (if-unit (conforming_row (table c.args.table.now.deck) c.args.from.now))
-    (if-unit (λ (k : Key). (unit_worth (table c.args.table.now.deck) k).events)) c.args.keys.now c.loop-key.key-index
-    c.args.rows.now.items c.loop-key.rows.items c.args.table.now c.loop-key.table c.args.steps.now c.loop-key.steps
-    c.loop-key.invariant c.key-item.result
-    (slice_get-get_or c.args.keys.now c.loop-key.key-index c.key-item.result (omega arith)
-    ∙ ap Some (sym c.key-item.is))
-    c.put_if_unit.new.table c.put_if_unit.new.steps
-    (subst (λ (d : Contents). IsCutOff (if-unit (λ (k : Key). (unit_worth (table d) k).events) c.key-item.result)
-    c.loop-key.table c.put_if_unit.new.table c.loop-key.steps c.put_if_unit.new.steps)
-    c.loop-key.invariant.deck c.in_err-put_if_unit.ensures.queries)))
+    (unit_queries (table deck) (keys_there deck.lines c.args.places.now)) r c.args.table.now
+    c.put_row_at.new.table c.args.steps.now c.put_row_at.new.steps) (sym p.1)
+    (subst (λ (es : List Event). IsCutOff es c.args.table.now c.put_row_at.new.table c.args.steps.now
+    c.put_row_at.new.steps)
+    (sym (each-unit (λ (k : Key). (unit_worth (table deck) k).events) deck c.args.places.now))
+    (underway-cut (row_at deck c.args.from.now) (unit_queries_at deck) c.args.places.now
+    c.loop-place.place-index c.args.rows.now.items c.loop-place.rows.items c.args.table.now c.loop-place.table
+    c.args.steps.now c.loop-place.steps c.loop-place.invariant place
+    (slice_get-get_or c.args.places.now c.loop-place.place-index 0 (omega arith))
+    c.put_row_at.new.table c.put_row_at.new.steps
+    (subst (λ (d : Contents). IsCutOff (unit_queries_at d place)
+    c.loop-place.table c.put_row_at.new.table c.loop-place.steps c.put_row_at.new.steps)
+    c.loop-place.invariant.deck c.in_err-put_row_at.ensures.queries)))
 
 pub returns-clause-rows : goal.returns-clause-rows
 returns-clause-rows g c =
-    underway-text (if-unit (conforming_row (table c.args.table.now.deck) c.args.from.now))
-    (if-unit (λ (k : Key). (unit_worth (table c.args.table.now.deck) k).events)) c.args.keys.now c.loop-key.key-index
-    c.args.rows.now.items c.loop-key.rows.items c.args.table.now c.loop-key.table c.args.steps.now c.loop-key.steps
-    c.loop-key.invariant (omega arith)
+    let deck = c.args.table.now.deck in
+    underway-text (row_at deck c.args.from.now) (unit_queries_at deck) c.args.places.now c.loop-place.place-index
+    c.args.rows.now.items c.loop-place.rows.items c.args.table.now c.loop-place.table c.args.steps.now
+    c.loop-place.steps c.loop-place.invariant (omega arith)
     ∙ ap (λ (xs : List ℕ). c.args.rows.now.items ++ xs)
-    (sym (units-each (conforming_row (table c.args.table.now.deck) c.args.from.now) c.args.keys.now))
+    (sym (each-unit (conforming_row (table deck) c.args.from.now) deck c.args.places.now))
 
 pub returns-clause-queries : goal.returns-clause-queries
 returns-clause-queries g c =
-    subst (λ (es : List Event). Follows es c.args.table.now c.loop-key.table c.args.steps.now c.loop-key.steps)
-    (sym (units-each (λ (k : Key). (unit_worth (table c.args.table.now.deck) k).events) c.args.keys.now))
-    (underway-follows (if-unit (conforming_row (table c.args.table.now.deck) c.args.from.now))
-    (if-unit (λ (k : Key). (unit_worth (table c.args.table.now.deck) k).events)) c.args.keys.now c.loop-key.key-index
-    c.args.rows.now.items c.loop-key.rows.items c.args.table.now c.loop-key.table c.args.steps.now c.loop-key.steps
-    c.loop-key.invariant (omega arith))
+    let deck = c.args.table.now.deck in
+    subst (λ (es : List Event). Follows es c.args.table.now c.loop-place.table c.args.steps.now c.loop-place.steps)
+    (sym (each-unit (λ (k : Key). (unit_worth (table deck) k).events) deck c.args.places.now))
+    (underway-follows (row_at deck c.args.from.now) (unit_queries_at deck) c.args.places.now
+    c.loop-place.place-index c.args.rows.now.items c.loop-place.rows.items c.args.table.now c.loop-place.table
+    c.args.steps.now c.loop-place.steps c.loop-place.invariant (omega arith))

@@ -1,11 +1,15 @@
 use Rattle.std.proofs.Common.{◌≡◌, ◌++◌, drop}
 use Rattle.std.specs.List.{flat_map}
+use Rattle.deck.specs.PlacedKeys.{key_there}
 use Rattle.deck.specs.Tables.{table}
+use Rattle.survey.specs.Places.{given_by}
 use Rattle.survey.specs.Searches.{found_row}
 use Rattle.survey.proofs.searching.put_found_rows.Given as goal
 
--- the rows with those of the keys that are left are those of all
-abbrev pub invariant-loop-key : goal.invariant-loop-key
-invariant-loop-key l =
-    l.rows.items ++ flat_map (found_row (table l.deck) l.text) (drop l.key-index l.keys)
-    ≡ l.initial.rows.items ++ flat_map (found_row (table l.deck) l.text) l.keys
+-- the rows with those of the places that are left are those of all
+abbrev pub invariant-loop-place : goal.invariant-loop-place
+invariant-loop-place l =
+    l.rows.items
+    ++ flat_map (λ place. given_by (found_row (table l.deck) l.text) (key_there l.deck.lines place)) (drop l.place-index l.places)
+    ≡ l.initial.rows.items
+    ++ flat_map (λ place. given_by (found_row (table l.deck) l.text) (key_there l.deck.lines place)) l.places

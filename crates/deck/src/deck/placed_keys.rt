@@ -1,0 +1,116 @@
+//! The keys of a deck with their places.
+
+ghost use Rattle.std.specs.Prelude.{◌≡◌, ◌++◌, All, map, IfOk, OnOk, is_some};
+ghost use Rattle.std.specs.List.Sorted.{IsPermutation, IsSortedByKey};
+ghost use Rattle.def_entry.specs.KeyOrder.{KeyOrderLaw, key_cmp, kind_number};
+ghost use Rattle.deck_lines.specs.Names.{key_at, names_of};
+ghost use Rattle.deck_lines.specs.Numbering.{IsNumbering};
+ghost use Rattle.deck.specs.KeyLists.{IsWhole};
+ghost use Rattle.deck.specs.LastPlaces.{place_at};
+ghost use Rattle.deck.specs.Numbers.{key_if, keys_where};
+ghost use Rattle.deck.specs.PlacedKeys.{ArePlaced, IsInPlace, placed_key};
+ghost use Rattle.deck.specs.Tables.{table};
+
+use super::Deck;
+use crate::places::LastPlaces;
+use deck_lines::{KeyNumber, LineStore};
+use def_entry::{Kind, key_order_law};
+use std::alloc::{AllocError, Global};
+use std::cmp::Ordering;
+
+/// A key with the place of its last active line.
+#[derive(Clone, Copy)]
+pub(super) struct PlacedKey<'a> {
+    pub(super) kind: Kind,
+    pub(super) name: &'a [u8],
+    pub(super) place: usize,
+}
+
+impl Deck {
+    /// All keys that have an entry, each once, in the byte order of their names, and then units,
+    /// prefixes, functions and lists.
+    pub(super) fn placed_keys(&self, alloc: Global) -> Result<Vec<PlacedKey<'_>>, AllocError>
+        ensures whole { IfOk result (λ keys. IsWhole (table self.now) (map placed_key keys.items)) }
+        ensures in_place { IfOk result (λ keys. All (IsInPlace self.now.lines) keys.items) }
+    {
+        key_order_law();
+        let mut keys = Vec::new(alloc);
+        push_placed(&mut keys, &self.store, &self.last, Kind::Unit)?;
+        push_placed(&mut keys, &self.store, &self.last, Kind::Prefix)?;
+        push_placed(&mut keys, &self.store, &self.last, Kind::Func)?;
+        push_placed(&mut keys, &self.store, &self.last, Kind::List)?;
+        Ok(in_order(keys))
+    }
+}
+
+// Puts the keys of a kind that have a last place behind some keys.
+fn push_placed<'a>(
+    keys: &mut Vec<PlacedKey<'a>>,
+    store: &'a LineStore,
+    last: &LastPlaces,
+    kind: Kind,
+) -> Result<(), AllocError>
+    requires places { ArePlaced store.now last.now }
+    requires placed { All (IsInPlace store.now.lines) keys.old.items }
+    ensures numbering { IsNumbering store.now }
+    ensures in_place { OnOk result (All (IsInPlace store.now.lines) keys.new.items) }
+    ensures keys { OnOk result (map placed_key keys.new.items ≡ map placed_key keys.old.items
+        ++ keys_where (λ n. is_some (place_at last.now n)) kind 0 (names_of store.now.names kind)) }
+{
+    for number in 0..store.name_count(kind) {
+        push_if_placed(keys, store, last, KeyNumber { kind, number })?;
+    }
+    Ok(())
+}
+
+// Puts the key of this number behind some keys, where it has a last place.
+fn push_if_placed<'a>(
+    keys: &mut Vec<PlacedKey<'a>>,
+    store: &'a LineStore,
+    last: &LastPlaces,
+    n: KeyNumber,
+) -> Result<(), AllocError>
+    requires places { ArePlaced store.now last.now }
+    requires placed { All (IsInPlace store.now.lines) keys.old.items }
+    ensures in_place { OnOk result (All (IsInPlace store.now.lines) keys.new.items) }
+    ensures keys { OnOk result (map placed_key keys.new.items ≡ map placed_key keys.old.items
+        ++ key_if (is_some (place_at last.now n)) (key_at store.now.names n)) }
+{
+    let Some(place) = last.get(n) else {
+        return Ok(());
+    };
+    let Some(name) = store.name(n) else {
+        return Ok(());
+    };
+    let kind = n.kind;
+    keys.push(PlacedKey { kind, name, place })?;
+    Ok(())
+}
+
+// The same keys in order.
+fn in_order(mut keys: Vec<PlacedKey<'_>>) -> Vec<PlacedKey<'_>>
+    ensures same { IsPermutation keys.entry.items result.items }
+    ensures sorted { KeyOrderLaw → IsSortedByKey placed_key key_cmp result.items }
+{
+    keys.sort_unstable_by(|a, b| compare(a, b));
+    keys
+}
+
+// The order of two keys.
+fn compare(a: &PlacedKey<'_>, b: &PlacedKey<'_>) -> Ordering
+    ensures { result ≡ key_cmp (placed_key a.now) (placed_key b.now) }
+{
+    a.name.cmp(b.name).then(rank(a.kind).cmp(&rank(b.kind)))
+}
+
+// The place of a kind in the order of kinds.
+fn rank(kind: Kind) -> u8
+    ensures { result ≡ kind_number kind }
+{
+    match kind {
+        Kind::Unit => 0,
+        Kind::Prefix => 1,
+        Kind::Func => 2,
+        Kind::List => 3,
+    }
+}
