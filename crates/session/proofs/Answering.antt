@@ -1,0 +1,163 @@
+-- The answer to a line, at a point of a talk.
+use Rattle.std.proofs.Common.{◌≡◌, ◌++◌, [], ℕ, List, Bool, true, false, cond, refl, sym, ap, subst, ◌∙◌, arith}
+use Rattle.std.proofs.Common.{append_assoc, Some, None, Ok, Err}
+use Rattle.std.specs.Prelude.{Result}
+use Rattle.std.specs.declared.option.Option.{Option}
+use Rattle.units_io.specs.FileMap.{FileMap}
+use Rattle.def_entry.specs.Keys.{key_of}
+use Rattle.def_entry.specs.declared.key.Key.{Key}
+use Rattle.session.specs.Answering.{IsAnswered, Says}
+use Rattle.session.specs.Answers.{Answer}
+use Rattle.session.specs.Commands.{Command, is_load}
+use Rattle.session.specs.Commands as command
+use Rattle.session.specs.Hearing.{is_last, is_last_read, readable}
+use Rattle.session.specs.Parts.{IsSaid}
+use Rattle.session.specs.Sessions.{Known, State, prompt, state_of}
+use Rattle.session.specs.Standing.{Base, IsAt, Begins, IsBefore}
+use Rattle.session.specs.Steps.{answer, answer_read, answer_to, blank_answer, conformable_answer, drop_answer}
+use Rattle.session.specs.Steps.{expression_answer}
+use Rattle.session.specs.Talks.{Talk, with_answer, spoken}
+use Rattle.session.specs.Telling.{TellsIf, when_told}
+use Rattle.session.specs.declared.answer.LineReply.{LineReply}
+use Rattle.session.specs.declared.fault.SessionFault.{SessionFault}
+use Rattle.session.specs.declared.said.Said.{Said}
+
+-- files that serve are as they were when nothing changes them
+tells_stay : (needed : Bool) (files : Option FileMap) (m : FileMap) → TellsIf needed files m → files ≡ when_told files m
+tells_stay needed None m h = refl
+tells_stay needed (Some told) m h = ap Some h
+
+-- where a file is needed the files are told
+pub tells_needed : {X : Type 0} (needed : Bool) (files : Option X) (m : X) → needed ≡ true → TellsIf needed files m
+    → files ≡ Some m
+tells_needed true None m e h = cc
+tells_needed false None m e h = cc
+tells_needed needed (Some told) m e h = ap Some h
+
+-- what is told serves
+pub tells_told : (needed : Bool) (files : Option FileMap) (m : FileMap) → files ≡ Some m → TellsIf needed files m
+tells_told needed files m e = subst (λ f. TellsIf needed f m) (sym e) refl
+
+-- told files stay told
+pub told_stay : (files : Option FileMap) (m : FileMap) → files ≡ Some m → files ≡ when_told files m
+told_stay files m e = e ∙ sym (ap (λ f. when_told f m) e)
+
+-- no answer changes the files
+pub keeps_files : (session : Known) (m : FileMap) (c : Command) → (answer_to (state_of session m) c).after.files ≡ m
+unfolding answer_to
+keeps_files session m command.Blank = blank session.pending
+  where
+    blank : (p : Option (List ℕ)) → (blank_answer p (state_of session m)).after.files ≡ m
+    blank None = refl
+    blank (Some from) = refl
+keeps_files session m command.Quit = refl
+keeps_files session m command.Conformable = listed session.pending
+  where
+    listed : (p : Option (List ℕ)) → (conformable_answer p (state_of session m)).after.files ≡ m
+    listed None = refl
+    listed (Some from) = refl
+keeps_files session m (command.Search text) = refl
+keeps_files session m (command.Define line) = refl
+keeps_files session m (command.DropLast text) = dropped (key_of text)
+  where
+    dropped : (k : Option Key) → (drop_answer k text (state_of session m)).after.files ≡ m
+    dropped None = refl
+    dropped (Some key) = refl
+keeps_files session m (command.Set name value) = refl
+keeps_files session m (command.Locale locale) = refl
+keeps_files session m (command.Load name) = refl
+keeps_files session m command.Stats = refl
+keeps_files session m (command.Unknown word) = refl
+keeps_files session m (command.Bad word) = refl
+keeps_files session m (command.Expression text) = expression session.pending
+  where
+    expression : (p : Option (List ℕ)) → (expression_answer p text (state_of session m)).after.files ≡ m
+    expression None = refl
+    expression (Some from) = refl
+
+-- an answer that leaves the files, as a whole one
+pub said_answered : (result : Result LineReply SessionFault) (session new : Known) (m : FileMap) (c : Command)
+    (needed : Bool) (files after : Option FileMap) (old steps : ℕ) → TellsIf needed files m → after ≡ files
+    → IsSaid (answer_to (state_of session m) c) result new old steps
+    → IsAnswered (answer_to (state_of session m) c) result (record { session = session; files = files; steps = old })
+    (record { session = new; files = after; steps = steps })
+said_answered (Err fault) session new m c needed files after old steps h e s = tt
+said_answered (Ok reply) session new m c needed files after old steps h e s = record {
+  out = s.out;
+  err = s.err;
+  session = s.session;
+  files = e ∙ tells_stay needed files m h ∙ ap (when_told files) (sym (keeps_files session m c));
+  steps = s.steps;
+}
+
+module _ (base : Base) (talk : Talk) (part : List ℕ) (said : Said) (session : Known) (files : Option FileMap)
+    (steps : ℕ) (at : IsAt base talk (record { said = said; session = session; files = files; steps = steps })) where
+  abbrev asked : Answer
+  asked = answer talk.state part
+
+  state_of_talk : state_of session talk.state.files ≡ talk.state
+  state_of_talk = ap (λ s. state_of s talk.state.files) at.session
+
+  module _ (line : Option (List ℕ)) (read : line ≡ readable part) (reply : LineReply) (session_now : Known)
+      (files_now : Option FileMap) (steps_now : ℕ) (last : reply.done ≡ is_last_read line)
+      (says : Says (answer_read (state_of session talk.state.files) line) reply
+      (record { session = session; files = files; steps = steps })
+      (record { session = session_now; files = files_now; steps = steps_now })) where
+    same : Says asked reply (record { session = session; files = files; steps = steps })
+        (record { session = session_now; files = files_now; steps = steps_now })
+    same = subst (λ (st : State). Says (answer st part) reply
+        (record { session = session; files = files; steps = steps })
+        (record { session = session_now; files = files_now; steps = steps_now })) state_of_talk
+        (subst (λ l. Says (answer_read (state_of session talk.state.files) l) reply
+        (record { session = session; files = files; steps = steps })
+        (record { session = session_now; files = files_now; steps = steps_now })) read says)
+
+    pub done : reply.done ≡ is_last part
+    done = last ∙ ap is_last_read read
+
+    abbrev text : List ℕ
+    text = reply.out ++ cond reply.done [] (prompt session_now)
+
+    text_spoken : text ≡ spoken asked part
+    text_spoken =
+        ap (λ t. t ++ cond reply.done [] (prompt session_now)) same.out
+        ∙ ap (λ d. asked.out ++ cond d [] (prompt session_now)) done
+        ∙ ap (λ s. asked.out ++ cond (is_last part) [] (prompt s)) same.session
+
+    out_now : talk.out ++ spoken asked part ≡ base.out ++ (said.out.items ++ text)
+    out_now =
+        ap (λ t. t ++ spoken asked part) at.out ∙ append_assoc base.out said.out.items (spoken asked part)
+        ∙ ap (λ t. base.out ++ (said.out.items ++ t)) (sym text_spoken)
+
+    err_now : talk.err ++ asked.err ≡ base.err ++ (said.err.items ++ reply.err)
+    err_now =
+        ap (λ t. t ++ asked.err) at.err ∙ append_assoc base.err said.err.items asked.err
+        ∙ ap (λ t. base.err ++ (said.err.items ++ t)) (sym same.err)
+
+    -- the talk goes on by the answer
+    pub replied_at : (said_now : Said) → said_now.out.items ≡ said.out.items ++ text
+        → said_now.err.items ≡ said.err.items ++ reply.err
+        → IsAt base (with_answer talk asked part)
+        (record { said = said_now; session = session_now; files = files_now; steps = steps_now })
+    replied_at said_now o e = record {
+      out = out_now ∙ ap (λ t. base.out ++ t) (sym o);
+      err = err_now ∙ ap (λ t. base.err ++ t) (sym e);
+      session = same.session;
+      files = same.files ∙ ap (λ f. when_told f asked.after.files) at.files;
+      steps = omega (arith, same.steps, at.steps);
+    }
+
+    -- or a front of it is said
+    pub replied_before : (said_now : Said) → Begins said_now.out.items (said.out.items ++ text)
+        → Begins said_now.err.items (said.err.items ++ reply.err) → IsBefore base (with_answer talk asked part) said_now
+    replied_before said_now o e = record {
+      out = (o.0, out_now ∙ ap (λ t. base.out ++ t) o.1 ∙ sym (append_assoc base.out said_now.out.items o.0));
+      err = (e.0, err_now ∙ ap (λ t. base.err ++ t) e.1 ∙ sym (append_assoc base.err said_now.err.items e.0));
+    }
+
+  -- nothing is said of an answer that fails
+  pub unsaid : IsBefore base (with_answer talk asked part) said
+  unsaid = record {
+    out = (spoken asked part, ap (λ t. t ++ spoken asked part) at.out);
+    err = (asked.err, ap (λ t. t ++ asked.err) at.err);
+  }

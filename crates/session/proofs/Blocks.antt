@@ -1,0 +1,286 @@
+-- A session between blocks of its input.
+use Rattle.std.proofs.Common.{MatchResult, nat_le, min, ◌^◌, inl, inr, ◌≡◌, ◌++◌, ◌∷◌, ◌+◌, ◌-◌, ◌<◌, ◌≤◌, ◌⊎◌, [], ℕ}
+use Rattle.std.proofs.Common.{suc, List, Bool, true, false, length, take, refl, sym, ap, subst, ◌∙◌, arith}
+use Rattle.std.proofs.Common.{append_assoc, length-append, Some, None, Result, Ok, Err}
+use Rattle.std.specs.declared.option.Option.{Option}
+use Rattle.std.specs.List.{list_any}
+use Rattle.std.proofs.lemmas.List.{append-nil, take-append-le, take_all}
+use Rattle.units_io.specs.Bytes.{grown, GrowsByFront, Loses, IsNoneLeft}
+use Rattle.units_io.specs.Faults.{Rose}
+use Rattle.units_io.specs.FileMap.{FileMap}
+use Rattle.session.specs.Hearing.{is_last, heard}
+use Rattle.session.specs.Input.{whole_lines, lines_of}
+use Rattle.session.specs.Talks.{Talk, talk_over, talk_on}
+use Rattle.session.specs.Hearing.{readable}
+use Rattle.session.specs.Telling.{when_told}
+use Rattle.session.specs.Outside.{Outside, taken_of, IsReadToEnd, TookMoreThan}
+use Rattle.session.specs.Written.{IsAll, IsFront, IsCut, IsCutShort, output_of, session_course}
+use Rattle.session.specs.Standing.{Base, Now, IsAt, Begins, IsBefore, Stands, IsOver, Fed}
+use Rattle.session.specs.Waiting.{Opens, Waits, TookAtLeast}
+use Rattle.session.specs.Sessions.{Known}
+use Rattle.session.specs.declared.fault.SessionFault.{SessionFault}
+use Rattle.session.specs.declared.said.Said.{Said}
+use Rattle.std.proofs.lemmas.Bool.Decides.{nat_tests}
+use Rattle.session.proofs.Cutting.{take-front}
+use Rattle.session.proofs.Talking.{talk_more, at_before, talk-out, talk-err}
+
+grown_twice : (o : Option (List ℕ)) (xs ys : List ℕ) → grown (grown o xs) ys ≡ grown o (xs ++ ys)
+grown_twice None xs ys = refl
+grown_twice (Some held) xs ys = ap Some (append_assoc held xs ys)
+
+-- all of some bytes is a front of them
+front_all : (o out : Option (List ℕ)) (xs : List ℕ) → out ≡ grown o xs → GrowsByFront o out xs
+front_all o out xs e = (length xs, omega arith, e ∙ ap (grown o) (sym (take_all (length xs) xs (omega arith))))
+
+-- a front of some bytes is a front of more
+front_more : (o out : Option (List ℕ)) (xs ys : List ℕ) → Begins xs ys → GrowsByFront o out xs → GrowsByFront o out ys
+front_more o out xs ys b f = subst (GrowsByFront o out) (sym b.1) (
+  f.0,
+  omega (arith, f.1, length-append xs b.0),
+  f.2
+      ∙ ap (grown o) (sym (take-append-le f.0 xs b.0 f.1)),
+)
+
+take-append-add : (xs ys : List ℕ) (n : ℕ) → take (length xs + n) (xs ++ ys) ≡ xs ++ take n ys
+take-append-add [] ys n = let z : 0 + n ≡ n = omega arith in ap (λ k. take k ys) z
+take-append-add (x ∷ xs) ys n =
+    let z : suc (length xs) + n ≡ suc (length xs + n) = omega arith in
+    ap (λ k. take k (x ∷ (xs ++ ys))) z ∙ ap (λ t. x ∷ t) (take-append-add xs ys n)
+
+-- a front of what comes behind some bytes
+front_behind : (o mid out : Option (List ℕ)) (xs ys : List ℕ) → mid ≡ grown o xs → GrowsByFront mid out ys
+    → GrowsByFront o out (xs ++ ys)
+front_behind o mid out xs ys e f = (
+  length xs + f.0,
+  omega (arith, f.1, length-append xs ys),
+  f.2 ∙ ap (λ p. grown p (take f.0 ys)) e
+      ∙ grown_twice o xs (take f.0 ys) ∙ ap (grown o) (sym (take-append-add xs ys f.0)),
+)
+
+-- a count that rose since a later time rose since an earlier one
+pub rose_since : (a b c : ℕ) → a ≤ b → Rose b c → Rose a c
+rose_since a b c h r = omega (arith, h, r)
+
+pub either_rose : (a b c x y z : ℕ) → a ≤ b → x ≤ y → Rose b c ⊎ Rose y z → Rose a c ⊎ Rose x z
+either_rose a b c x y z h k (inl r) = inl (rose_since a b c h r)
+either_rose a b c x y z h k (inr r) = inr (rose_since x y z k r)
+
+pub none_left : (left : Option (List ℕ)) (rest : List ℕ) → left ≡ Some rest → IsNoneLeft left → rest ≡ []
+none_left left rest e h = rw e at h
+
+pub loses : (old new : Option (List ℕ)) (left bytes : List ℕ) → old ≡ Some left → Loses old new bytes
+    → Loses (Some left) new bytes
+loses old new left bytes e h = rw e at h
+
+-- what was taken
+pub taken_is : (input taken rest : List ℕ) (left : Option (List ℕ)) → input ≡ taken ++ rest → left ≡ Some rest
+    → taken_of input left ≡ taken
+taken_is input taken rest left e h = ap (taken_of input) h ∙ ap (λ i. take (length i - length rest) i) e
+    ∙ take-front taken rest
+
+-- what is before the talk over the whole input, whether it goes on, has ended, or failed
+pub fed_before : (result : Result Bool SessionFault) (base : Base) (first : Talk) (taken more : List ℕ)
+    (held : Option (List ℕ)) (now : Now) → Fed result base first taken more held now
+    → IsBefore base (talk_on first (taken ++ more)) now.said
+fed_before (Ok false) base first taken more held now s =
+    let rest = talk_more first taken s.going more in
+    at_before base (talk_over first (whole_lines taken)) (talk_on first (taken ++ more)) rest.0 now s.at rest.1
+fed_before (Ok true) base first taken more held now o = at_before base (talk_on first (taken ++ more))
+    (talk_on first (taken ++ more)) [] now o.at refl
+fed_before (Err fault) base first taken more held now b = b
+
+-- once the opening is written, the session waits for its first line
+pub opens : (first : Talk) (held : Option (List ℕ)) (said : Said) (session : Known) (before opening now : Outside)
+    → Opens first said session before opening
+    → now.out ≡ grown opening.out said.out.items → now.err ≡ grown opening.err said.err.items
+    → now.files ≡ opening.files → now.steps ≡ opening.steps → held ≡ readable []
+    → Waits first [] held session before now
+opens first held said session before opening now w o e f n h = record {
+  out = o ∙ ap (λ p. grown p said.out.items) w.out ∙ ap (grown before.out) (sym w.at.out);
+  err = e ∙ ap (λ p. grown p said.err.items) w.err ∙ ap (grown before.err) (sym w.at.err);
+  files = f ∙ w.at.files;
+  steps = omega (arith, n, w.at.steps);
+  session = w.at.session;
+  going = refl;
+  part = h;
+}
+
+module _ (first : Talk) (taken : List ℕ) (held : Option (List ℕ)) (session : Known) (before now : Outside)
+    (w : Waits first taken held session before now) where
+  abbrev told : Talk
+  told = talk_over first (whole_lines taken)
+
+  -- all that was said is written
+  abbrev base : Base
+  base = record { out = told.out; err = told.err; steps = before.steps }
+
+  -- with nothing said since, the session stands
+  pub stands : (said : Said) → said.out.items ≡ [] → said.err.items ≡ []
+      → Stands base first taken held (record { said = said; session = session; files = now.files; steps = now.steps })
+  stands said o e = record {
+    at = record {
+      out = sym (append-nil told.out) ∙ ap (λ t. told.out ++ t) (sym o);
+      err = sym (append-nil told.err) ∙ ap (λ t. told.err ++ t) (sym e);
+      session = w.session;
+      files = w.files;
+      steps = w.steps;
+    };
+    going = w.going;
+    part = w.part;
+  }
+
+  -- a front of what was written and is now said is a front of the whole
+  pub fronts : (talk : Talk) (said : Said) (after : Outside) → IsBefore base talk said
+      → GrowsByFront now.out after.out said.out.items → GrowsByFront now.err after.err said.err.items
+      → IsFront (output_of talk) before after
+  fronts talk said after b o e = record {
+    out = front_more before.out after.out (told.out ++ said.out.items) talk.out b.out
+        (front_behind before.out now.out after.out told.out said.out.items w.out o);
+    err = front_more before.err after.err (told.err ++ said.err.items) talk.err b.err
+        (front_behind before.err now.err after.err told.err said.err.items w.err e);
+  }
+
+  -- the session waits again once what was said is written
+  pub waits : (front : List ℕ) (held_now : Option (List ℕ)) (said : Said) (new : Known) (after : Outside)
+      → Stands base first front held_now
+      (record { said = said; session = new; files = after.files; steps = after.steps })
+      → after.out ≡ grown now.out said.out.items → after.err ≡ grown now.err said.err.items
+      → Waits first front held_now new before after
+  waits front held_now said new after s o e = record {
+    out = o ∙ ap (λ p. grown p said.out.items) w.out ∙ grown_twice before.out told.out said.out.items
+        ∙ ap (grown before.out) (sym s.at.out);
+    err = e ∙ ap (λ p. grown p said.err.items) w.err ∙ grown_twice before.err told.err said.err.items
+        ∙ ap (grown before.err) (sym s.at.err);
+    files = s.at.files;
+    steps = s.at.steps;
+    session = s.at.session;
+    going = s.going;
+    part = s.part;
+  }
+
+  -- the whole run, once the talk over its input is written
+  pub whole : (talk : Talk) (said : Said) (new : Known) (after : Outside) (old : FileMap) → before.files ≡ Some old
+      → IsAt base talk (record { said = said; session = new; files = after.files; steps = after.steps })
+      → after.out ≡ grown now.out said.out.items → after.err ≡ grown now.err said.err.items
+      → IsAll (output_of talk) before after
+  whole talk said new after old h at o e = record {
+    out = o ∙ ap (λ p. grown p said.out.items) w.out ∙ grown_twice before.out told.out said.out.items
+        ∙ ap (grown before.out) (sym at.out);
+    err = e ∙ ap (λ p. grown p said.err.items) w.err ∙ grown_twice before.err told.err said.err.items
+        ∙ ap (grown before.err) (sym at.err);
+    files = at.files ∙ ap (λ f. when_told f talk.state.files) (sym h);
+    steps = at.steps;
+  }
+
+  -- a session that waits is cut behind the bytes taken
+  pub cut : (input rest : List ℕ) (after : Outside) → input ≡ taken ++ rest → after.left ≡ Some rest
+      → after.out ≡ now.out → after.err ≡ now.err → IsCutShort (session_course first input) before after
+  cut input rest after p q o e =
+      subst (λ t. IsCut (output_of (talk_over first (whole_lines t))) t before after)
+      (sym (taken_is input taken rest after.left p q))
+      (record { out = o ∙ w.out; err = e ∙ w.err; going = w.going })
+
+  pub cut_front : (input rest : List ℕ) (after : Outside) → input ≡ taken ++ rest → after.out ≡ now.out
+      → after.err ≡ now.err → IsFront (output_of (talk_on first input)) before after
+  cut_front input rest after p o e =
+      let more = talk_more first taken w.going rest in
+      subst (λ i. IsFront (output_of (talk_on first i)) before after) (sym p) (record {
+        out = front_more before.out after.out told.out (talk_on first (taken ++ rest)).out
+            (subst (λ (t : Talk). Begins told.out t.out) (sym more.1) (talk-out told more.0))
+            (front_all before.out after.out told.out (o ∙ w.out));
+        err = front_more before.err after.err told.err (talk_on first (taken ++ rest)).err
+            (subst (λ (t : Talk). Begins told.err t.err) (sym more.1) (talk-err told more.0))
+            (front_all before.err after.err told.err (e ∙ w.err));
+      })
+
+-- the opening alone is a front of the whole
+pub open_front : (first : Talk) (input : List ℕ) (said : Said) (session : Known) (before opening after : Outside)
+    → Opens first said session before opening
+    → GrowsByFront opening.out after.out said.out.items → GrowsByFront opening.err after.err said.err.items
+    → IsFront (output_of (talk_on first input)) before after
+open_front first input said session before opening after w o e = record {
+  out = front_more before.out after.out said.out.items (talk_on first input).out
+      (subst (λ t. Begins t (talk_on first input).out) w.at.out (talk-out first (heard (lines_of input))))
+      (subst (λ p. GrowsByFront p after.out said.out.items) w.out o);
+  err = front_more before.err after.err said.err.items (talk_on first input).err
+      (subst (λ t. Begins t (talk_on first input).err) w.at.err (talk-err first (heard (lines_of input))))
+      (subst (λ p. GrowsByFront p after.err said.err.items) w.err e);
+}
+
+le_from : (a b : ℕ) → nat_le a b ≡ true → a ≤ b
+le_from a b h = grind (arith, nat_tests)
+
+lt_from : (a b : ℕ) → nat_le a b ≡ false → b < a
+lt_from a b h = grind (arith, nat_tests)
+
+-- the bytes of one more block are counted
+pub took_more : (total n before old new : ℕ) → TookAtLeast total before old → new ≡ min (old + n) (2 ^ 64 - 1)
+    → TookAtLeast (total + n) before new
+took_more total n before old new (inr e) h = inr (omega (arith, e, h))
+took_more total n before old new (inl e) h = by (nat_le (old + n) (2 ^ 64 - 1)) refl
+  where
+    by : (b : Bool) → nat_le (old + n) (2 ^ 64 - 1) ≡ b → TookAtLeast (total + n) before new
+    by true q = inl (omega (arith, e, h, le_from (old + n) (2 ^ 64 - 1) q))
+    by false q = inr (omega (arith, e, h, lt_from (old + n) (2 ^ 64 - 1) q))
+
+pub took_enough : (total most before after : ℕ) → TookAtLeast total before after → most < total
+    → TookMoreThan most before after
+took_enough total most before after (inl e) h = inl (omega (arith, e, h))
+took_enough total most before after (inr e) h = inr e
+
+pub went : (input taken rest bytes more : List ℕ) → input ≡ taken ++ rest → rest ≡ bytes ++ more
+    → (taken ++ bytes) ++ more ≡ input
+went input taken rest bytes more p q = append_assoc taken bytes more ∙ ap (λ t. taken ++ t) (sym q) ∙ sym p
+
+pub ended_input : (input taken rest : List ℕ) → input ≡ taken ++ rest → rest ≡ [] → taken ≡ input
+ended_input input taken rest p q = sym (p ∙ ap (λ t. taken ++ t) q ∙ append-nil taken)
+
+module _ (first : Talk) (taken : List ℕ) (held : Option (List ℕ)) (session : Known) (before now : Outside)
+    (w : Waits first taken held session before now) where
+  -- the same of the whole input
+  pub fronts_at : (i input : List ℕ) (said : Said) (after : Outside) → i ≡ input
+      → IsBefore (base first taken held session before now w) (talk_on first i) said
+      → GrowsByFront now.out after.out said.out.items → GrowsByFront now.err after.err said.err.items
+      → IsFront (output_of (talk_on first input)) before after
+  fronts_at i input said after p b o e = subst (λ t. IsFront (output_of (talk_on first t)) before after) p
+      (fronts first taken held session before now w (talk_on first i) said after b o e)
+
+  pub whole_at : (i input : List ℕ) (said : Said) (new : Known) (after : Outside) (old : FileMap) → i ≡ input
+      → before.files ≡ Some old → IsAt (base first taken held session before now w) (talk_on first i)
+      (record { said = said; session = new; files = after.files; steps = after.steps })
+      → after.out ≡ grown now.out said.out.items → after.err ≡ grown now.err said.err.items
+      → IsAll (output_of (talk_on first input)) before after
+  whole_at i input said new after old p h at o e = subst (λ t. IsAll (output_of (talk_on first t)) before after) p
+      (whole first taken held session before now w (talk_on first i) said new after old h at o e)
+
+  -- at the end of the input
+  pub stands_end : (input : List ℕ) (said : Said) → taken ≡ input → said.out.items ≡ [] → said.err.items ≡ []
+      → Stands (base first taken held session before now w) first input held
+      (record { said = said; session = session; files = now.files; steps = now.steps })
+  stands_end input said p o e =
+      subst (λ t. Stands (base first taken held session before now w) first t held
+      (record { said = said; session = session; files = now.files; steps = now.steps })) p
+      (stands first taken held session before now w said o e)
+
+pub heard_over : (base : Base) (first : Talk) (taken input whole : List ℕ) (now : Now) (left : Option (List ℕ))
+    (rest : List ℕ) → IsOver base first taken input now → whole ≡ taken ++ rest → left ≡ Some rest
+    → IsReadToEnd whole left
+heard_over base first taken input whole now left rest o p q =
+    inr (ap (λ t. list_any is_last (whole_lines t)) (taken_is whole taken rest left p q) ∙ o.last)
+
+pub all_front : (o out : Option (List ℕ)) (xs : List ℕ) → out ≡ grown o xs → GrowsByFront o out xs
+all_front o out xs e = front_all o out xs e
+
+pub ended_before : (result : Result (Unit {0}) SessionFault) (base : Base) (first : Talk) (input : List ℕ) (now : Now)
+    → MatchResult result (λ _. IsAt base (talk_on first input) now) (λ _. IsBefore base (talk_on first input) now.said)
+    → IsBefore base (talk_on first input) now.said
+ended_before (Ok done) base first input now at = at_before base (talk_on first input) (talk_on first input) [] now at
+    refl
+ended_before (Err fault) base first input now b = b
+
+pub rose_from : (first a b c : ℕ) → first ≤ a → a ≤ b → Rose b c → Rose first c
+rose_from first a b c e h r = omega (arith, e, h, r)
+
+pub no_rest : (rest bytes more : List ℕ) → rest ≡ bytes ++ more → rest ≡ [] → more ≡ []
+no_rest rest [] more e z = sym e ∙ z
+no_rest rest (b ∷ bytes) more e z = absurd (omega (arith, ap length (sym e ∙ z)))

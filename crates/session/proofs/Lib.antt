@@ -1,0 +1,14 @@
+pub mod Cutting
+pub mod Talking
+pub mod Answering
+pub mod Joining
+pub mod Leaving
+pub mod Refusing
+pub mod Edited
+pub mod Holding
+pub mod Feeding
+pub mod Replying
+pub mod Counted
+pub mod Faulting
+pub mod Blocks
+pub mod TalkedThrough

@@ -1,0 +1,222 @@
+-- A talk over lines, part by part.
+use Rattle.std.proofs.Common.{◌≡◌, ◌++◌, ◌∷◌, ◌||◌, [], ℕ, List, Bool, true, false, cond, refl, sym, ap, subst, ◌∙◌}
+use Rattle.std.proofs.Common.{append_assoc, Some}
+use Rattle.std.specs.declared.option.Option.{Option}
+use Rattle.std.specs.List.{list_any}
+use Rattle.std.proofs.lemmas.List.{append-nil}
+use Rattle.std.proofs.lemmas.List.Folds.{list_any-append}
+use Rattle.def_entry.specs.Cuts.{lacks}
+use Rattle.session.specs.Hearing.{is_last, heard, readable}
+use Rattle.session.specs.Input.{whole_lines, unfinished, lines_of, cut_from}
+use Rattle.session.specs.Steps.{answer}
+use Rattle.session.specs.Talks.{Talk, with_answer, spoken, talk_over, talk_on}
+use Rattle.session.specs.Standing.{Base, Now, IsAt, Begins, IsBefore, Stands, IsOver}
+use Rattle.session.specs.declared.said.Said.{Said}
+use Rattle.session.proofs.Cutting.{whole_piece, open_piece, whole_line, open_line, lines_line, lines_split}
+use Rattle.session.proofs.Cutting.{nothing_open, line_open, whole_split}
+
+-- lines that end no session are heard, and what is behind them
+pub heard-going : (xs ys : List (List ℕ)) → list_any is_last xs ≡ false → heard (xs ++ ys) ≡ xs ++ heard ys
+heard-going [] ys e = refl
+heard-going (x ∷ xs) ys e = by (heard-going xs ys) (is_last x) e
+  where
+    by : (list_any is_last xs ≡ false → heard (xs ++ ys) ≡ xs ++ heard ys) → (d : Bool)
+        → (d || list_any is_last xs) ≡ false → x ∷ cond d [] (heard (xs ++ ys)) ≡ x ∷ (xs ++ heard ys)
+    by ih true g = cc
+    by ih false g = ap (λ t. x ∷ t) (ih g)
+
+talk-append : (talk : Talk) (xs ys : List (List ℕ)) → talk_over talk (xs ++ ys) ≡ talk_over (talk_over talk xs) ys
+talk-append talk [] ys = refl
+talk-append talk (x ∷ xs) ys = talk-append (with_answer talk (answer talk.state x) x) xs ys
+
+-- what was said stays said
+pub begins-more : (xs ys zs : List ℕ) → Begins xs ys → Begins ys zs → Begins xs zs
+begins-more xs ys zs p q = (p.0 ++ q.0, q.1 ∙ ap (λ t. t ++ q.0) p.1 ∙ append_assoc xs p.0 q.0)
+
+pub begins-all : (xs ys : List ℕ) → ys ≡ xs → Begins xs ys
+begins-all xs ys e = ([], e ∙ sym (append-nil xs))
+
+pub talk-out : (talk : Talk) (lines : List (List ℕ)) → Begins talk.out (talk_over talk lines).out
+talk-out talk [] = begins-all talk.out talk.out refl
+talk-out talk (line ∷ lines) =
+    let next = with_answer talk (answer talk.state line) line in
+    begins-more talk.out next.out (talk_over next lines).out (spoken (answer talk.state line) line, refl)
+    (talk-out next lines)
+
+pub talk-err : (talk : Talk) (lines : List (List ℕ)) → Begins talk.err (talk_over talk lines).err
+talk-err talk [] = begins-all talk.err talk.err refl
+talk-err talk (line ∷ lines) =
+    let next = with_answer talk (answer talk.state line) line in
+    begins-more talk.err next.err (talk_over next lines).err ((answer talk.state line).err, refl) (talk-err next lines)
+
+-- the talk with one more answer
+abbrev pub next : Talk → List ℕ → Talk
+next talk line = with_answer talk (answer talk.state line) line
+
+module _ (first : Talk) (taken : List ℕ) (going : list_any is_last (whole_lines taken) ≡ false) where
+  abbrev talked : Talk
+  talked = talk_over first (whole_lines taken)
+
+  -- a talk that goes on is the begin of the talk over more
+  pub talk_more : (more : List ℕ) → (lines : List (List ℕ)) × (talk_on first (taken ++ more) ≡ talk_over talked lines)
+  talk_more more =
+      let parts = lines_split taken more in (
+        heard parts.0,
+        ap (λ ls. talk_over first (heard ls)) parts.1
+            ∙ ap (talk_over first) (heard-going (whole_lines taken) parts.0 going)
+            ∙ talk-append first (whole_lines taken) (heard parts.0),
+      )
+
+  -- the last line, which no line feed ends
+  pub talk_end : (unfinished taken ≡ [] → ⊥) → talk_on first taken ≡ next talked (unfinished taken)
+  talk_end h =
+      ap (λ ls. talk_over first (heard ls)) (line_open taken h)
+      ∙ ap (talk_over first) (heard-going (whole_lines taken) (unfinished taken ∷ []) going)
+      ∙ talk-append first (whole_lines taken) (heard (unfinished taken ∷ []))
+      ∙ ap (talk_over (next talked (unfinished taken))) (same_cond (is_last (unfinished taken)))
+    where
+      same_cond : (d : Bool) → cond {A = List (List ℕ)} d [] [] ≡ []
+      same_cond true = refl
+      same_cond false = refl
+
+  -- no line is open at the end
+  pub talk_ended : unfinished taken ≡ [] → talk_on first taken ≡ talked
+  talk_ended h =
+      ap (λ ls. talk_over first (heard ls)) (nothing_open taken h ∙ sym (append-nil (whole_lines taken)))
+      ∙ ap (talk_over first) (heard-going (whole_lines taken) [] going ∙ append-nil (whole_lines taken))
+
+  module _ (piece : List ℕ) (clear : lacks 10 piece ≡ true) where
+    abbrev line : List ℕ
+    line = unfinished taken ++ piece
+
+    -- what follows once a line feed has come
+    pub talk_feed : (more : List ℕ)
+        → talk_on first (taken ++ (piece ++ 10 ∷ more))
+        ≡ talk_over (next talked line) (cond (is_last line) [] (heard (lines_of more)))
+    talk_feed more =
+        ap (λ ls. talk_over first (heard ls)) (lines_line taken piece clear more)
+        ∙ ap (talk_over first) (heard-going (whole_lines taken) (line ∷ lines_of more) going)
+        ∙ talk-append first (whole_lines taken) (heard (line ∷ lines_of more))
+
+    pub over_feed : talk_over first (whole_lines (taken ++ (piece ++ 10 ∷ []))) ≡ next talked line
+    over_feed = ap (talk_over first) (whole_line taken piece clear) ∙ talk-append first (whole_lines taken) (line ∷ [])
+
+    pub last_feed : list_any is_last (whole_lines (taken ++ (piece ++ 10 ∷ []))) ≡ is_last line
+    last_feed =
+        ap (list_any is_last) (whole_line taken piece clear)
+        ∙ list_any-append is_last (whole_lines taken) (line ∷ [])
+        ∙ ap (λ d. d || (is_last line || false)) going ∙ or_false (is_last line)
+      where
+        or_false : (d : Bool) → (d || false) ≡ d
+        or_false true = refl
+        or_false false = refl
+
+-- what is said at a point of a talk is before all that follows
+pub at_before : (base : Base) (talk more : Talk) (lines : List (List ℕ)) (now : Now) → IsAt base talk now
+    → more ≡ talk_over talk lines → IsBefore base more now.said
+at_before base talk more lines now at e = record {
+  out = begins-more _ talk.out more.out (begins-all _ talk.out at.out)
+      (subst (λ (t : Talk). Begins talk.out t.out) (sym e) (talk-out talk lines));
+  err = begins-more _ talk.err more.err (begins-all _ talk.err at.err)
+      (subst (λ (t : Talk). Begins talk.err t.err) (sym e) (talk-err talk lines));
+}
+
+-- what is before a point of a talk is before all that follows
+before_more : (base : Base) (talk more : Talk) (lines : List (List ℕ)) (said : Said) → IsBefore base talk said
+    → more ≡ talk_over talk lines → IsBefore base more said
+before_more base talk more lines said b e = record {
+  out = begins-more _ talk.out more.out b.out
+      (subst (λ (t : Talk). Begins talk.out t.out) (sym e) (talk-out talk lines));
+  err = begins-more _ talk.err more.err b.err
+      (subst (λ (t : Talk). Begins talk.err t.err) (sym e) (talk-err talk lines));
+}
+
+module _ (base : Base) (first : Talk) (taken : List ℕ) (held : Option (List ℕ)) (now : Now)
+    (s : Stands base first taken held now) where
+  -- nothing that comes can take back what is said
+  pub stands_before : (more : List ℕ) → IsBefore base (talk_on first (taken ++ more)) now.said
+  stands_before more =
+      let rest = talk_more first taken s.going more in
+      at_before base (talk_over first (whole_lines taken)) (talk_on first (taken ++ more)) rest.0 now s.at rest.1
+
+  -- a piece that goes on with the line
+  pub fed_piece : (piece : List ℕ) (held_now : Option (List ℕ)) → lacks 10 piece ≡ true
+      → held_now ≡ readable (unfinished taken ++ piece) → Stands base first (taken ++ piece) held_now now
+  fed_piece piece held_now clear h = record {
+    at = subst (λ ls. IsAt base (talk_over first ls) now) (sym (whole_piece taken piece clear)) s.at;
+    going = ap (list_any is_last) (whole_piece taken piece clear) ∙ s.going;
+    part = h ∙ ap readable (sym (open_piece taken piece clear));
+  }
+
+  module _ (piece : List ℕ) (clear : lacks 10 piece ≡ true) where
+    abbrev answered : Talk
+    answered = next (talk_over first (whole_lines taken)) (unfinished taken ++ piece)
+
+    -- a line that is answered, and is not the last
+    pub fed_line : (held_now : Option (List ℕ)) (after : Now) → false ≡ is_last (unfinished taken ++ piece)
+        → held_now ≡ Some [] → IsAt base answered after → Stands base first (taken ++ (piece ++ 10 ∷ [])) held_now after
+    unfolding readable
+    fed_line held_now after d h a = record {
+      at = subst (λ t. IsAt base t after) (sym (over_feed first taken s.going piece clear)) a;
+      going = last_feed first taken s.going piece clear ∙ sym d;
+      part = h ∙ ap readable (sym (open_line taken piece clear));
+    }
+
+    -- the last line, whatever stands behind it
+    pub fed_last : (behind more : List ℕ) (after : Now) → true ≡ is_last (unfinished taken ++ piece)
+        → IsAt base answered after
+        → IsOver base first (taken ++ (piece ++ 10 ∷ behind)) ((taken ++ (piece ++ 10 ∷ behind)) ++ more) after
+    fed_last behind more after d a = record {
+      at = subst (λ t. IsAt base t after) (sym (whole ∙ alone)) a;
+      last =
+          ap (λ t. list_any is_last (whole_lines t)) (sym (joined behind))
+          ∙ ap (list_any is_last) (whole_split front behind)
+          ∙ list_any-append is_last (whole_lines front) (cut_from (unfinished front) behind).whole
+          ∙ ap (λ d. d || list_any is_last (cut_from (unfinished front) behind).whole)
+          (last_feed first taken s.going piece clear ∙ sym d);
+    }
+      where
+        front : List ℕ
+        front = taken ++ (piece ++ 10 ∷ [])
+
+        joined : (rest : List ℕ) → (taken ++ (piece ++ 10 ∷ [])) ++ rest ≡ taken ++ (piece ++ 10 ∷ rest)
+        joined rest =
+            append_assoc taken (piece ++ 10 ∷ []) rest ∙ ap (λ t. taken ++ t) (append_assoc piece (10 ∷ []) rest)
+
+        regroup : (taken ++ (piece ++ 10 ∷ behind)) ++ more ≡ taken ++ (piece ++ 10 ∷ (behind ++ more))
+        regroup =
+            append_assoc taken (piece ++ 10 ∷ behind) more
+            ∙ ap (λ t. taken ++ t) (append_assoc piece (10 ∷ behind) more)
+
+        whole : talk_on first ((taken ++ (piece ++ 10 ∷ behind)) ++ more)
+            ≡ talk_over answered (cond (is_last (unfinished taken ++ piece)) [] (heard (lines_of (behind ++ more))))
+        whole = ap (talk_on first) regroup ∙ talk_feed first taken s.going piece clear (behind ++ more)
+
+        alone : talk_over answered (cond (is_last (unfinished taken ++ piece)) [] (heard (lines_of (behind ++ more))))
+            ≡ answered
+        alone = ap (λ c. talk_over answered (cond c [] (heard (lines_of (behind ++ more))))) (sym d)
+
+    -- a line that is not answered whole
+    pub failed_line : (behind more : List ℕ) (said : Said) → IsBefore base answered said
+        → IsBefore base (talk_on first ((taken ++ (piece ++ 10 ∷ behind)) ++ more)) said
+    failed_line behind more said f =
+        before_more base answered (talk_on first ((taken ++ (piece ++ 10 ∷ behind)) ++ more))
+        (cond (is_last (unfinished taken ++ piece)) [] (heard (lines_of (behind ++ more)))) said f
+        (ap (talk_on first)
+        (append_assoc taken (piece ++ 10 ∷ behind) more
+        ∙ ap (λ t. taken ++ t) (append_assoc piece (10 ∷ behind) more))
+        ∙ talk_feed first taken s.going piece clear (behind ++ more))
+
+  -- the end of the input, with no line open or with one
+  pub end_open : unfinished taken ≡ [] → IsAt base (talk_on first taken) now
+  end_open e = subst (λ t. IsAt base t now) (sym (talk_ended first taken s.going e)) s.at
+
+  pub end_line : (after : Now) → (unfinished taken ≡ [] → ⊥)
+      → IsAt base (next (talk_over first (whole_lines taken)) (unfinished taken)) after
+      → IsAt base (talk_on first taken) after
+  end_line after h a = subst (λ t. IsAt base t after) (sym (talk_end first taken s.going h)) a
+
+  pub end_failed : (said : Said) → (unfinished taken ≡ [] → ⊥)
+      → IsBefore base (next (talk_over first (whole_lines taken)) (unfinished taken)) said
+      → IsBefore base (talk_on first taken) said
+  end_failed said h a = subst (λ t. IsBefore base t said) (sym (talk_end first taken s.going h)) a

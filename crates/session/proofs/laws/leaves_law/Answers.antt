@@ -1,0 +1,5 @@
+use Rattle.session.proofs.Leaving.{leaves}
+use Rattle.session.proofs.laws.leaves_law.Goals as goal
+
+pub returns : goal.returns
+returns c = leaves

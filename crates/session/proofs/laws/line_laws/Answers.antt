@@ -1,0 +1,18 @@
+use Rattle.std.proofs.Common.{◌∷◌, [], cond, ap, refl}
+use Rattle.session.specs.Commands.{text_of, command_in}
+use Rattle.session.specs.Hearing.{heard, readable}
+use Rattle.session.proofs.Joining.{joined_from}
+use Rattle.session.proofs.Talking.{heard-going}
+use Rattle.session.proofs.laws.line_laws.Goals as goal
+
+pub returns : goal.returns
+unfolding readable text_of command_in
+returns c = record {
+  joined = joined_from [];
+  on = heard-going;
+  over = λ line lines e. ap (λ d. line ∷ cond d [] (heard lines)) e;
+  rest_is_line = refl;
+  no_empty_rest = refl;
+  quit_with_comment = refl;
+  quit_in_text = refl;
+}

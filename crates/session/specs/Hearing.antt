@@ -1,0 +1,24 @@
+-- The lines that a session hears.
+use Rattle.std.specs.Prelude.{◌∷◌, [], ℕ, List, Bool, false, nat_le, length, if◌then◌else◌, Option, Some, None}
+use Rattle.session.specs.Commands.{command_of, is_quit}
+
+-- the longest line that is read
+abbrev pub longest_line : ℕ
+longest_line = 65536
+
+-- a line, unless it is too long to be read
+unfoldable pub readable : List ℕ → Option (List ℕ)
+readable line = if nat_le (length line) longest_line then Some line else None
+
+abbrev pub is_last_read : Option (List ℕ) → Bool
+is_last_read None = false
+is_last_read (Some line) = is_quit (command_of line)
+
+-- a line that ends the session
+abbrev pub is_last : List ℕ → Bool
+is_last line = is_last_read (readable line)
+
+-- the lines up to the first that ends the session, and with it
+abbrev pub heard : List (List ℕ) → List (List ℕ)
+heard [] = []
+heard (line ∷ lines) = line ∷ (if is_last line then [] else heard lines)

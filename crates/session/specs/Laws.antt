@@ -1,0 +1,24 @@
+-- Laws of the lines that a session hears.
+use Rattle.std.specs.Prelude.{◌≡◌, ◌++◌, ◌∷◌, [], ℕ, List, true, false, codes}
+use Rattle.std.specs.List.{list_any}
+use Rattle.session.specs.Hearing.{is_last, heard}
+use Rattle.session.specs.Input.{whole_lines, unfinished, lines_of}
+
+-- the bytes of lines, each with its line feed
+abbrev pub fed : List (List ℕ) → List ℕ
+fed [] = []
+fed (line ∷ lines) = line ++ 10 ∷ fed lines
+
+pub record LineLaws : Type 0 where
+  -- no byte of an input is lost
+  pub joined : (bytes : List ℕ) → fed (whole_lines bytes) ++ unfinished bytes ≡ bytes
+  -- a session goes on behind lines of which none is the last
+  pub on : (before lines : List (List ℕ)) → list_any is_last before ≡ false →
+      heard (before ++ lines) ≡ before ++ heard lines
+  -- and hears nothing behind the last
+  pub over : (line : List ℕ) (lines : List (List ℕ)) → is_last line ≡ true → heard (line ∷ lines) ≡ line ∷ []
+  -- some lines
+  pub rest_is_line : lines_of (codes "a\nb") ≡ codes "a" ∷ codes "b" ∷ []
+  pub no_empty_rest : lines_of (codes "a\n\n") ≡ codes "a" ∷ [] ∷ []
+  pub quit_with_comment : is_last (codes " quit # done\r") ≡ true
+  pub quit_in_text : is_last (codes "quit now") ≡ false

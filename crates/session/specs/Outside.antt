@@ -1,0 +1,38 @@
+-- What is found outside of the program, and what is left there.
+use Rattle.std.specs.Prelude.{◌≡◌, ◌⊎◌, ◌+◌, ◌-◌, ◌^◌, ◌<◌, [], ℕ, List, true, length, take, Some, None}
+use Rattle.std.specs.declared.option.Option.{Option}
+use Rattle.std.specs.List.{list_any}
+use Rattle.units_io.specs.FileMap.{FileMap}
+use Rattle.units_io.specs.Faults.{Rose}
+use Rattle.session.specs.Hearing.{is_last}
+use Rattle.session.specs.Input.{whole_lines}
+
+-- what source, sinks and files tell, the count of failed fetches, and the count of steps
+pub record Outside : Type 0 where
+  pub left : Option (List ℕ)
+  pub out : Option (List ℕ)
+  pub err : Option (List ℕ)
+  pub files : Option FileMap
+  pub fetch_faults : ℕ
+  pub steps : ℕ
+
+abbrev pub outside_of : (left out err : Option (List ℕ)) → Option FileMap → (fetch_faults steps : ℕ) → Outside
+outside_of left out err files fetch_faults steps =
+    record { left = left; out = out; err = err; files = files; fetch_faults = fetch_faults; steps = steps }
+
+-- the bytes of an input that were taken, by what is left of it
+abbrev pub taken_of : (input : List ℕ) → (left : Option (List ℕ)) → List ℕ
+taken_of input None = []
+taken_of input (Some left) = take (length input - length left) input
+
+-- an input was taken to its end, or to a line that ends the session
+abbrev pub IsReadToEnd : (input : List ℕ) → (left : Option (List ℕ)) → Type 0
+IsReadToEnd input left = (left ≡ Some []) ⊎ (list_any is_last (whole_lines (taken_of input left)) ≡ true)
+
+-- more than so many bytes were taken between two counts, which stay at the end of their type
+abbrev pub TookMoreThan : (most before after : ℕ) → Type 0
+TookMoreThan most before after = (before + most < after) ⊎ (after ≡ 2 ^ 64 - 1)
+
+-- a count that has not risen
+abbrev pub Rests : (before now : ℕ) → Type 0
+Rests before now = Rose before now → ⊥

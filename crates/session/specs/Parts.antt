@@ -1,0 +1,55 @@
+-- What private functions say of the answer to a line.
+use Rattle.std.specs.Prelude.{◌++◌, ◌≡◌, ◌+◌, [], ℕ, List, Bool, Result, Ok, Err, ⊤, if◌then◌else◌}
+use Rattle.deck.specs.Decks.{Contents}
+use Rattle.deck.specs.declared.fault.DeckFault.{DeckFault}
+use Rattle.live_table.specs.Shown.{Shown}
+use Rattle.live_table.specs.States.{Event}
+use Rattle.session.specs.declared.answer.LineReply.{LineReply}
+use Rattle.session.specs.Answers.{Answer}
+use Rattle.session.specs.Editing.{refusal_line, table_after}
+use Rattle.session.specs.Queries.{asked_table, newly}
+use Rattle.session.specs.Sessions.{Known, prompt}
+
+-- what was asked is answered so, and leaves the table and the count of steps that its queries leave
+pub record Replies {A : Type 0} (events : List Event) (answer reply : A) (old new : Shown) (steps_old steps_new : ℕ)
+    : Type 0 where
+  pub said : reply ≡ answer
+  pub table : new ≡ asked_table events old
+  pub steps : steps_new ≡ steps_old + newly events old
+
+abbrev pub IsReplied : {A E : Type 0} → List Event → A → Result A E → (old new : Shown) → (steps_old steps_new : ℕ)
+    → Type 0
+IsReplied events answer (Ok reply) old new steps_old steps_new =
+    Replies events answer reply old new steps_old steps_new
+IsReplied events answer (Err _) old new steps_old steps_new = ⊤
+
+-- an edit of this outcome is made, or this line refuses it
+pub record Edits (outcome : Result Contents DeckFault) (named text : List ℕ) (old new : Shown) : Type 0 where
+  pub line : text ≡ refusal_line outcome named
+  pub table : new ≡ table_after outcome old
+
+abbrev pub IsEdited : {E : Type 0} → Result Contents DeckFault → (named : List ℕ) → Result (List ℕ) E
+    → (old new : Shown) → Type 0
+IsEdited outcome named (Ok line) old new = Edits outcome named line old new
+IsEdited outcome named (Err _) old new = ⊤
+
+-- these bytes on the sinks, and whether the session ends
+pub record IsLine (reply : LineReply) (text notices : List ℕ) (last : Bool) : Type 0 where
+  pub out : reply.out ≡ text
+  pub err : reply.err ≡ notices
+  pub done : reply.done ≡ last
+
+-- an answer that leaves the files
+pub record Said (answer : Answer) (reply : LineReply) (new : Known) (steps_old steps_new : ℕ) : Type 0 where
+  pub out : reply.out ≡ answer.out
+  pub err : reply.err ≡ answer.err
+  pub session : new ≡ answer.after.session
+  pub steps : steps_new ≡ steps_old + answer.newly
+
+abbrev pub IsSaid : {E : Type 0} → Answer → Result LineReply E → (new : Known) → (steps_old steps_new : ℕ) → Type 0
+IsSaid answer (Ok reply) session steps_old steps_new = Said answer reply session steps_old steps_new
+IsSaid answer (Err _) session steps_old steps_new = ⊤
+
+-- what a line says on `out`: its answer, and the prompt for the next line unless it was the last
+abbrev pub line_said : LineReply → Known → List ℕ
+line_said reply session = reply.out ++ (if reply.done then [] else prompt session)

@@ -1,0 +1,62 @@
+-- Where a session stands while its input comes.
+use Rattle.std.specs.Prelude.{◌≡◌, ◌+◌, ◌++◌, ℕ, List, Bool, true, false, Result, Ok, Err, Some}
+use Rattle.std.specs.declared.option.Option.{Option}
+use Rattle.std.specs.List.{list_any}
+use Rattle.units_io.specs.FileMap.{FileMap}
+use Rattle.session.specs.Hearing.{is_last, readable}
+use Rattle.session.specs.Input.{whole_lines, unfinished}
+use Rattle.session.specs.Sessions.{Known}
+use Rattle.session.specs.Talks.{Talk, talk_over, talk_on}
+use Rattle.session.specs.declared.fault.SessionFault.{SessionFault}
+use Rattle.session.specs.declared.said.Said.{Said}
+
+-- what was written before, and the count of steps at the start
+pub record Base : Type 0 where
+  pub out : List ℕ
+  pub err : List ℕ
+  pub steps : ℕ
+
+-- what the program has: the bytes that are said and not yet written, the session, the files, and the count of steps
+pub record Now : Type 0 where
+  pub said : Said
+  pub session : Known
+  pub files : Option FileMap
+  pub steps : ℕ
+
+abbrev pub now_of : Said → Known → (files : Option FileMap) → (steps : ℕ) → Now
+now_of said session files steps = record { said = said; session = session; files = files; steps = steps }
+
+-- the program stands at this point of the talk
+pub record IsAt (base : Base) (talk : Talk) (now : Now) : Type 0 where
+  pub out : talk.out ≡ base.out ++ now.said.out.items
+  pub err : talk.err ≡ base.err ++ now.said.err.items
+  pub session : now.session ≡ talk.state.session
+  pub files : now.files ≡ Some talk.state.files
+  pub steps : now.steps ≡ base.steps + talk.steps
+
+-- some bytes are the front of others
+abbrev pub Begins : List ℕ → List ℕ → Type 0
+Begins xs ys = (rest : List ℕ) × (ys ≡ xs ++ rest)
+
+-- what is said is a front of a talk
+pub record IsBefore (base : Base) (talk : Talk) (said : Said) : Type 0 where
+  pub out : Begins (base.out ++ said.out.items) talk.out
+  pub err : Begins (base.err ++ said.err.items) talk.err
+
+-- the whole lines of the bytes taken are answered, none of them is the last, and the rest is held
+pub record Stands (base : Base) (first : Talk) (taken : List ℕ) (held : Option (List ℕ)) (now : Now) : Type 0 where
+  pub at : IsAt base (talk_over first (whole_lines taken)) now
+  pub going : list_any is_last (whole_lines taken) ≡ false
+  pub part : held ≡ readable (unfinished taken)
+
+-- the talk over the whole input is answered
+pub record IsOver (base : Base) (first : Talk) (taken input : List ℕ) (now : Now) : Type 0 where
+  pub at : IsAt base (talk_on first input) now
+  pub last : list_any is_last (whole_lines taken) ≡ true
+
+-- bytes were taken up: the session goes on, or one of them ended it, or there was a fault
+abbrev pub Fed : Result Bool SessionFault → Base → Talk → (taken more : List ℕ) → (held : Option (List ℕ)) → Now
+    → Type 0
+Fed (Ok false) base first taken more held now = Stands base first taken held now
+Fed (Ok true) base first taken more held now = IsOver base first taken (taken ++ more) now
+Fed (Err fault) base first taken more held now = IsBefore base (talk_on first (taken ++ more)) now.said

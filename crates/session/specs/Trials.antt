@@ -1,0 +1,52 @@
+-- A trial: a session over made-up definitions and made-up lines.
+use Rattle.std.specs.Prelude.{◌++◌, ◌+◌, [], ℕ, List, None, true, length, codes}
+use Rattle.std.specs.FinMap as map_of
+use Rattle.std.specs.Prelude.{Result, Ok, Err}
+use Rattle.units_io.specs.FileMap.{no_files}
+use Rattle.deck.specs.Decks.{Contents}
+use Rattle.deck.specs.Loading.{after_text}
+use Rattle.deck.specs.declared.fault.DeckFault.{DeckFault}
+use Rattle.deck.specs.declared.settings.Settings.{Settings}
+use Rattle.live_table.specs.Shown.{Shown}
+use Rattle.reply.specs.declared.options.Options.{Options}
+use Rattle.session.specs.Counting.{counted, statistics}
+use Rattle.session.specs.Sessions.{Known, known, state_of}
+use Rattle.session.specs.Talks.{Talk, talk_on}
+use Rattle.session.specs.TrialLines.{definitions, rounds}
+
+-- a session that sees no file and has said nothing
+abbrev pub silent : Known → Talk
+silent session = record { out = []; err = []; steps = 0; state = state_of session no_files }
+
+-- a quiet session over a deck of which no name is settled
+abbrev pub quiet_session : Options → Contents → Known
+quiet_session options deck =
+    known (record options { quiet = true }) (record { deck = deck; kept = map_of.empty; reductions = 0 }) None
+
+-- what is told of a trial, and how many names it settled
+pub record Trial : Type 0 where
+  pub text : List ℕ
+  pub steps : ℕ
+
+-- what is told of rounds whose replies have so many bytes, and which left this table
+abbrev pub summary : (n bytes : ℕ) → Shown → List ℕ
+summary n bytes table =
+    (((codes "definitions " ++ counted (n + 1) (codes ", edits ")) ++ counted n (codes ", reply bytes "))
+    ++ counted bytes (codes ", ")) ++ statistics table
+
+abbrev pub trial_over : Options → ℕ → Contents → Trial
+trial_over options n deck =
+    let talk = talk_on (silent (quiet_session options deck)) (rounds n n) in
+    record { text = summary n (length talk.out) talk.state.session.table; steps = talk.steps }
+
+-- the definitions of a trial
+abbrev pub trial_deck : Settings → ℕ → Result Contents DeckFault
+trial_deck settings n = after_text (definitions n) (codes "trial") settings
+
+-- a trial of n rounds, or why there is no room for its definitions
+abbrev pub trial_on : Result Contents DeckFault → Options → ℕ → Result Trial DeckFault
+trial_on (Ok deck) options n = Ok (trial_over options n deck)
+trial_on (Err fault) options n = Err fault
+
+unfoldable pub trial : Options → Settings → ℕ → Result Trial DeckFault
+trial options settings n = trial_on (trial_deck settings n) options n

@@ -1,0 +1,40 @@
+-- Where a session stands between two blocks of its input.
+use Rattle.std.specs.Prelude.{◌≡◌, ◌+◌, ◌-◌, ◌^◌, ◌≤◌, ◌⊎◌, [], ℕ, List, false, Some}
+use Rattle.std.specs.declared.option.Option.{Option}
+use Rattle.std.specs.List.{list_any}
+use Rattle.units_io.specs.Bytes.{grown}
+use Rattle.session.specs.Hearing.{is_last, readable}
+use Rattle.session.specs.Input.{whole_lines, unfinished}
+use Rattle.session.specs.Outside.{Outside}
+use Rattle.session.specs.Sessions.{Known}
+use Rattle.session.specs.Standing.{Base, IsAt}
+use Rattle.session.specs.Talks.{Talk, talk_over}
+use Rattle.session.specs.declared.said.Said.{Said}
+
+-- nothing was written before a session
+abbrev pub at_first : (steps : ℕ) → Base
+at_first steps = record { out = []; err = []; steps = steps }
+
+-- a session is opened behind some planning, which wrote nothing; what it says first is not written yet
+pub record Opens (first : Talk) (said : Said) (session : Known) (before now : Outside) : Type 0 where
+  pub out : now.out ≡ before.out
+  pub err : now.err ≡ before.err
+  pub files : now.files ≡ before.files
+  pub faults : before.fetch_faults ≤ now.fetch_faults
+  pub at : IsAt (at_first before.steps) first
+      (record { said = said; session = session; files = now.files; steps = now.steps })
+
+-- the whole lines of the bytes taken are answered and written, none of them is the last, and the rest is held
+pub record Waits (first : Talk) (taken : List ℕ) (held : Option (List ℕ)) (new : Known) (before now : Outside)
+    : Type 0 where
+  pub out : now.out ≡ grown before.out (talk_over first (whole_lines taken)).out
+  pub err : now.err ≡ grown before.err (talk_over first (whole_lines taken)).err
+  pub files : now.files ≡ Some (talk_over first (whole_lines taken)).state.files
+  pub steps : now.steps ≡ before.steps + (talk_over first (whole_lines taken)).steps
+  pub session : new ≡ (talk_over first (whole_lines taken)).state.session
+  pub going : list_any is_last (whole_lines taken) ≡ false
+  pub part : held ≡ readable (unfinished taken)
+
+-- so many bytes were taken between two counts, which stay at the end of their type
+abbrev pub TookAtLeast : (total before after : ℕ) → Type 0
+TookAtLeast total before after = (before + total ≤ after) ⊎ (after ≡ 2 ^ 64 - 1)

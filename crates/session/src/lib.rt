@@ -1,0 +1,29 @@
+//! A session: its commands, the answers to its lines, and the lines of its input.
+#![tactic(auto)]
+
+mod answer;
+mod asking;
+mod command;
+mod counting;
+mod editing;
+mod fault;
+mod held;
+mod laws;
+mod lines;
+mod over_source;
+mod said;
+mod session;
+mod talk;
+mod trial;
+mod trial_lines;
+
+pub use answer::LineReply;
+pub use command::{Command, line_text, read_command};
+pub use fault::SessionFault;
+pub use held::{Held, LONGEST_LINE};
+pub use laws::{leaves_law, line_laws};
+pub use over_source::{SessionEnd, run_session};
+pub use said::Said;
+pub use session::Session;
+pub use talk::{feed, feed_end};
+pub use trial::run_trial;

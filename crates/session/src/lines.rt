@@ -1,0 +1,52 @@
+//! Lines of answers.
+
+ghost use Rattle.std.specs.Prelude.{◌≡◌, ◌++◌, [], IfOk, OnOk};
+ghost use Rattle.session.specs.Lines as spec;
+
+use std::alloc::{AllocError, Global};
+use units_io::Text;
+
+/// A text of no byte, which takes no memory.
+pub(crate) fn no_text(alloc: Global) -> Text
+    ensures { result ≡ [] }
+{
+    Text::from(Vec::new(alloc))
+}
+
+/// A text with its line feed, with no copy.
+pub(crate) fn line_of(text: Text) -> Result<Text, AllocError>
+    ensures { IfOk result (λ line. line ≡ spec.line_of text) }
+{
+    let mut line = text.into_bytes();
+    line.push(b'\n')?;
+    Ok(Text::from(line))
+}
+
+/// Some words and a word behind them, on a line.
+pub(crate) fn word_line(alloc: Global, words: &[u8], word: &[u8]) -> Result<Text, AllocError>
+    ensures { IfOk result (λ line. line ≡ spec.word_line words.now word.now) }
+{
+    let mut line = Vec::from_slice(alloc, words)?;
+    line.extend_from_slice(word)?;
+    line.push(b'\n')?;
+    Ok(Text::from(line))
+}
+
+/// Puts texts, each with its line feed.
+pub(crate) fn put_lines(lines: &mut Vec<u8>, texts: &[Text]) -> Result<(), AllocError>
+    ensures { OnOk result (lines.new.items ≡ lines.old.items ++ spec.lines_of_texts texts.now) }
+{
+    for text in texts {
+        put_line(lines, text.as_bytes())?;
+    }
+    Ok(())
+}
+
+// Puts a text with its line feed.
+fn put_line(lines: &mut Vec<u8>, text: &[u8]) -> Result<(), AllocError>
+    ensures { OnOk result (lines.new.items ≡ lines.old.items ++ spec.line_of text.now) }
+{
+    lines.extend_from_slice(text)?;
+    lines.push(b'\n')?;
+    Ok(())
+}

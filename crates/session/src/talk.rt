@@ -1,0 +1,195 @@
+//! A session that answers the bytes of an input, block by block.
+
+ghost use Rattle.std.specs.Prelude.{◌≡◌, ◌++◌, ◌∷◌, ◌≤◌, List, ℕ, Some, [], length, IfOk, IfSome, IsErrOf, MatchResult};
+ghost use Rattle.std.specs.Prelude.{codes, false};
+ghost use Rattle.std.specs.Option.{option_copied};
+ghost use Rattle.units_io.specs.FileMap.{FileMap};
+ghost use Rattle.units_io.specs.Faults.{Rose};
+ghost use Rattle.session.specs.Answering.{IsAnswered, faults_after, scene_of};
+ghost use Rattle.session.specs.Hearing.{is_last, is_last_read, longest_line, readable};
+ghost use Rattle.session.specs.Parts.{IsLine};
+ghost use Rattle.session.specs.Sessions.{state_of};
+ghost use Rattle.session.specs.Standing.{Base, IsAt, IsBefore, Stands, Fed, now_of};
+ghost use Rattle.session.specs.Steps as spec;
+ghost use Rattle.session.specs.Talks.{Talk, with_answer, talk_on};
+
+use crate::answer::LineReply;
+use crate::fault::SessionFault;
+use crate::held::{Held, LONGEST_LINE};
+use crate::lines::no_text;
+use crate::said::Said;
+use crate::session::Session;
+use def_entry::cut_at;
+use std::alloc::{AllocError, Global};
+use std::sync::ledger::Ledger;
+use units_io::{Files, Steps, Text};
+
+/// Takes up the bytes of a block, and tells whether a line of it ends the session. Lines that stand whole in the block
+/// are answered where they stand.
+pub fn feed<F: Files, L: Ledger>(
+    alloc: Global,
+    session: &mut Session,
+    held: &mut Held,
+    said: &mut Said,
+    files: &mut F,
+    steps: &mut Steps<L>,
+    block: &[u8],
+) -> Result<bool, SessionFault>
+    ensures told { (base : Base) (first : Talk) (taken more : List ℕ) → Stands base first taken held.old
+        (now_of said.old session.old (F.files files.old) steps.old) →
+        Fed result base first (taken ++ block.now) more held.new
+        (now_of said.new session.new (F.files files.new) steps.new) }
+    ensures counted { F.faults files.new ≡ faults_after (F.faults files.old) result }
+    ensures cause { IsErrOf result SessionFault.ReadFailed → Rose (F.faults files.old) (F.faults files.new) }
+{
+    let mut rest = block;
+    while let Some((piece, behind)) = cut_at(rest, b'\n') {
+        match end_line(alloc, session, held, said, files, steps, piece) {
+            Ok(false) => rest = behind,
+            Ok(true) => return Ok(true),
+            Err(fault) => return Err(fault),
+        }
+    }
+    match held.add(rest) {
+        Ok(()) => Ok(false),
+        Err(_) => Err(SessionFault::OutOfMemory),
+    }
+}
+
+/// Takes up the end of the input, which ends a line that is held.
+pub fn feed_end<F: Files, L: Ledger>(
+    alloc: Global,
+    session: &mut Session,
+    held: &Held,
+    said: &mut Said,
+    files: &mut F,
+    steps: &mut Steps<L>,
+) -> Result<(), SessionFault>
+    ensures told { (base : Base) (first : Talk) (input : List ℕ) → Stands base first input held.now
+        (now_of said.old session.old (F.files files.old) steps.old) →
+        MatchResult result
+        (λ _. IsAt base (talk_on first input)
+        (now_of said.new session.new (F.files files.new) steps.new))
+        (λ _. IsBefore base (talk_on first input) said.new) }
+    ensures counted { F.faults files.new ≡ faults_after (F.faults files.old) result }
+    ensures cause { IsErrOf result SessionFault.ReadFailed → Rose (F.faults files.old) (F.faults files.new) }
+{
+    if held.is_empty() {
+        return Ok(());
+    }
+    match reply(alloc, session, held.line(), said, files, steps) {
+        Ok(_) => Ok(()),
+        Err(fault) => Err(fault),
+    }
+}
+
+// Answers the line that is held with a piece at its end, and tells whether it is the last.
+fn end_line<F: Files, L: Ledger>(
+    alloc: Global,
+    session: &mut Session,
+    held: &mut Held,
+    said: &mut Said,
+    files: &mut F,
+    steps: &mut Steps<L>,
+    piece: &[u8],
+) -> Result<bool, SessionFault>
+    ensures told { (base : Base) (talk : Talk) (part : List ℕ) → held.old ≡ readable part → IsAt base talk
+        (now_of said.old session.old (F.files files.old) steps.old) →
+        MatchResult result
+        (λ done. (done ≡ is_last (part ++ piece.now)) × (held.new ≡ Some [])
+        × IsAt base (with_answer talk (spec.answer talk.state (part ++ piece.now)) (part ++ piece.now))
+        (now_of said.new session.new (F.files files.new) steps.new))
+        (λ _. IsBefore base
+        (with_answer talk (spec.answer talk.state (part ++ piece.now)) (part ++ piece.now)) said.new) }
+    ensures counted { F.faults files.new ≡ faults_after (F.faults files.old) result }
+    ensures cause { IsErrOf result SessionFault.ReadFailed → Rose (F.faults files.old) (F.faults files.new) }
+{
+    if held.is_empty() {
+        let done = reply(alloc, session, short(piece), said, files, steps);
+        held.clear();
+        return done;
+    }
+    match held.add(piece) {
+        Ok(()) => {}
+        Err(_) => return Err(SessionFault::OutOfMemory),
+    }
+    let done = reply(alloc, session, held.line(), said, files, steps);
+    held.clear();
+    done
+}
+
+// A line, unless it is too long.
+#[tactic(auto, unfolding(crate::specs::Hearing::readable))]
+fn short(line: &[u8]) -> Option<&[u8]>
+    ensures is { option_copied result ≡ readable line.now }
+    ensures short { IfSome result (λ line. length line.now ≤ longest_line) }
+{
+    if line.len() > LONGEST_LINE {
+        return None;
+    }
+    Some(line)
+}
+
+// Answers a line, or one that is too long, and tells whether it is the last.
+fn reply<F: Files, L: Ledger>(
+    alloc: Global,
+    session: &mut Session,
+    line: Option<&[u8]>,
+    said: &mut Said,
+    files: &mut F,
+    steps: &mut Steps<L>,
+) -> Result<bool, SessionFault>
+    requires { IfSome line (λ line. length line.now ≤ longest_line) }
+    ensures told { (base : Base) (talk : Talk) (part : List ℕ) → option_copied line.entry ≡ readable part →
+        IsAt base talk
+        (now_of said.old session.old (F.files files.old) steps.old) →
+        MatchResult result
+        (λ done. (done ≡ is_last part) × IsAt base (with_answer talk (spec.answer talk.state part) part)
+        (now_of said.new session.new (F.files files.new) steps.new))
+        (λ _. IsBefore base (with_answer talk (spec.answer talk.state part) part) said.new) }
+    ensures counted { F.faults files.new ≡ faults_after (F.faults files.old) result }
+    ensures cause { IsErrOf result SessionFault.ReadFailed → Rose (F.faults files.old) (F.faults files.new) }
+{
+    let reply = match answer_line(alloc, session, line, files, steps) {
+        Ok(reply) => reply,
+        Err(fault) => return Err(fault),
+    };
+    match said.add(session, &reply) {
+        Ok(()) => Ok(reply.done),
+        Err(_) => Err(SessionFault::OutOfMemory),
+    }
+}
+
+// The answer to a line, or to one that is too long.
+fn answer_line<F: Files, L: Ledger>(
+    alloc: Global,
+    session: &mut Session,
+    line: Option<&[u8]>,
+    files: &mut F,
+    steps: &mut Steps<L>,
+) -> Result<LineReply, SessionFault>
+    requires { IfSome line (λ line. length line.now ≤ longest_line) }
+    ensures answer { (m : FileMap) → F.files files.old ≡ Some m →
+        IsAnswered (spec.answer_read (state_of session.old m) (option_copied line.entry)) result
+        (scene_of session.old (F.files files.old) steps.old)
+        (scene_of session.new (F.files files.new) steps.new) }
+    ensures done { IfOk result (λ reply. reply.done ≡ is_last_read (option_copied line.entry)) }
+    ensures counted { F.faults files.new ≡ faults_after (F.faults files.old) result }
+    ensures cause { IsErrOf result SessionFault.ReadFailed → Rose (F.faults files.old) (F.faults files.new) }
+{
+    match line {
+        Some(line) => session.line(alloc, line, files, steps),
+        None => Ok(too_long(alloc)?),
+    }
+}
+
+// The answer to a line that is too long.
+fn too_long(alloc: Global) -> Result<LineReply, AllocError>
+    ensures { IfOk result (λ reply. IsLine reply (codes "line too long\n") [] false) }
+{
+    Ok(LineReply {
+        out: Text::from_bytes(alloc, b"line too long\n")?,
+        err: no_text(alloc),
+        done: false,
+    })
+}

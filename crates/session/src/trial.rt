@@ -1,0 +1,100 @@
+//! A trial: a session over made-up definitions and made-up lines.
+
+ghost use Rattle.std.specs.Prelude.{◌≡◌, ◌≤◌, IfErr, IfOk};
+ghost use Rattle.deck.specs.declared.fault.DeckFault.TheVariants.{OutOfMemory};
+ghost use Rattle.reply.specs.Options.{IsPrintable};
+ghost use Rattle.session.specs.Talks.{talk_on};
+ghost use Rattle.session.specs.Trialing.{IsTalked, IsTrial};
+ghost use Rattle.session.specs.Trials as spec;
+
+use crate::counting::{put_count, statistics};
+use crate::held::Held;
+use crate::said::Said;
+use crate::session::Session;
+use crate::talk::{feed, feed_end};
+use crate::trial_lines::{all_rounds, definitions};
+use deck::{Deck, DeckFault, NoFiles, Settings};
+use live_table::LiveTable;
+use reply::Options;
+use std::alloc::{AllocError, Global};
+use std::sync::ledger::Ledger;
+use units_io::{Steps, Text};
+
+/// A trial of so many rounds, 1 to 20,000, over as many definitions and one: what is told of it. `DeckFull` where its
+/// definitions pass a limit; the only other error is want of memory.
+pub fn run_trial<L: Ledger>(
+    alloc: Global,
+    options: Options,
+    settings: Settings,
+    rounds: u16,
+    steps: &mut Steps<L>,
+) -> Result<Text, DeckFault>
+    requires printable { IsPrintable options }
+    requires some { 1 ≤ rounds }
+    requires few { rounds ≤ 20000 }
+    ensures { IsTrial (spec.trial options settings rounds) result steps.old steps.new }
+{
+    let text = definitions(alloc, rounds)?;
+    let deck = match Deck::from_text(alloc, &text, b"trial", settings) {
+        Ok(deck) => deck,
+        Err(fault) => return Err(fault),
+    };
+    let mut session = quiet_session(alloc, deck, options);
+    let lines = all_rounds(alloc, rounds)?;
+    let said = talked(alloc, &mut session, &lines, steps)?;
+    Ok(summary(alloc, rounds, said.out.len(), session.table())?)
+}
+
+// A session that says nothing but answers.
+fn quiet_session(alloc: Global, deck: Deck, options: Options) -> Session
+    requires { IsPrintable options }
+    ensures { result ≡ spec.quiet_session options deck }
+{
+    let options = Options {
+        quiet: true,
+        ..options
+    };
+    Session::new(alloc, LiveTable::new(alloc, deck), options)
+}
+
+// What the session says to all lines.
+fn talked<L: Ledger>(
+    alloc: Global,
+    session: &mut Session,
+    lines: &[u8],
+    steps: &mut Steps<L>,
+) -> Result<Said, DeckFault>
+    ensures said { IfOk result (λ said.
+        IsTalked (talk_on (spec.silent session.old) lines.now) said session.new steps.old steps.new) }
+    ensures cause { IfErr result (λ fault. fault ≡ OutOfMemory) }
+{
+    let mut files = NoFiles::new();
+    let mut held = Held::new(alloc);
+    let mut said = Said {
+        out: Vec::new(alloc),
+        err: Vec::new(alloc),
+    };
+    match feed(
+        alloc, session, &mut held, &mut said, &mut files, steps, lines,
+    ) {
+        Ok(true) => return Ok(said),
+        Ok(false) => {}
+        Err(_) => return Err(DeckFault::OutOfMemory),
+    }
+    match feed_end(alloc, session, &held, &mut said, &mut files, steps) {
+        Ok(()) => Ok(said),
+        Err(_) => Err(DeckFault::OutOfMemory),
+    }
+}
+
+// What is told of rounds that gave so many bytes and left this table.
+fn summary(alloc: Global, rounds: u16, bytes: usize, table: &LiveTable) -> Result<Text, AllocError>
+    ensures { IfOk result (λ text. text ≡ spec.summary rounds bytes table.now) }
+{
+    let mut text = Vec::from_slice(alloc, b"definitions ")?;
+    put_count(alloc, &mut text, u64::from(rounds) + 1, b", edits ")?;
+    put_count(alloc, &mut text, u64::from(rounds), b", reply bytes ")?;
+    put_count(alloc, &mut text, bytes as u64, b", ")?;
+    text.extend_from_slice(statistics(alloc, table)?.as_bytes())?;
+    Ok(Text::from(text))
+}
