@@ -1,126 +1,239 @@
-Conversions between two names of a first file. first_files.t has which files are such.
+Conversions over the definitions that are built in. The values are those of the units as they are defined, by hand.
 
-  $ cat > first.units <<END
-  > m !
-  > in 254|10000 m
-  > ft 12|1 in
-  > yd 3|1 ft
-  > END
-  $ units --exact -f first.units yd m
-  \t* 1143|1250 (esc)
-  \t/ 1250|1143 (esc)
-  $ units yd in -f first.units --exact
-  \t* 36 (esc)
-  \t/ 1|36 (esc)
-  $ units --exact --file=first.units m m
-  \t* 1 (esc)
-  \t/ 1 (esc)
+Both ways, with 8 digits, with others, and exactly.
 
-Names that the file does not define.
-
-  $ units --exact -f first.units yd kg
-  unknown unit: kg
-  [1]
-  $ units --exact -f first.units kg lb
-  unknown unit: kg
-  [1]
-
-Numbers with so many digits, 8 where none are asked for.
-
-  $ units -f first.units yd m
+  $ units "10 meters" feet
+  \t* 32.808399 (esc)
+  \t/ 0.03048 (esc)
+  $ units yd m
   \t* 0.9144 (esc)
   \t/ 1.0936133 (esc)
-  $ units -d 3 -f first.units yd m
-  \t* 0.914 (esc)
-  \t/ 1.09 (esc)
-  $ units -d 3 --exact -f first.units yd m
+  $ units --exact yd m
   \t* 1143|1250 (esc)
   \t/ 1250|1143 (esc)
-  $ units --digits=36 -f first.units m yd
+  $ units -d 3 --exact yd m
+  \t* 1143|1250 (esc)
+  \t/ 1250|1143 (esc)
+  $ units --digits=36 m yd
   \t* 1.09361329833770778652668416447944007 (esc)
   \t/ 0.9144 (esc)
-
-The largest number, and twice that.
-
-  $ cat > largest.units <<END
-  > m !
-  > a 170141183460469231731687303715884105727|1 m
-  > b 2|1 a
-  > END
-  $ units --exact -f largest.units a m
-  \t* 170141183460469231731687303715884105727 (esc)
-  \t/ 1|170141183460469231731687303715884105727 (esc)
-  $ units --exact -f largest.units b m
-  overflow
-  [1]
-  $ units --exact -f largest.units m b
-  overflow
-  [1]
-  $ units -f largest.units b m
-  overflow
+  $ units "60 miles per hour" m/s
+  \t* 26.8224 (esc)
+  \t/ 0.037282272 (esc)
+  $ units "250 cm3" ml
+  \t* 250 (esc)
+  \t/ 0.004 (esc)
+  $ units "berries" m
+  unknown unit: berries
   [1]
 
-A file that is not there.
+Only the forward line, and one that begins with a sign.
 
-  $ units --exact -f gone.units yd m
-  units: no file: gone.units
-  [3]
+  $ units -1 "10 meters" feet
+  \t* 32.808399 (esc)
+  $ units -- "-2 m" m
+  \t* -2 (esc)
+  \t/ -0.5 (esc)
 
-What is not built yet.
+Nothing as a part of something.
 
-  $ units --exact -f first.units yd
-  units: unsupported
-  [8]
-  $ units --exact yd m
-  units: unsupported
-  [8]
-  $ units --exact -q -f first.units yd m
-  units: unsupported
-  [8]
-  $ units --exact -f first.units yd per
-  units: unsupported
-  [8]
-  $ units --exact -f first.units sin m
-  units: unsupported
-  [8]
-  $ units
-  units: unsupported
-  [8]
+  $ units "0 m" ft
+  \t* 0 (esc)
+  \t/ inf (esc)
+  $ units "1 m" "0 m"
+  division by zero
+  [1]
 
-Words that are not taken.
+Reciprocal conversions, in each layout, and without them.
 
-  $ units -d 0 m ft
-  units: usage: units [options] [FROM [TO]]
-  [2]
-  $ units --exact -f first.units yd m ft
-  units: usage: units [options] [FROM [TO]]
-  [2]
-  $ units --check m
-  units: usage: units [options] [FROM [TO]]
-  [2]
-  $ units $(printf '\377')
-  units: usage: units [options] [FROM [TO]]
-  [2]
+  $ units "2 Hz" s
+  \treciprocal conversion (esc)
+  \t* 0.5 (esc)
+  \t/ 2 (esc)
+  $ units "2/s" s
+  \treciprocal conversion (esc)
+  \t* 0.5 (esc)
+  \t/ 2 (esc)
+  $ units --compact "2 Hz" s
+  reciprocal conversion
+  0.5
+  2
+  $ units -v "2 Hz" s
+  \treciprocal conversion (esc)
+  \t1 / (2 Hz) = 0.5 s (esc)
+  \t1 / (2 Hz) = (1 / 2) s (esc)
+  $ units -s "2 Hz" s
+  conformability error
+  \t2 / s (esc)
+  \t1 s (esc)
+  [1]
+  $ units -t "2 Hz" s
+  conformability error
+  2 / s
+  1 s
+  [1]
 
-A file of 100,000 lines, of which each but the first names the line before it, and one of a line more.
+The texts in the reply. A compact reply is never verbose.
 
-  $ chain() {
-  >   awk -v lines=$1 'BEGIN {
-  >     before = "m"; print "m !"
-  >     for (i = 2; i < lines; i++) {
-  >       name = i ""; gsub(/0/, "a", name); gsub(/1/, "b", name); gsub(/2/, "c", name); gsub(/3/, "d", name); gsub(/4/, "e", name)
-  >       gsub(/5/, "f", name); gsub(/6/, "g", name); gsub(/7/, "h", name); gsub(/8/, "i", name); gsub(/9/, "j", name)
-  >       print "n" name " 1|1 " before; before = "n" name
-  >     }
-  >     print "z 7|3 " before
-  >   }'
-  > }
-  $ chain 100000 > chain.units; wc -l < chain.units
-  100000
-  $ units --exact -f chain.units z m
-  \t* 7|3 (esc)
-  \t/ 3|7 (esc)
-  $ chain 100001 > chain.units
-  $ units --exact -f chain.units z m
-  units: unsupported
-  [8]
+  $ units -v "10 meters" feet
+  \t10 meters = 32.808399 feet (esc)
+  \t10 meters = (1 / 0.03048) feet (esc)
+  $ units -v --compact "10 meters" feet
+  32.808399
+  0.03048
+
+What a text is worth, with the text of a unit's own definition. A blank TO is none, and a comment is no part of a word.
+
+  $ units "1/2 m"
+  \tDefinition: 0.5 / m (esc)
+  $ units "m/s s/day"
+  \tDefinition: 1.1574074e-05 m / s^3 (esc)
+  $ units "J / mol K"
+  \tDefinition: 1 kg m^2 / K mol s^2 (esc)
+  $ units ft
+  \tDefinition: 12 in = 0.3048 m (esc)
+  $ units ft " "
+  \tDefinition: 12 in = 0.3048 m (esc)
+  $ units "ft # a foot" "# nothing"
+  \tDefinition: 12 in = 0.3048 m (esc)
+  $ units "" m
+  syntax error at 0
+  [1]
+  $ units "2^3^2"
+  \tDefinition: 512 (esc)
+  $ units "3 - (-2)^2"
+  \tDefinition: -1 (esc)
+
+The largest number, the least, and what is beyond.
+
+  $ units --exact "2^126 - 1 + 2^126"
+  \tDefinition: 170141183460469231731687303715884105727 (esc)
+  $ units --exact "2^127"
+  overflow
+  [1]
+  $ units --exact "2^126 * 3|4"
+  \tDefinition: 63802943797675961899382738893456539648 (esc)
+  $ units "(2^126 - 1 + 2^126)/2 + (2^126 - 1 + 2^126)/2"
+  overflow
+  [1]
+  $ units --exact 1e-38
+  \tDefinition: 1|100000000000000000000000000000000000000 (esc)
+  $ units --exact 1e-39
+  overflow
+  [1]
+  $ units 1e9999
+  overflow
+  [1]
+  $ units 1e10000
+  numeral too long
+  [1]
+  $ units 170141183460469231731687303715884105728
+  numeral too long
+  [1]
+
+Of two nearest numbers the even one, and where both last digits are odd the greater.
+
+  $ units -d 1 2.5
+  \tDefinition: 2 (esc)
+  $ units -d 1 3.5
+  \tDefinition: 4 (esc)
+  $ units -d 2 99.5
+  \tDefinition: 1e+02 (esc)
+
+Roots, and exponents that are fractions.
+
+  $ units "sqrt(4 m^2)"
+  \tDefinition: 2 m (esc)
+  $ units "sqrt(2)"
+  no exact root
+  [1]
+  $ units "2^1|2"
+  no exact root
+  [1]
+  $ units "sqrt(2 m)"
+  no exact root
+  [1]
+  $ units "sqrt(m)"
+  \tDefinition: 1 m^1|2 (esc)
+  $ units "sqrt(m) sqrt(m)" ft
+  \t* 3.2808399 (esc)
+  \t/ 0.3048 (esc)
+  $ units "1/sqrt(4 s^3)"
+  \tDefinition: 0.5 / s^3|2 (esc)
+  $ units "sqrt(m)" "1/sqrt(m)"
+  \treciprocal conversion (esc)
+  \t* 1 (esc)
+  \t/ 1 (esc)
+  $ units "m^1|61"
+  exponent out of range
+  [1]
+  $ units "m^1|7 m^1|11"
+  exponent out of range
+  [1]
+  $ units "m^32767"
+  \tDefinition: 1 m^32767 (esc)
+  $ units "m^32768"
+  exponent out of range
+  [1]
+  $ units "m^32767 m"
+  exponent out of range
+  [1]
+
+Faults of values and of texts. The first one is the whole reply.
+
+  $ units "2 m + 3 s"
+  sum of unlike units: 2 m and 3 s
+  [1]
+  $ units "m^s"
+  exponent is not a number
+  [1]
+  $ units "2 +"
+  syntax error at 3
+  [1]
+  $ units "m)"
+  syntax error at 1
+  [1]
+  $ units "2 m + 3 s" "2 +"
+  sum of unlike units: 2 m and 3 s
+  [1]
+  $ units m s
+  conformability error
+  \t1 m (esc)
+  \t1 s (esc)
+  [1]
+  $ nested() { printf "%$1s" | tr ' ' '('; printf 1; printf "%$1s" | tr ' ' ')'; }
+  $ units "$(nested 64)"
+  \tDefinition: 1 (esc)
+  $ units "$(nested 65)"
+  nested too deep
+  [1]
+  $ units "$(printf '%255s' | tr ' ' x)" | cut -c 1-20
+  unknown unit: xxxxxx
+  $ units "$(printf '%256s' | tr ' ' x)"
+  syntax error at 0
+  [1]
+
+Names that nobody defines, that are refused, and a function without an argument.
+
+  $ units "sinn(1)"
+  unknown unit: sinn
+  [1]
+  $ units "sin(1)"
+  refused function: sin
+  [1]
+  $ units tempF
+  argument needed: tempF
+  [1]
+
+The definitions that are built in have no fault and no notice.
+
+  $ units --check
+  $ units "gallon" liter
+  \t* 3.7854118 (esc)
+  \t/ 0.26417205 (esc)
+  $ units -l en_GB "gallon" liter
+  \t* 4.54609 (esc)
+  \t/ 0.21996925 (esc)
+  $ units -l nowhere "gallon" liter
+  unknown unit: gallon
+  [1]

@@ -448,7 +448,7 @@ Messages, in force and not, one without text and one with blanks.
 The two gallons of the built-in definitions, to and fro. Where neither locale is in force there is none.
 
   $ deck_calls <<END
-  > text $TESTDATA/builtin.units
+  > text $BUILTIN
   > count
   > notices
   > entry gallon
@@ -760,7 +760,7 @@ So are 67,108,864 bytes of the texts of lines, the include lines too.
 Each prefix of the built-in definitions gives a deck: what its last line is, and how many blocks are open, is told in notices.
 
   $ deck_calls > prefixes <<END
-  > $(for i in $(seq 0 1057); do head -c $i $TESTDATA/builtin.units > p_$i; echo "text p_$i"; echo notices; echo count; echo lines; done)
+  > $(for i in $(seq 0 1057); do head -c $i $BUILTIN > p_$i; echo "text p_$i"; echo notices; echo count; echo lines; done)
   > END
   $ grep -c '^ok$' prefixes
   1058

@@ -14,49 +14,14 @@ trap 'rm -rf "$folder"' EXIT
 cd "$folder" || exit 1
 cp "$root/examples/first.units" first.units
 truncate --size 16777217 long.units
-echo 'a 1|2 b' > other.units
+mkdir sub
+printf '%s\n' '!include sub/a.units' '!include gone.units' > main.units
+printf '%s\n' 'm !' '!include b.units' > sub/a.units
+echo 'z 4 m' > sub/b.units
+printf '%s\n' 'm !' 'a b' 'b a' 'c 2 a' > cycle.units
+printf '%s\n' 'm !' '!endvar' 'bad 2 nosuch' 'p- 2 q' '!unitlist z m;1/m' > faults.units
 
-# Each allocation of the program gets a number from 1. The one of the number REFUSED is refused, and where LATER is set each
-# behind it too. A byte on stream 9 tells each that is.
-cat > refuse.c <<'C'
-#include <errno.h>
-#include <stddef.h>
-#include <stdlib.h>
-#include <unistd.h>
-
-extern void *__libc_malloc(size_t), *__libc_calloc(size_t, size_t), *__libc_realloc(void *, size_t), *__libc_memalign(size_t, size_t);
-
-static unsigned long at, number;
-static int later;
-
-__attribute__((constructor)) static void begin(void) {
-    const char *refused = getenv("REFUSED");
-    at = refused ? strtoul(refused, NULL, 10) : 0;
-    later = getenv("LATER") != NULL;
-}
-
-static int is_refused(void) {
-    if (at == 0) return 0;
-    number += 1;
-    if (later ? number < at : number != at) return 0;
-    if (write(9, ".", 1) != 1) abort();
-    errno = ENOMEM;
-    return 1;
-}
-
-void *malloc(size_t size) { return is_refused() ? NULL : __libc_malloc(size); }
-void *calloc(size_t count, size_t size) { return is_refused() ? NULL : __libc_calloc(count, size); }
-void *realloc(void *old, size_t size) { return is_refused() ? NULL : __libc_realloc(old, size); }
-void *memalign(size_t align, size_t size) { return is_refused() ? NULL : __libc_memalign(align, size); }
-void *aligned_alloc(size_t align, size_t size) { return memalign(align, size); }
-int posix_memalign(void **place, size_t align, size_t size) {
-    void *made = memalign(align, size);
-    if (made == NULL) return ENOMEM;
-    *place = made;
-    return 0;
-}
-C
-gcc -O1 -shared -fPIC -o refuse.so refuse.c || fail 'gcc did not build the allocator'
+gcc -O1 -shared -fPIC -o refuse.so "$root/tools/refuse.c" || fail 'gcc did not build the allocator'
 
 # run SETTING.. : the words with these variables; gives the status, and what was written.
 run() {
@@ -93,20 +58,24 @@ try_all() {
 }
 
 try_all 0 --exact -f first.units yd m
-try_all 0 yd in --file=first.units --exact
 try_all 0 -d 36 -f first.units m yd
-try_all 0 -f first.units m m
-try_all 1 -f first.units yd kg
-try_all 1 --exact -f first.units kg m
+try_all 0 '10 meters' feet
+try_all 0 'tempF(45)' tempC
+try_all 0 '0.028 in' zincgauge
+try_all 0 -v '1.4 m' 'ft;in'
+try_all 0 'J / mol K'
+try_all 0 '2 s' '?'
+try_all 0 -f main.units z m
+try_all 1 'sqrt(2)'
+try_all 1 '2 m + 3 s'
+try_all 1 -f cycle.units c
+try_all 1 -c -f faults.units
 try_all 2 -d 0 m ft
-try_all 2 --check m
 try_all 2 $'\xff'
 try_all 3 -f gone.units yd m
 try_all 3 -f long.units yd m
 try_all 4 -f . yd m
-try_all 8 -f other.units a b
-try_all 8 -f first.units -1 yd m
-try_all 8
+try_all 0 --trial 3
 
 echo "check_memory: $total runs with an allocation refused"
 echo "$passed passed, $failed failed"

@@ -1,5 +1,5 @@
 #!/usr/bin/env python3
-"""Runs the transcripts of tests/ over the built programs, and shows where they differ.
+"""Runs the transcripts of tests/ and the examples of the manual over the built programs, and shows where they differ.
 
     tools/transcripts.py [FILE..]
 
@@ -10,8 +10,9 @@ ends in ` (esc)` has Python's escapes for bytes that do not print, one in ` (no-
 feed, ` (glob)` knows `*` and `?`, and ` (re)` is a regular expression.
 
 The commands of a file run in one shell, in a fresh folder of their own, with nothing to read. The
-programs of the repository stand on its PATH under their plain names, and TESTDATA is the folder
-tests/data. Each difference is shown, and the last line is `N passed, M failed`, cases counted.
+programs of the repository stand on its PATH under their plain names, and BUILTIN is a file of the
+definitions that are built in. Each difference is shown, and the last line is `N passed, M failed`,
+cases counted.
 """
 
 import difflib
@@ -28,6 +29,8 @@ from pathlib import Path
 
 ROOT = Path(__file__).resolve().parent.parent
 TESTS = ROOT / "tests"
+MANUAL = ROOT / "share/man/man1"
+BUILT_IN = ROOT / "crates/units/src/built_in.rt"
 SECONDS = 120  # for all commands of a file
 INDENT = b"  "
 UNPRINTABLE = re.compile(rb"[\x00-\x09\x0b-\x1f\x7f-\xff]")
@@ -144,6 +147,12 @@ def put_programs(folder):
         missing.chmod(0o755)
 
 
+def built_in():
+    """The definitions that are built in: the one literal of the file that has them, in which a backslash stands twice."""
+    literal = re.search(rb' = b"(.*?)^";$', BUILT_IN.read_bytes(), re.DOTALL | re.MULTILINE)
+    return literal.group(1).replace(rb"\\", b"\\")
+
+
 def run_shell(script, room, path):
     """What the shell wrote on both streams, and why it was stopped, if it was."""
     (room / "script").write_bytes(script)
@@ -151,7 +160,7 @@ def run_shell(script, room, path):
     work.mkdir()
     environment = {
         "PATH": f"{path}:{os.environ.get('PATH', os.defpath)}",
-        "TESTDATA": str(TESTS / "data"),
+        "BUILTIN": str(path.parent / "builtin.units"),
         "HOME": str(work),
         "TMPDIR": str(work),
         "LANG": "C",
@@ -216,10 +225,14 @@ def run_file(file, path):
 
 
 def main():
-    files = [Path(word).resolve() for word in sys.argv[1:]] or sorted(TESTS.glob("*.t"))
+    files = [Path(word).resolve() for word in sys.argv[1:]]
+    files = files or [*sorted(TESTS.glob("*.t")), *sorted(MANUAL.glob("*.1"))]
     passed = failed = 0
-    with tempfile.TemporaryDirectory(prefix="transcripts-") as path:
-        put_programs(Path(path))
+    with tempfile.TemporaryDirectory(prefix="transcripts-") as folder:
+        path = Path(folder) / "programs"
+        path.mkdir()
+        put_programs(path)
+        (path.parent / "builtin.units").write_bytes(built_in())
         for file in files:
             well, ill = run_file(file, path)
             passed, failed = passed + well, failed + ill

@@ -1,2 +1,5 @@
-pub mod Factors
+pub mod BuiltInDeck
 pub mod Planned
+pub mod Running
+pub mod Sizes
+pub mod Working

@@ -1,30 +1,111 @@
--- What the words of a command line plan.
-use Rattle.std.proofs.Common.{◌≡◌, [], ℕ, List, true, Option, Some, None, Result, if◌then◌else◌, sym, ap, subst, ◌∙◌, true≢false}
-use Rattle.std.specs.Prelude.{IfSome, IfOk}
-use Rattle.units_io.specs.FileMap.{FileMap, file_of}
+-- A plan, by the words.
+use Rattle.std.proofs.Common.{◌≡◌, ◌&&◌, ◌||◌, inl, inr, ℕ, List, Bool, true, false, Result, Ok, Err, Some, None, refl, sym}
+use Rattle.std.proofs.Common.{ap, subst, ◌∙◌, if◌then◌else◌}
+use Rattle.std.specs.Prelude.{codes}
+use Rattle.std.specs.declared.option.Option.{Option}
+use Rattle.units_io.specs.FileMap.{FileMap}
+use Rattle.units_io.specs.Named.{Pairs}
 use Rattle.command_line.specs.Taken.{are_taken}
 use Rattle.command_line.specs.Fields.{command_line_of}
-use Rattle.command_line.specs.declared.fields.CommandLine.{CommandLine}
-use Rattle.units.specs.Request.{Request, request_of}
 use Rattle.command_line.specs.Usage.{usage_text}
-use Rattle.units.specs.declared.status.Status.TheVariants.{Usage}
-use Rattle.units.specs.Telling.{TellsIf}
-use Rattle.units.specs.Run.{Run, unsupported, complaint, run_on, run_for, run_of, requested}
+use Rattle.command_line.specs.declared.fields.CommandLine.{CommandLine}
+use Rattle.deck.specs.Decks.{Contents}
+use Rattle.deck.specs.Loading.{IsLoaded, MayFail, faults_after_load}
+use Rattle.deck.specs.declared.fault.DeckFault.{DeckFault}
+use Rattle.deck.specs.declared.fault.DeckFault.TheVariants as fault
+use Rattle.session.specs.Telling.{TellsIf}
+use Rattle.session.specs.Trialing.{IsTrial}
+use Rattle.session.specs.Trials.{Trial}
+use Rattle.units.specs.Definitions.{no_deck_line}
+use Rattle.units.specs.Needs.{is_session, loads_file, needs_files}
+use Rattle.units.specs.Planning.{IsPlanned}
+use Rattle.units.specs.Plans.{complaint}
+use Rattle.units.specs.Work.{file_plan, line_plan, plan_of, trial_plan}
+use Rattle.units.specs.declared.plan.Plan.{Plan}
+use Rattle.units.specs.declared.status.Status.TheVariants.{NoFile, Usage}
 
--- a plan over the files that are told is one over those that are needed
-pub told-needed : {E : Type 0} (files : Option FileMap) (result : Result Run E) (f : FileMap → Run) (m : FileMap) (run : Run)
-    → f m ≡ run → TellsIf true files m → IfSome files (λ m. IfOk result (λ p. p ≡ f m)) → IfOk result (λ p. p ≡ run)
-told-needed None result f m run same tells planned = absurd (true≢false tells)
-told-needed (Some told) result f m run same tells planned = subst (λ (r : Run). IfOk result (λ p. p ≡ r)) (ap f tells ∙ same) planned
+-- words that are taken, and words that are not
+pub plan_taken : (words : List (List ℕ)) (vars : Pairs) (m : FileMap) (line : CommandLine) → are_taken words ≡ true
+    → line ≡ command_line_of words → line_plan line vars m ≡ plan_of words vars m
+unfolding plan_of
+plan_taken words vars m line taken read =
+    ap (λ (l : CommandLine). line_plan l vars m) read
+    ∙ sym (ap (λ b. if b then line_plan (command_line_of words) vars m else complaint usage_text Usage) taken)
 
--- what taken words request
-pub requested-taken : (words : List (List ℕ)) (line : CommandLine) → are_taken words ≡ true → line ≡ command_line_of words → requested words ≡ request_of line
-requested-taken words line taken read = ap (λ b. if b then request_of (command_line_of words) else None) taken ∙ ap request_of (sym read)
+pub plan_untaken : (words : List (List ℕ)) (vars : Pairs) (m : FileMap) → are_taken words ≡ false
+    → complaint usage_text Usage ≡ plan_of words vars m
+unfolding plan_of
+plan_untaken words vars m taken =
+    sym (ap (λ b. if b then line_plan (command_line_of words) vars m else complaint usage_text Usage) taken)
 
--- words that request nothing
-pub run_of-declined : (words : List (List ℕ)) (m : FileMap) → are_taken words ≡ true → requested words ≡ None → unsupported ≡ run_of words [] m
-run_of-declined words m taken none = sym (ap (λ r. run_for r words m) none ∙ ap (λ b. if b then unsupported else complaint usage_text Usage) taken)
+-- there is no deck
+pub deck_missing : {E : Type 0} (outcome : Result Contents DeckFault) (fault : DeckFault) (line : CommandLine)
+    (name : List ℕ) (m : FileMap) (result : Result Plan E) (n : ℕ) → (MayFail fault → ⊥) → IsLoaded outcome (Err fault)
+    → IsPlanned (complaint (no_deck_line fault name) NoFile) m result n n
+    → IsPlanned (file_plan line name outcome m) m result n n
+deck_missing outcome fault line name m result n known (inl may) planned = absurd (known may)
+deck_missing outcome fault line name m result n known (inr is) planned =
+    subst (λ (o : Result Contents DeckFault). IsPlanned (file_plan line name o m) m result n n) (sym is) planned
 
--- words that request a conversion
-pub run_of-requested : (words : List (List ℕ)) (request : Request) (m : FileMap) → requested words ≡ Some request → run_on request (file_of m request.file) ≡ run_of words [] m
-run_of-requested words request m some = sym (ap (λ r. run_for r words m) some)
+-- then no fetch failed
+pub none_failed : (n : ℕ) (fault : DeckFault) → (MayFail fault → ⊥)
+    → faults_after_load {T = Contents} n (Err fault) ≡ n
+none_failed n (fault.BadLine reason) known = refl
+none_failed n fault.NoSuchKey known = refl
+none_failed n fault.DeckFull known = refl
+none_failed n fault.Absent known = refl
+none_failed n fault.TooLong known = refl
+none_failed n fault.ReadFailed known = absurd (known (inr refl))
+none_failed n fault.OutOfMemory known = refl
+
+left_false : (a b : Bool) → (a || b) ≡ false → a ≡ false
+left_false true b e = e
+left_false false b e = refl
+
+-- what words do not need, their command line does not load
+pub loads_needed : (words : List (List ℕ)) (line : CommandLine) → are_taken words ≡ true → line ≡ command_line_of words
+    → needs_files words ≡ false → loads_file line ≡ false
+loads_needed words line taken read none =
+    let read_line = command_line_of words in
+    ap loads_file read
+    ∙ left_false (loads_file read_line) (is_session read_line)
+    (sym (ap (λ b. b && (loads_file read_line || is_session read_line)) taken) ∙ none)
+
+-- what serves a need serves a lesser one
+pub tells_less : {X : Type 0} (needed less : Bool) (o : Option X) (x : X) → (needed ≡ false → less ≡ false)
+    → TellsIf needed o x → TellsIf less o x
+tells_less needed less (Some told) x h s = s
+tells_less needed less None x h s = h s
+
+-- a session needs files
+pub input_files : (words : List (List ℕ)) → (are_taken words && is_session (command_line_of words)) ≡ true
+    → needs_files words ≡ true
+input_files words e =
+    by (are_taken words) (loads_file (command_line_of words)) (is_session (command_line_of words)) e
+  where
+    by : (a l s : Bool) → (a && s) ≡ true → (a && (l || s)) ≡ true
+    by true true s e = refl
+    by true false s e = e
+    by false l s e = e
+
+-- where something is needed it is told
+pub tells_needed : {X : Type 0} (needed : Bool) (o : Option X) (x : X) → needed ≡ true → TellsIf needed o x → o ≡ Some x
+tells_needed true None x e h = cc
+tells_needed false None x e h = cc
+tells_needed needed (Some told) x e h = ap Some h
+
+-- what is told is told, needed or not
+pub tells_told : {X : Type 0} (needed : Bool) (o : Option X) (x : X) → o ≡ Some x → TellsIf needed o x
+tells_told needed (Some told) x e = cc
+tells_told needed None x e = cc
+
+-- there is no room for the definitions of a trial
+pub trial_missing : {E : Type 0} (want : Result Trial DeckFault) (refusal : DeckFault) (m : FileMap)
+    (result : Result Plan E) (old new : ℕ) → (refusal ≡ fault.OutOfMemory → ⊥) → IsTrial want (Err refusal) old new
+    → IsPlanned (complaint (no_deck_line refusal (codes "trial")) NoFile) m result old old
+    → IsPlanned (trial_plan want) m result old new
+trial_missing (Ok trial) refusal m result old new known is planned = absurd (known is)
+trial_missing (Err why) refusal m result old new known (inl is) planned = absurd (known is)
+trial_missing (Err why) refusal m result old new known (inr is) planned =
+    subst (λ (n : ℕ). IsPlanned (complaint (no_deck_line why (codes "trial")) NoFile) m result old n) (sym is.1)
+    (subst (λ (f : DeckFault). IsPlanned (complaint (no_deck_line f (codes "trial")) NoFile) m result old old) is.0 planned)

@@ -1,7 +1,21 @@
--- What the words need from outside.
-use Rattle.std.specs.Prelude.{ℕ, List, Bool, is_some}
-use Rattle.units.specs.Run.{requested}
+-- What the words need: files, or input.
+use Rattle.std.specs.Prelude.{◌&&◌, ◌||◌, ℕ, List, Bool, is_some, not}
+use Rattle.command_line.specs.Taken.{are_taken}
+use Rattle.command_line.specs.Fields.{command_line_of}
+use Rattle.command_line.specs.declared.fields.CommandLine.{CommandLine}
 
--- the words ask for a definition file
-abbrev pub needs_file : List (List ℕ) → Bool
-needs_file words = is_some (requested words)
+-- neither FROM, `--check` nor `--trial` stands: a session, unless there is no deck
+abbrev pub is_session : CommandLine → Bool
+is_session line = not (is_some line.trial) && not (is_some line.from || line.check)
+
+-- a definition file is loaded
+abbrev pub loads_file : CommandLine → Bool
+loads_file line = not (is_some line.trial) && is_some line.file
+
+-- the words lead to a session
+abbrev pub needs_input : (words : List (List ℕ)) → Bool
+needs_input words = are_taken words && is_session (command_line_of words)
+
+-- the words lead to a definition file, or to a session, whose lines may name files
+abbrev pub needs_files : (words : List (List ℕ)) → Bool
+needs_files words = are_taken words && (loads_file (command_line_of words) || is_session (command_line_of words))

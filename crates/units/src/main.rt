@@ -1,14 +1,20 @@
-//! Converts between units by a file of definitions.
+//! Converts between units by definitions of a file, or by those that are built in.
 #![tactic(auto)]
 
+mod asking;
+mod built_in;
+mod definitions;
 mod environment;
-mod first;
+mod halt;
+mod no_deck;
+mod options;
 mod plan;
 mod run;
 mod status;
-mod style;
 #[cfg(test)]
 mod tests;
+mod words_plan;
+mod work;
 
 ghost use Rattle.std.specs.Prelude.{◌≡◌, ◌<◌};
 

@@ -1,40 +1,36 @@
 //! The run of the program.
-ghost use Rattle.std.specs.Prelude.{◌≡◌, ◌≢◌, ◌⊎◌, false};
+ghost use Rattle.std.specs.Prelude.{◌≡◌, ◌⊎◌, ℕ, List, OnErr, OnOk, Some, false, true};
+ghost use Rattle.units_io.specs.Bytes.{grown, GrowsByFront};
 ghost use Rattle.units_io.specs.Faults.{Rose};
 ghost use Rattle.units_io.specs.FileMap.{FileMap};
-ghost use Rattle.command_line.specs.Taken.{are_taken};
-ghost use Rattle.units.specs.Needs.{needs_file};
-ghost use Rattle.units.specs.Run.{run_of};
-ghost use Rattle.units.specs.Telling.{TellsIf};
-ghost use Rattle.units.specs.Written.{IsWritten};
+ghost use Rattle.session.specs.Outside.{IsReadToEnd, Rests, TookMoreThan, outside_of};
+ghost use Rattle.session.specs.Telling.{TellsIf};
+ghost use Rattle.units.specs.Endings.{IsFaultless, IsRun, IsStated, MayEndBy, status_of as status_by};
+ghost use Rattle.units.specs.Needs.{needs_files, needs_input};
 
-use crate::plan::{Halt, Plan, make_plan};
+use crate::halt::Halt;
+use crate::plan::Plan;
 use crate::status::Status;
+use crate::words_plan::make_plan;
+use session::{Said, SessionEnd, run_session};
 use std::alloc::Global;
 use std::sync::ledger::Ledger;
-use units_io::{Files, Sink, Source, Steps, Text, Vars, put_all};
+use units_io::{Failed, Files, Sink, Source, Steps, Text, Vars, put_all};
 
-// Writes a plan and gives its ending, unless a sink fails.
-fn write_plan<O: Sink, E: Sink>(plan: &Plan, out: &mut O, err: &mut E) -> Status
-    ensures written { IsWritten plan.now result (O.written out.old) (O.written out.new) (E.written err.old) (E.written err.new) }
-    ensures stated { result ≢ Status.WriteFault → result ≡ plan.now.status }
-    ensures cause { result ≡ Status.WriteFault → Rose (O.faults out.old) (O.faults out.new) ⊎ Rose (E.faults err.old) (E.faults err.new) }
-    ensures read { result ≢ Status.ReadFault }
-{
-    if put_all(out, plan.out.as_bytes()).is_err() || put_all(err, plan.err.as_bytes()).is_err() {
-        return Status::WriteFault;
-    }
-    plan.status
-}
-
-/// Does all that the program does: reads the words, which are those after the program's name, the definition file,
-/// and writes the reply on `out` or a complaint on `err`.
+/// Does all that the program does: for every command line, variables, files and session input it writes exactly the
+/// stated replies, and any other ending is a counted fault, a stated limit or want of memory. The words are those after
+/// the program's name.
 ///
-/// Where the files tell their map, or the words ask for no file, a stated ending (0, 1, 2, 3 or 8) comes exactly where
-/// the definition of the run has it, and each sink that tells its bytes holds exactly those of the run. `ReadFault`
-/// comes only where the count of failed fetches rose, `WriteFault` only where the count of a sink rose, and with these
-/// and `NoMemory` each sink holds a front of the run's bytes. Files that the words do not ask for stay as they are, and
-/// nothing is taken from the source.
+/// `run`: with a stated status (0 to 3) all bytes of the run stand on both sinks, its files and its count of steps are
+/// those of the run, and the status is its own; with any other each sink holds a front of its bytes, which where the
+/// input was too long (7), and where the source failed (4), is exactly what is shown for the whole lines of the bytes
+/// taken. Files and input that the words do not need are not asked for, and need not be told.
+///
+/// `heard`: a session that is done has read its input to the end, or to a line that ends it. `ends`: which stated
+/// statuses there may be is decided by the words alone, whatever is told. `source`, `no_deck`, `unasked`: nothing is
+/// taken outside of a session or without a deck, and no file is asked for where none is needed. `read`, `write`,
+/// `too_long`: faults come only where they were counted, and the limit only where it is passed. `complete`: where no
+/// count rises the status is 0 to 3, 7 or 6.
 pub fn units_main<S: Source, O: Sink, E: Sink, F: Files, L: Ledger>(
     alloc: Global,
     words: &[Text],
@@ -45,20 +41,66 @@ pub fn units_main<S: Source, O: Sink, E: Sink, F: Files, L: Ledger>(
     files: &mut F,
     steps: &mut Steps<L>,
 ) -> Status
-    ensures written { (m : FileMap) → TellsIf (needs_file words.now) (F.files files.old) m →
-        IsWritten (run_of words.now vars.now m) result (O.written out.old) (O.written out.new) (E.written err.old) (E.written err.new) }
-    ensures unasked { needs_file words.now ≡ false → files.new ≡ files.old }
-    ensures usage { result ≡ Status.Usage → are_taken words.now ≡ false }
-    ensures read { result ≡ Status.ReadFault → Rose (F.faults files.old) (F.faults files.new) }
-    ensures write { result ≡ Status.WriteFault → Rose (O.faults out.old) (O.faults out.new) ⊎ Rose (E.faults err.old) (E.faults err.new) }
-    ensures source { src.new ≡ src.old }
-    ensures steps { steps.new ≡ steps.old }
-    ensures files { F.files files.new ≡ F.files files.old }
-    ensures stores { F.store_faults files.new ≡ F.store_faults files.old }
+    ensures run { (m : FileMap) (input : List ℕ) →
+        TellsIf (needs_files words.now) (F.files files.old) m →
+        TellsIf (needs_input words.now) (S.left src.old) input →
+        IsRun (record { words = words.now; vars = vars.now; files = m; input = input }) result
+        (outside_of (S.left src.old) (O.written out.old) (E.written err.old)
+        (F.files files.old) (F.faults files.old) steps.old)
+        (outside_of (S.left src.new) (O.written out.new) (E.written err.new)
+        (F.files files.new) (F.faults files.new) steps.new) }
+    ensures heard { (m : FileMap) (input : List ℕ) → F.files files.old ≡ Some m → S.left src.old ≡ Some input →
+        needs_input words.now ≡ true → result ≡ Status.Done → IsReadToEnd input (S.left src.new) }
+    ensures ends { IsStated result → MayEndBy words.now result }
+    ensures source { needs_input words.now ≡ false → src.new ≡ src.old }
+    ensures no_deck { result ≡ Status.NoFile → src.new ≡ src.old }
+    ensures unasked { needs_files words.now ≡ false → files.new ≡ files.old }
+    ensures read { result ≡ Status.ReadFault →
+        Rose (S.faults src.old) (S.faults src.new) ⊎ Rose (F.faults files.old) (F.faults files.new) }
+    ensures write { result ≡ Status.WriteFault →
+        Rose (O.faults out.old) (O.faults out.new) ⊎ Rose (E.faults err.old) (E.faults err.new) }
+    ensures too_long { result ≡ Status.InputTooLong → TookMoreThan 4294967296 (S.taken src.old) (S.taken src.new) }
+    ensures complete { Rests (S.faults src.old) (S.faults src.new) → Rests (F.faults files.old) (F.faults files.new) →
+        Rests (O.faults out.old) (O.faults out.new) → Rests (E.faults err.old) (E.faults err.new) →
+        IsFaultless result }
 {
-    match make_plan(alloc, words, files) {
-        Ok(plan) => write_plan(&plan, out, err),
+    match make_plan(alloc, words, vars, files, steps) {
+        Ok(Plan::Whole(said, status)) => match write_said(&said, out, err) {
+            Ok(()) => status,
+            Err(_) => Status::WriteFault,
+        },
+        Ok(Plan::Opened(said, session)) => {
+            let mut said = said;
+            let mut session = session;
+            status_of(run_session(alloc, &mut session, &mut said, src, out, err, files, steps))
+        }
         Err(Halt::ReadFault) => Status::ReadFault,
         Err(Halt::NoMemory) => Status::NoMemory,
+    }
+}
+
+// Writes what is said, on each sink in one piece.
+fn write_said<O: Sink, E: Sink>(said: &Said, out: &mut O, err: &mut E) -> Result<(), Failed>
+    ensures whole { OnOk result ((O.written out.new ≡ grown (O.written out.old) said.now.out.items)
+        × (E.written err.new ≡ grown (E.written err.old) said.now.err.items)) }
+    ensures out { GrowsByFront (O.written out.old) (O.written out.new) said.now.out.items }
+    ensures err { GrowsByFront (E.written err.old) (E.written err.new) said.now.err.items }
+    ensures cause { OnErr result
+        (Rose (O.faults out.old) (O.faults out.new) ⊎ Rose (E.faults err.old) (E.faults err.new)) }
+{
+    put_all(out, said.out.as_slice())?;
+    put_all(err, said.err.as_slice())
+}
+
+// How a session that ended so ends the run.
+fn status_of(end: SessionEnd) -> Status
+    ensures { result ≡ status_by end }
+{
+    match end {
+        SessionEnd::Done => Status::Done,
+        SessionEnd::ReadFault => Status::ReadFault,
+        SessionEnd::WriteFault => Status::WriteFault,
+        SessionEnd::NoMemory => Status::NoMemory,
+        SessionEnd::InputTooLong => Status::InputTooLong,
     }
 }

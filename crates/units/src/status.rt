@@ -11,16 +11,16 @@ pub enum Status {
     Refused,
     /// The words are not taken.
     Usage,
-    /// The definition file is absent or too long.
+    /// The definition file is absent, too long, or too much for a deck.
     NoFile,
-    /// The files failed, and have counted it.
+    /// The source or the files failed, and have counted it.
     ReadFault,
     /// A sink failed, and has counted it.
     WriteFault,
     /// There was not enough memory.
     NoMemory,
-    /// What is asked for is not built yet.
-    Unsupported,
+    /// More than 4,294,967,296 bytes of input were taken.
+    InputTooLong,
 }
 
 impl Status {
@@ -36,7 +36,7 @@ impl Status {
             Status::ReadFault => 4,
             Status::WriteFault => 5,
             Status::NoMemory => 6,
-            Status::Unsupported => 8,
+            Status::InputTooLong => 7,
         }
     }
 }

@@ -10,18 +10,28 @@ use std::sync::ledger::{Blank, Ledger};
 use std::test::Fail;
 use units_io::{MemFiles, MemSink, MemSource, Steps, Text, Texts, Vars};
 
-const FIRST: &[u8] = b"m !\nin 254|10000 m\nft 12|1 in\nyd 3|1 ft\n";
+// A file with an include that is there, which has one too, and an include that is not.
+const FILES: [(&[u8], &[u8]); 3] = [
+    (
+        b"main.units",
+        b"!include sub/a.units\n!include gone.units\n",
+    ),
+    (b"sub/a.units", b"m !\n!include b.units\n"),
+    (b"sub/b.units", b"z 4 m\n"),
+];
 
-const YARD: &[u8] = b"--exact -f f yd m";
+const OVER_FILES: &[u8] = b"-f,main.units,z,m";
 
-const WRONG: &[u8] = b"-d 0";
+const OUT: &[u8] = b"\t* 4\n\t/ 0.25\n";
+
+const ERR: &[u8] = b"main.units:2: no file: gone.units\n";
 
 // The calls that fail.
 #[derive(Clone, Copy)]
-struct Faults<'a> {
-    fetches: &'a [u64],
-    out: &'a [u64],
-    err: &'a [u64],
+struct Faults {
+    fetch: u64,
+    out: u64,
+    err: u64,
 }
 
 // What a run leaves.
@@ -32,30 +42,27 @@ struct Outcome {
     err: MemSink,
 }
 
-// The run of the words of a line over the file `f`, and over sinks that take 8 bytes at a time.
-fn run<L: Ledger>(
-    alloc: Global,
-    line: &[u8],
-    faults: Faults<'_>,
-    blank: Blank,
-) -> Result<Outcome, Fail>
+// The run of the words of a line, which commas part, over the files, and over sinks that take 8 bytes at a time.
+fn run<L: Ledger>(alloc: Global, line: &[u8], faults: Faults, blank: Blank) -> Result<Outcome, Fail>
     requires name { blank.name ≡ L.name }
     requires parts { blank.parts ≡ L.parts }
     requires some { 0 < blank.parts }
 {
     let mut steps: Steps<L> = Steps::new(blank);
-    let mut texts = Texts::new(alloc);
-    for word in line.split(|b| *b == b' ') {
-        texts.push(alloc, Text::from_bytes(alloc, word)?)?;
+    let mut words = Texts::new(alloc);
+    for word in line.split(|b| *b == b',') {
+        words.push(alloc, Text::from_bytes(alloc, word)?)?;
     }
-    let mut files = MemFiles::new(alloc, faults.fetches)?;
-    files.add(alloc, b"f", FIRST)?;
+    let mut files = MemFiles::new(alloc, &[faults.fetch])?;
+    for (name, bytes) in FILES {
+        files.add(alloc, name, bytes)?;
+    }
     let mut source = MemSource::new(alloc, b"never taken", 1, &[])?;
-    let mut out = MemSink::new(alloc, 1000, 8, faults.out)?;
-    let mut err = MemSink::new(alloc, 1000, 8, faults.err)?;
+    let mut out = MemSink::new(alloc, 1000, 8, &[faults.out])?;
+    let mut err = MemSink::new(alloc, 1000, 8, &[faults.err])?;
     let status = units_main(
         alloc,
-        texts.as_slice(),
+        words.as_slice(),
         &Vars::new(alloc),
         &mut source,
         &mut out,
@@ -67,72 +74,51 @@ fn run<L: Ledger>(
 }
 
 #[test]
-fn a_fetch_that_fails_ends_a_run_that_needs_the_file(rt: HostRuntime) -> Result<(), Fail> {
-    let faults = Faults {
-        fetches: &[1],
-        out: &[],
-        err: &[],
-    };
-    let yard = run::<Brand>(rt.alloc(), YARD, faults, Blank::new(1))?;
-    assert!(rt; yard.status == Status::ReadFault);
-    assert!(rt; yard.out.written().is_empty() && yard.err.written().is_empty());
-    let wrong = run::<Brand>(rt.alloc(), WRONG, faults, Blank::new(1))?;
-    assert!(rt; wrong.status == Status::Usage);
-    Ok(())
-}
-
-#[test]
-fn a_put_that_fails_leaves_a_front(rt: HostRuntime) -> Result<(), Fail> {
-    let fronts: [(u64, &[u8], Status); 5] = [
-        (1, b"", Status::WriteFault),
-        (2, b"\t* 1143|", Status::WriteFault),
-        (3, b"\t* 1143|1250\n\t/ ", Status::WriteFault),
-        (4, b"\t* 1143|1250\n\t/ 1250|114", Status::WriteFault),
-        (5, b"\t* 1143|1250\n\t/ 1250|1143\n", Status::Done),
-    ];
-    for (put, front, status) in fronts {
+fn a_fetch_that_fails_ends_a_run_over_files(rt: HostRuntime) -> Result<(), Fail> {
+    for fetch in 1..5 {
         let faults = Faults {
-            fetches: &[2],
-            out: &[put],
-            err: &[1],
+            fetch,
+            out: 0,
+            err: 0,
         };
-        let outcome = run::<Brand>(rt.alloc(), YARD, faults, Blank::new(1))?;
-        assert!(rt; outcome.status == status);
-        assert!(rt; outcome.out.written() == front);
-        assert!(rt; outcome.err.written().is_empty());
+        let outcome = run::<Brand>(rt.alloc(), OVER_FILES, faults, Blank::new(1))?;
+        assert!(rt; outcome.status == Status::ReadFault);
+        assert!(rt; outcome.out.written().is_empty() && outcome.err.written().is_empty());
     }
     Ok(())
 }
 
 #[test]
-fn a_complaint_that_fails_leaves_a_front(rt: HostRuntime) -> Result<(), Fail> {
-    let fronts: [(u64, &[u8], Status); 7] = [
-        (1, b"", Status::WriteFault),
-        (2, b"units: u", Status::WriteFault),
-        (3, b"units: usage: un", Status::WriteFault),
-        (4, b"units: usage: units [opt", Status::WriteFault),
-        (5, b"units: usage: units [options] [F", Status::WriteFault),
-        (
-            6,
-            b"units: usage: units [options] [FROM [TO]",
-            Status::WriteFault,
-        ),
-        (
-            7,
-            b"units: usage: units [options] [FROM [TO]]\n",
-            Status::Usage,
-        ),
+fn a_fetch_that_fails_is_not_made_for_the_built_in_text(rt: HostRuntime) -> Result<(), Fail> {
+    let faults = Faults {
+        fetch: 1,
+        out: 0,
+        err: 0,
+    };
+    let outcome = run::<Brand>(rt.alloc(), b"10 meters,feet", faults, Blank::new(1))?;
+    assert!(rt; outcome.status == Status::Done);
+    assert!(rt; outcome.out.written() == b"\t* 32.808399\n\t/ 0.03048\n".as_slice());
+    Ok(())
+}
+
+#[test]
+fn a_put_that_fails_leaves_a_front(rt: HostRuntime) -> Result<(), Fail> {
+    // The puts that fail, and how much is written before.
+    let cases: [(u64, u64, usize, usize); 7] = [
+        (1, 0, 0, 0),
+        (2, 0, 8, 0),
+        (0, 1, 13, 0),
+        (0, 2, 13, 8),
+        (0, 3, 13, 16),
+        (0, 4, 13, 24),
+        (0, 5, 13, 32),
     ];
-    for (put, front, status) in fronts {
-        let faults = Faults {
-            fetches: &[1],
-            out: &[1],
-            err: &[put],
-        };
-        let outcome = run::<Brand>(rt.alloc(), WRONG, faults, Blank::new(1))?;
-        assert!(rt; outcome.status == status);
-        assert!(rt; outcome.out.written().is_empty());
-        assert!(rt; outcome.err.written() == front);
+    for (out, err, out_len, err_len) in cases {
+        let faults = Faults { fetch: 0, out, err };
+        let outcome = run::<Brand>(rt.alloc(), OVER_FILES, faults, Blank::new(1))?;
+        assert!(rt; outcome.status == Status::WriteFault);
+        assert!(rt; outcome.out.written() == &OUT[..out_len]);
+        assert!(rt; outcome.err.written() == &ERR[..err_len]);
     }
     Ok(())
 }

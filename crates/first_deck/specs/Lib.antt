@@ -1,9 +1,0 @@
-pub mod FirstNames
-pub mod FirstLines
-pub mod FirstWords
-pub mod FirstFile
-pub mod FirstValues
-pub mod FirstDeck
-pub mod FirstEntries
-pub mod FirstReading
-pub mod FirstLoading

@@ -1,0 +1,163 @@
+-- How much the deck of a text holds that includes no file.
+use Rattle.std.proofs.Common.{◌≡◌, ◌≤◌, ◌+◌, ◌*◌, ◌++◌, ℕ, List, [], ◌∷◌, Bool, true, false, length, if◌then◌else◌, sym, ap, subst, ◌∙◌, arith, map}
+use Rattle.std.specs.Prelude.{◌||◌, codes, nat_lt, nat_le, suc}
+use Rattle.std.proofs.lemmas.Bool.Decides.{nat_tests}
+use Rattle.std.specs.List.{sum_by}
+use Rattle.std.proofs.lemmas.List.Sums.{sum_by-append, sum_by-cons}
+use Rattle.def_lines.specs.declared.line.Line.{Line}
+use Rattle.deck_lines.specs.declared.line.DeckLine.{DeckLine}
+use Rattle.deck_lines.specs.declared.line.Ending.{Ending}
+use Rattle.deck_lines.specs.declared.line.Ending.TheVariants as ending
+use Rattle.deck_lines.specs.declared.line.Block.{Block}
+use Rattle.deck_lines.specs.declared.line.Role.TheVariants.{Opens, Closes, Inside}
+use Rattle.deck_lines.specs.Blocks.{end_text}
+use Rattle.deck_lines.specs.Excerpts.{Included, NotRead, blocks_behind_line, closes_innermost, include_excerpt, line_excerpt, line_with_notice, line_without_notice, missing_end, outer_blocks, rest_excerpt}
+use Rattle.deck_lines.specs.Limits.{most_bytes, most_lines, pass_limit, text_len}
+use Rattle.deck_lines.specs.Includes.{beside, deck_of, included_below, included_by, lone_deck_of, most_depth, of_answer}
+use Rattle.std.specs.FinMap.{get-empty}
+use Rattle.std.specs.Ordering.{nat_cmp}
+use Rattle.std.specs.Cmp.Lexicographic.{slice_cmp}
+use Rattle.units_io.specs.Fetching.{answer_of}
+use Rattle.std.specs.declared.option.Option.{Option}
+use Rattle.units_io.specs.FileMap.{no_files}
+use Rattle.def_lines.specs.Lines.{logical_lines, shown}
+use Rattle.deck_lines.specs.Readings.{Reading, Stands, Defines, Includes, Faulty, reading_of}
+
+-- a line, and the bytes of its text
+abbrev pub size : DeckLine → ℕ
+size line = length line.text + 1
+
+-- the same of a line that is read, and of the end line of a block that it may open
+abbrev pub room : Line → ℕ
+room line = length line.text + 12
+
+pub length_in_size : (lines : List DeckLine) → length lines ≤ sum_by size lines
+length_in_size [] = omega arith
+length_in_size (line ∷ lines) =
+    let more : sum_by size (line ∷ lines) ≡ size line + sum_by size lines = sum_by-cons size line lines in
+    let rest : length lines ≤ sum_by size lines = length_in_size lines in
+    omega arith
+
+pub text_in_size : (lines : List DeckLine) → text_len lines ≤ sum_by size lines
+text_in_size [] = omega arith
+text_in_size (line ∷ lines) =
+    let more : sum_by size (line ∷ lines) ≡ size line + sum_by size lines = sum_by-cons size line lines in
+    let text : text_len (line ∷ lines) ≡ length line.text + text_len lines =
+    sum_by-cons (λ (l : DeckLine). length l.text) line lines in
+    let rest : text_len lines ≤ sum_by size lines = text_in_size lines in
+    omega arith
+
+end_size : (block : Block) → size (missing_end block) ≤ 11
+end_size block = by block.ending
+  where
+    by : (e : Ending) → length (end_text e) + 1 ≤ 11
+    by ending.ByLocale = omega arith
+    by ending.ByVar = omega arith
+    by ending.ByUtf8 = omega arith
+
+ends_size : (blocks : List Block) → sum_by size (map missing_end blocks) ≤ 11 * length blocks
+ends_size [] = omega arith
+ends_size (block ∷ blocks) =
+    let more : sum_by size (map missing_end (block ∷ blocks))
+    ≡ size (missing_end block) + sum_by size (map missing_end blocks) =
+    sum_by-cons size (missing_end block) (map missing_end blocks) in
+    let one : size (missing_end block) ≤ 11 = end_size block in
+    let rest : sum_by size (map missing_end blocks) ≤ 11 * length blocks = ends_size blocks in
+    omega arith
+
+outer_fewer : (blocks : List Block) → length (outer_blocks blocks) ≤ length blocks
+outer_fewer [] = omega arith
+outer_fewer (block ∷ blocks) = omega arith
+
+behind_few : (line : Line) (blocks : List Block) (reading : Reading)
+    → length (blocks_behind_line blocks line reading) ≤ length blocks + 1
+behind_few line blocks (Stands (Opens ending)) = omega arith
+behind_few line blocks (Stands (Closes ending)) = by (closes_innermost ending blocks)
+  where
+    by : (b : Bool) → length (if b then outer_blocks blocks else blocks) ≤ length blocks + 1
+    by true = let few : length (outer_blocks blocks) ≤ length blocks = outer_fewer blocks in omega arith
+    by false = omega arith
+behind_few line blocks (Stands Inside) = omega arith
+behind_few line blocks (Defines entry) = omega arith
+behind_few line blocks (Includes name) = omega arith
+behind_few line blocks (Faulty text) = omega arith
+
+-- no include is read
+abbrev pub ReadsNone : (List ℕ → Included) → Type 0
+ReadsNone included = (word : List ℕ) → (text : List ℕ) × (included word ≡ NotRead text)
+
+line_size : (included : List ℕ → Included) (file : List ℕ) (blocks : List Block) (line : Line) → ReadsNone included
+    → (reading : Reading)
+    → sum_by size (line_excerpt included file blocks line reading).lines ≡ length line.text + 1
+line_size included file blocks line none (Stands (Opens ending)) = omega arith
+line_size included file blocks line none (Stands (Closes ending)) = by (closes_innermost ending blocks)
+  where
+    by : (b : Bool)
+        → sum_by size (if b then line_without_notice line else line_with_notice file line (codes "stray end")).lines
+        ≡ length line.text + 1
+    by true = omega arith
+    by false = omega arith
+line_size included file blocks line none (Stands Inside) = omega arith
+line_size included file blocks line none (Defines entry) = omega arith
+line_size included file blocks line none (Includes name) =
+    let unread = none name in
+    subst (λ (i : Included). sum_by size (include_excerpt file line i).lines ≡ length line.text + 1) (sym unread.1)
+    (by unread.0)
+  where
+    by : (text : List ℕ) → sum_by size (include_excerpt file line (NotRead text)).lines ≡ length line.text + 1
+    by text = omega arith
+line_size included file blocks line none (Faulty text) = omega arith
+
+pub rest_size : (included : List ℕ → Included) (file : List ℕ) (blocks : List Block) (lines : List Line)
+    → ReadsNone included
+    → sum_by size (rest_excerpt included file blocks lines).lines ≤ 11 * length blocks + sum_by room lines
+unfolding rest_excerpt
+rest_size included file blocks [] none =
+    let ends : sum_by size (map missing_end blocks) ≤ 11 * length blocks = ends_size blocks in
+    omega arith
+rest_size included file blocks (line ∷ lines) none =
+    let first = line_excerpt included file blocks line (reading_of line.text) in
+    let behind = blocks_behind_line blocks line (reading_of line.text) in
+    let second = rest_excerpt included file behind lines in
+    let both : sum_by size (first.lines ++ second.lines) ≡ sum_by size first.lines + sum_by size second.lines =
+    sum_by-append size first.lines second.lines in
+    let one : sum_by size first.lines ≡ length line.text + 1 =
+    line_size included file blocks line none (reading_of line.text) in
+    let rest : sum_by size second.lines ≤ 11 * length behind + sum_by room lines =
+    rest_size included file behind lines none in
+    let few : length behind ≤ length blocks + 1 = behind_few line blocks (reading_of line.text) in
+    let more : sum_by room (line ∷ lines) ≡ room line + sum_by room lines = sum_by-cons room line lines in
+    omega arith
+
+-- lines that are small are within the limits
+pub within_limits : (lines : List DeckLine) → sum_by size lines ≤ 100000 → pass_limit lines ≡ false
+unfolding pass_limit
+within_limits lines small =
+    let many : length lines ≤ sum_by size lines = length_in_size lines in
+    let long : text_len lines ≤ sum_by size lines = text_in_size lines in
+    let few : nat_lt most_lines (length lines) ≡ false = grind (arith, nat_tests) in
+    let short : nat_lt most_bytes (text_len lines) ≡ false = grind (arith, nat_tests) in
+    neither (nat_lt most_lines (length lines)) (nat_lt most_bytes (text_len lines)) few short
+  where
+    neither : (a b : Bool) → a ≡ false → b ≡ false → (a || b) ≡ false
+    neither a b e f = ap (λ (x : Bool). x || b) e ∙ f
+
+-- where no file is, no include is read
+unread : (depth : ℕ) (file : List ℕ) → ReadsNone (included_by no_files (suc depth) file)
+unfolding included_below
+unread depth file word = (
+  codes "no file: " ++ beside file word,
+  ap (λ (bytes : Option (List ℕ)). of_answer (λ w. included_below no_files depth (beside (beside file word) w)) (beside file word) (answer_of bytes))
+      (get-empty (slice_cmp nat_cmp) (beside file word)),
+)
+
+-- the deck of a text that is small is within the limits
+pub small_deck_within : (name text : List ℕ) → nat_le (sum_by room (shown (logical_lines text))) 100000 ≡ true
+    → pass_limit (lone_deck_of name text).lines ≡ false
+unfolding deck_of
+small_deck_within name text small =
+    let lines = (lone_deck_of name text).lines in
+    let most : sum_by size lines ≤ 11 * 0 + sum_by room (shown (logical_lines text)) =
+    rest_size (included_by no_files most_depth name) name [] (shown (logical_lines text)) (unread 15 name) in
+    let few : sum_by room (shown (logical_lines text)) ≤ 100000 = grind (arith, nat_tests) in
+    within_limits lines (omega arith)

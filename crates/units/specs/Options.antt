@@ -1,0 +1,25 @@
+-- How replies are made and written, by the command line.
+use Rattle.std.specs.Prelude.{◌≤◌, ◌&&◌, ◌||◌, IfSome, not, unwrap_or}
+use Rattle.command_line.specs.declared.fields.CommandLine.{CommandLine}
+use Rattle.reply.specs.declared.options.Options.{Options}
+
+-- eight digits where none are asked for; `--terse` is four flags together; a compact reply is never verbose
+unfoldable pub options_of : CommandLine → Options
+options_of line = record {
+  digits = unwrap_or line.digits 8;
+  exact = line.exact;
+  strict = line.strict || line.terse;
+  one_line = line.one_line || line.terse;
+  compact = line.compact || line.terse;
+  quiet = line.quiet || line.terse;
+  round = line.round;
+  verbose = line.verbose && not (line.compact || line.terse);
+}
+
+-- where digits are asked for, they are from 1 to 36
+abbrev pub HasDigits : CommandLine → Type 0
+HasDigits line = IfSome line.digits (λ n. (1 ≤ n) × (n ≤ 36))
+
+-- where a trial is asked for, it is of 1 to 20,000 rounds
+abbrev pub HasRounds : CommandLine → Type 0
+HasRounds line = IfSome line.trial (λ n. (1 ≤ n) × (n ≤ 20000))

@@ -1,8 +1,0 @@
--- What is told of the files, and what is not.
-use Rattle.std.specs.Prelude.{◌≡◌, Bool, false, Some, None}
-use Rattle.std.specs.declared.option.Option.{Option}
-
--- this is what is told; where nothing is told it may be anything, so long as it is not needed
-abbrev pub TellsIf : {X : Type 0} → Bool → Option X → X → Type 0
-TellsIf needed (Some told) x = told ≡ x
-TellsIf needed None x = needed ≡ false
