@@ -1,0 +1,15 @@
+# Completion of units for fish.
+complete -c units -f
+complete -c units -s d -l digits -x -d 'Significant digits, 1 to 36'
+complete -c units -l exact -d 'Numbers as n or n|d'
+complete -c units -s 1 -l one-line -d 'Only the forward line'
+complete -c units -l compact -d 'No tab, no signs'
+complete -c units -s t -l terse -d 'Strict, quiet, one-line and compact together'
+complete -c units -s q -l quiet -d 'No banner, no messages, no prompts'
+complete -c units -s s -l strict -d 'No reciprocal conversion'
+complete -c units -s r -l round -d 'Round the last unit of a list'
+complete -c units -s v -l verbose -d 'FROM and TO in the reply'
+complete -c units -s f -l file -r -F -d 'Definition file'
+complete -c units -s l -l locale -x -a 'en_US en_GB' -d 'Locale'
+complete -c units -s c -l check -d 'Report of all faults in the definitions'
+complete -c units -l trial -x -d 'Trial of N lines, 1 to 20,000'
