@@ -1,7 +1,8 @@
 //! How a file of the system is read.
-ghost use Rattle.std.specs.Prelude.{◌≤◌, length, vec_len, IfOk};
+ghost use Rattle.std.specs.Prelude.{◌≤◌, ◌+◌, length, vec_len, IfOk};
 ghost use Rattle.units_io.specs.FileMap.{longest_file};
 
+use super::source::read_some;
 use crate::files::{FetchFault, LONGEST_FILE};
 use crate::text::Text;
 use std::alloc::{AllocError, Global};
@@ -16,13 +17,19 @@ const BLOCK: usize = 65_536;
 pub(super) fn read_file<H: Files>(rt: &H, alloc: Global, path: &str) -> Result<Text, FetchFault>
     ensures { IfOk result (λ text. length text ≤ longest_file) }
 {
-    let file = match File::open(rt, path) {
-        Ok(file) => file,
-        Err(e) if e.kind() == ErrorKind::NotFound => return Err(FetchFault::Absent),
-        Err(_) => return Err(FetchFault::Failed),
-    };
-    let room = vec![in alloc; 0; room_for(&file)]?;
-    Ok(Text::from(read_whole(file, room)?))
+    let mut file = open(rt, path)?;
+    let mut bytes = vec![in alloc; 0; room_for(&file)]?;
+    let len = read_whole(&mut file, &mut bytes)?;
+    bytes.truncate(len);
+    Ok(Text::from(bytes))
+}
+
+fn open<H: Files>(rt: &H, path: &str) -> Result<H::File, FetchFault> {
+    match File::open(rt, path) {
+        Ok(file) => Ok(file),
+        Err(e) if e.kind() == ErrorKind::NotFound => Err(FetchFault::Absent),
+        Err(_) => Err(FetchFault::Failed),
+    }
 }
 
 // The length that the system tells, and a block, so that a file is mostly read at once.
@@ -33,29 +40,36 @@ fn room_for<F: OpenFile>(file: &F) -> usize {
     }
 }
 
-// The bytes up to the end of the file, in this room, which grows where it does not last.
-fn read_whole<F: Read + Drop>(mut file: F, room: Vec<u8>) -> Result<Vec<u8>, FetchFault>
-    ensures { IfOk result (λ bytes. vec_len bytes ≤ longest_file) }
+// Reads up to the end of the file into this room, which grows where it does not last, and says how
+// many bytes they are.
+fn read_whole<F: Read>(file: &mut F, bytes: &mut Vec<u8>) -> Result<usize, FetchFault>
+    ensures { IfOk result (λ len. len ≤ longest_file) }
 {
-    let mut bytes = room;
     let mut end = 0;
     for _ in 0..u64::MAX {
-        keep_block(&mut bytes, end)?;
-        match file.read(&mut bytes.as_mut_slice()[end..]) {
-            Ok(0) => {
-                bytes.truncate(end);
-                return Ok(bytes);
-            }
-            Ok(n) => end += n,
-            Err(e) if e.kind() == ErrorKind::Interrupted => {}
-            Err(e) if e.kind() == ErrorKind::OutOfMemory => return Err(FetchFault::OutOfMemory),
-            Err(_) => return Err(FetchFault::Failed),
+        keep_block(bytes, end)?;
+        let read = read_behind(file, bytes, end)?;
+        if read == 0 {
+            return Ok(end);
         }
+        end += read;
         if end > LONGEST_FILE {
             return Err(FetchFault::TooLong);
         }
     }
     Err(FetchFault::Failed)
+}
+
+// Reads once into the room behind the end, and says how many bytes.
+fn read_behind<F: Read>(file: &mut F, bytes: &mut Vec<u8>, end: usize) -> Result<usize, FetchFault>
+    requires { end ≤ vec_len bytes.old }
+    ensures { IfOk result (λ read. end + read ≤ vec_len bytes.new) }
+{
+    match read_some(file, &mut bytes.as_mut_slice()[end..]) {
+        Ok(read) => Ok(read),
+        Err(e) if e.kind() == ErrorKind::OutOfMemory => Err(FetchFault::OutOfMemory),
+        Err(_) => Err(FetchFault::Failed),
+    }
 }
 
 // Doubles the room where less than a block is left behind the end.

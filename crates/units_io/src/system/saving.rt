@@ -10,6 +10,13 @@ use std::{fs, io};
 // How many names of a new file are tried, each of which a run that was cut off may have left.
 const MOST_NAMES: u32 = 1000;
 
+// A new file under a name that no other had.
+#[derive(Drop)]
+struct NewFile<F> {
+    name: String,
+    file: F,
+}
+
 // Gives the file at this path these bytes, whole or not at all.
 pub(super) fn save_file<H: Files>(
     rt: &H,
@@ -17,18 +24,31 @@ pub(super) fn save_file<H: Files>(
     path: &str,
     bytes: &[u8],
 ) -> Result<(), StoreFault> {
-    let permissions = match fs::metadata(rt, path) {
-        Ok(old) if old.is_file() => Some(old.permissions()),
-        Err(e) if e.kind() == ErrorKind::NotFound => None,
-        _ => return Err(StoreFault::Failed),
-    };
+    let permissions = kept_permissions(rt, path)?;
+    let NewFile { name, file } = new_file_beside(rt, alloc, path)?;
+    let written = write_whole(file, permissions, bytes);
+    put_in_place(rt, name.as_str(), path, written)
+}
+
+// The permissions of the file that is to be replaced, if there is one.
+fn kept_permissions<H: Files>(rt: &H, path: &str) -> Result<Option<Permissions>, StoreFault> {
+    match fs::metadata(rt, path) {
+        Ok(old) if old.is_file() => Ok(Some(old.permissions())),
+        Err(e) if e.kind() == ErrorKind::NotFound => Ok(None),
+        _ => Err(StoreFault::Failed),
+    }
+}
+
+// A new file in the folder of this path.
+fn new_file_beside<H: Files>(
+    rt: &H,
+    alloc: Global,
+    path: &str,
+) -> Result<NewFile<H::File>, StoreFault> {
     for number in 0..MOST_NAMES {
-        let beside = name_beside(alloc, path, number)?;
-        match File::create_new(rt, beside.as_str()) {
-            Ok(file) => {
-                let written = write_whole(file, permissions, bytes);
-                return put_in_place(rt, beside.as_str(), path, written);
-            }
+        let name = name_beside(alloc, path, number)?;
+        match File::create_new(rt, name.as_str()) {
+            Ok(file) => return Ok(NewFile { name, file }),
             Err(e) if e.kind() == ErrorKind::AlreadyExists => {}
             Err(_) => return Err(StoreFault::Failed),
         }

@@ -67,7 +67,7 @@ impl<R: Read + Drop> Source for StdSource<R> {
 }
 
 // Reads once, and again where a signal interrupted the read.
-fn read_some<R: Read>(reader: &mut R, buf: &mut [u8]) -> io::Result<usize>
+pub(super) fn read_some<R: Read>(reader: &mut R, buf: &mut [u8]) -> io::Result<usize>
     ensures { IfOk result (λ n. n ≤ length buf.new) }
 {
     for _ in 0..u64::MAX {

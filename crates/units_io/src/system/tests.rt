@@ -1,7 +1,11 @@
 //! Readers and writers that fail, and files of the folder that the test runs in.
-use crate::{DirFiles, Failed, FetchFault, Files, Sink, Source, StdSink, StdSource, StoreFault};
+ghost use Rattle.std.specs.Prelude.{◌≤◌, length};
+ghost use Rattle.units_io.specs.FileMap.{longest_file};
+
+use crate::{
+    DirFiles, Failed, FetchFault, Files, Sink, Source, StdSink, StdSource, StoreFault, Text,
+};
 use std::io::{ErrorKind, Read, Write};
-use std::test::Fail;
 use std::{fs, io};
 
 // A reader and a writer of one byte a call, whose second call ends in this error.
@@ -97,6 +101,28 @@ fn empty_folder(rt: &HostRuntime, name: &str) -> io::Result<()> {
     fs::create_dir(rt, name)
 }
 
+fn fetched(rt: &HostRuntime, name: &[u8]) -> Result<Text, FetchFault> {
+    DirFiles::new(rt).fetch(rt.alloc(), name)
+}
+
+// Whether the file of this name has these bytes.
+fn holds(rt: &HostRuntime, name: &[u8], bytes: &[u8]) -> bool {
+    match fetched(rt, name) {
+        Ok(text) => text.as_bytes() == bytes,
+        Err(_) => false,
+    }
+}
+
+fn stored(rt: &HostRuntime, name: &[u8], bytes: &[u8]) -> Result<(), StoreFault>
+    requires { length bytes.now ≤ longest_file }
+{
+    DirFiles::new(rt).store(rt.alloc(), name, bytes)
+}
+
+fn file_count(rt: &HostRuntime, folder: &str) -> io::Result<usize> {
+    Ok(fs::read_dir(rt, folder)?.count())
+}
+
 // Names of files that are not there, and of what cannot be read.
 const UNREAD: &[(&[u8], FetchFault)] = &[
     (b"", FetchFault::Absent),
@@ -109,33 +135,26 @@ const UNREAD: &[(&[u8], FetchFault)] = &[
 ];
 
 #[test]
-fn files_that_cannot_be_read(rt: HostRuntime) -> Result<(), Fail> {
-    let alloc = rt.alloc();
+fn files_that_cannot_be_read(rt: HostRuntime) -> io::Result<()> {
     empty_folder(&rt, "test-read")?;
     fs::write(&rt, "test-read/plain", b"m !")?;
-    let mut files = DirFiles::new(&rt);
     for (name, want) in UNREAD {
-        assert!(rt; files.fetch(alloc, *name).err() == Some(*want));
+        assert!(rt; fetched(&rt, *name).err() == Some(*want));
     }
-    fs::remove_dir_all(&rt, "test-read")?;
-    Ok(())
+    fs::remove_dir_all(&rt, "test-read")
 }
 
 #[test]
-fn the_longest_file_is_read(rt: HostRuntime) -> Result<(), Fail> {
-    let alloc = rt.alloc();
+fn the_longest_file_is_read(rt: HostRuntime) -> io::Result<()> {
     empty_folder(&rt, "test-long")?;
-    let mut bytes = Vec::new(alloc);
+    let mut bytes = Vec::new(rt.alloc());
     bytes.resize(16_777_216, b'x')?;
     fs::write(&rt, "test-long/file", bytes.as_slice())?;
-    let mut files = DirFiles::new(&rt);
-    let text = files.fetch(alloc, b"test-long/file")?;
-    assert!(rt; text.as_bytes() == bytes.as_slice());
+    assert!(rt; holds(&rt, b"test-long/file", bytes.as_slice()));
     bytes.push(b'x')?;
     fs::write(&rt, "test-long/file", bytes.as_slice())?;
-    assert!(rt; files.fetch(alloc, b"test-long/file").err() == Some(FetchFault::TooLong));
-    fs::remove_dir_all(&rt, "test-long")?;
-    Ok(())
+    assert!(rt; fetched(&rt, b"test-long/file").err() == Some(FetchFault::TooLong));
+    fs::remove_dir_all(&rt, "test-long")
 }
 
 // Files that are stored, one after another.
@@ -147,22 +166,18 @@ const STORED: &[(&[u8], &[u8])] = &[
 ];
 
 #[test]
-fn a_stored_file_is_read_back(rt: HostRuntime) -> Result<(), Fail> {
-    let alloc = rt.alloc();
+fn a_stored_file_is_read_back(rt: HostRuntime) -> io::Result<()> {
     empty_folder(&rt, "test-saved")?;
     fs::write(&rt, "test-saved/.units-save-0", b"left by another run")?;
-    let mut files = DirFiles::new(&rt);
     for (name, bytes) in STORED {
-        assert!(rt; files.store(alloc, *name, *bytes).is_ok());
-        assert!(rt; files.fetch(alloc, *name)?.as_bytes() == *bytes);
+        assert!(rt; stored(&rt, *name, *bytes).is_ok());
+        assert!(rt; holds(&rt, *name, *bytes));
     }
-    let left = files.fetch(alloc, b"test-saved/.units-save-0")?;
-    assert!(rt; left.as_bytes() == b"left by another run".as_slice());
-    assert!(rt; fs::read_dir(&rt, "test-saved")?.count() == 2);
-    assert!(rt; files.fetch(alloc, b".units-save-0").err() == Some(FetchFault::Absent));
+    assert!(rt; holds(&rt, b"test-saved/.units-save-0", b"left by another run"));
+    assert!(rt; file_count(&rt, "test-saved")? == 2);
+    assert!(rt; fetched(&rt, b".units-save-0").err() == Some(FetchFault::Absent));
     fs::remove_file(&rt, "test-saved-beside")?;
-    fs::remove_dir_all(&rt, "test-saved")?;
-    Ok(())
+    fs::remove_dir_all(&rt, "test-saved")
 }
 
 // Names under which nothing can be stored.
@@ -178,19 +193,15 @@ const UNSTORED: &[&[u8]] = &[
 ];
 
 #[test]
-fn a_failed_store_leaves_nothing(rt: HostRuntime) -> Result<(), Fail> {
-    let alloc = rt.alloc();
+fn a_failed_store_leaves_nothing(rt: HostRuntime) -> io::Result<()> {
     empty_folder(&rt, "test-failed")?;
     fs::create_dir(&rt, "test-failed/inner")?;
     fs::write(&rt, "test-failed/plain", b"m !")?;
-    let mut files = DirFiles::new(&rt);
     for name in UNSTORED {
-        assert!(rt; files.store(alloc, *name, b"g 3 m") == Err(StoreFault::Failed));
+        assert!(rt; stored(&rt, *name, b"g 3 m") == Err(StoreFault::Failed));
     }
-    let plain = files.fetch(alloc, b"test-failed/plain")?;
-    assert!(rt; plain.as_bytes() == b"m !".as_slice());
-    assert!(rt; fs::read_dir(&rt, "test-failed")?.count() == 2);
-    assert!(rt; fs::read_dir(&rt, "test-failed/inner")?.count() == 0);
-    fs::remove_dir_all(&rt, "test-failed")?;
-    Ok(())
+    assert!(rt; holds(&rt, b"test-failed/plain", b"m !"));
+    assert!(rt; file_count(&rt, "test-failed")? == 2);
+    assert!(rt; file_count(&rt, "test-failed/inner")? == 0);
+    fs::remove_dir_all(&rt, "test-failed")
 }
