@@ -41,16 +41,8 @@ pub(crate) fn has_operand(tokens: &[Token], at: usize) -> bool
     ensures { result ≡ begins (tokens_from tokens.now at) }
 {
     match tokens.get(at) {
-        Some(
-            Token::Numeral(_)
-            | Token::Word(_)
-            | Token::WordWithPower(_, _)
-            | Token::Head(_)
-            | Token::Root(_)
-            | Token::Tilde
-            | Token::Open,
-        ) => true,
-        _ => false,
+        Some(token) => token.begins_operand(),
+        None => false,
     }
 }
 

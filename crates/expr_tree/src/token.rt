@@ -2,6 +2,7 @@
 
 ghost use Rattle.std.specs.Prelude.{◌≡◌};
 ghost use Rattle.expr_tree.specs.Lexemes.{is_numeral_token};
+ghost use Rattle.expr_tree.specs.Rules.{begins_operand};
 ghost use Rattle.expr_tree.specs.Seen.{seen};
 
 use crate::operator::RootKind;
@@ -28,6 +29,22 @@ pub(crate) enum Token<'a> {
 }
 
 impl Token<'_> {
+    // Whether an operand may begin with it.
+    pub(crate) fn begins_operand(&self) -> bool
+        ensures { result ≡ begins_operand (seen self.now) }
+    {
+        matches!(
+            self,
+            Token::Numeral(_)
+                | Token::Word(_)
+                | Token::WordWithPower(_, _)
+                | Token::Head(_)
+                | Token::Root(_)
+                | Token::Tilde
+                | Token::Open
+        )
+    }
+
     // Whether it is a numeral.
     pub(crate) fn is_numeral(&self) -> bool
         ensures { result ≡ is_numeral_token (seen self.now) }
