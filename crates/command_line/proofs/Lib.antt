@@ -1,4 +1,5 @@
-mod Simple
 mod FirstValue
+mod Flags
 mod Ranges
+mod Simple
 mod TakenLemmas

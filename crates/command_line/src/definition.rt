@@ -1,5 +1,5 @@
 //! The program's command, as clap is told of it.
-ghost use Rattle.std.specs.Prelude.{◌≡◌, IfOk, Some, None, codes};
+ghost use Rattle.std.specs.Prelude.{◌≡◌, ◌∷◌, [], IfOk, Some, None, codes, map};
 ghost use Rattle.clap.specs.Words.{app_of, with_rule};
 ghost use Rattle.command_line.specs.Rules.{flag_rule, option_rule, operand_rule, with_rules};
 ghost use Rattle.command_line.specs.Rules.{bare_app, any_text, letter, number_up_to};
@@ -32,61 +32,87 @@ fn bare_command<'a>(alloc: Global) -> Command<'a>
 fn with_reply_options<'a>(alloc: Global, command: Command<'a>) -> Result<Command<'a>, AllocError>
     ensures { IfOk result (λ r. app_of r ≡ with_rules (app_of command.entry) reply_rules) }
 {
-    let with_digits = with_digits(alloc, command)?;
-    let with_exact = with_long_flag(alloc, with_digits, "exact")?;
-    let with_one_line = with_flag(alloc, with_exact, "one-line", '1')?;
-    let with_compact = with_long_flag(alloc, with_one_line, "compact")?;
-    with_flag(alloc, with_compact, "terse", 't')
+    let command = with_digits(alloc, command)?;
+    let flags = [
+        ("exact", None),
+        ("one-line", Some('1')),
+        ("compact", None),
+        ("terse", Some('t')),
+    ];
+    with_flags(alloc, command, &flags)
 }
 
 /// Adds the flags that say how the program goes about its work.
 fn with_mode_options<'a>(alloc: Global, command: Command<'a>) -> Result<Command<'a>, AllocError>
     ensures { IfOk result (λ r. app_of r ≡ with_rules (app_of command.entry) mode_rules) }
 {
-    let with_quiet = with_flag(alloc, command, "quiet", 'q')?;
-    let with_strict = with_flag(alloc, with_quiet, "strict", 's')?;
-    let with_round = with_flag(alloc, with_strict, "round", 'r')?;
-    let with_verbose = with_flag(alloc, with_round, "verbose", 'v')?;
-    with_flag(alloc, with_verbose, "check", 'c')
+    let flags = [
+        ("quiet", Some('q')),
+        ("strict", Some('s')),
+        ("round", Some('r')),
+        ("verbose", Some('v')),
+        ("check", Some('c')),
+    ];
+    with_flags(alloc, command, &flags)
 }
 
 /// Adds what the program works on: definition file, locale, trial and the two operands.
 fn with_sources<'a>(alloc: Global, command: Command<'a>) -> Result<Command<'a>, AllocError>
     ensures { IfOk result (λ r. app_of r ≡ with_rules (app_of command.entry) source_rules) }
 {
-    let with_file = with_text_option(alloc, command, "file", 'f')?;
-    let with_locale = with_text_option(alloc, with_file, "locale", 'l')?;
-    let with_trial = with_trial(alloc, with_locale)?;
-    let with_from = with_operand(alloc, with_trial, "from")?;
-    with_operand(alloc, with_from, "to")
+    let command = with_file_and_locale(alloc, command)?;
+    let command = with_trial(alloc, command)?;
+    with_operands(alloc, command)
+}
+
+fn with_file_and_locale<'a>(alloc: Global, command: Command<'a>) -> Result<Command<'a>, AllocError>
+    ensures { IfOk result (λ r. app_of r ≡ with_rules (app_of command.entry)
+        (option_rule (codes "file") (letter (codes "f")) any_text
+        ∷ option_rule (codes "locale") (letter (codes "l")) any_text
+        ∷ [])) }
+{
+    let command = with_text_option(alloc, command, "file", 'f')?;
+    with_text_option(alloc, command, "locale", 'l')
+}
+
+fn with_operands<'a>(alloc: Global, command: Command<'a>) -> Result<Command<'a>, AllocError>
+    ensures { IfOk result (λ r. app_of r ≡ with_rules (app_of command.entry)
+        (operand_rule (codes "from") ∷ operand_rule (codes "to") ∷ [])) }
+{
+    let command = with_operand(alloc, command, "from")?;
+    with_operand(alloc, command, "to")
+}
+
+/// Adds flags, each by its name and its letter.
+fn with_flags<'a>(
+    alloc: Global,
+    command: Command<'a>,
+    flags: &[(&'a str, Option<char>)],
+) -> Result<Command<'a>, AllocError>
+    ensures { IfOk result (λ r. app_of r
+        ≡ with_rules (app_of command.entry) (map (λ flag. flag_rule flag.0.now flag.1) flags.entry.now)) }
+{
+    let mut command = command;
+    for (name, short) in flags {
+        command = with_flag(alloc, command, *name, *short)?;
+    }
+    Ok(command)
 }
 
 fn with_flag<'a>(
     alloc: Global,
     command: Command<'a>,
     name: &'a str,
-    short: char,
+    short: Option<char>,
 ) -> Result<Command<'a>, AllocError>
     ensures { IfOk result (λ r. app_of r
-        ≡ with_rule (app_of command.entry) (flag_rule name.entry.now (Some short))) }
-{
-    let flag = Arg::new(alloc, name)
-        .long(name)
-        .short(short)
-        .action(ArgAction::SetTrue);
-    command.arg(flag)
-}
-
-fn with_long_flag<'a>(
-    alloc: Global,
-    command: Command<'a>,
-    name: &'a str,
-) -> Result<Command<'a>, AllocError>
-    ensures { IfOk result (λ r. app_of r
-        ≡ with_rule (app_of command.entry) (flag_rule name.entry.now None)) }
+        ≡ with_rule (app_of command.entry) (flag_rule name.entry.now short)) }
 {
     let flag = Arg::new(alloc, name).long(name).action(ArgAction::SetTrue);
-    command.arg(flag)
+    match short {
+        Some(letter) => command.arg(flag.short(letter)),
+        None => command.arg(flag),
+    }
 }
 
 fn with_text_option<'a>(

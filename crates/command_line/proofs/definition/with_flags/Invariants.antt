@@ -1,0 +1,10 @@
+use Rattle.std.proofs.Common.{◌≡◌, drop, map}
+use Rattle.clap.specs.Words.{app_of}
+use Rattle.command_line.specs.Rules.{flag_rule, with_rules}
+use Rattle.command_line.proofs.definition.with_flags.Given as goal
+
+-- what the flags to come make of the command
+abbrev pub invariant-loop-name : goal.invariant-loop-name
+invariant-loop-name l =
+    with_rules (app_of l.command) (map (λ flag. flag_rule flag.0.now flag.1) (drop l.name-index l.flags))
+    ≡ with_rules (app_of l.fn.command) (map (λ flag. flag_rule flag.0.now flag.1) l.flags)
