@@ -36,7 +36,7 @@ pub(crate) fn shown(alloc: Global, answer: Result<Quantity, Refusal>) -> Result<
 pub(crate) fn outcome_text(alloc: Global, outcome: &Outcome) -> Result<Text, AllocError> {
     match outcome {
         Outcome::Value(q) => q.show(alloc, Style::Exact),
-        Outcome::Fault(fault) => fault_text(alloc, fault),
+        Outcome::Fault(fault) => fault_text(alloc, fault.get()),
         Outcome::Callable => Text::from_bytes(alloc, b"function"),
     }
 }

@@ -1,9 +1,9 @@
 //! The two ends of a function: what its argument and its result have to be.
 
-ghost use Rattle.std.specs.Prelude.{◌≡◌};
+ghost use Rattle.std.specs.Prelude.{◌≡◌, Ok};
 ghost use Rattle.std.specs.Option.{option_copied};
 ghost use Rattle.tree_eval.specs.Answers.{Answers, Gives};
-ghost use Rattle.tree_eval.specs.Ends.{IsEnd};
+ghost use Rattle.tree_eval.specs.Ends.{IsEnd, end_tested};
 ghost use Rattle.tree_eval.specs.Refusals.{named};
 ghost use Rattle.tree_eval.specs.Tests as spec;
 
@@ -77,8 +77,23 @@ impl<'f> End<'f> {
         }
     }
 
+    // That a quantity is what is asked for here, by the value of the unit: it conforms, and its number
+    // is in the span.
+    pub(crate) fn check(
+        &self,
+        alloc: Global,
+        name: &[u8],
+        unit: Option<&Quantity>,
+        q: &Quantity,
+    ) -> Result<(), EvalFault>
+        ensures { Gives (λ _. q.now) result (end_tested name.now (Ok (option_copied unit.entry)) self.now q.now) }
+    {
+        self.check_unit(alloc, name, unit, q)?;
+        self.check_span(alloc, name, unit, q)
+    }
+
     // That a quantity conforms to the unit, by its value, or is a number where only a span stands.
-    pub(crate) fn check_unit(
+    fn check_unit(
         &self,
         alloc: Global,
         name: &[u8],
@@ -100,7 +115,7 @@ impl<'f> End<'f> {
     }
 
     // That its number in the unit is in the span, where one stands.
-    pub(crate) fn check_span(
+    fn check_span(
         &self,
         alloc: Global,
         name: &[u8],

@@ -100,10 +100,10 @@ fn apply_function<E: Env>(
         (entry.Function (function_view f.now)) }
     ensures { Answers result (spec.applied (E.callee env.now id) arg.now) }
 {
-    check_end(alloc, env, id, End::argument(f), arg)?;
+    check_end(alloc, env, id, &End::argument(f), arg)?;
     let holder = Holder::Of(id, Part::Forward);
     let result = tree_worth(alloc, env, holder, &f.forward, Some(arg))?;
-    check_end(alloc, env, id, End::result(f), result.get())?;
+    check_end(alloc, env, id, &End::result(f), result.get())?;
     Ok(result.own(alloc)?)
 }
 
@@ -124,10 +124,10 @@ fn unapply_function<E: Env>(
     let Some(inverse) = &f.inverse else {
         return Err(Refusal::NoInverse.by(alloc, env.function_name(id)));
     };
-    check_end(alloc, env, id, End::value(f), value)?;
+    check_end(alloc, env, id, &End::value(f), value)?;
     let holder = Holder::Of(id, Part::Inverse);
     let result = tree_worth(alloc, env, holder, inverse, Some(value))?;
-    check_end(alloc, env, id, End::inverse(f), result.get())?;
+    check_end(alloc, env, id, &End::inverse(f), result.get())?;
     Ok(result.own(alloc)?)
 }
 
@@ -137,22 +137,20 @@ fn check_end<E: Env>(
     alloc: Global,
     env: &E,
     id: usize,
-    end: End<'_>,
+    end: &End<'_>,
     q: &Quantity,
 ) -> Result<(), EvalFault>
     requires has { IsTrue (E.has env.now id) }
-    requires words { E.words env.now (Holder.Of id end.part) ≡ words_if (option_map syntax end.unit.now) }
+    requires words { E.words env.now (Holder.Of id end.now.part) ≡ words_if (option_map syntax end.now.unit.now) }
     ensures { Gives (λ _. q.now) result (end_tested (expanded.name_of (E.callee env.now id))
-        (spec.unit_value (expand_if (E.means env.now) (option_map syntax end.entry.unit.now))) end.entry q.now) }
+        (spec.unit_value (expand_if (E.means env.now) (option_map syntax end.now.unit.now))) end.now q.now) }
 {
     let holder = Holder::Of(id, end.part);
     let unit = match end.unit {
         Some(unit) => Some(tree_worth(alloc, env, holder, unit, None)?),
         None => None,
     };
-    let name = env.function_name(id);
-    end.check_unit(alloc, name, lent(&unit), q)?;
-    end.check_span(alloc, name, lent(&unit), q)
+    end.check(alloc, env.function_name(id), lent(&unit), q)
 }
 
 // The steps of a table.

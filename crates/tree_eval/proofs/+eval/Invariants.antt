@@ -56,7 +56,7 @@ decreases-function::unapply_table g l = 4 * weight_callable (g.E.Env.callee l.en
 
 abbrev pub decreases-function::check_end : goal.decreases-function::check_end
 decreases-function::check_end g l =
-    4 * weight_given (expand_if (g.E.Env.means l.env.now) (option_map syntax l.end.unit.now)) + 3
+    4 * weight_given (expand_if (g.E.Env.means l.env.now) (option_map syntax l.end.now.unit.now)) + 3
 
 abbrev pub invariant-scope::Scope::chain-loop-i : goal.invariant-scope::Scope::chain-loop-i
 invariant-scope::Scope::chain-loop-i g l =
