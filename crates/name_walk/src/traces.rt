@@ -127,14 +127,16 @@ impl Traces {
         self.order.clear();
     }
 
-    // Takes the marks away, at the cost of the names that have one, and the path.
-    pub(crate) fn clean(&mut self)
+    // Takes the marks away, at the cost of the names that have one, and the path. Their memory is given back: a long
+    // walk is rare, and what comes behind it wants memory of its own.
+    pub(crate) fn clean(&mut self, alloc: Global)
         requires { AreEntered self.old.marks self.old.entered }
         ensures { IsCleared self.old self.new }
     {
         while let Some(name) = self.entered.pop() {
             self.marks[name] = Mark::Open;
         }
-        self.frames.clear();
+        self.entered = Vec::new(alloc);
+        self.frames = Vec::new(alloc);
     }
 }

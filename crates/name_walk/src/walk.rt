@@ -71,7 +71,7 @@ impl Walker {
         self.traces.cover(net.steps.len())?;
         self.traces.forget_order();
         let result = visit_each(alloc, net, query, &mut self.traces);
-        self.traces.clean();
+        self.traces.clean(alloc);
         result
     }
 }
