@@ -71,7 +71,7 @@ stays locale around x e h = by x.mark h
     by true g = refl
     by false g = kind_stays x.text e locale around (kind_of x.text) g
 
-blocks_stay : (blocks : List Ending) (x : DeckLine) (e : Key × Entry) → entry_in x ≡ Some e → blocks_past blocks x ≡ Some blocks
+pub blocks_stay : (blocks : List Ending) (x : DeckLine) (e : Key × Entry) → entry_in x ≡ Some e → blocks_past blocks x ≡ Some blocks
 unfolding blocks_past
 blocks_stay blocks x e h =
     ap (λ m. cond m (Some blocks) (blocks_past_role blocks (role_of (kind_of x.text)))) (plain_by x e h) ∙ ap (blocks_past_role blocks) (inside x e h)

@@ -192,7 +192,7 @@ last_behind old new settings last numbering h e =
     last_extended old.names new.names (definitions settings old.lines) last h (key_stays old.names new.names each)
     (λ n k none some. unplaced old settings k numbering (key_fresh old.names new.names each n k none some))
 
-take_front : {A : Type 0} (xs ys : List A) → take (length xs) (xs ++ ys) ≡ xs
+pub take_front : {A : Type 0} (xs ys : List A) → take (length xs) (xs ++ ys) ≡ xs
 take_front [] ys = refl
 take_front (x ∷ xs) ys = ap (λ t. x ∷ t) (take_front xs ys)
 

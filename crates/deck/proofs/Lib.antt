@@ -24,4 +24,5 @@ mod Sameness
 mod Splicing
 mod TableLines
 mod Telling
+mod Undefining
 mod Variables

@@ -12,3 +12,4 @@ pub mod Numbers
 pub mod PlacedKeys
 pub mod Splices
 pub mod Tables
+pub mod Undefining

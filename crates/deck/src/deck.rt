@@ -16,11 +16,13 @@ mod drop_last;
 mod keys;
 mod lines_from;
 mod loading;
+mod near;
 mod placed_keys;
 mod snapshot;
 mod splice;
 mod switch;
 mod texts;
+mod undefine;
 
 use crate::places::LastPlaces;
 use crate::settings::Settings;
@@ -139,8 +141,8 @@ impl Deck {
         &self.settings
     }
 
-    // The place of the last active line of a key.
-    fn place_of(&self, kind: Kind, name: &[u8]) -> Option<usize>
+    /// The place in `lines`, from 0, of the last active line of a key, or `None` where there is none. It takes no memory.
+    pub fn place_of(&self, kind: Kind, name: &[u8]) -> Option<usize>
         ensures { result ≡ tables.last_place self.now.settings self.now.lines (key_named kind name.now) }
     {
         let Some(number) = self.store.number_of(kind, name) else {

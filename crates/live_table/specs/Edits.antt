@@ -1,9 +1,10 @@
 -- What the edits of a live table do.
-use Rattle.std.specs.Prelude.{◌≡◌, ◌⊎◌, Result, Ok, Err}
+use Rattle.std.specs.Prelude.{◌≡◌, ◌⊎◌, ℕ, List, Option, Result, Ok, Err}
 use Rattle.std.specs.declared.alloc.AllocError.{AllocError}
 use Rattle.deck.specs.Decks.{Contents}
 use Rattle.deck.specs.Loading.{MayFail}
 use Rattle.deck.specs.Splices.{after_splice, inverse}
+use Rattle.deck.specs.Undefining.{IsLastText, place_of_key, without_last}
 use Rattle.deck.specs.declared.fault.DeckFault.{DeckFault}
 use Rattle.deck.specs.declared.fault.DeckFault.TheVariants.{OutOfMemory}
 use Rattle.deck.specs.declared.splice.Splice.{Splice}
@@ -15,6 +16,17 @@ use Rattle.live_table.specs.Shown.{Shown}
 abbrev pub IsEditOf : Result Contents DeckFault → Shown → Shown → Result (Unit {0}) DeckFault → Type 0
 IsEditOf outcome old new (Ok _) = (outcome ≡ Ok new.deck) × IsEdit old new
 IsEditOf outcome old new (Err fault) = (new ≡ old) × ((fault ≡ OutOfMemory) ⊎ (outcome ≡ Err fault))
+
+-- the same, which answers the place of the last active line of the key of this line before
+abbrev pub IsDefinedOver : Result Contents DeckFault → List ℕ → Shown → Shown → Result (Option ℕ) DeckFault → Type 0
+IsDefinedOver outcome text old new (Ok covered) =
+    (outcome ≡ Ok new.deck) × IsEdit old new × (covered ≡ place_of_key text old.deck)
+IsDefinedOver outcome text old new (Err fault) = (new ≡ old) × ((fault ≡ OutOfMemory) ⊎ (outcome ≡ Err fault))
+
+-- the last line of the deck is taken out and its text answered, and what that affects is forgotten; or all is as it was
+abbrev pub IsUndefined : Shown → Shown → Result (List ℕ) AllocError → Type 0
+IsUndefined old new (Ok text) = (new.deck ≡ without_last old.deck) × IsLastText text old.deck × IsEdit old new
+IsUndefined old new (Err fault) = new ≡ old
 
 -- a splice gives its deck and its inverse, and what it affects is forgotten; or it is handed back, and all is as it was
 abbrev pub IsSpliceOf : Splice → Shown → Shown → Result Splice (Splice × AllocError) → Type 0

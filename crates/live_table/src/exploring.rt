@@ -13,6 +13,7 @@ ghost use Rattle.live_table.specs.Stored.{key_at, listed};
 use crate::agenda::Agenda;
 use crate::dead_end::DeadEnd;
 use crate::entry_words::{EntryWords, entry_words};
+use crate::key_index::KeyIndex;
 use crate::nodes::Nodes;
 use crate::stepping::put_words;
 use deck::Deck;
@@ -60,6 +61,7 @@ fn explore_name(
     ensures written { IfOk result (λ _. IsWritten (table deck.now) (listed nodes.new) agenda.new
         dead_ends.new.items n) }
 {
+    note_place(deck, &nodes.keys, &mut nodes.places, n);
     let entry = words_of_key(alloc, deck, nodes, n)?;
     let steps = put_words(alloc, deck, nodes, agenda, dead_ends, &entry.words)?;
     let looks = nodes.gathered.to_vec(alloc)?;
@@ -67,6 +69,20 @@ fn explore_name(
     nodes.steps[n] = steps;
     nodes.looks[n] = looks;
     Ok(())
+}
+
+// Notes where the entry of a name stands, so that it is not looked up again while it stands there.
+fn note_place(deck: &Deck, keys: &KeyIndex, places: &mut [u32], n: usize)
+    requires { n < length keys.now }
+{
+    let Some(place) = deck.place_of(keys.kind(n), keys.name(n)) else {
+        return;
+    };
+    if let Ok(place) = u32::try_from(place) {
+        if n < places.len() {
+            places[n] = place;
+        }
+    }
 }
 
 // The words of the entry of a name.
@@ -80,7 +96,7 @@ fn words_of_key<'a>(
     requires present { is_present (table deck.now) (key_at nodes.now.keys n) ≡ true }
     ensures { IfOk result (λ made. AreKeyWords (table deck.now) (key_at nodes.now.keys n) made) }
 {
-    match deck.entry(nodes.keys.kind(n), nodes.keys.name(n)) {
+    match deck.entry_near(nodes.place(n), nodes.keys.kind(n), nodes.keys.name(n)) {
         Some(entry) => entry_words(alloc, entry.what),
         None => unreachable!(),
     }

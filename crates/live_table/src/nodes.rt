@@ -26,6 +26,8 @@ pub(crate) struct Nodes {
     pub(crate) looks: Vec<Vec<usize>>,
     pub(crate) settled: Vec<bool>,
     pub(crate) settled_count: usize,
+    // near which the entry of each stood when it was last read. It may stand elsewhere by now
+    pub(crate) places: Vec<u32>,
     // at which the word that is resolved has looked, in order
     pub(crate) looked: Vec<usize>,
     // at which the words of a name have looked so far beside their targets
@@ -46,6 +48,7 @@ impl Nodes {
             looks: Vec::new(alloc),
             settled: Vec::new(alloc),
             settled_count: 0,
+            places: Vec::new(alloc),
             looked: Vec::new(alloc),
             gathered: Agenda::new(alloc),
         }
@@ -70,6 +73,7 @@ impl Nodes {
         self.steps.reserve(1)?;
         self.looks.reserve(1)?;
         self.settled.reserve(1)?;
+        self.places.reserve(1)?;
         self.keys.push(key)?;
         self.present.push(is_present)?;
         self.callees.push(no_callee())?;
@@ -77,7 +81,16 @@ impl Nodes {
         self.steps.push(StepList::new(alloc))?;
         self.looks.push(Vec::new(alloc))?;
         self.settled.push(false)?;
+        self.places.push(0)?;
         Ok(())
+    }
+
+    /// The place in the deck near which the entry of a name stood when it was last read.
+    pub(crate) fn place(&self, n: usize) -> usize {
+        match self.places.get(n) {
+            Some(place) => *place as usize,
+            None => 0,
+        }
     }
 }
 

@@ -147,7 +147,7 @@ pub(crate) fn entry<'a>(deck: &'a Deck, nodes: &'a Nodes, n: usize) -> Entry<'a>
 {
     let kind = nodes.keys.kind(n);
     let name = nodes.keys.name(n);
-    deck.entry(kind, name).unwrap()
+    deck.entry_near(nodes.place(n), kind, name).unwrap()
 }
 
 /// The steps of a number.

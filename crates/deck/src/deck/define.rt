@@ -1,20 +1,27 @@
 //! A line put at the end.
 
-ghost use Rattle.std.specs.Prelude.{◌≡◌, ◌⊎◌, Some, Err, not, false, IfOk, IfErr, OnErr, OnOk};
+ghost use Rattle.std.specs.Prelude.{◌≡◌, ◌<◌, ◌++◌, ◌∷◌, ◌⊎◌, [], Some, Err, not, false, length, IfOk, IfErr, OnErr, OnOk};
 ghost use Rattle.def_lines.specs.Blanks.{trimmed};
 ghost use Rattle.def_entry.specs.Seen.{seen_entry};
 ghost use Rattle.def_entry.specs.Views.{entry_view};
 ghost use Rattle.deck_lines.specs.Closed.{IsClosed};
 ghost use Rattle.deck_lines.specs.Limits.{pass_limit};
-ghost use Rattle.deck_lines.specs.Marks.{plain_line};
+ghost use Rattle.deck_lines.specs.Marks.{plain_line, with_mark};
+ghost use Rattle.deck_lines.specs.Names.{names_of};
 ghost use Rattle.deck_lines.specs.Readings.{entry_in};
+ghost use Rattle.deck_lines.specs.Stores.{with_line as stored_with};
 ghost use Rattle.deck.specs.Changes.{IsChange};
 ghost use Rattle.deck.specs.Decks.{Contents};
 ghost use Rattle.deck.specs.Edits as edit;
+ghost use Rattle.deck.specs.LastPlaces.{IsIndexed, places_of};
+ghost use Rattle.deck.specs.Undefining as undefining;
 ghost use Rattle.deck.specs.declared.fault.DeckFault.TheVariants.{OutOfMemory};
+ghost use Rattle.deck.specs.declared.settings.Settings.{Settings as SettingsValue};
 
 use super::Deck;
 use crate::fault::DeckFault;
+use crate::places::LastPlaces;
+use deck_lines::LineStore;
 use def_entry::{Entry, EntryFault, Key, Keys, What, read_entry, same_text_law};
 use def_lines::{Line, LineKind, classify, trim};
 use std::alloc::{AllocError, Global};
@@ -28,14 +35,30 @@ impl Deck {
     pub fn define(&mut self, alloc: Global, line: &[u8]) -> Result<Keys, DeckFault>
         ensures { edit.IsEdit (edit.after_define (trimmed line.now) self.old) self.old self.new result }
     {
+        match self.define_over(alloc, line) {
+            Ok((keys, _)) => Ok(keys),
+            Err(fault) => Err(fault),
+        }
+    }
+
+    /// The same, which also answers the place of the last active line of the key before, if there was one.
+    pub fn define_over(
+        &mut self,
+        alloc: Global,
+        line: &[u8],
+    ) -> Result<(Keys, Option<usize>), DeckFault>
+        ensures { undefining.IsDefinedOver (edit.after_define (trimmed line.now) self.old) (trimmed line.now)
+            self.old self.new result }
+    {
         let line = trim(line);
         let (key, what) = read_definition(alloc, line)?;
         if !self.has_room(line) {
             return Err(DeckFault::DeckFull);
         }
         let keys = self.changed_by(alloc, &key, Entry { line, what: &what })?;
+        let covered = self.last_place(&key);
         self.push_definition(alloc, line, key, what)?;
-        Ok(keys)
+        Ok((keys, covered))
     }
 
     // Whether one more line of this text is within the limits.
@@ -80,16 +103,53 @@ impl Deck {
     {
         let text = Text::from_bytes(alloc, text)?;
         let line = Line { number: 0, text };
-        let kind = key.kind;
-        self.last.make_room(kind, self.store.name_count(kind))?;
-        let place = self.store.len();
-        self.store.push(alloc, line, false, Some((key, what)))?;
-        let Some(number) = self.store.key_number(place) else {
-            unreachable!()
-        };
-        self.last.put(number, place);
-        Ok(())
+        put_definition(alloc, &mut self.store, &mut self.last, line, (key, what))
     }
+}
+
+// Puts a line that defines a key at the end of the lines, and its place among the last places.
+fn put_definition(
+    alloc: Global,
+    store: &mut LineStore,
+    last: &mut LastPlaces,
+    line: Line,
+    definition: (Key, What),
+) -> Result<(), AllocError>
+    requires defines { entry_in (with_mark false line) ≡ Some (seen_entry line.text definition) }
+    requires within { pass_limit (store.old.lines ++ with_mark false line ∷ []) ≡ false }
+    ensures ok { OnOk result (store.new ≡ stored_with store.old (with_mark false line)) }
+    ensures err { OnErr result (store.new ≡ store.old) }
+    ensures indexed { (settings : SettingsValue) → IsIndexed store.old settings last.old
+        → IsIndexed store.new settings last.new }
+{
+    let kind = definition.0.kind;
+    last.make_room(kind, store.name_count(kind))?;
+    put_in_room(alloc, store, last, line, definition)
+}
+
+// The same where there is room for the place of one more key.
+fn put_in_room(
+    alloc: Global,
+    store: &mut LineStore,
+    last: &mut LastPlaces,
+    line: Line,
+    definition: (Key, What),
+) -> Result<(), AllocError>
+    requires defines { entry_in (with_mark false line) ≡ Some (seen_entry line.text definition) }
+    requires within { pass_limit (store.old.lines ++ with_mark false line ∷ []) ≡ false }
+    requires room { length (names_of store.old.names definition.0.kind) < length (places_of last.old definition.0.kind) }
+    ensures ok { OnOk result (store.new ≡ stored_with store.old (with_mark false line)) }
+    ensures err { OnErr result (store.new ≡ store.old) }
+    ensures indexed { (settings : SettingsValue) → IsIndexed store.old settings last.old
+        → IsIndexed store.new settings last.new }
+{
+    let place = store.len();
+    store.push(alloc, line, false, Some(definition))?;
+    let Some(number) = store.key_number(place) else {
+        unreachable!()
+    };
+    last.put(number, place);
+    Ok(())
 }
 
 // The key of a line and what it says of that, or why an edit by it is refused.

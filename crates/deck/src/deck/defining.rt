@@ -2,6 +2,7 @@
 
 ghost use Rattle.std.specs.Prelude.{◌≡◌, ◌++◌, [], Some, IfOk, OnOk, length, slice_get, if◌then◌else◌};
 ghost use Rattle.deck_lines.specs.declared.line.DeckLine.{DeckLine};
+ghost use Rattle.deck.specs.Active.{active_lines};
 ghost use Rattle.deck.specs.Messages as spec;
 
 use super::Deck;
@@ -11,6 +12,13 @@ use std::alloc::{AllocError, Global};
 use units_io::Texts;
 
 impl Deck {
+    /// Of each line, whether it is active. The only error is want of memory.
+    pub fn active_lines(&self, alloc: Global) -> Result<Vec<bool>, AllocError>
+        ensures { IfOk result (λ flags. flags.items ≡ active_lines self.now.settings self.now.lines) }
+    {
+        active_flags(alloc, &self.store, &self.settings)
+    }
+
     /// The texts of the active lines that define a key, in order. No line is read again. The only error
     /// is want of memory.
     pub fn defining(&self, alloc: Global) -> Result<Texts, AllocError>

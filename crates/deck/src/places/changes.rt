@@ -51,6 +51,24 @@ pub fn keys_between(
     Ok(keys)
 }
 
+/// The key of this number, where the entries differ at a place and at another one.
+pub fn changed_key(
+    alloc: Global,
+    store: &LineStore,
+    n: KeyNumber,
+    before: Option<usize>,
+    after: Option<usize>,
+) -> Result<Keys, AllocError>
+    ensures { IfOk result (λ keys. keys ≡ key_if
+        (not (is_same_entry (entry_there store.now.lines before) (entry_there store.now.lines after)))
+        (key_at store.now.names n)) }
+{
+    let mut keys = Keys::new(alloc);
+    let edited = EditedLines::unchanged(store);
+    push_between(alloc, &mut keys, &edited, n, before, after)?;
+    Ok(keys)
+}
+
 // Those among the keys of a kind, behind some keys.
 fn push_changed(
     alloc: Global,
@@ -90,7 +108,23 @@ fn push_if_changed(
     ensures { OnOk result (keys.new ≡ keys.old
         ++ key_if (differs edited.now before.now after.now n) (key_at edited.now.names n)) }
 {
-    if !is_changed(edited, before.get(n), after.get(n)) {
+    push_between(alloc, keys, edited, n, before.get(n), after.get(n))
+}
+
+// The same of entries at a place before the edit and at one after it.
+fn push_between(
+    alloc: Global,
+    keys: &mut Keys,
+    edited: &EditedLines<'_>,
+    n: KeyNumber,
+    before: Option<usize>,
+    after: Option<usize>,
+) -> Result<(), AllocError>
+    ensures { OnOk result (keys.new ≡ keys.old ++ key_if
+        (not (is_same_entry (entry_there edited.now.before before) (entry_there edited.now.after after)))
+        (key_at edited.now.names n)) }
+{
+    if !is_changed(edited, before, after) {
         return Ok(());
     }
     let Some(name) = edited.name(n) else {

@@ -1,6 +1,6 @@
 //! The places of the keys of one kind.
 
-ghost use Rattle.std.specs.Prelude.{◌≡◌, ◌<◌, [], Some, map, length, set, option_map, OnOk};
+ghost use Rattle.std.specs.Prelude.{◌≡◌, ◌<◌, [], None, Some, map, length, set, option_map, OnOk};
 ghost use Rattle.deck.specs.KindPlaces as spec;
 
 use std::alloc::{AllocError, Global};
@@ -72,6 +72,28 @@ impl KindPlaces {
             self.count += 1;
         }
         self.places[number] = Some(place);
+    }
+
+    /// Gives the key of this number a place or none. It takes no memory.
+    pub fn restore(&mut self, number: usize, place: Option<usize>)
+        requires { number < length self.old }
+        ensures { self.new ≡ set self.old number place }
+    {
+        match place {
+            Some(place) => self.put(number, place),
+            None => self.forget(number),
+        }
+    }
+
+    // Leaves the key of this number without a place.
+    fn forget(&mut self, number: usize)
+        requires { number < length self.old }
+        ensures { self.new ≡ set self.old number None }
+    {
+        if self.places[number].is_some() {
+            self.count -= 1;
+        }
+        self.places[number] = None;
     }
 
     /// The places when the line at one of them is gone.

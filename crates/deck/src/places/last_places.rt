@@ -78,6 +78,22 @@ impl LastPlaces {
         }
     }
 
+    /// Gives the key of this number a place or none. It takes no memory.
+    pub fn restore(&mut self, n: KeyNumber, place: Option<usize>)
+        requires { n.number < length (spec.places_of self.old n.kind) }
+        ensures { (kind : KindValue) → spec.places_of self.new kind
+            ≡ (if is_same_kind kind n.kind
+            then set (spec.places_of self.old kind) n.number place
+            else spec.places_of self.old kind) }
+    {
+        match n.kind {
+            Kind::Unit => self.units.restore(n.number, place),
+            Kind::Prefix => self.prefixes.restore(n.number, place),
+            Kind::Func => self.functions.restore(n.number, place),
+            Kind::List => self.lists.restore(n.number, place),
+        }
+    }
+
     /// The places when the line at one of them is gone.
     pub fn close_gap(&mut self, gap: usize)
         ensures { (kind : KindValue) → spec.places_of self.new kind

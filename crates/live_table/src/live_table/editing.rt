@@ -6,6 +6,7 @@ ghost use Rattle.def_lines.specs.Blanks.{trimmed};
 ghost use Rattle.deck.specs.Edits as deck_edit;
 ghost use Rattle.deck.specs.Loading as loading;
 ghost use Rattle.deck.specs.Splices.{CanSplice};
+ghost use Rattle.deck.specs.Undefining.{CanUndefine};
 ghost use Rattle.live_table.specs.Calls.{IsEdit};
 ghost use Rattle.live_table.specs.Edits as edit;
 
@@ -14,7 +15,7 @@ use crate::forgetting::forget;
 use deck::{DeckFault, Settings, Splice, changes_are_computed};
 use def_entry::Key;
 use std::alloc::{AllocError, Global};
-use units_io::Files;
+use units_io::{Files, Text};
 
 impl LiveTable {
     /// Puts a line that defines a key at the end of the deck, as `Deck::define`, and forgets what that
@@ -22,8 +23,19 @@ impl LiveTable {
     pub fn define(&mut self, alloc: Global, line: &[u8]) -> Result<(), DeckFault>
         ensures { edit.IsEditOf (deck_edit.after_define (trimmed line.now) self.old.deck) self.old self.new result }
     {
+        match self.define_over(alloc, line) {
+            Ok(_) => Ok(()),
+            Err(fault) => Err(fault),
+        }
+    }
+
+    /// The same, which answers the place of the last active line of the key before, if there was one.
+    pub fn define_over(&mut self, alloc: Global, line: &[u8]) -> Result<Option<usize>, DeckFault>
+        ensures { edit.IsDefinedOver (deck_edit.after_define (trimmed line.now) self.old.deck) (trimmed line.now)
+            self.old self.new result }
+    {
         changes_are_computed();
-        let keys = self.deck.define(alloc, line)?;
+        let (keys, covered) = self.deck.define_over(alloc, line)?;
         forget(
             alloc,
             &self.deck,
@@ -31,7 +43,25 @@ impl LiveTable {
             &mut self.edges,
             keys.as_slice(),
         );
-        Ok(())
+        Ok(covered)
+    }
+
+    /// Takes the last line out, which defines a key, as `Deck::undefine`, forgets what that affects, and
+    /// answers the text of the line. The only error is want of memory, which changes nothing.
+    pub fn undefine(&mut self, alloc: Global, uncovered: Option<usize>) -> Result<Text, AllocError>
+        requires { CanUndefine uncovered self.old.deck }
+        ensures { edit.IsUndefined self.old self.new result }
+    {
+        changes_are_computed();
+        let (keys, text) = self.deck.undefine(alloc, uncovered)?;
+        forget(
+            alloc,
+            &self.deck,
+            &mut self.nodes,
+            &mut self.edges,
+            keys.as_slice(),
+        );
+        Ok(text)
     }
 
     /// Takes out the last active line of a key, as `Deck::drop_last`, and forgets what that affects. A

@@ -1,8 +1,11 @@
+use Rattle.std.proofs.Common.{◌≡◌, subst}
 use Rattle.def_lines.specs.Blanks.{trimmed}
 use Rattle.deck.specs.Edits as deck_edit
+use Rattle.deck.specs.Undefining.{place_of_key}
+use Rattle.live_table.specs.Shown.{Shown}
 use Rattle.live_table.specs.Stored.{listed}
 use Rattle.live_table.proofs.Edited.{edit_done, live_can, live_edited, same_outcome}
-use Rattle.live_table.proofs.live_table.LiveTable.define.Goals as goal
+use Rattle.live_table.proofs.live_table.LiveTable.define_over.Goals as goal
 
 pub forget-requires : goal.forget-requires
 forget-requires c =
@@ -11,17 +14,19 @@ forget-requires c =
 
 pub invariant_of-self-2 : goal.invariant_of-self-2
 invariant_of-self-2 c =
-    live_edited c.changes_are_computed.ensures c.self.inside.deck c.define.new.self (listed c.self.inside.nodes)
+    live_edited c.changes_are_computed.ensures c.self.inside.deck c.define_over.new.self (listed c.self.inside.nodes)
     (listed c.forget.new.nodes) c.self.inside.edges c.forget.new.edges c.self.inside.reductions c.in_ok-keys.keys
     c.as_slice.result.now c.as_slice.ensures c.self.invariant c.in_ok-keys.ensures.1 c.forget.ensures
 
 pub returns : goal.returns
 returns c = (
-  same_outcome (λ d. deck_edit.after_define (trimmed c.args.line.now) d) c.self.inside.deck c.define.new.self
+  same_outcome (λ d. deck_edit.after_define (trimmed c.args.line.now) d) c.self.inside.deck c.define_over.new.self
       (listed c.self.inside.nodes)
       c.self.inside.reductions c.args.self.now c.self.view_is c.in_ok-keys.ensures.0,
-  edit_done c.changes_are_computed.ensures c.self.inside.deck c.define.new.self (listed c.self.inside.nodes)
+  edit_done c.changes_are_computed.ensures c.self.inside.deck c.define_over.new.self (listed c.self.inside.nodes)
       (listed c.forget.new.nodes) c.self.inside.edges c.forget.new.edges c.self.inside.reductions c.in_ok-keys.keys
       c.as_slice.result.now c.as_slice.ensures c.self.invariant c.in_ok-keys.ensures.1 c.forget.ensures
       c.args.self.now c.self.view_is,
+  subst (λ (s : Shown). c.in_ok-keys.covered ≡ place_of_key (trimmed c.args.line.now) s.deck) c.self.view_is
+      c.in_ok-keys.ensures.2,
 )

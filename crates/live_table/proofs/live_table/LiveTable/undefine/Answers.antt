@@ -1,0 +1,27 @@
+use Rattle.std.proofs.Common.{◌≡◌, subst}
+use Rattle.deck.specs.Undefining.{IsLastText, without_last}
+use Rattle.live_table.specs.Shown.{Shown}
+use Rattle.live_table.specs.Stored.{listed}
+use Rattle.live_table.proofs.Edited.{edit_done, live_can, live_edited}
+use Rattle.live_table.proofs.live_table.LiveTable.undefine.Goals as goal
+
+pub forget-requires : goal.forget-requires
+forget-requires c =
+    live_can c.self.inside.deck (listed c.self.inside.nodes) c.self.inside.edges c.self.inside.reductions
+    c.self.invariant
+
+pub invariant_of-self-2 : goal.invariant_of-self-2
+invariant_of-self-2 c =
+    live_edited c.changes_are_computed.ensures c.self.inside.deck c.undefine.new.self (listed c.self.inside.nodes)
+    (listed c.forget.new.nodes) c.self.inside.edges c.forget.new.edges c.self.inside.reductions c.in_ok-keys.keys
+    c.as_slice.result.now c.as_slice.ensures c.self.invariant c.in_ok-keys.ensures.ok.1 c.forget.ensures
+
+pub returns : goal.returns
+returns c = (
+  subst (λ (s : Shown). c.undefine.new.self ≡ without_last s.deck) c.self.view_is c.in_ok-keys.ensures.ok.0,
+  subst (λ (s : Shown). IsLastText c.in_ok-keys.text s.deck) c.self.view_is c.in_ok-keys.ensures.ok.2,
+  edit_done c.changes_are_computed.ensures c.self.inside.deck c.undefine.new.self (listed c.self.inside.nodes)
+      (listed c.forget.new.nodes) c.self.inside.edges c.forget.new.edges c.self.inside.reductions c.in_ok-keys.keys
+      c.as_slice.result.now c.as_slice.ensures c.self.invariant c.in_ok-keys.ensures.ok.1 c.forget.ensures
+      c.args.self.now c.self.view_is,
+)
