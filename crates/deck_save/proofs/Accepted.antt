@@ -1,0 +1,76 @@
+-- Lines that define a key hold no byte that ends a line.
+use Rattle.std.proofs.Common.{◌≡◌, ◌&&◌, ◌++◌, ◌∷◌, ℕ, List, true, not, codes, Ok, refl, ap, subst, ◌∙◌}
+use Rattle.std.specs.List.{list_all}
+use Rattle.std.proofs.lemmas.Bool.{and_parts}
+use Rattle.units_io.specs.Blanks.{is_blank}
+use Rattle.def_lines.specs.Kinds.{kind_of}
+use Rattle.def_lines.specs.Parts.{is_begun}
+use Rattle.expr_tree.specs.Names.{is_name}
+use Rattle.def_entry.specs.declared.key.Key.{Key}
+use Rattle.def_entry.specs.Entries.{Entry}
+use Rattle.def_entry.specs.EntryGrammar.{EntryLaw, IsEntry}
+use Rattle.def_entry.specs.HeadingGrammar.{Lead, NoLead, PlusLead, WrittenHeading, UnitHeading, PrefixHeading}
+use Rattle.def_entry.specs.HeadingGrammar.{FuncHeading, ListHeading, bytes, heading_of, is_head, is_heading, is_lead}
+use Rattle.def_entry.specs.HeadingGrammar.{is_list_name, lead}
+use Rattle.def_entry.specs.Headings.{Heading, ends_in_minus, is_opened, stands_apart}
+use Rattle.def_entry.specs.Reading.{entry_of, has_entry}
+use Rattle.deck_save.specs.SavedLines.{stays}
+use Rattle.deck_save.proofs.PlainBytes.{all_both}
+use Rattle.deck_save.proofs.Forms.{forms_stay}
+use Rattle.deck_save.proofs.Names.{blanks_stay, name_stays, untrimmed_stays}
+
+lead_stays : (l : Lead) (rest : List ℕ) → is_lead l rest ≡ true → list_all stays rest ≡ true
+    → list_all stays (lead l rest) ≡ true
+lead_stays NoLead rest is clear = clear
+lead_stays (PlusLead blanks) rest is clear = all_both stays blanks rest
+    (blanks_stay blanks (and_parts (list_all is_blank blanks) (is_begun rest) is).0) clear
+
+-- a heading by its name and the text behind it
+heading_stays : (w : WrittenHeading) → is_heading w ≡ true → is_name (heading_of w).name ≡ true
+    → list_all stays (heading_of w).text ≡ true
+    → list_all stays (bytes w) ≡ true
+heading_stays (UnitHeading l name behind) whole named clear =
+    let a : ((is_lead l (name ++ behind) && is_head name && stands_apart behind) ≡ true)
+    × (not (ends_in_minus name) ≡ true) = and_parts _ _ whole in
+    let b : ((is_lead l (name ++ behind) && is_head name) ≡ true) × (stands_apart behind ≡ true) = and_parts _ _ a.0 in
+    lead_stays l (name ++ behind) (and_parts (is_lead l (name ++ behind)) (is_head name) b.0).0
+    (all_both stays name behind (name_stays name named) (untrimmed_stays behind clear))
+heading_stays (PrefixHeading l name behind) whole named clear =
+    let a : ((is_lead l (name ++ (45 ∷ behind)) && is_head name) ≡ true) × (stands_apart behind ≡ true) =
+    and_parts _ _ whole in
+    lead_stays l (name ++ (45 ∷ behind)) (and_parts (is_lead l (name ++ (45 ∷ behind))) (is_head name) a.0).0
+    (all_both stays name (45 ∷ behind) (name_stays name named) (untrimmed_stays behind clear))
+heading_stays (FuncHeading l name behind) whole named clear =
+    let a : ((is_lead l (name ++ behind) && is_head name) ≡ true) × (is_opened behind ≡ true) = and_parts _ _ whole in
+    lead_stays l (name ++ behind) (and_parts (is_lead l (name ++ behind)) (is_head name) a.0).0
+    (all_both stays name behind (name_stays name named) (untrimmed_stays behind clear))
+heading_stays (ListHeading before between name behind) whole named clear =
+    let a : ((list_all is_blank before && list_all is_blank between && stands_apart (between ++ (name ++ behind)) &&
+    is_begun (name ++ behind) && is_list_name name) ≡ true) × (stands_apart behind ≡ true) =
+    and_parts _ _ whole in
+    let b : ((list_all is_blank before && list_all is_blank between && stands_apart (between ++ (name ++ behind)) &&
+    is_begun (name ++ behind)) ≡ true) × (is_list_name name ≡ true) = and_parts _ _ a.0 in
+    let c : ((list_all is_blank before && list_all is_blank between && stands_apart (between ++ (name ++ behind)))
+    ≡ true) × (is_begun (name ++ behind) ≡ true) = and_parts _ _ b.0 in
+    let d : ((list_all is_blank before && list_all is_blank between) ≡ true)
+    × (stands_apart (between ++ (name ++ behind)) ≡ true) = and_parts _ _ c.0 in
+    let e : (list_all is_blank before ≡ true) × (list_all is_blank between ≡ true) = and_parts _ _ d.0 in
+    all_both stays before (codes "unitlist" ++ (between ++ (name ++ behind))) (blanks_stay before e.0)
+    (all_both stays (codes "unitlist") (between ++ (name ++ behind)) refl
+    (all_both stays between (name ++ behind) (blanks_stay between e.1)
+    (all_both stays name behind (name_stays name named) (untrimmed_stays behind clear))))
+
+pub entry_stays : (line : List ℕ) (k : Key) (e : Entry) → IsEntry line k e → list_all stays line ≡ true
+entry_stays line k e is =
+    let same : is.heading ≡ heading_of is.headed.written = is.headed.same in
+    let clear : list_all stays is.heading.text ≡ true = forms_stay is.heading.kind is.heading.name is.heading.text
+    is.form e.what is.written is.says is.names.further in
+    ap (list_all stays) is.headed.spelled
+    ∙ heading_stays is.headed.written is.headed.whole (subst (λ (h : Heading). is_name h.name ≡ true) same is.names.own)
+    (subst (λ (h : Heading). list_all stays h.text ≡ true) same clear)
+
+-- a line that defines a key holds no line feed, no carriage return and no `#`
+pub accepted_lines_hold_no_comment : EntryLaw → (line : List ℕ) (k : Key) (e : Entry) → has_entry (kind_of line) ≡ true
+    → entry_of line ≡ Ok (k, e)
+    → list_all stays line ≡ true
+accepted_lines_hold_no_comment law line k e has is = entry_stays line k e (((law line has).0 k e).0 is)

@@ -1,0 +1,126 @@
+-- A deck that is loaded from the text of another has its definitions.
+use Rattle.std.proofs.Common.{◌≡◌, ◌≤◌, [], ℕ, List, false, cond, length, reverse, refl, sym, ap, subst, ◌∙◌}
+use Rattle.std.proofs.Common.{arith, Option, Some, Result, Ok, Err}
+use Rattle.std.specs.Prelude.{nat_lt}
+use Rattle.std.proofs.lemmas.Bool.{le-leb, ltb-false, or_parts}
+use Rattle.std.proofs.lemmas.List.{length-map}
+use Rattle.units_io.specs.FileMap.{FileMap, file_of, longest_file, no_files}
+use Rattle.units_io.specs.Fetching.{answer_of}
+use Rattle.units_io.specs.declared.files.FetchFault.TheVariants.{TooLong}
+use Rattle.def_lines.specs.Blanks.{trimmed}
+use Rattle.def_lines.specs.Lines.{logical_lines, shown}
+use Rattle.def_entry.specs.declared.key.Key.{Key}
+use Rattle.def_entry.specs.Entries.{Entry}
+use Rattle.def_entry.specs.EntryGrammar.{EntryLaw}
+use Rattle.deck_lines.specs.Excerpts.{Excerpt}
+use Rattle.deck_lines.specs.Includes.{beside, deck_of, lone_deck_of, most_depth}
+use Rattle.def_lines.specs.declared.line.Line.{Line}
+use Rattle.deck_lines.specs.Steps.{AreStepsBelow, AreStepsBy, AreStepsOfRest, Step, outcome_of}
+use Rattle.deck_lines.specs.Limits.{most_bytes, most_lines, pass_limit, text_len}
+use Rattle.deck.specs.Active.{active_lines}
+use Rattle.deck.specs.Decks.{Contents}
+use Rattle.deck.specs.Edits.{with_excerpt, within}
+use Rattle.deck.specs.Loading.{ComesTo, after_load, after_text, empty_deck, lines_alone, of_load, with_answer}
+use Rattle.deck.specs.Messages.{defining}
+use Rattle.deck.specs.declared.fault.DeckFault.{DeckFault}
+use Rattle.deck.specs.declared.fault.DeckFault.TheVariants.{DeckFull}
+use Rattle.deck.specs.declared.settings.Settings.{Settings}
+use Rattle.deck_save.specs.Laws.{CanBeSaved, GivesBack, IsGivenBack}
+use Rattle.deck_save.specs.Saved.{saved, saved_texts}
+use Rattle.deck_save.specs.SavedLines.{saved_lines}
+use Rattle.deck_save.proofs.InForce.{entries, kept_count, kept_give, loaded_entries, loaded_texts, table_entries}
+use Rattle.deck_save.proofs.LoadedLines.{plain_excerpt, plain_lines, plain_within, saved_texts_are_loaded}
+use Rattle.deck_save.proofs.LoadSteps.{steps_load}
+use Rattle.deck_save.proofs.ReadLines.{saved_lines_are_read_back}
+use Rattle.deck_save.proofs.SavedTexts.{AreGiving, are_plain}
+
+saved_is : (d : Contents) → saved d ≡ saved_lines (saved_texts d)
+unfolding saved
+saved_is d = refl
+
+-- what the lines in force of a deck define
+abbrev defined : Contents → List (Key × Entry)
+defined d = entries (active_lines d.settings d.lines) d.lines
+
+module _ (law : EntryLaw) (d : Contents) where
+  give : AreGiving (saved_texts d) (defined d)
+  give = kept_give law (active_lines d.settings d.lines) d.lines
+
+  -- the deck of the text under any settings
+  abbrev given : Settings → Contents
+  given settings = record { lines = plain_lines 1 (saved_texts d); settings = settings; notices = [] }
+
+  back : (settings : Settings) → GivesBack d (given settings)
+  back settings = record {
+    silent = refl;
+    texts = loaded_texts settings 1 (saved_texts d) (defined d) give;
+    entries =
+        table_entries settings (plain_lines 1 (saved_texts d))
+        ∙ ap reverse (loaded_entries settings 1 (saved_texts d) (defined d) give)
+        ∙ sym (table_entries d.settings d.lines);
+  }
+
+  deck_is : (files : FileMap) (name : List ℕ) → deck_of files name (saved d) ≡ plain_excerpt 1 (saved_texts d)
+  deck_is files name = ap (deck_of files name) (saved_is d) ∙ saved_texts_are_loaded files name (saved_texts d)
+      (defined d) give
+
+  module _ (can : CanBeSaved d) where
+    few : length d.lines ≤ most_lines
+    unfolding pass_limit
+    few = ltb-false most_lines (length d.lines)
+        (or_parts (nat_lt most_lines (length d.lines)) (nat_lt most_bytes (text_len d.lines)) can.within).0
+
+    room : pass_limit (plain_lines 1 (saved_texts d)) ≡ false
+    room = plain_within 1 (saved_texts d)
+        (omega (arith, few, kept_count (active_lines d.settings d.lines) d.lines, length-map (defining d) trimmed))
+        (omega (arith, can.short, ap length (saved_is d)))
+
+    -- put behind no lines
+    put : (settings : Settings) (excerpt : Excerpt) → excerpt ≡ plain_excerpt 1 (saved_texts d)
+        → within (with_excerpt excerpt (empty_deck settings)) ≡ Ok (given settings)
+    put settings excerpt is =
+        ap (λ (e : Excerpt). within (with_excerpt e (empty_deck settings))) is
+        ∙ ap (λ t. cond t (Err DeckFull) (Ok (given settings))) room
+
+    is_back : (settings : Settings) (outcome : Result Contents DeckFault) → outcome ≡ Ok (given settings)
+        → IsGivenBack d settings outcome
+    is_back settings outcome is = record { loaded = given settings; is = is; told = refl; back = back settings }
+
+    fetched : (files : FileMap) (name : List ℕ) → file_of files name ≡ Some (saved d)
+        → answer_of (file_of files name) ≡ Ok (saved d)
+    fetched files name is = ap answer_of is ∙ ap (λ t. cond t (Ok (saved d)) (Err TooLong))
+        (le-leb (length (saved d)) longest_file can.short)
+
+    pub from_file : (files : FileMap) (name : List ℕ) (settings : Settings) → file_of files name ≡ Some (saved d)
+        → IsGivenBack d settings (after_load files name settings)
+    from_file files name settings is =
+        is_back settings (after_load files name settings)
+        (ap (λ a. with_answer files name a (empty_deck settings)) (fetched files name is)
+        ∙ put settings (deck_of files name (saved d)) (deck_is files name))
+
+    pub from_text : (name : List ℕ) (settings : Settings) → IsGivenBack d settings (after_text (saved d) name settings)
+    from_text name settings = is_back settings (after_text (saved d) name settings)
+        (put settings (lone_deck_of name (saved d)) (deck_is no_files name))
+
+    -- the steps of a load, whatever the files tell
+    stepped : (includes : List ℕ → Line → List Step → Type 0) (name : List ℕ) (steps : List Step)
+        → AreStepsBy includes name (saved d) steps
+        → outcome_of (lines_alone []) steps ≡ Ok (plain_excerpt 1 (saved_texts d))
+    stepped includes name steps are =
+        steps_load includes name 1 (saved_texts d) (defined d) steps (lines_alone []) give
+        (subst (λ ls. AreStepsOfRest includes name [] ls steps)
+        (ap (λ t. shown (logical_lines t)) (saved_is d) ∙ saved_lines_are_read_back (saved_texts d)
+        (are_plain (saved_texts d) (defined d) give)) are)
+        room
+
+    pub from_answer : (files : Option FileMap) (name : List ℕ) (outcome : Result Excerpt DeckFault)
+        → ComesTo files name (lines_alone []) (Ok (saved d)) outcome
+        → (read : Excerpt) × (outcome ≡ Ok read)
+        × ((settings : Settings)
+        → GivesBack d (record { lines = read.lines; settings = settings; notices = read.notices }))
+    from_answer files name outcome comes = (
+      plain_excerpt 1 (saved_texts d),
+      comes.2
+          ∙ ap of_load (stepped (λ word. AreStepsBelow files most_depth name (beside name word)) name comes.0 comes.1),
+      back,
+    )

@@ -1,0 +1,73 @@
+-- Names, and texts with blanks at their ends, hold no byte that ends a line.
+use Rattle.std.proofs.Common.{◌≡◌, ◌&&◌, ◌||◌, ◌∷◌, [], ℕ, List, Bool, true, false, not, cond, codes, length, reverse}
+use Rattle.std.proofs.Common.{refl, sym, ap, ◌∙◌}
+use Rattle.std.specs.List.{list_all}
+use Rattle.std.specs.Prelude.{nat_lt, nat_le, slice_index}
+use Rattle.std.proofs.lemmas.Bool.{and_from, and_parts, true≢false}
+use Rattle.std.proofs.lemmas.List.{reverse-reverse}
+use Rattle.units_io.specs.Blanks.{is_blank}
+use Rattle.def_lines.specs.Blanks.{after_blanks, before_blanks, trimmed}
+use Rattle.def_lines.specs.Words.{is_empty}
+use Rattle.expr_tree.specs.Names.{ends_in_count, is_among, is_control, is_name, is_one_of, is_refused, is_spelled}
+use Rattle.expr_tree.specs.Names.{is_word_byte, keywords, last_byte, longest_name, may_begin, may_end}
+use Rattle.deck_save.specs.SavedLines.{stays}
+use Rattle.deck_save.proofs.PlainBytes.{all_pass, all_reversed, all_stay, stays_by}
+
+-- blanks
+
+pub blanks_stay : (blanks : List ℕ) → list_all is_blank blanks ≡ true → list_all stays blanks ≡ true
+blanks_stay = all_stay is_blank refl refl refl
+
+after_stays : (text : List ℕ) → list_all stays (after_blanks text) ≡ true → list_all stays text ≡ true
+after_stays [] clear = refl
+after_stays (b ∷ text) clear = go (after_stays text) (is_blank b) refl clear
+  where
+    go : (list_all stays (after_blanks text) ≡ true → list_all stays text ≡ true) → (t : Bool) → is_blank b ≡ t
+        → list_all stays (cond t (after_blanks text) (b ∷ text)) ≡ true → list_all stays (b ∷ text) ≡ true
+    go rest true e clear = and_from (stays b) (list_all stays text) (stays_by is_blank refl refl refl b e) (rest clear)
+    go rest false e clear = clear
+
+turned_back : (text : List ℕ) → list_all stays (reverse text) ≡ true → list_all stays text ≡ true
+turned_back text clear = ap (list_all stays) (sym (reverse-reverse text)) ∙ all_reversed stays (reverse text) clear
+
+-- a text stays where it does without the blanks at its ends
+pub untrimmed_stays : (text : List ℕ) → list_all stays (trimmed text) ≡ true → list_all stays text ≡ true
+untrimmed_stays text clear =
+    turned_back text (after_stays (reverse text)
+    (turned_back (after_blanks (reverse text)) (after_stays (before_blanks text) clear)))
+
+pub trimmed_to : (text bare : List ℕ) → trimmed text ≡ bare → list_all stays bare ≡ true → list_all stays text ≡ true
+trimmed_to text bare same clear = untrimmed_stays text (ap (list_all stays) same ∙ clear)
+
+-- names
+
+spelled : (w : List ℕ) → is_name w ≡ true → is_spelled w ≡ true
+spelled w name =
+    let a : ((is_spelled w && not (ends_in_count w) && not (is_among keywords w)) ≡ true)
+    × (not (is_refused w) ≡ true) = and_parts _ _ name in
+    let b : ((is_spelled w && not (ends_in_count w)) ≡ true) × (not (is_among keywords w) ≡ true) = and_parts _ _ a.0 in
+    (and_parts (is_spelled w) (not (ends_in_count w)) b.0).0
+
+name_words : (w : List ℕ) → is_name w ≡ true → list_all is_word_byte w ≡ true
+name_words w name =
+    (and_parts (nat_lt 0 (length w) && nat_le (length w) longest_name && may_begin (slice_index w 0) && may_end
+    (last_byte w)) (list_all is_word_byte w) (spelled w name)).1
+
+pub name_stays : (w : List ℕ) → is_name w ≡ true → list_all stays w ≡ true
+name_stays w name = all_stay is_word_byte refl refl refl w (name_words w name)
+
+-- a byte of a word is no blank
+word_byte : (b : ℕ) → is_word_byte b ≡ true → not (is_blank b) ≡ true
+word_byte b word = go (is_blank b) refl
+  where
+    go : (t : Bool) → is_blank b ≡ t → not t ≡ true
+    go true e = absurd (true≢false
+        (sym word ∙ ap (λ t. not (t || is_control b || is_one_of (codes "+-*/|^;~#()[]") b)) e))
+    go false e = refl
+
+pub name_unblank : (w : List ℕ) → is_name w ≡ true → list_all (λ b. not (is_blank b)) w ≡ true
+name_unblank w name = all_pass is_word_byte (λ b. not (is_blank b)) word_byte w (name_words w name)
+
+pub name_some : (w : List ℕ) → is_name w ≡ true → is_empty w ≡ false
+name_some [] name = absurd (true≢false (sym name))
+name_some (b ∷ w) name = refl

@@ -1,0 +1,63 @@
+-- Bytes that stay in their line.
+use Rattle.std.proofs.Common.{◌≡◌, ◌==◌, ◌||◌, ◌++◌, ◌∷◌, [], ℕ, List, Bool, true, false, reverse}
+use Rattle.std.proofs.Common.{refl, sym, ap, ◌∙◌, ⊎_elim}
+use Rattle.std.specs.List.{list_all}
+use Rattle.std.proofs.lemmas.Bool.{and_from, and_parts, eqb-true, not-false, not-true, or_cases, or_parts}
+use Rattle.std.proofs.lemmas.Bool.{true_from_ne_false, true≢false}
+use Rattle.std.proofs.lemmas.List.{reverse-append}
+use Rattle.std.proofs.lemmas.List.Folds.{list_all-append}
+use Rattle.deck_save.specs.SavedLines.{stays}
+
+-- a test that each byte passes which passes another
+pub all_pass : (p q : ℕ → Bool) → ((b : ℕ) → p b ≡ true → q b ≡ true) → (text : List ℕ) → list_all p text ≡ true
+    → list_all q text ≡ true
+all_pass p q passes [] clear = refl
+all_pass p q passes (b ∷ text) clear =
+    let parts : (p b ≡ true) × (list_all p text ≡ true) = and_parts _ _ clear in
+    and_from _ _ (passes b parts.0) (all_pass p q passes text parts.1)
+
+-- two texts in a row
+pub all_both : (p : ℕ → Bool) (front behind : List ℕ) → list_all p front ≡ true → list_all p behind ≡ true
+    → list_all p (front ++ behind) ≡ true
+all_both p front behind first second = list_all-append p front behind ∙ and_from _ _ first second
+
+pub all_parts : (p : ℕ → Bool) (front behind : List ℕ) → list_all p (front ++ behind) ≡ true
+    → (list_all p front ≡ true) × (list_all p behind ≡ true)
+all_parts p front behind all = and_parts _ _ (sym (list_all-append p front behind) ∙ all)
+
+pub all_reversed : (p : ℕ → Bool) (text : List ℕ) → list_all p text ≡ true → list_all p (reverse text) ≡ true
+all_reversed p [] clear = refl
+all_reversed p (b ∷ text) clear =
+    let parts : (p b ≡ true) × (list_all p text ≡ true) = and_parts _ _ clear in
+    ap (list_all p) (reverse-append (b ∷ []) text) ∙ all_both p (reverse text) (b ∷ []) (all_reversed p text parts.1)
+    (and_from _ _ parts.0 refl)
+
+-- a byte that stays is none of the three
+pub record IsNone (b : ℕ) : Type 0 where
+  pub feed : (b == 10) ≡ false
+  pub return : (b == 13) ≡ false
+  pub mark : (b == 35) ≡ false
+
+pub none_of : (b : ℕ) → stays b ≡ true → IsNone b
+none_of b clear =
+    let outer : ((b == 10 || b == 13) ≡ false) × ((b == 35) ≡ false) = or_parts _ _ (not-true _ clear) in
+    let inner : ((b == 10) ≡ false) × ((b == 13) ≡ false) = or_parts _ _ outer.0 in
+    record { feed = inner.0; return = inner.1; mark = outer.1 }
+
+-- a test that none of the three passes is one of bytes that stay
+pub stays_by : (p : ℕ → Bool) → p 10 ≡ false → p 13 ≡ false → p 35 ≡ false → (b : ℕ) → p b ≡ true → stays b ≡ true
+stays_by p feed return mark b passes = true_from_ne_false (stays b) never
+  where
+    apart : (n : ℕ) → p n ≡ false → (b == n) ≡ true → ⊥
+    apart n fails same = true≢false (sym passes ∙ ap p (eqb-true b n same) ∙ fails)
+
+    never : stays b ≡ false → ⊥
+    never fails = ⊎_elim
+        (λ outer. ⊎_elim (apart 10 feed) (apart 13 return) (or_cases _ _ outer))
+        (apart 35 mark)
+        (or_cases (b == 10 || b == 13) (b == 35) (not-false _ fails))
+
+-- texts of such bytes
+pub all_stay : (p : ℕ → Bool) → p 10 ≡ false → p 13 ≡ false → p 35 ≡ false → (text : List ℕ) → list_all p text ≡ true
+    → list_all stays text ≡ true
+all_stay p feed return mark text all = all_pass p stays (stays_by p feed return mark) text all

@@ -1,0 +1,38 @@
+-- The saved text, and one that is too long.
+use Rattle.std.proofs.Common.{◌≡◌, ◌<◌, ◌≤◌, ◌∷◌, [], ℕ, suc, List, Bool, cond, length, refl, subst, sym, ap, ◌∙◌, Ok}
+use Rattle.std.proofs.Common.{Err}
+use Rattle.std.proofs.lemmas.Bool.{le-ltb, lt-ltb}
+use Rattle.units_io.specs.FileMap.{longest_file}
+use Rattle.deck_lines.specs.declared.line.DeckLine.{DeckLine}
+use Rattle.deck.specs.Active.{Surroundings, active_lines, activity, behind_line, start}
+use Rattle.deck.specs.Decks.{Contents}
+use Rattle.deck_save.specs.LineTexts.{texts_where}
+use Rattle.deck_save.specs.Saved.{saved, saved_file}
+use Rattle.deck_save.specs.SavedLines.{saved_lines}
+use Rattle.deck_save.specs.declared.fault.SaveFault.TheVariants.{TooLong}
+
+flag_count : (locale : List ℕ) (around : Surroundings) (lines : List DeckLine)
+    → length (activity locale around lines) ≡ length lines
+flag_count locale around [] = refl
+flag_count locale around (x ∷ lines) = ap suc (flag_count locale (behind_line locale around x) lines)
+
+module _ (d : Contents) (flags : List Bool) (are : flags ≡ active_lines d.settings d.lines) where
+  -- there is a flag for each line
+  pub one_each : length flags ≡ length d.lines
+  one_each = ap length are ∙ flag_count d.settings.locale (start d.settings) d.lines
+
+  saved_is : saved_lines (texts_where flags d.lines) ≡ saved d
+  unfolding saved
+  saved_is = ap (λ (f : List Bool). saved_lines (texts_where f d.lines)) are
+
+  pub too_long : longest_file < length (saved_lines (texts_where flags d.lines)) → saved_file d ≡ Err TooLong
+  too_long more =
+      ap (λ t. cond t (Err TooLong) (Ok (saved d)))
+      (lt-ltb longest_file (length (saved d)) (subst (λ t. longest_file < length t) saved_is more))
+
+  pub short_enough : (text : List ℕ) → text ≡ saved_lines (texts_where flags d.lines)
+      → length (saved_lines (texts_where flags d.lines)) ≤ longest_file → saved_file d ≡ Ok text
+  short_enough text is few =
+      ap (λ t. cond t (Err TooLong) (Ok (saved d)))
+      (le-ltb longest_file (length (saved d)) (subst (λ t. length t ≤ longest_file) saved_is few))
+      ∙ ap Ok (sym (is ∙ saved_is))

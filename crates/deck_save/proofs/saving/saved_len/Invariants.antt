@@ -1,0 +1,13 @@
+use Rattle.std.proofs.Common.{◌≡◌, ◌≤◌, ◌+◌, drop, length}
+use Rattle.units_io.specs.FileMap.{longest_file}
+use Rattle.deck_save.specs.LineTexts.{texts_where}
+use Rattle.deck_save.specs.SavedLines.{saved_lines}
+use Rattle.deck_save.proofs.saving.saved_len.Given as goal
+
+-- the bytes of the lines so far with those of the lines that are left are all
+abbrev pub invariant-loop-place : goal.invariant-loop-place
+invariant-loop-place l = record {
+  within : l.len ≤ longest_file;
+  sum : l.len + length (saved_lines (texts_where (drop l.place l.active) (drop l.place l.deck.lines))) ≡ length
+      (saved_lines (texts_where l.active l.deck.lines));
+}

@@ -1,0 +1,12 @@
+//! The definitions of a deck as the text of a file.
+#![tactic(auto)]
+
+mod fault;
+mod laws;
+mod saving;
+
+pub use fault::SaveFault;
+pub use laws::{
+    accepted_lines_stay, examples_law, saved_decks_are_given_back, saved_texts_are_kept,
+};
+pub use saving::save_text;
