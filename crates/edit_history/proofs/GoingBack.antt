@@ -1,0 +1,231 @@
+-- Steps that are made, and the steps back.
+use Rattle.std.proofs.Common.{◌≡◌, ◌⊎◌, inl, inr, ◌++◌, ◌∷◌, ◌+◌, ◌-◌, ◌≤◌, [], ℕ, List, Bool, true, false, cond}
+use Rattle.std.proofs.Common.{length, take, refl, sym, ap, subst, ◌∙◌, arith, length-append, Option, Some, Result, Ok}
+use Rattle.std.proofs.Common.{Err}
+use Rattle.std.proofs.lemmas.List.{append-nil, drop_all}
+use Rattle.std.specs.Option.{option_and_then}
+use Rattle.def_lines.specs.Blanks.{trimmed}
+use Rattle.def_lines.specs.Kinds.{Kind, kind_of}
+use Rattle.def_lines.specs.Kinds as line
+use Rattle.def_entry.specs.declared.fault.EntryFault.{EntryFault}
+use Rattle.def_entry.specs.declared.fault.EntryFault.TheVariants.{BadForm}
+use Rattle.def_entry.specs.declared.key.Key.{Key}
+use Rattle.def_entry.specs.Entries.{Entry}
+use Rattle.def_entry.specs.Reading.{entry_of, has_entry}
+use Rattle.deck_lines.specs.Closed.{IsClosed}
+use Rattle.deck_lines.specs.Limits.{pass_limit}
+use Rattle.deck_lines.specs.Marks.{plain_line}
+use Rattle.deck_lines.specs.Origins.{exchanged_lines}
+use Rattle.deck_lines.specs.Readings.{defined_by, entry_in, of_entry, reading_by, reading_of}
+use Rattle.deck_lines.specs.declared.line.DeckLine.{DeckLine}
+use Rattle.deck.specs.Decks.{Contents}
+use Rattle.deck.specs.Edits.{after_define, by_entry, with_line}
+use Rattle.deck.specs.Splices.{InverseLaw, after_splice, inverse, lines_from}
+use Rattle.deck.specs.Tables.{last_place}
+use Rattle.deck.specs.Undefining.{CanUndefine, IsLastText, place_of_key, without_last}
+use Rattle.deck.specs.declared.fault.DeckFault.TheVariants.{BadLine}
+use Rattle.deck.specs.declared.settings.Settings.{Settings}
+use Rattle.deck.specs.declared.splice.Splice.{Splice}
+use Rattle.edit_history.specs.Steps.{CanStep, IsLastDefined, after_step, splice_of}
+use Rattle.edit_history.specs.Versions.{Version, deck_of, version_of}
+use Rattle.edit_history.specs.declared.step.Step.{Step}
+use Rattle.edit_history.specs.declared.step.Step.TheVariants.{Define, Undefine, Exchange}
+use Rattle.edit_history.proofs.Defining.{accepted_as, defined_is}
+use Rattle.edit_history.proofs.Stepping.{can_exchange, can_go_back, cut_last, lines_back, put_last, splice}
+
+-- a version of these parts
+abbrev pub version : List DeckLine → Settings → Version
+version lines settings = record { lines = lines; settings = settings }
+
+pub version_by : (lines others : List DeckLine) (settings same : Settings) → lines ≡ others → settings ≡ same
+    → version lines settings ≡ version others same
+version_by lines others settings same e f = λ i. record { lines = e i; settings = f i }
+
+-- a step is made, and the step back gives the version before
+pub record IsMade (s back : Step) (old new : Contents) : Type 0 where
+  pub made : new ≡ after_splice (splice_of s (version_of old)) old
+  pub can : CanStep back (version_of new)
+  pub again : after_step back (version_of new) ≡ version_of old
+
+-- lines put in the place of others
+pub exchanged : InverseLaw → (at cut : ℕ) (put : List DeckLine) (settings : Settings) (undo : Splice) (back : Step)
+    (old new : Contents)
+    → new ≡ after_splice (splice at cut put settings) old → undo ≡ inverse (splice at cut put settings) old
+    → settings ≡ old.settings
+    → back ≡ Exchange undo.at undo.cut undo.put → at + cut ≤ length old.lines → IsClosed old.lines
+    → pass_limit old.lines ≡ false
+    → IsMade (Exchange at cut put) back old new
+exchanged law at cut put settings undo back old new is inverse_is same back_is places closed within = record {
+  made = done;
+  can = subst (λ b. CanStep b (version_of new)) (sym back_by)
+      (record { splice = can_go_back law s old new done places closed within; right = tt });
+  again =
+      ap (λ b. after_step b (version_of new)) back_by
+      ∙ version_by _ old.lines new.settings old.settings (lines_back law s old new done places)
+      (ap (λ (d : Contents). d.settings) done);
+}
+  where
+    s : Splice
+    s = splice at cut put old.settings
+
+    done : new ≡ after_splice s old
+    done = is ∙ ap (λ (t : Settings). after_splice (splice at cut put t) old) same
+
+    back_by : back ≡ Exchange at (length put) (lines_from at cut old.lines)
+    back_by = back_is ∙ ap (λ (u : Splice). Exchange u.at u.cut u.put) inverse_is
+
+-- the step back from a line that `define` put at the end
+module _ (text : List ℕ) (bare : trimmed text ≡ text) (covered : Option ℕ) (old new : Contents)
+    (accepted : after_define text old ≡ Ok new)
+    (place : covered ≡ place_of_key text old) (closed : IsClosed old.lines) (within : pass_limit old.lines ≡ false)
+  where
+    new_is : new ≡ with_line text old
+    new_is = defined_is text old new accepted
+
+    lines_are : new.lines ≡ old.lines ++ plain_line 0 text ∷ []
+    lines_are = ap (λ (d : Contents). d.lines) new_is
+
+    one_more : length new.lines ≡ length old.lines + 1
+    one_more = omega (arith, ap length lines_are, length-append old.lines (plain_line 0 text ∷ []))
+
+    cut : exchanged_lines (length new.lines - 1) 1 [] new.lines ≡ old.lines
+    cut = cut_last (length new.lines - 1) 1 old.lines (plain_line 0 text ∷ []) new.lines lines_are
+        (omega (arith, one_more)) (omega (arith, one_more))
+
+    pub can_undefine : CanStep (Undefine covered) (version_of new)
+    can_undefine = record {
+      splice = can_exchange (length new.lines - 1) 1 [] new.lines old.lines (omega (arith, one_more)) cut closed within;
+      right = record {
+        text = text;
+        before = version_of old;
+        definition = record {
+          bare = bare;
+          accepted = accepted_as text old.lines old.settings old.notices [] new accepted;
+        };
+        is = ap version_of new_is;
+        place = place;
+      };
+    }
+
+    pub undefine_again : after_step (Undefine covered) (version_of new) ≡ version_of old
+    undefine_again = version_by _ old.lines new.settings old.settings cut (ap (λ (d : Contents). d.settings) new_is)
+
+    pub defined : IsMade (Define text) (Undefine covered) old new
+    defined = record {
+      made = new_is ∙ sym (ap (λ (ls : List DeckLine). record old { lines = ls })
+          (put_last (length old.lines) old.lines (plain_line 0 text) refl));
+      can = can_undefine;
+      again = undefine_again;
+    }
+
+-- lines of these kinds define keys
+entry_kinds : (kind : Kind) → has_entry kind ≡ true → (kind ≡ line.Definition) ⊎ (kind ≡ line.UnitList)
+entry_kinds line.Definition h = inl refl
+entry_kinds line.UnitList h = inr refl
+entry_kinds (line.Include n) h = cc
+entry_kinds line.UnknownDirective h = cc
+entry_kinds line.BadDirective h = cc
+entry_kinds (line.Locale l) h = cc
+entry_kinds (line.Var v vs) h = cc
+entry_kinds (line.VarNot v vs) h = cc
+entry_kinds line.Utf8 h = cc
+entry_kinds line.EndLocale h = cc
+entry_kinds line.EndVar h = cc
+entry_kinds line.EndUtf8 h = cc
+entry_kinds line.Blank h = cc
+entry_kinds (line.Set v x) h = cc
+entry_kinds (line.Message t) h = cc
+entry_kinds line.Prompt h = cc
+
+-- a line that `define` accepts defines a key
+pub defines : (text : List ℕ) (d e : Contents) → after_define text d ≡ Ok e
+    → (p : Key × Entry) × (entry_in (plain_line 0 text) ≡ Some p)
+unfolding entry_in reading_of
+defines text d e h = by_kind (has_entry (kind_of text)) refl h
+  where
+    by_reading : (kind_of text ≡ line.Definition) ⊎ (kind_of text ≡ line.UnitList)
+        → (r : Result (Key × Entry) EntryFault) → entry_of text ≡ r
+        → by_entry r (with_line text d) ≡ Ok e
+        → (p : Key × Entry) × (defined_by (reading_by text (kind_of text)) ≡ Some p)
+    by_reading k (Err fault) q g = cc
+    by_reading (inl k) (Ok p) q g =
+        (p, ap (λ x. defined_by (reading_by text x)) k ∙ ap (λ r. defined_by (of_entry r)) q)
+    by_reading (inr k) (Ok p) q g =
+        (p, ap (λ x. defined_by (reading_by text x)) k ∙ ap (λ r. defined_by (of_entry r)) q)
+
+    by_kind : (b : Bool) → has_entry (kind_of text) ≡ b → cond b (by_entry (entry_of text) (with_line text d))
+        (Err (BadLine BadForm)) ≡ Ok e
+        → (p : Key × Entry) × (defined_by (reading_by text (kind_of text)) ≡ Some p)
+    by_kind true q g = by_reading (entry_kinds (kind_of text) q) (entry_of text) refl g
+    by_kind false q g = cc
+
+-- the last line can be taken out that `define` put there
+pub can_take : (uncovered : Option ℕ) (old : Contents) → IsLastDefined uncovered (version_of old)
+    → CanUndefine uncovered old
+can_take uncovered old last =
+    let p = defines last.text (deck_of last.before) (with_line last.text (deck_of last.before)) last.definition.accepted
+    in
+    record {
+      front = last.before.lines;
+      line = plain_line 0 last.text;
+      key = p.0.0;
+      entry = p.0.1;
+      lines = ap (λ (v : Version). v.lines) last.is;
+      defines = p.1;
+      place = last.place
+          ∙ ap (option_and_then (λ e. last_place last.before.settings last.before.lines e.0)) p.1
+          ∙ ap (λ (s : Settings). last_place s last.before.lines p.0.0)
+          (sym (ap (λ (v : Version). v.settings) last.is));
+    }
+
+-- the step back from that
+pub undefined : (uncovered : Option ℕ) (text : List ℕ) (old new : Contents) → IsLastDefined uncovered (version_of old)
+    → new ≡ without_last old
+    → IsLastText text old → IsClosed old.lines → pass_limit old.lines ≡ false
+    → IsMade (Undefine uncovered) (Define text) old new
+undefined uncovered text old new last taken text_is closed within = record {
+  made = taken ∙ sym (ap (λ (ls : List DeckLine). record old { lines = ls })
+      (ap (λ t. take (length old.lines - 1) old.lines ++ t)
+      (drop_all (length old.lines - 1 + 1) old.lines (omega arith))
+      ∙ append-nil (take (length old.lines - 1) old.lines)));
+  can = subst (λ t. CanStep (Define t) (version_of new)) (sym same)
+      (subst (CanStep (Define last.text)) (sym there)
+      (record {
+        splice = can_exchange (length before.lines) 0 (x ∷ []) before.lines old.lines (omega arith) put closed
+            within;
+        right = last.definition;
+      }));
+  again =
+      ap (λ t. after_step (Define t) (version_of new)) same ∙ ap (after_step (Define last.text)) there
+      ∙ version_by _ old.lines before.settings old.settings put (sym (ap (λ (v : Version). v.settings) last.is));
+}
+  where
+    before : Version
+    before = last.before
+
+    x : DeckLine
+    x = plain_line 0 last.text
+
+    lines : old.lines ≡ before.lines ++ x ∷ []
+    lines = ap (λ (v : Version). v.lines) last.is
+
+    same : text ≡ last.text
+    same = text_is before.lines x lines
+
+    put : exchanged_lines (length before.lines) 0 (x ∷ []) before.lines ≡ old.lines
+    put = put_last (length before.lines) before.lines x refl ∙ sym lines
+
+    one_more : length old.lines ≡ length before.lines + 1
+    one_more = omega (arith, ap length lines, length-append before.lines (x ∷ []))
+
+    front : take (length old.lines - 1) old.lines ≡ before.lines
+    front =
+        sym (append-nil (take (length old.lines - 1) old.lines))
+        ∙ ap (λ t. take (length old.lines - 1) old.lines ++ t)
+        (sym (drop_all (length old.lines - 1 + 1) old.lines (omega arith)))
+        ∙ cut_last (length old.lines - 1) 1 before.lines (x ∷ []) old.lines lines (omega (arith, one_more))
+        (omega (arith, one_more))
+
+    there : version_of new ≡ before
+    there = ap version_of taken ∙ version_by _ before.lines old.settings before.settings front
+        (ap (λ (v : Version). v.settings) last.is)

@@ -1,0 +1,6 @@
+mod Defining
+mod GoingBack
+mod Noting
+mod Placed
+mod Stepping
+mod Timelines

@@ -1,0 +1,156 @@
+-- Edits that are noted.
+use Rattle.std.proofs.Common.{◌≡◌, ◌++◌, ◌∷◌, ◌+◌, ◌-◌, ◌≤◌, [], ℕ, List, Bool, true, false, cond, length, refl, sym}
+use Rattle.std.proofs.Common.{ap, subst, ◌∙◌, arith, append_assoc, Option, Some, Result, Ok, Err}
+use Rattle.std.proofs.lemmas.List.{append-nil}
+use Rattle.std.specs.Prelude.{reverse}
+use Rattle.units_io.specs.FileMap.{FileMap}
+use Rattle.def_entry.specs.declared.key.Key.{Key}
+use Rattle.deck_lines.specs.Closed.{IsClosed}
+use Rattle.deck_lines.specs.Excerpts.{Excerpt, in_turn}
+use Rattle.deck_lines.specs.Limits.{pass_limit}
+use Rattle.deck_lines.specs.Origins.{exchanged_lines}
+use Rattle.deck_lines.specs.Steps.{Step as Read, Gives, Fails, outcome_of}
+use Rattle.deck_lines.specs.declared.draft.LoadFault.{LoadFault}
+use Rattle.deck_lines.specs.declared.draft.LoadFault.TheVariants.{DeckFull, ReadFailed}
+use Rattle.deck_lines.specs.declared.line.DeckLine.{DeckLine}
+use Rattle.deck.specs.Decks.{Contents}
+use Rattle.deck.specs.Edits.{after_drop, after_switch, without, without_some}
+use Rattle.deck.specs.Loading.{MayComeTo, lines_alone, of_load}
+use Rattle.deck.specs.Splices.{InverseLaw, after_splice, lines_from}
+use Rattle.deck.specs.Tables.{last_place}
+use Rattle.deck.specs.declared.fault.DeckFault.{DeckFault}
+use Rattle.deck.specs.declared.settings.Settings.{Settings}
+use Rattle.deck.specs.declared.splice.Splice.{Splice}
+use Rattle.edit_history.specs.Histories.{Course, Follows, Lead}
+use Rattle.edit_history.specs.Steps.{CanStep, after_step}
+use Rattle.edit_history.specs.Versions.{version_of}
+use Rattle.edit_history.specs.declared.step.Step.{Step}
+use Rattle.edit_history.specs.declared.step.Step.TheVariants.{Exchange, Switch}
+use Rattle.edit_history.proofs.GoingBack.{version_by}
+use Rattle.edit_history.proofs.Placed.{last_within}
+use Rattle.edit_history.proofs.Stepping.{can_exchange, can_go_back, cut_last, lines_back, splice}
+
+-- with a step more to the version before, the history is one of the deck after
+pub follows_noted : (s : Step) (old new : Course) (before after : Contents)
+    → new ≡ record { done = s ∷ old.done; undone = [] }
+    → CanStep s (version_of after) → after_step s (version_of after) ≡ version_of before → Follows old before
+    → Follows new after
+follows_noted s old new before after is can again f =
+    subst (λ h. Follows h after) (sym is)
+    (record { back = (can, subst (Lead old.done) (sym again) f.back); forth = tt })
+
+-- the lists of a history behind an edit that was noted
+abbrev course : (done undone : List Step) → Course
+course done undone = record { done = done; undone = undone }
+
+pub course_is : (s : Step) (done undone rest : List Step) → done ≡ s ∷ rest → undone ≡ []
+    → course done (reverse undone) ≡ course (s ∷ rest) []
+course_is s done undone rest e f = λ i. course (e i) (reverse (f i))
+
+-- a step that can be made and gives the version before
+pub record LeadsBack (s : Step) (before after : Contents) : Type 0 where
+  pub can : CanStep s (version_of after)
+  pub again : after_step s (version_of after) ≡ version_of before
+
+-- other settings, and those before
+pub switched : (old : Settings) (settings : Settings) (before after : Contents) → after ≡ after_switch settings before
+    → old ≡ before.settings
+    → IsClosed before.lines → pass_limit before.lines ≡ false → LeadsBack (Switch old) before after
+switched old settings before after is same closed within = record {
+  can = record { splice = can_exchange 0 0 [] after.lines before.lines (omega arith) lines closed within; right = tt };
+  again = version_by after.lines before.lines old before.settings lines same;
+}
+  where
+    lines : after.lines ≡ before.lines
+    lines = ap (λ (d : Contents). d.lines) is
+
+same_deck : (d e : Contents) → ◌≡◌ {A = Result Contents DeckFault} (Ok d) (Ok e) → d ≡ e
+same_deck d e h = cc
+
+-- a line taken out, and put back at its place
+pub dropped : InverseLaw → (k : Key) (at : ℕ) (put : List DeckLine) (before after : Contents)
+    → last_place before.settings before.lines k ≡ Some at
+    → after_drop k before ≡ Ok after → put ≡ lines_from at 1 before.lines → IsClosed before.lines
+    → pass_limit before.lines ≡ false
+    → LeadsBack (Exchange at 0 put) before after
+dropped law k at put before after last outcome put_is closed within = record {
+  can = subst (λ ls. CanStep (Exchange at 0 ls) (version_of after)) (sym put_is)
+      (record { splice = can_go_back law s before after is places closed within; right = tt });
+  again =
+      ap (λ ls. after_step (Exchange at 0 ls) (version_of after)) put_is
+      ∙ version_by _ before.lines after.settings before.settings (lines_back law s before after is places)
+      (ap (λ (d : Contents). d.settings) is);
+}
+  where
+    s : Splice
+    s = splice at 1 [] before.settings
+
+    is : after ≡ after_splice s before
+    is = sym (same_deck (without at before) after (sym (ap (λ o. without_some o before) last) ∙ outcome))
+
+    places : at + 1 ≤ length before.lines
+    places = omega (arith, last_within before.settings before.lines k at last)
+
+-- lines put at the end, and cut
+pub appended : (at cut : ℕ) (put more : List DeckLine) (before after : Contents) → after.lines ≡ before.lines ++ more
+    → after.settings ≡ before.settings
+    → at ≡ length before.lines → at + cut ≡ length after.lines → put ≡ [] → IsClosed before.lines
+    → pass_limit before.lines ≡ false
+    → LeadsBack (Exchange at cut put) before after
+appended at cut put more before after lines settings here all none closed within = record {
+  can = subst (λ ls. CanStep (Exchange at cut ls) (version_of after)) (sym none)
+      (record {
+        splice = can_exchange at cut [] after.lines before.lines (omega (arith, all)) gone closed within;
+        right = tt;
+      });
+  again =
+      ap (λ ls. after_step (Exchange at cut ls) (version_of after)) none
+      ∙ version_by _ before.lines after.settings before.settings gone settings;
+}
+  where
+    gone : exchanged_lines at cut [] after.lines ≡ before.lines
+    gone = cut_last at cut before.lines more after.lines lines here all
+
+-- a load puts lines behind those that stand
+pub lines_behind : (before after : Excerpt) (reads : List Read) → outcome_of before reads ≡ Ok after
+    → (more : List DeckLine) × (after.lines ≡ before.lines ++ more)
+unfolding outcome_of
+lines_behind before after [] h =
+    ([], ap (λ (e : Excerpt). e.lines) (sym (same_Ok before after h)) ∙ sym (append-nil before.lines))
+  where
+    same_Ok : (a b : Excerpt) → ◌≡◌ {A = Result Excerpt LoadFault} (Ok a) (Ok b) → a ≡ b
+    same_Ok a b e = cc
+lines_behind before after (Gives excerpt ∷ reads) h =
+    by (pass_limit (before.lines ++ excerpt.lines)) (lines_behind (in_turn before excerpt) after reads) h
+  where
+    by : (b : Bool) → (outcome_of (in_turn before excerpt) reads ≡ Ok after
+        → (more : List DeckLine) × (after.lines ≡ (in_turn before excerpt).lines ++ more))
+        → cond b (Err DeckFull) (outcome_of (in_turn before excerpt) reads) ≡ Ok after
+        → (more : List DeckLine) × (after.lines ≡ before.lines ++ more)
+    by true ih g = cc
+    by false ih g =
+        let p = ih g in
+        (excerpt.lines ++ p.0, p.1 ∙ append_assoc before.lines excerpt.lines p.0)
+lines_behind before after (Fails line ∷ reads) h = by (pass_limit (before.lines ++ line ∷ [])) h
+  where
+    by : (b : Bool) → cond b (Err DeckFull) (Err ReadFailed) ≡ Ok after
+        → (more : List DeckLine) × (after.lines ≡ before.lines ++ more)
+    by true g = cc
+    by false g = cc
+
+pub appended_behind : (files : Option FileMap) (name : List ℕ) (lines : List DeckLine) (given : Excerpt)
+    → MayComeTo files name (lines_alone lines) (Ok given)
+    → (more : List DeckLine) × (given.lines ≡ lines ++ more)
+appended_behind files name lines given (Err fault, may, comes) = cc
+appended_behind files name lines given (Ok bytes, may, (reads, are, comes)) = by (outcome_of (lines_alone lines) reads)
+    refl comes
+  where
+    by : (o : Result Excerpt LoadFault) → outcome_of (lines_alone lines) reads ≡ o → Ok given ≡ of_load o
+        → (more : List DeckLine) × (given.lines ≡ lines ++ more)
+    by (Err fault) e g = cc
+    by (Ok x) e g =
+        let p = lines_behind (lines_alone lines) x reads e in
+        (p.0, ap (λ (r : Excerpt). r.lines) (same_Excerpt given x g) ∙ p.1)
+      where
+        same_Excerpt : (a b : Excerpt) → ◌≡◌ {A = Result Excerpt DeckFault} (Ok a) (Ok b) → a ≡ b
+        same_Excerpt a b h = cc

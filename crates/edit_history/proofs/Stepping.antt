@@ -1,0 +1,69 @@
+-- Lines exchanged and put back.
+use Rattle.std.proofs.Common.{◌≡◌, ◌++◌, ◌∷◌, ◌+◌, ◌-◌, ◌≤◌, [], ℕ, List, false, length, take, drop, refl, sym, ap}
+use Rattle.std.proofs.Common.{subst, ◌∙◌, arith, length-append, length-take}
+use Rattle.std.proofs.lemmas.List.{append-nil, drop_all}
+use Rattle.deck_lines.specs.Closed.{IsClosed}
+use Rattle.deck_lines.specs.Exchangeable.{CanExchange}
+use Rattle.deck_lines.specs.Limits.{pass_limit}
+use Rattle.deck_lines.specs.Origins.{exchanged_lines}
+use Rattle.deck_lines.specs.declared.line.DeckLine.{DeckLine}
+use Rattle.deck.specs.Decks.{Contents}
+use Rattle.deck.specs.Splices.{InverseLaw, after_splice, lines_from}
+use Rattle.deck.specs.declared.settings.Settings.{Settings}
+use Rattle.deck.specs.declared.splice.Splice.{Splice}
+
+-- a list up to its length, with more behind it
+pub take_front : {A : Type 0} (xs ys : List A) → take (length xs) (xs ++ ys) ≡ xs
+take_front [] ys = refl
+take_front (x ∷ xs) ys = ap (λ t. x ∷ t) (take_front xs ys)
+
+-- lines put behind all others
+pub put_last : (n : ℕ) (xs : List DeckLine) (x : DeckLine) → n ≡ length xs
+    → exchanged_lines n 0 (x ∷ []) xs ≡ xs ++ x ∷ []
+put_last n xs x e =
+    ap (λ m. take m xs ++ (x ∷ drop (m + 0) xs)) e
+    ∙ ap (λ t. t ++ (x ∷ drop (length xs + 0) xs)) (sym (ap (take (length xs)) (append-nil xs)) ∙ take_front xs [])
+    ∙ ap (λ t. xs ++ (x ∷ t)) (drop_all (length xs + 0) xs (omega arith))
+
+-- all lines behind a place taken out
+pub cut_last : (at cut : ℕ) (xs ys zs : List DeckLine) → zs ≡ xs ++ ys → at ≡ length xs → at + cut ≡ length zs
+    → exchanged_lines at cut [] zs ≡ xs
+cut_last at cut xs ys zs is here all =
+    ap (λ t. take at zs ++ t) (drop_all (at + cut) zs (omega (arith, all))) ∙ append-nil (take at zs)
+    ∙ ap (λ n. take n zs) here ∙ ap (take (length xs)) is ∙ take_front xs ys
+
+-- lines can be exchanged where that gives lines that are closed and within the limits
+pub can_exchange : (at cut : ℕ) (put lines given : List DeckLine) → at + cut ≤ length lines
+    → exchanged_lines at cut put lines ≡ given →
+    IsClosed given → pass_limit given ≡ false → CanExchange at cut put lines
+can_exchange at cut put lines given places is closed within =
+    record { places = places; closed = subst IsClosed (sym is) closed; within = ap pass_limit is ∙ within }
+
+-- a splice of these parts
+abbrev pub splice : ℕ → ℕ → List DeckLine → Settings → Splice
+splice at cut put settings = record { at = at; cut = cut; put = put; settings = settings }
+
+-- the way back from a splice
+module _ (law : InverseLaw) (s : Splice) (old new : Contents) (is : new ≡ after_splice s old)
+    (places : s.at + s.cut ≤ length old.lines) where
+  pub lines_back : exchanged_lines s.at (length s.put) (lines_from s.at s.cut old.lines) new.lines ≡ old.lines
+  lines_back =
+      ap (λ (d : Contents). exchanged_lines s.at (length s.put) (lines_from s.at s.cut old.lines) d.lines) is
+      ∙ ap (λ (d : Contents). d.lines) (law s old places)
+
+  pub places_back : s.at + length s.put ≤ length new.lines
+  places_back =
+      omega (
+        arith,
+        places,
+        ap (λ (d : Contents). length d.lines) is,
+        length-append (take s.at old.lines)
+            (s.put ++ drop (s.at + s.cut) old.lines),
+        length-append s.put (drop (s.at + s.cut) old.lines),
+        length-take s.at old.lines,
+      )
+
+  pub can_go_back : IsClosed old.lines → pass_limit old.lines ≡ false → CanExchange s.at (length s.put)
+      (lines_from s.at s.cut old.lines) new.lines
+  can_go_back closed within = can_exchange s.at (length s.put) (lines_from s.at s.cut old.lines) new.lines old.lines
+      places_back lines_back closed within

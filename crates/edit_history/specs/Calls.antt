@@ -1,0 +1,46 @@
+-- What the calls of a history do.
+use Rattle.std.specs.Prelude.{◌≡◌, ◌∷◌, ◌⊎◌, [], List, Result, Ok, Err}
+use Rattle.deck.specs.Decks.{Contents}
+use Rattle.deck.specs.Splices.{after_splice}
+use Rattle.deck.specs.declared.fault.DeckFault.{DeckFault}
+use Rattle.live_table.specs.Calls.{IsEdit}
+use Rattle.live_table.specs.Shown.{Shown}
+use Rattle.edit_history.specs.Histories.{Course}
+use Rattle.edit_history.specs.Steps.{after_step, splice_of}
+use Rattle.edit_history.specs.Versions.{version_of}
+use Rattle.edit_history.specs.declared.fault.HistoryFault.{HistoryFault}
+use Rattle.edit_history.specs.declared.fault.HistoryFault.TheVariants.{OutOfMemory}
+use Rattle.edit_history.specs.declared.step.Step.{Step}
+
+-- an accepted edit puts a step to the version before it on those done, and nothing is undone any more; one that is
+-- refused leaves the history
+abbrev pub IsNoted : Course → Course → Contents → Contents → Result (Unit {0}) DeckFault → Type 0
+IsNoted old new before after (Ok _) =
+    (s : Step) × (new ≡ record { done = s ∷ old.done; undone = [] })
+    × (after_step s (version_of after) ≡ version_of before)
+IsNoted old new before after (Err fault) = new ≡ old
+
+-- the first of some steps was made, and is gone, and a step back to the version before it stands before others
+pub record IsMoved (old rest others more : List Step) (before after : Contents) : Type 0 where
+  pub step : Step
+  pub back : Step
+  pub taken : old ≡ step ∷ rest
+  pub put : more ≡ back ∷ others
+  pub made : after ≡ after_splice (splice_of step (version_of before)) before
+  pub again : after_step back (version_of after) ≡ version_of before
+
+-- why no step was made: there is none, or there is one and no memory
+abbrev pub IsRefusal : HistoryFault → List Step → HistoryFault → Type 0
+IsRefusal nothing steps fault =
+    ((fault ≡ nothing) × (steps ≡ [])) ⊎ ((fault ≡ OutOfMemory) × (steps ≡ [] → ⊥))
+
+-- the last edit that was done is taken back, and what that affects is forgotten; or all is as it was
+abbrev pub IsUndone : HistoryFault → Course → Course → Shown → Shown → Result (Unit {0}) HistoryFault → Type 0
+IsUndone nothing old new before after (Ok _) =
+    IsMoved old.done new.done old.undone new.undone before.deck after.deck × IsEdit before after
+IsUndone nothing old new before after (Err fault) =
+    (new ≡ old) × (after ≡ before) × IsRefusal nothing old.done fault
+
+-- the same history with the lists exchanged
+abbrev pub turned : Course → Course
+turned h = record { done = h.undone; undone = h.done }

@@ -1,0 +1,18 @@
+-- Versions of a deck.
+use Rattle.std.specs.Prelude.{List, []}
+use Rattle.deck_lines.specs.declared.line.DeckLine.{DeckLine}
+use Rattle.deck.specs.Decks.{Contents}
+use Rattle.deck.specs.declared.settings.Settings.{Settings}
+
+-- what a history gives back of a deck: its lines with their marks, and its settings. Notices are those of the last
+-- load or append, which no step changes
+pub record Version : Type 0 where
+  pub lines : List DeckLine
+  pub settings : Settings
+
+abbrev pub version_of : Contents → Version
+version_of d = record { lines = d.lines; settings = d.settings }
+
+-- a deck of this version
+abbrev pub deck_of : Version → Contents
+deck_of v = record { lines = v.lines; settings = v.settings; notices = [] }
