@@ -8,7 +8,7 @@ use Rattle.def_entry.specs.Keys.{key_of}
 use Rattle.def_entry.specs.declared.key.Key.{Key}
 use Rattle.session.specs.Answering.{IsAnswered, Says}
 use Rattle.session.specs.Answers.{Answer}
-use Rattle.session.specs.Commands.{Command, is_load}
+use Rattle.session.specs.Commands.{Command}
 use Rattle.session.specs.Commands as command
 use Rattle.session.specs.Hearing.{is_last, is_last_read, readable}
 use Rattle.session.specs.Parts.{IsSaid}

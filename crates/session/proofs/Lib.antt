@@ -12,3 +12,6 @@ pub mod Counted
 pub mod Faulting
 pub mod Blocks
 pub mod TalkedThrough
+pub mod LogicalSizes
+pub mod DeckSizes
+pub mod TrialSizes

@@ -19,6 +19,7 @@ pub mod Laws
 pub mod Outside
 pub mod Written
 pub mod Waiting
+pub mod TextDecks
 pub mod TrialLines
 pub mod Trials
 pub mod Trialing

@@ -1,17 +1,15 @@
 -- A trial: a session over made-up definitions and made-up lines.
 use Rattle.std.specs.Prelude.{◌++◌, ◌+◌, [], ℕ, List, None, true, length, codes}
 use Rattle.std.specs.FinMap as map_of
-use Rattle.std.specs.Prelude.{Result, Ok, Err}
 use Rattle.units_io.specs.FileMap.{no_files}
 use Rattle.deck.specs.Decks.{Contents}
-use Rattle.deck.specs.Loading.{after_text}
-use Rattle.deck.specs.declared.fault.DeckFault.{DeckFault}
 use Rattle.deck.specs.declared.settings.Settings.{Settings}
 use Rattle.live_table.specs.Shown.{Shown}
 use Rattle.reply.specs.declared.options.Options.{Options}
 use Rattle.session.specs.Counting.{counted, statistics}
 use Rattle.session.specs.Sessions.{Known, known, state_of}
 use Rattle.session.specs.Talks.{Talk, talk_on}
+use Rattle.session.specs.TextDecks.{text_deck}
 use Rattle.session.specs.TrialLines.{definitions, rounds}
 
 -- a session that sees no file and has said nothing
@@ -40,13 +38,9 @@ trial_over options n deck =
     record { text = summary n (length talk.out) talk.state.session.table; steps = talk.steps }
 
 -- the definitions of a trial
-abbrev pub trial_deck : Settings → ℕ → Result Contents DeckFault
-trial_deck settings n = after_text (definitions n) (codes "trial") settings
+abbrev pub trial_deck : Settings → ℕ → Contents
+trial_deck settings n = text_deck (codes "trial") (definitions n) settings
 
--- a trial of n rounds, or why there is no room for its definitions
-abbrev pub trial_on : Result Contents DeckFault → Options → ℕ → Result Trial DeckFault
-trial_on (Ok deck) options n = Ok (trial_over options n deck)
-trial_on (Err fault) options n = Err fault
-
-unfoldable pub trial : Options → Settings → ℕ → Result Trial DeckFault
-trial options settings n = trial_on (trial_deck settings n) options n
+-- a trial of n rounds
+unfoldable pub trial : Options → Settings → ℕ → Trial
+trial options settings n = trial_over options n (trial_deck settings n)

@@ -9,7 +9,8 @@ use Rattle.session.specs.Outside.{Outside, Rests, taken_of}
 use Rattle.session.specs.Talks.{Talk, talk_on, talk_over}
 use Rattle.session.specs.Telling.{when_told}
 use Rattle.session.specs.declared.over_source.SessionEnd.{SessionEnd}
-use Rattle.session.specs.declared.over_source.SessionEnd.TheVariants.{Done, ReadFault, WriteFault, NoMemory, InputTooLong}
+use Rattle.session.specs.declared.over_source.SessionEnd.TheVariants.{Done, ReadFault, WriteFault, NoMemory}
+use Rattle.session.specs.declared.over_source.SessionEnd.TheVariants.{InputTooLong}
 
 -- the bytes for each sink, how many names are newly settled, and the files at the end
 pub record Output : Type 0 where

@@ -19,9 +19,9 @@ ghost use Rattle.session.specs.Telling.{TellsIf};
 use crate::asking::{converted, defined, listed, valued};
 use crate::command::{Command, read_command};
 use crate::counting::statistics;
-use crate::editing::{define, drop_last, notice_lines, refusal_line, set_locale, set_variable};
+use crate::editing::{define, drop_last, refusal_line, set_locale, set_variable};
 use crate::fault::SessionFault;
-use crate::lines::{line_of, no_text, word_line};
+use crate::lines::{line_of, no_text, notice_lines, word_line};
 use crate::session::Session;
 use def_entry::{KeyFault, read_key};
 use live_table::LiveTable;
@@ -179,13 +179,14 @@ fn load<F: Files>(
         (known options table.new pending) steps steps }
     ensures done { IfOk result (λ reply. reply.done ≡ false) }
     ensures kept { F.files files.new ≡ F.files files.old }
+    ensures stores { F.store_faults files.new ≡ F.store_faults files.old }
     ensures counted { F.faults files.new ≡ faults_after (F.faults files.old) result }
     ensures cause { IsErrOf result SessionFault.ReadFailed → Rose (F.faults files.old) (F.faults files.new) }
 {
     match table.append(alloc, files, name) {
         Ok(()) => Ok(LineReply {
             out: no_text(alloc),
-            err: notice_lines(alloc, table)?,
+            err: Text::from(notice_lines(alloc, table.deck())?),
             done: false,
         }),
         Err(fault) => Ok(saying(alloc, refusal_line(alloc, fault, name)?)),
@@ -254,6 +255,8 @@ impl Session {
         ensures done { IfOk result (λ reply. reply.done ≡ commands.is_quit (commands.command_of line.now)) }
         ensures counted { F.faults files.new ≡ faults_after (F.faults files.old) result }
         ensures cause { IsErrOf result SessionFault.ReadFailed → Rose (F.faults files.old) (F.faults files.new) }
+        ensures kept { F.files files.new ≡ F.files files.old }
+        ensures stores { F.store_faults files.new ≡ F.store_faults files.old }
     {
         match read_command(line) {
             Command::Load(name) => load(alloc, &mut self.table, name, files),

@@ -9,7 +9,7 @@ ghost use Rattle.session.specs.Lines as lines;
 ghost use Rattle.session.specs.Parts.{IsEdited};
 
 use crate::fault::SessionFault;
-use crate::lines::{line_of, no_text, put_lines, word_line};
+use crate::lines::{line_of, no_text, word_line};
 use deck::{DeckFault, Settings};
 use def_entry::{Key, entry_fault_text, told_law};
 use live_table::LiveTable;
@@ -116,15 +116,6 @@ fn switch(alloc: Global, table: &mut LiveTable, settings: Settings) -> Result<Te
         Ok(()) => Ok(no_text(alloc)),
         Err(fault) => refusal_line(alloc, fault, b""),
     }
-}
-
-/// The notices of the last load, each on a line.
-pub(crate) fn notice_lines(alloc: Global, table: &LiveTable) -> Result<Text, AllocError>
-    ensures { IfOk result (λ text. text ≡ lines.lines_of_texts table.now.deck.notices) }
-{
-    let mut lines = Vec::new(alloc);
-    put_lines(&mut lines, table.deck().notices().as_slice())?;
-    Ok(Text::from(lines))
 }
 
 /// The line that refuses an edit, or the fault by which the session ends.

@@ -14,6 +14,7 @@ mod over_source;
 mod said;
 mod session;
 mod talk;
+mod text_decks;
 mod trial;
 mod trial_lines;
 
@@ -22,8 +23,10 @@ pub use command::{Command, line_text, read_command};
 pub use fault::SessionFault;
 pub use held::{Held, LONGEST_LINE};
 pub use laws::{leaves_law, line_laws};
+pub use lines::notice_lines;
 pub use over_source::{SessionEnd, run_session};
 pub use said::Said;
 pub use session::Session;
 pub use talk::{feed, feed_end};
+pub use text_decks::text_deck;
 pub use trial::run_trial;

@@ -3,6 +3,7 @@
 ghost use Rattle.std.specs.Prelude.{◌≡◌, ◌++◌, [], IfOk, OnOk};
 ghost use Rattle.session.specs.Lines as spec;
 
+use deck::Deck;
 use std::alloc::{AllocError, Global};
 use units_io::Text;
 
@@ -30,6 +31,15 @@ pub(crate) fn word_line(alloc: Global, words: &[u8], word: &[u8]) -> Result<Text
     line.extend_from_slice(word)?;
     line.push(b'\n')?;
     Ok(Text::from(line))
+}
+
+/// The notices of a deck, each on a line. The only error is want of memory.
+pub fn notice_lines(alloc: Global, deck: &Deck) -> Result<Vec<u8>, AllocError>
+    ensures { IfOk result (λ lines. lines.items ≡ spec.lines_of_texts deck.now.notices) }
+{
+    let mut lines = Vec::new(alloc);
+    put_lines(&mut lines, deck.notices().as_slice())?;
+    Ok(lines)
 }
 
 /// Puts texts, each with its line feed.

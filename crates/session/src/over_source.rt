@@ -1,7 +1,6 @@
 //! A session over a source: blocks of input, and one put on each sink for what each of them gave.
 
-ghost use Rattle.std.specs.Prelude.{◌≡◌, ◌⊎◌, ◌≤◌, ◌<◌, [], List, ℕ, Some, length, OnErr, OnOk};
-ghost use Rattle.units_io.specs.Bytes.{grown, GrowsByFront};
+ghost use Rattle.std.specs.Prelude.{◌≡◌, ◌⊎◌, ◌≤◌, ◌<◌, [], List, ℕ, Some, length};
 ghost use Rattle.units_io.specs.Faults.{Rose};
 ghost use Rattle.units_io.specs.FileMap.{FileMap};
 ghost use Rattle.session.specs.Outside.{Outside, outside_of, IsReadToEnd, TookMoreThan};
@@ -16,7 +15,7 @@ use crate::session::Session;
 use crate::talk::{feed, feed_end};
 use std::alloc::Global;
 use std::sync::ledger::Ledger;
-use units_io::{Failed, Files, Sink, Source, Steps, put_all};
+use units_io::{Files, Sink, Source, Steps};
 
 /// How a session ends.
 #[derive(Clone, Copy, Debug, PartialEq, Eq)]
@@ -70,12 +69,14 @@ pub fn run_session<S: Source, O: Sink, E: Sink, F: Files, L: Ledger>(
     ensures write { result ≡ SessionEnd.WriteFault →
         Rose (O.faults out.old) (O.faults out.new) ⊎ Rose (E.faults err.old) (E.faults err.new) }
     ensures too_long { result ≡ SessionEnd.InputTooLong → TookMoreThan 4294967296 (S.taken src.old) (S.taken src.new) }
+    ensures kept { F.files files.new ≡ F.files files.old }
+    ensures stores { F.store_faults files.new ≡ F.store_faults files.old }
 {
     let mut held = Held::new(alloc);
     let Ok(mut block) = vec![in alloc; 0u8; BLOCK] else {
         return SessionEnd::NoMemory;
     };
-    match write_said(said, out, err) {
+    match said.write(out, err) {
         Ok(()) => {}
         Err(_) => return SessionEnd::WriteFault,
     }
@@ -91,22 +92,6 @@ pub fn run_session<S: Source, O: Sink, E: Sink, F: Files, L: Ledger>(
         files,
         steps,
     )
-}
-
-// Writes what is said, on each sink in one piece.
-fn write_said<O: Sink, E: Sink>(said: &Said, out: &mut O, err: &mut E) -> Result<(), Failed>
-    ensures whole { OnOk
-        result ((O.written out.new ≡ grown (O.written out.old) said.now.out.items)
-        × (E.written err.new ≡ grown (E.written err.old) said.now.err.items)) }
-    ensures out { GrowsByFront (O.written out.old) (O.written out.new) said.now.out.items }
-    ensures err { GrowsByFront (E.written err.old) (E.written err.new) said.now.err.items }
-    ensures cause { OnErr
-        result (Rose (O.faults out.old) (O.faults out.new) ⊎ Rose (E.faults err.old) (E.faults err.new)) }
-    ensures out_later { O.faults out.old ≤ O.faults out.new }
-    ensures err_later { E.faults err.old ≤ E.faults err.new }
-{
-    put_all(out, said.out.as_slice())?;
-    put_all(err, said.err.as_slice())
 }
 
 // Answers the lines of a source, where all that was said is written.
@@ -142,6 +127,8 @@ fn answer_blocks<S: Source, O: Sink, E: Sink, F: Files, L: Ledger>(
     ensures write { result ≡ SessionEnd.WriteFault →
         Rose (O.faults out.old) (O.faults out.new) ⊎ Rose (E.faults err.old) (E.faults err.new) }
     ensures too_long { result ≡ SessionEnd.InputTooLong → TookMoreThan 4294967296 (S.taken src.old) (S.taken src.new) }
+    ensures kept { F.files files.new ≡ F.files files.old }
+    ensures stores { F.store_faults files.new ≡ F.store_faults files.old }
     ensures out_later { O.faults out.old ≤ O.faults out.new }
     ensures err_later { E.faults err.old ≤ E.faults err.new }
 {
@@ -154,7 +141,7 @@ fn answer_blocks<S: Source, O: Sink, E: Sink, F: Files, L: Ledger>(
         said.clear();
         if n == 0 {
             let ended = feed_end(alloc, session, held, said, files, steps);
-            match write_said(said, out, err) {
+            match said.write(out, err) {
                 Ok(()) => {}
                 Err(_) => return SessionEnd::WriteFault,
             }
@@ -168,7 +155,7 @@ fn answer_blocks<S: Source, O: Sink, E: Sink, F: Files, L: Ledger>(
         }
         total += n as u64;
         let fed = feed(alloc, session, held, said, files, steps, &block[..n]);
-        match write_said(said, out, err) {
+        match said.write(out, err) {
             Ok(()) => {}
             Err(_) => return SessionEnd::WriteFault,
         }

@@ -1,6 +1,8 @@
 //! What is said and not yet written.
 
-ghost use Rattle.std.specs.Prelude.{◌≡◌, ◌++◌, [], OnOk, IfOk};
+ghost use Rattle.std.specs.Prelude.{◌≡◌, ◌⊎◌, ◌≤◌, ◌++◌, [], OnErr, OnOk, IfOk};
+ghost use Rattle.units_io.specs.Bytes.{grown, GrowsByFront};
+ghost use Rattle.units_io.specs.Faults.{Rose};
 ghost use Rattle.session.specs.Lines.{lines_of_texts};
 ghost use Rattle.session.specs.Parts.{line_said};
 ghost use Rattle.session.specs.Standing.{Begins};
@@ -8,9 +10,10 @@ ghost use Rattle.session.specs.Talks.{opening};
 
 use crate::answer::LineReply;
 use crate::counting::put_banner;
-use crate::lines::put_lines;
+use crate::lines::{notice_lines, put_lines};
 use crate::session::Session;
 use std::alloc::{AllocError, Global};
+use units_io::{Failed, Sink, put_all};
 
 /// What is said and not yet written, on each sink.
 #[derive(Drop)]
@@ -28,8 +31,7 @@ impl Said {
     {
         let mut out = Vec::new(alloc);
         put_opening(alloc, &mut out, session)?;
-        let mut err = Vec::new(alloc);
-        put_lines(&mut err, session.table().deck().notices().as_slice())?;
+        let err = notice_lines(alloc, session.table().deck())?;
         Ok(Said { out, err })
     }
 
@@ -40,6 +42,22 @@ impl Said {
     {
         self.out.clear();
         self.err.clear();
+    }
+
+    /// Writes it, on each sink in one piece. `Failed` comes only where a sink failed, which has counted it; then a
+    /// front of the bytes stands on each.
+    pub fn write<O: Sink, E: Sink>(&self, out: &mut O, err: &mut E) -> Result<(), Failed>
+        ensures whole { OnOk result ((O.written out.new ≡ grown (O.written out.old) self.now.out.items)
+            × (E.written err.new ≡ grown (E.written err.old) self.now.err.items)) }
+        ensures out { GrowsByFront (O.written out.old) (O.written out.new) self.now.out.items }
+        ensures err { GrowsByFront (E.written err.old) (E.written err.new) self.now.err.items }
+        ensures cause { OnErr result
+            (Rose (O.faults out.old) (O.faults out.new) ⊎ Rose (E.faults err.old) (E.faults err.new)) }
+        ensures out_later { O.faults out.old ≤ O.faults out.new }
+        ensures err_later { E.faults err.old ≤ E.faults err.new }
+    {
+        put_all(out, self.out.as_slice())?;
+        put_all(err, self.err.as_slice())
     }
 
     // Adds an answer, and the prompt for the next line unless it was the last.

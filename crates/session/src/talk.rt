@@ -1,6 +1,6 @@
 //! A session that answers the bytes of an input, block by block.
 
-ghost use Rattle.std.specs.Prelude.{◌≡◌, ◌++◌, ◌∷◌, ◌≤◌, List, ℕ, Some, [], length, IfOk, IfSome, IsErrOf, MatchResult};
+ghost use Rattle.std.specs.Prelude.{◌≡◌, ◌++◌, ◌≤◌, List, ℕ, Some, [], length, IfOk, IfSome, IsErrOf, MatchResult};
 ghost use Rattle.std.specs.Prelude.{codes, false};
 ghost use Rattle.std.specs.Option.{option_copied};
 ghost use Rattle.units_io.specs.FileMap.{FileMap};
@@ -41,6 +41,8 @@ pub fn feed<F: Files, L: Ledger>(
         (now_of said.new session.new (F.files files.new) steps.new) }
     ensures counted { F.faults files.new ≡ faults_after (F.faults files.old) result }
     ensures cause { IsErrOf result SessionFault.ReadFailed → Rose (F.faults files.old) (F.faults files.new) }
+    ensures kept { F.files files.new ≡ F.files files.old }
+    ensures stores { F.store_faults files.new ≡ F.store_faults files.old }
 {
     let mut rest = block;
     while let Some((piece, behind)) = cut_at(rest, b'\n') {
@@ -73,6 +75,8 @@ pub fn feed_end<F: Files, L: Ledger>(
         (λ _. IsBefore base (talk_on first input) said.new) }
     ensures counted { F.faults files.new ≡ faults_after (F.faults files.old) result }
     ensures cause { IsErrOf result SessionFault.ReadFailed → Rose (F.faults files.old) (F.faults files.new) }
+    ensures kept { F.files files.new ≡ F.files files.old }
+    ensures stores { F.store_faults files.new ≡ F.store_faults files.old }
 {
     if held.is_empty() {
         return Ok(());
@@ -103,6 +107,8 @@ fn end_line<F: Files, L: Ledger>(
         (with_answer talk (spec.answer talk.state (part ++ piece.now)) (part ++ piece.now)) said.new) }
     ensures counted { F.faults files.new ≡ faults_after (F.faults files.old) result }
     ensures cause { IsErrOf result SessionFault.ReadFailed → Rose (F.faults files.old) (F.faults files.new) }
+    ensures kept { F.files files.new ≡ F.files files.old }
+    ensures stores { F.store_faults files.new ≡ F.store_faults files.old }
 {
     if held.is_empty() {
         let done = reply(alloc, session, short(piece), said, files, steps);
@@ -149,6 +155,8 @@ fn reply<F: Files, L: Ledger>(
         (λ _. IsBefore base (with_answer talk (spec.answer talk.state part) part) said.new) }
     ensures counted { F.faults files.new ≡ faults_after (F.faults files.old) result }
     ensures cause { IsErrOf result SessionFault.ReadFailed → Rose (F.faults files.old) (F.faults files.new) }
+    ensures kept { F.files files.new ≡ F.files files.old }
+    ensures stores { F.store_faults files.new ≡ F.store_faults files.old }
 {
     let reply = match answer_line(alloc, session, line, files, steps) {
         Ok(reply) => reply,
@@ -176,6 +184,8 @@ fn answer_line<F: Files, L: Ledger>(
     ensures done { IfOk result (λ reply. reply.done ≡ is_last_read (option_copied line.entry)) }
     ensures counted { F.faults files.new ≡ faults_after (F.faults files.old) result }
     ensures cause { IsErrOf result SessionFault.ReadFailed → Rose (F.faults files.old) (F.faults files.new) }
+    ensures kept { F.files files.new ≡ F.files files.old }
+    ensures stores { F.store_faults files.new ≡ F.store_faults files.old }
 {
     match line {
         Some(line) => session.line(alloc, line, files, steps),

@@ -1,10 +1,9 @@
 //! A trial: a session over made-up definitions and made-up lines.
 
-ghost use Rattle.std.specs.Prelude.{◌≡◌, ◌≤◌, IfErr, IfOk};
-ghost use Rattle.deck.specs.declared.fault.DeckFault.TheVariants.{OutOfMemory};
+ghost use Rattle.std.specs.Prelude.{◌≡◌, ◌≤◌, IfOk};
 ghost use Rattle.reply.specs.Options.{IsPrintable};
 ghost use Rattle.session.specs.Talks.{talk_on};
-ghost use Rattle.session.specs.Trialing.{IsTalked, IsTrial};
+ghost use Rattle.session.specs.Trialing.{IsTalked, Tells};
 ghost use Rattle.session.specs.Trials as spec;
 
 use crate::counting::{put_count, statistics};
@@ -12,37 +11,35 @@ use crate::held::Held;
 use crate::said::Said;
 use crate::session::Session;
 use crate::talk::{feed, feed_end};
+use crate::text_decks::text_deck;
 use crate::trial_lines::{all_rounds, definitions};
-use deck::{Deck, DeckFault, NoFiles, Settings};
+use deck::{Deck, NoFiles, Settings};
 use live_table::LiveTable;
 use reply::Options;
 use std::alloc::{AllocError, Global};
 use std::sync::ledger::Ledger;
 use units_io::{Steps, Text};
 
-/// A trial of so many rounds, 1 to 20,000, over as many definitions and one: what is told of it. `DeckFull` where its
-/// definitions pass a limit; the only other error is want of memory.
+/// A trial of so many rounds, 1 to 20,000, over as many definitions and one: what is told of it. The only error is want
+/// of memory: its definitions are within the limits of a deck.
 pub fn run_trial<L: Ledger>(
     alloc: Global,
     options: Options,
     settings: Settings,
     rounds: u16,
     steps: &mut Steps<L>,
-) -> Result<Text, DeckFault>
+) -> Result<Text, AllocError>
     requires printable { IsPrintable options }
     requires some { 1 ≤ rounds }
     requires few { rounds ≤ 20000 }
-    ensures { IsTrial (spec.trial options settings rounds) result steps.old steps.new }
+    ensures { IfOk result (λ text. Tells (spec.trial options settings rounds) text steps.old steps.new) }
 {
     let text = definitions(alloc, rounds)?;
-    let deck = match Deck::from_text(alloc, &text, b"trial", settings) {
-        Ok(deck) => deck,
-        Err(fault) => return Err(fault),
-    };
+    let deck = text_deck(alloc, &text, b"trial", settings)?;
     let mut session = quiet_session(alloc, deck, options);
     let lines = all_rounds(alloc, rounds)?;
     let said = talked(alloc, &mut session, &lines, steps)?;
-    Ok(summary(alloc, rounds, said.out.len(), session.table())?)
+    summary(alloc, rounds, said.out.len(), session.table())
 }
 
 // A session that says nothing but answers.
@@ -63,10 +60,9 @@ fn talked<L: Ledger>(
     session: &mut Session,
     lines: &[u8],
     steps: &mut Steps<L>,
-) -> Result<Said, DeckFault>
-    ensures said { IfOk result (λ said.
+) -> Result<Said, AllocError>
+    ensures { IfOk result (λ said.
         IsTalked (talk_on (spec.silent session.old) lines.now) said session.new steps.old steps.new) }
-    ensures cause { IfErr result (λ fault. fault ≡ OutOfMemory) }
 {
     let mut files = NoFiles::new();
     let mut held = Held::new(alloc);
@@ -79,11 +75,11 @@ fn talked<L: Ledger>(
     ) {
         Ok(true) => return Ok(said),
         Ok(false) => {}
-        Err(_) => return Err(DeckFault::OutOfMemory),
+        Err(_) => return Err(AllocError),
     }
     match feed_end(alloc, session, &held, &mut said, &mut files, steps) {
         Ok(()) => Ok(said),
-        Err(_) => Err(DeckFault::OutOfMemory),
+        Err(_) => Err(AllocError),
     }
 }
 

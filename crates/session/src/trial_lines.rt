@@ -1,15 +1,16 @@
 //! The made-up definitions and lines of a trial.
 
 ghost use Rattle.std.specs.Prelude.{◌≡◌, ◌++◌, ◌≤◌, ◌+◌, ◌*◌, ◌%◌, IfOk, OnOk, length};
-ghost use Rattle.units_io.specs.FileMap.{longest_file};
+ghost use Rattle.session.specs.TextDecks.{HasRoom};
 ghost use Rattle.session.specs.TrialLines as spec;
 
 use std::alloc::{AllocError, Global};
 
 /// The definitions of a trial of so many rounds. The only error is want of memory.
 pub(crate) fn definitions(alloc: Global, last: u16) -> Result<Vec<u8>, AllocError>
+    requires { last ≤ 20000 }
     ensures is { IfOk result (λ text. text.items ≡ spec.definitions last) }
-    ensures short { IfOk result (λ text. length text.items ≤ longest_file) }
+    ensures room { IfOk result (λ text. HasRoom text.items) }
 {
     let mut text = Vec::from_slice(alloc, b"u_0 !\n")?;
     let mut i = 0u16;

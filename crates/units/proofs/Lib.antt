@@ -1,5 +1,4 @@
 pub mod BuiltInDeck
 pub mod Planned
 pub mod Running
-pub mod Sizes
 pub mod Working

@@ -1,7 +1,6 @@
 -- A plan, by the words.
-use Rattle.std.proofs.Common.{◌≡◌, ◌&&◌, ◌||◌, inl, inr, ℕ, List, Bool, true, false, Result, Ok, Err, Some, None, refl, sym}
+use Rattle.std.proofs.Common.{◌≡◌, ◌&&◌, ◌||◌, inl, inr, ℕ, List, Bool, true, false, Result, Err, Some, None, refl, sym}
 use Rattle.std.proofs.Common.{ap, subst, ◌∙◌, if◌then◌else◌}
-use Rattle.std.specs.Prelude.{codes}
 use Rattle.std.specs.declared.option.Option.{Option}
 use Rattle.units_io.specs.FileMap.{FileMap}
 use Rattle.units_io.specs.Named.{Pairs}
@@ -14,13 +13,11 @@ use Rattle.deck.specs.Loading.{IsLoaded, MayFail, faults_after_load}
 use Rattle.deck.specs.declared.fault.DeckFault.{DeckFault}
 use Rattle.deck.specs.declared.fault.DeckFault.TheVariants as fault
 use Rattle.session.specs.Telling.{TellsIf}
-use Rattle.session.specs.Trialing.{IsTrial}
-use Rattle.session.specs.Trials.{Trial}
 use Rattle.units.specs.Definitions.{no_deck_line}
 use Rattle.units.specs.Needs.{is_session, loads_file, needs_files}
 use Rattle.units.specs.Planning.{IsPlanned}
 use Rattle.units.specs.Plans.{complaint}
-use Rattle.units.specs.Work.{file_plan, line_plan, plan_of, trial_plan}
+use Rattle.units.specs.Work.{file_plan, line_plan, plan_of}
 use Rattle.units.specs.declared.plan.Plan.{Plan}
 use Rattle.units.specs.declared.status.Status.TheVariants.{NoFile, Usage}
 
@@ -98,14 +95,3 @@ tells_needed needed (Some told) x e h = ap Some h
 pub tells_told : {X : Type 0} (needed : Bool) (o : Option X) (x : X) → o ≡ Some x → TellsIf needed o x
 tells_told needed (Some told) x e = cc
 tells_told needed None x e = cc
-
--- there is no room for the definitions of a trial
-pub trial_missing : {E : Type 0} (want : Result Trial DeckFault) (refusal : DeckFault) (m : FileMap)
-    (result : Result Plan E) (old new : ℕ) → (refusal ≡ fault.OutOfMemory → ⊥) → IsTrial want (Err refusal) old new
-    → IsPlanned (complaint (no_deck_line refusal (codes "trial")) NoFile) m result old old
-    → IsPlanned (trial_plan want) m result old new
-trial_missing (Ok trial) refusal m result old new known is planned = absurd (known is)
-trial_missing (Err why) refusal m result old new known (inl is) planned = absurd (known is)
-trial_missing (Err why) refusal m result old new known (inr is) planned =
-    subst (λ (n : ℕ). IsPlanned (complaint (no_deck_line why (codes "trial")) NoFile) m result old n) (sym is.1)
-    (subst (λ (f : DeckFault). IsPlanned (complaint (no_deck_line f (codes "trial")) NoFile) m result old old) is.0 planned)

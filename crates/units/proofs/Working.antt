@@ -1,5 +1,6 @@
 -- Plans over a deck.
-use Rattle.std.proofs.Common.{◌≡◌, ◌+◌, ◌++◌, ◌||◌, ℕ, List, [], Bool, true, false, not, is_some, Option, Result, IfOk, sym, ap, subst, ◌∙◌, if◌then◌else◌}
+use Rattle.std.proofs.Common.{◌≡◌, ◌+◌, ◌++◌, ◌||◌, ℕ, List, [], Bool, true, false, not, is_some, Option, Result, IfOk}
+use Rattle.std.proofs.Common.{sym, ap, subst, ◌∙◌, if◌then◌else◌}
 use Rattle.units_io.specs.FileMap.{FileMap}
 use Rattle.def_entry.specs.Tables.{Table}
 use Rattle.def_lines.specs.Words.{is_empty}

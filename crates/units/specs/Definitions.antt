@@ -1,17 +1,15 @@
 -- The definitions of a run: those of a file, or the built-in ones.
 use Rattle.std.specs.Prelude.{◌++◌, ℕ, List, codes}
-use Rattle.deck_lines.specs.Includes.{lone_deck_of}
 use Rattle.deck.specs.Decks.{Contents}
-use Rattle.deck.specs.Edits.{with_excerpt}
-use Rattle.deck.specs.Loading.{empty_deck}
 use Rattle.deck.specs.declared.fault.DeckFault.{DeckFault}
 use Rattle.deck.specs.declared.fault.DeckFault.TheVariants as fault
 use Rattle.deck.specs.declared.settings.Settings.{Settings}
+use Rattle.session.specs.TextDecks.{text_deck}
 use Rattle.units.specs.BuiltIn.{built_in, built_in_name}
 
 -- the deck of the built-in text
-unfoldable pub built_in_deck : Settings → Contents
-built_in_deck settings = with_excerpt (lone_deck_of built_in_name built_in) (empty_deck settings)
+abbrev pub built_in_deck : Settings → Contents
+built_in_deck settings = text_deck built_in_name built_in settings
 
 -- why there is no deck of a file
 abbrev pub no_deck : DeckFault → List ℕ

@@ -1,13 +1,13 @@
 -- What a run leaves, by its ending.
-use Rattle.std.specs.Prelude.{◌≡◌, ◌||◌, ℕ, List, Bool, true, false, is_some, ⊤}
+use Rattle.std.specs.Prelude.{◌≡◌, ℕ, List, Bool, true, false, ⊤}
 use Rattle.command_line.specs.Taken.{are_taken}
 use Rattle.command_line.specs.Fields.{command_line_of}
-use Rattle.command_line.specs.declared.fields.CommandLine.{CommandLine}
 use Rattle.session.specs.Outside.{Outside, Rests}
 use Rattle.session.specs.Written.{Course, IsAll, IsCutShort, IsFront}
 use Rattle.session.specs.declared.over_source.SessionEnd.{SessionEnd}
 use Rattle.session.specs.declared.over_source.SessionEnd.TheVariants as end
 use Rattle.units.specs.Calls.{Call, course_of, run_of}
+use Rattle.units.specs.Needs.{loads_file}
 use Rattle.units.specs.declared.status.Status.{Status}
 use Rattle.units.specs.declared.status.Status.TheVariants as status
 use Rattle.units.specs.declared.status.Status.TheVariants.{ReadFault, WriteFault, NoMemory, InputTooLong}
@@ -37,16 +37,12 @@ IsFaultless ReadFault = ⊥
 IsFaultless WriteFault = ⊥
 IsFaultless ending = ⊤
 
--- an ending of words that are taken, by whether they lead to definitions that may be missing
-abbrev pub IsWorked : (may_miss : Bool) → Status → Type 0
-IsWorked may_miss status.Done = ⊤
-IsWorked may_miss status.Refused = ⊤
+-- an ending of words that are taken, by whether they lead to a definition file, of which there may be no deck
+abbrev pub IsWorked : (missing : Bool) → Status → Type 0
+IsWorked missing status.Done = ⊤
+IsWorked missing status.Refused = ⊤
 IsWorked true status.NoFile = ⊤
-IsWorked may_miss ending = ⊥
-
--- the definitions of a file, and those of a trial, may be missing
-abbrev pub may_miss : CommandLine → Bool
-may_miss line = is_some line.file || is_some line.trial
+IsWorked missing ending = ⊥
 
 -- how a run may end, faults, limits and want of memory aside, by whether its words are taken
 abbrev pub MayEnd : (taken missing : Bool) → Status → Type 0
@@ -55,7 +51,7 @@ MayEnd true missing ending = IsWorked missing ending
 
 -- the same by the words
 abbrev pub MayEndBy : (words : List (List ℕ)) → Status → Type 0
-MayEndBy words ending = MayEnd (are_taken words) (may_miss (command_line_of words)) ending
+MayEndBy words ending = MayEnd (are_taken words) (loads_file (command_line_of words)) ending
 
 -- how a session ended, as an ending of the run
 abbrev pub status_of : SessionEnd → Status
@@ -65,8 +61,8 @@ status_of end.WriteFault = status.WriteFault
 status_of end.NoMemory = status.NoMemory
 status_of end.InputTooLong = status.InputTooLong
 
--- what is left of a run of this course and this ending: all of it; or a front, which is cut behind the bytes taken where
--- the input is too long, and where a read failed that is none of a file
+-- what is left of a run of this course and this ending: all of it; or a front, which is cut behind the bytes taken
+-- where the input is too long, and where a read failed that is none of a file
 abbrev pub IsLeft : Course → (wanted : Status) → Status → (before after : Outside) → Type 0
 IsLeft course wanted ReadFault before after =
     IsFront course.whole before after × (Rests before.fetch_faults after.fetch_faults → IsCutShort course before after)

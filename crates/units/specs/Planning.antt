@@ -33,8 +33,8 @@ abbrev pub IsPlanned : {E : Type 0} → plans.Plan → FileMap → Result Plan E
 IsPlanned want files (Ok plan) steps_old steps_new = IsPlan want files plan steps_old steps_new
 IsPlanned want files (Err _) steps_old steps_new = ⊤
 
--- which plan there may be: a whole run by how it may end, which where the words lead to a session is only since there is
--- no deck; and a session only where they lead to one
+-- which plan there may be: a whole run by how it may end, which where the words lead to a session is only since there
+-- is no deck; and a session only where they lead to one
 abbrev pub IsFor : (taken missing session : Bool) → Plan → Type 0
 IsFor taken missing session (Whole said status) = (session ≡ true → status ≡ NoFile) × MayEnd taken missing status
 IsFor taken missing session (Opened said opened) = (taken ≡ true) × (session ≡ true)

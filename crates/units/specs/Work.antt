@@ -1,5 +1,5 @@
 -- What the words ask for: the usage line, a trial, a reply, a report, or a session.
-use Rattle.std.specs.Prelude.{◌++◌, ℕ, List, [], Option, Some, None, Result, Ok, Err, if◌then◌else◌, unwrap_or, codes}
+use Rattle.std.specs.Prelude.{◌++◌, ℕ, List, [], Option, Some, None, Result, Ok, Err, if◌then◌else◌, unwrap_or}
 use Rattle.std.specs.FinMap as map_of
 use Rattle.units_io.specs.FileMap.{FileMap}
 use Rattle.units_io.specs.Named.{Pairs}
@@ -76,9 +76,8 @@ deck_plan None line settings files = work_by line.from line (built_in_deck setti
 deck_plan (Some name) line settings files = file_plan line name (after_load files name settings) files
 
 -- what is told of a trial
-abbrev pub trial_plan : Result Trial DeckFault → Plan
-trial_plan (Ok trial) = Whole (record { out = trial.text; err = []; steps = trial.steps; status = Done })
-trial_plan (Err fault) = complaint (no_deck_line fault (codes "trial")) NoFile
+abbrev pub trial_plan : Trial → Plan
+trial_plan trial = Whole (record { out = trial.text; err = []; steps = trial.steps; status = Done })
 
 -- a trial, or work on a deck
 abbrev pub plan_by : (rounds : Option ℕ) → CommandLine → Settings → FileMap → Plan

@@ -1,5 +1,4 @@
 //! What FROM and TO ask of a table.
-ghost use Rattle.std.specs.Prelude.{◌≡◌, ◌++◌};
 ghost use Rattle.deck.specs.Tables.{table as table_of};
 ghost use Rattle.reply.specs.Options.{IsPrintable};
 ghost use Rattle.units.specs.Asked as spec;

@@ -5,7 +5,8 @@ ghost use Rattle.units.specs.Settings as settings;
 
 use crate::built_in::built_in;
 use command_line::CommandLine;
-use deck::{Deck, DeckFault, Settings};
+use deck::{Deck, Settings};
+use session::text_deck;
 use std::alloc::{AllocError, Global};
 use units_io::{Text, Vars};
 
@@ -25,12 +26,5 @@ pub fn settings_of(alloc: Global, line: &CommandLine, vars: &Vars) -> Result<Set
 pub fn built_in_deck(alloc: Global, settings: Settings) -> Result<Deck, AllocError>
     ensures { IfOk result (λ deck. deck ≡ definitions.built_in_deck settings) }
 {
-    match Deck::from_text(alloc, built_in(), b"builtin", settings) {
-        Ok(deck) => Ok(deck),
-        Err(fault) => match fault {
-            DeckFault::OutOfMemory => Err(AllocError),
-            // The text is within the limits of a deck.
-            _ => unreachable!(),
-        },
-    }
+    text_deck(alloc, built_in(), b"builtin", settings)
 }

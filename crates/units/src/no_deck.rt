@@ -12,8 +12,8 @@ use crate::status::Status;
 use deck::DeckFault;
 use std::alloc::{AllocError, Global};
 
-/// The line on `err` that says why there is no deck of the file of this name, where no fetch failed and there was enough
-/// memory.
+/// The line on `err` that says why there is no deck of the file of this name, where no fetch failed and there was
+/// enough memory.
 pub fn no_deck_plan(alloc: Global, fault: &DeckFault, name: &[u8]) -> Result<Plan, Halt>
     ensures told { (m : FileMap) (n : ℕ) →
         IsPlanned (complaint (spec.no_deck_line fault.now name.now) Status.NoFile) m result n n }
@@ -28,8 +28,8 @@ pub fn no_deck_plan(alloc: Global, fault: &DeckFault, name: &[u8]) -> Result<Pla
     }
 }
 
-/// The line on `err`.
-pub fn no_deck_complaint(alloc: Global, fault: &DeckFault, name: &[u8]) -> Result<Plan, AllocError>
+// The line on `err`.
+fn no_deck_complaint(alloc: Global, fault: &DeckFault, name: &[u8]) -> Result<Plan, AllocError>
     ensures told { (m : FileMap) (n : ℕ) →
         IsPlanned (complaint (spec.no_deck_line fault.now name.now) Status.NoFile) m result n n }
     ensures kind { (session : Bool) → IfOk result (IsFor true true session) }

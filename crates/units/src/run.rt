@@ -1,6 +1,5 @@
 //! The run of the program.
-ghost use Rattle.std.specs.Prelude.{◌≡◌, ◌⊎◌, ℕ, List, OnErr, OnOk, Some, false, true};
-ghost use Rattle.units_io.specs.Bytes.{grown, GrowsByFront};
+ghost use Rattle.std.specs.Prelude.{◌≡◌, ◌⊎◌, ℕ, List, Some, false, true};
 ghost use Rattle.units_io.specs.Faults.{Rose};
 ghost use Rattle.units_io.specs.FileMap.{FileMap};
 ghost use Rattle.session.specs.Outside.{IsReadToEnd, Rests, TookMoreThan, outside_of};
@@ -12,10 +11,10 @@ use crate::halt::Halt;
 use crate::plan::Plan;
 use crate::status::Status;
 use crate::words_plan::make_plan;
-use session::{Said, SessionEnd, run_session};
+use session::{SessionEnd, run_session};
 use std::alloc::Global;
 use std::sync::ledger::Ledger;
-use units_io::{Failed, Files, Sink, Source, Steps, Text, Vars, put_all};
+use units_io::{Files, Sink, Source, Steps, Text, Vars};
 
 /// Does all that the program does: for every command line, variables, files and session input it writes exactly the
 /// stated replies, and any other ending is a counted fault, a stated limit or want of memory. The words are those after
@@ -30,7 +29,8 @@ use units_io::{Failed, Files, Sink, Source, Steps, Text, Vars, put_all};
 /// statuses there may be is decided by the words alone, whatever is told. `source`, `no_deck`, `unasked`: nothing is
 /// taken outside of a session or without a deck, and no file is asked for where none is needed. `read`, `write`,
 /// `too_long`: faults come only where they were counted, and the limit only where it is passed. `complete`: where no
-/// count rises the status is 0 to 3, 7 or 6.
+/// count rises the status is 0 to 3, 7 or 6. `kept`, `stores`: whatever the ending, and whether the files are told or
+/// not, they are as before, and none was stored.
 pub fn units_main<S: Source, O: Sink, E: Sink, F: Files, L: Ledger>(
     alloc: Global,
     words: &[Text],
@@ -63,9 +63,11 @@ pub fn units_main<S: Source, O: Sink, E: Sink, F: Files, L: Ledger>(
     ensures complete { Rests (S.faults src.old) (S.faults src.new) → Rests (F.faults files.old) (F.faults files.new) →
         Rests (O.faults out.old) (O.faults out.new) → Rests (E.faults err.old) (E.faults err.new) →
         IsFaultless result }
+    ensures kept { F.files files.new ≡ F.files files.old }
+    ensures stores { F.store_faults files.new ≡ F.store_faults files.old }
 {
     match make_plan(alloc, words, vars, files, steps) {
-        Ok(Plan::Whole(said, status)) => match write_said(&said, out, err) {
+        Ok(Plan::Whole(said, status)) => match said.write(out, err) {
             Ok(()) => status,
             Err(_) => Status::WriteFault,
         },
@@ -77,19 +79,6 @@ pub fn units_main<S: Source, O: Sink, E: Sink, F: Files, L: Ledger>(
         Err(Halt::ReadFault) => Status::ReadFault,
         Err(Halt::NoMemory) => Status::NoMemory,
     }
-}
-
-// Writes what is said, on each sink in one piece.
-fn write_said<O: Sink, E: Sink>(said: &Said, out: &mut O, err: &mut E) -> Result<(), Failed>
-    ensures whole { OnOk result ((O.written out.new ≡ grown (O.written out.old) said.now.out.items)
-        × (E.written err.new ≡ grown (E.written err.old) said.now.err.items)) }
-    ensures out { GrowsByFront (O.written out.old) (O.written out.new) said.now.out.items }
-    ensures err { GrowsByFront (E.written err.old) (E.written err.new) said.now.err.items }
-    ensures cause { OnErr result
-        (Rose (O.faults out.old) (O.faults out.new) ⊎ Rose (E.faults err.old) (E.faults err.new)) }
-{
-    put_all(out, said.out.as_slice())?;
-    put_all(err, said.err.as_slice())
 }
 
 // How a session that ended so ends the run.

@@ -7,7 +7,6 @@ ghost use Rattle.command_line.specs.Fields.{command_line_of};
 ghost use Rattle.deck.specs.Loading.{after_load};
 ghost use Rattle.session.specs.Telling.{TellsIf};
 ghost use Rattle.session.specs.Trials.{trial};
-ghost use Rattle.units.specs.Endings.{may_miss};
 ghost use Rattle.units.specs.Needs.{is_session, loads_file, needs_files, needs_input};
 ghost use Rattle.units.specs.Options.{HasDigits, HasRounds, options_of as options_by};
 ghost use Rattle.units.specs.Planning.{IsFor, IsPlanned};
@@ -16,13 +15,13 @@ ghost use Rattle.units.specs.Work as spec;
 
 use crate::definitions::{built_in_deck, settings_of};
 use crate::halt::Halt;
-use crate::no_deck::{no_deck_complaint, no_deck_plan};
+use crate::no_deck::no_deck_plan;
 use crate::options::options_of;
 use crate::plan::Plan;
 use crate::status::Status;
 use crate::work::work;
 use command_line::{CommandLine, WordsFault, read_words, usage_text};
-use deck::{Deck, DeckFault, Settings};
+use deck::{Deck, Settings};
 use session::{Said, run_trial};
 use std::alloc::{AllocError, Global};
 use std::sync::ledger::Ledger;
@@ -39,7 +38,7 @@ pub fn make_plan<F: Files, L: Ledger>(
     ensures told { (m : FileMap) → TellsIf (needs_files words.now) (F.files files.old) m →
         IsPlanned (spec.plan_of words.now vars.now m) m result steps.old steps.new }
     ensures kind { IfOk result
-        (IsFor (are_taken words.now) (may_miss (command_line_of words.now)) (needs_input words.now)) }
+        (IsFor (are_taken words.now) (loads_file (command_line_of words.now)) (needs_input words.now)) }
     ensures calm { OnOk result (F.faults files.new ≡ F.faults files.old) }
     ensures cause { IsErrOf result Halt.ReadFault → Rose (F.faults files.old) (F.faults files.new) }
     ensures kept { F.files files.new ≡ F.files files.old }
@@ -65,7 +64,7 @@ fn line_plan<F: Files, L: Ledger>(
     requires rounds { HasRounds line.now }
     ensures told { (m : FileMap) → TellsIf (loads_file line.now) (F.files files.old) m →
         IsPlanned (spec.line_plan line.now vars.now m) m result steps.old steps.new }
-    ensures kind { IfOk result (IsFor true (may_miss line.now) (is_session line.now)) }
+    ensures kind { IfOk result (IsFor true (loads_file line.now) (is_session line.now)) }
     ensures calm { OnOk result (F.faults files.new ≡ F.faults files.old) }
     ensures cause { IsErrOf result Halt.ReadFault → Rose (F.faults files.old) (F.faults files.new) }
     ensures kept { F.files files.new ≡ F.files files.old }
@@ -92,21 +91,14 @@ fn trial_plan<L: Ledger>(
     requires few { rounds ≤ 20000 }
     ensures told { (m : FileMap) →
         IsPlanned (spec.trial_plan (trial (options_by line.now) settings rounds)) m result steps.old steps.new }
-    ensures kind { IfOk result (IsFor true true false) }
+    ensures kind { IfOk result (IsFor true false false) }
 {
-    match run_trial(alloc, options_of(line), settings, rounds, steps) {
-        Ok(text) => {
-            let said = Said {
-                out: text.into_bytes(),
-                err: Vec::new(alloc),
-            };
-            Ok(Plan::Whole(said, Status::Done))
-        }
-        Err(fault) => match fault {
-            DeckFault::OutOfMemory => Err(AllocError),
-            _ => no_deck_complaint(alloc, &fault, b"trial"),
-        },
-    }
+    let text = run_trial(alloc, options_of(line), settings, rounds, steps)?;
+    let said = Said {
+        out: text.into_bytes(),
+        err: Vec::new(alloc),
+    };
+    Ok(Plan::Whole(said, Status::Done))
 }
 
 // What a command line leads to over its definition file, or over the built-in text where none is named.

@@ -1,9 +1,9 @@
 //! What is done with a deck: the reply to FROM, the check, or a session.
-ghost use Rattle.std.specs.Prelude.{◌≡◌, ℕ, [], IfOk, Some, None, true, false, is_some, not, ◌||◌, unwrap_or, if◌then◌else◌};
+ghost use Rattle.std.specs.Prelude.{◌≡◌, ◌||◌, ℕ, [], IfOk, Some, None, true, false, is_some, not, unwrap_or};
+ghost use Rattle.std.specs.Prelude.{if◌then◌else◌};
 ghost use Rattle.units_io.specs.FileMap.{FileMap};
 ghost use Rattle.def_lines.specs.Words.{is_empty};
 ghost use Rattle.session.specs.Commands.{text_of};
-ghost use Rattle.session.specs.Lines.{lines_of_texts};
 ghost use Rattle.units.specs.Endings.{IsWorked};
 ghost use Rattle.units.specs.Options.{HasDigits};
 ghost use Rattle.units.specs.Planning.{IsFor, IsPlanned};
@@ -16,7 +16,7 @@ use crate::status::Status;
 use command_line::CommandLine;
 use deck::Deck;
 use live_table::LiveTable;
-use session::{Said, Session, leaves_law, line_text};
+use session::{Said, Session, leaves_law, line_text, notice_lines};
 use std::alloc::{AllocError, Global};
 use std::sync::ledger::Ledger;
 use survey::check_report;
@@ -115,18 +115,6 @@ fn session_plan(alloc: Global, line: &CommandLine, table: LiveTable) -> Result<P
     let session = Session::new(alloc, table, options_of(line));
     let said = Said::opening(alloc, &session)?;
     Ok(Plan::Opened(said, session))
-}
-
-// The notices of a deck, one a line.
-fn notice_lines(alloc: Global, deck: &Deck) -> Result<Vec<u8>, AllocError>
-    ensures { IfOk result (λ lines. lines.items ≡ lines_of_texts deck.now.notices) }
-{
-    let mut lines = Vec::new(alloc);
-    for notice in deck.notices().as_slice() {
-        lines.extend_from_slice(notice.as_bytes())?;
-        lines.push(b'\n')?;
-    }
-    Ok(lines)
 }
 
 // TO as it is read, which is blank where it does not stand.

@@ -12,14 +12,14 @@ returns-in-Err-clause-told g c = λ first input before m q fm ff at.
           (c.in-Err.ensures.kept ∙ p.3) refl refl,
     )
 
-pub returns-in-Err-write_said-clause-told : goal.returns-in-Err-write_said-clause-told
-returns-in-Err-write_said-clause-told g c = λ first input before m q fm ff at.
+pub returns-in-Err-write-clause-told : goal.returns-in-Err-write-clause-told
+returns-in-Err-write-clause-told g c = λ first input before m q fm ff at.
     let p = c.loop-total.invariant.stands first input before q at in
     let all = ended_input input p.0 p.1 p.2 (none_left _ p.1 p.3 (c.in-Ok.ensures.end c.if-n-eq0.true)) in
     let s = stands_end first p.0 _ _ _ _ p.4 input c.clear.new.self all c.clear.ensures.out c.clear.ensures.err in
     fronts_at first p.0 _ _ _ _ p.4 input input c.feed_end-ended.new.said _ refl
     (ended_before c.feed_end-ended.result _ first input _ (c.feed_end-ended.ensures.told _ first input s))
-    c.write_said.ensures.out c.write_said.ensures.err
+    c.write.ensures.out c.write.ensures.err
 
 pub returns-in-Ok-ended-clause-told : goal.returns-in-Ok-ended-clause-told
 returns-in-Ok-ended-clause-told g c = λ first input before m q fm ff at.
@@ -27,8 +27,8 @@ returns-in-Ok-ended-clause-told g c = λ first input before m q fm ff at.
     let all = ended_input input p.0 p.1 p.2 (none_left _ p.1 p.3 (c.in-Ok.ensures.end c.if-n-eq0.true)) in
     let s = stands_end first p.0 _ _ _ _ p.4 input c.clear.new.self all c.clear.ensures.out c.clear.ensures.err in
     whole_at first p.0 _ _ _ _ p.4 input input c.feed_end-ended.new.said _ _ _ refl fm
-    (c.in-Ok-ended.ensures.told _ first input s) c.in-Ok-write_said.ensures.whole.0
-    c.in-Ok-write_said.ensures.whole.1
+    (c.in-Ok-ended.ensures.told _ first input s) c.in-Ok-write.ensures.whole.0
+    c.in-Ok-write.ensures.whole.1
 
 pub returns-in-Ok-ended-clause-heard : goal.returns-in-Ok-ended-clause-heard
 returns-in-Ok-ended-clause-heard g c = λ first input before q at done.
@@ -43,7 +43,7 @@ returns-in-ReadFailed-clause-told g c = λ first input before m q fm ff at.
     let s = stands_end first p.0 _ _ _ _ p.4 input c.clear.new.self all c.clear.ensures.out c.clear.ensures.err in (
       fronts_at first p.0 _ _ _ _ p.4 input input c.feed_end-ended.new.said _ refl
           (ended_before c.feed_end-ended.result _ first input _ (c.feed_end-ended.ensures.told _ first input s))
-          c.write_said.ensures.out c.write_said.ensures.err,
+          c.write.ensures.out c.write.ensures.err,
       λ calm.
           absurd (calm (rose_from _ _ _ _ ff c.loop-total.invariant.later
           (c.in-Err-ended.ensures.cause (ap Err c.in-ReadFailed.is)))),
@@ -56,16 +56,16 @@ returns-in-OutOfMemory-clause-told g c = λ first input before m q fm ff at.
     let s = stands_end first p.0 _ _ _ _ p.4 input c.clear.new.self all c.clear.ensures.out c.clear.ensures.err in
     fronts_at first p.0 _ _ _ _ p.4 input input c.feed_end-ended.new.said _ refl
     (ended_before c.feed_end-ended.result _ first input _ (c.feed_end-ended.ensures.told _ first input s))
-    c.write_said.ensures.out c.write_said.ensures.err
+    c.write.ensures.out c.write.ensures.err
 
-pub returns-in-Err-write_said-2-clause-told : goal.returns-in-Err-write_said-2-clause-told
-returns-in-Err-write_said-2-clause-told g c = λ first input before m q fm ff at.
+pub returns-in-Err-write-2-clause-told : goal.returns-in-Err-write-2-clause-told
+returns-in-Err-write-2-clause-told g c = λ first input before m q fm ff at.
     let p = c.loop-total.invariant.stands first input before q at in
     let lost = loses _ _ p.1 (take c.in-Ok.n c.take.new.buf) p.3 c.in-Ok.ensures.bytes in
     let s = stands first p.0 _ _ _ _ p.4 c.clear.new.self c.clear.ensures.out c.clear.ensures.err in
     fronts_at first p.0 _ _ _ _ p.4 _ input c.feed-fed.new.said _ (went input p.0 p.1 _ lost.0 p.2 lost.2)
     (fed_before c.feed-fed.result _ first _ lost.0 _ _ (c.feed-fed.ensures.told _ first p.0 lost.0 s))
-    c.write_said-in-loop-total.ensures.out c.write_said-in-loop-total.ensures.err
+    c.write-in-loop-total.ensures.out c.write-in-loop-total.ensures.err
 
 pub returns-in-Ok-true-clause-told : goal.returns-in-Ok-true-clause-told
 returns-in-Ok-true-clause-told g c = λ first input before m q fm ff at.
@@ -74,7 +74,7 @@ returns-in-Ok-true-clause-told g c = λ first input before m q fm ff at.
     let s = stands first p.0 _ _ _ _ p.4 c.clear.new.self c.clear.ensures.out c.clear.ensures.err in
     let told = rw c.in-Ok-true.field-0-test at (c.in-Ok-true.ensures.told _ first p.0 lost.0 s) in
     whole_at first p.0 _ _ _ _ p.4 _ input c.feed-fed.new.said _ _ _ (went input p.0 p.1 _ lost.0 p.2 lost.2) fm told.at
-    c.in-Ok-write_said-2.ensures.whole.0 c.in-Ok-write_said-2.ensures.whole.1
+    c.in-Ok-write-2.ensures.whole.0 c.in-Ok-write-2.ensures.whole.1
 
 pub returns-in-Ok-true-clause-heard : goal.returns-in-Ok-true-clause-heard
 returns-in-Ok-true-clause-heard g c = λ first input before q at done.
@@ -87,9 +87,11 @@ returns-in-Ok-true-clause-heard g c = λ first input before q at done.
 pub loop-total-preserved : goal.loop-total-preserved
 loop-total-preserved g c = record {
   later = omega (arith, c.in-Ok-false.ensures.counted, c.loop-total.invariant.later);
+  kept = c.in-Ok-false.ensures.kept ∙ c.loop-total.invariant.kept;
+  stores = c.in-Ok-false.ensures.stores ∙ c.loop-total.invariant.stores;
   earlier = omega (arith, c.in-Ok.ensures.cause.later, c.loop-total.invariant.earlier);
-  out_later = omega (arith, c.write_said-in-loop-total.ensures.out_later, c.loop-total.invariant.out_later);
-  err_later = omega (arith, c.write_said-in-loop-total.ensures.err_later, c.loop-total.invariant.err_later);
+  out_later = omega (arith, c.write-in-loop-total.ensures.out_later, c.loop-total.invariant.out_later);
+  err_later = omega (arith, c.write-in-loop-total.ensures.err_later, c.loop-total.invariant.err_later);
   room = (omega (arith, c.loop-total.invariant.room.0), omega (arith, c.loop-total.invariant.room.1));
   counted = took_more c.loop-total.total c.in-Ok.n _ _ _ c.loop-total.invariant.counted c.in-Ok.ensures.count;
   stands = λ first input before q at.
@@ -102,8 +104,8 @@ loop-total-preserved g c = record {
         sym (went input p.0 p.1 _ lost.0 p.2 lost.2),
         lost.1,
         waits first
-            p.0 _ _ _ _ p.4 _ _ c.feed-fed.new.said _ _ told c.in-Ok-write_said-2.ensures.whole.0
-            c.in-Ok-write_said-2.ensures.whole.1,
+            p.0 _ _ _ _ p.4 _ _ c.feed-fed.new.said _ _ told c.in-Ok-write-2.ensures.whole.0
+            c.in-Ok-write-2.ensures.whole.1,
       );
 }
 
@@ -114,7 +116,7 @@ returns-in-ReadFailed-fault-clause-told g c = λ first input before m q fm ff at
     let s = stands first p.0 _ _ _ _ p.4 c.clear.new.self c.clear.ensures.out c.clear.ensures.err in (
       fronts_at first p.0 _ _ _ _ p.4 _ input c.feed-fed.new.said _ (went input p.0 p.1 _ lost.0 p.2 lost.2)
           (fed_before c.feed-fed.result _ first _ lost.0 _ _ (c.feed-fed.ensures.told _ first p.0 lost.0 s))
-          c.write_said-in-loop-total.ensures.out c.write_said-in-loop-total.ensures.err,
+          c.write-in-loop-total.ensures.out c.write-in-loop-total.ensures.err,
       λ calm.
           absurd (calm (rose_from _ _ _ _ ff c.loop-total.invariant.later
           (c.in-Err-fed.ensures.cause (ap Err c.in-ReadFailed-fault.is)))),
@@ -127,7 +129,7 @@ returns-in-OutOfMemory-fault-clause-told g c = λ first input before m q fm ff a
     let s = stands first p.0 _ _ _ _ p.4 c.clear.new.self c.clear.ensures.out c.clear.ensures.err in
     fronts_at first p.0 _ _ _ _ p.4 _ input c.feed-fed.new.said _ (went input p.0 p.1 _ lost.0 p.2 lost.2)
     (fed_before c.feed-fed.result _ first _ lost.0 _ _ (c.feed-fed.ensures.told _ first p.0 lost.0 s))
-    c.write_said-in-loop-total.ensures.out c.write_said-in-loop-total.ensures.err
+    c.write-in-loop-total.ensures.out c.write-in-loop-total.ensures.err
 
 pub returns-clause-told : goal.returns-clause-told
 returns-clause-told g c = λ first input before m q fm ff at.

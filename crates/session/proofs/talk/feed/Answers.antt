@@ -12,7 +12,8 @@ returns-in-Ok-true-clause-told g c = λ base first taken more s.
     let told = c.in-Ok-true.ensures.told base (talk_over first (whole_lines (taken ++ p.0)))
     (unfinished (taken ++ p.0)) p.2.part p.2.at in
     line_over base first taken c.args.block.now p.0 c.loop-piece.rest.now c.loop-piece.held
-    (now_of c.loop-piece.said c.loop-piece.session (g.F.Files.files c.loop-piece.files) c.loop-piece.steps) p.1 p.2 c.in-Some.piece.now
+    (now_of c.loop-piece.said c.loop-piece.session (g.F.Files.files c.loop-piece.files) c.loop-piece.steps) p.1 p.2
+    c.in-Some.piece.now
     c.in-Some.behind.now (sym c.in-Some.ensures) more
     (now_of c.end_line.new.said c.end_line.new.session (g.F.Files.files c.end_line.new.files) c.end_line.new.steps)
     (sym c.in-Ok-true.field-0-test ∙ told.0) told.2
@@ -20,12 +21,15 @@ returns-in-Ok-true-clause-told g c = λ base first taken more s.
 pub loop-piece-preserved : goal.loop-piece-preserved
 loop-piece-preserved g c = record {
   counted = c.in-Ok-false.ensures.counted ∙ c.loop-piece.invariant.counted;
+  kept = c.in-Ok-false.ensures.kept ∙ c.loop-piece.invariant.kept;
+  stores = c.in-Ok-false.ensures.stores ∙ c.loop-piece.invariant.stores;
   fed = λ base first taken s.
       let p = c.loop-piece.invariant.fed base first taken s in
       let told = c.in-Ok-false.ensures.told base (talk_over first (whole_lines (taken ++ p.0)))
       (unfinished (taken ++ p.0)) p.2.part p.2.at in
       line_fed base first taken c.args.block.now p.0 c.loop-piece.rest.now c.loop-piece.held
-      (now_of c.loop-piece.said c.loop-piece.session (g.F.Files.files c.loop-piece.files) c.loop-piece.steps) p.1 p.2 c.in-Some.piece.now
+      (now_of c.loop-piece.said c.loop-piece.session (g.F.Files.files c.loop-piece.files) c.loop-piece.steps) p.1 p.2
+      c.in-Some.piece.now
       c.in-Some.behind.now (sym c.in-Some.ensures) c.end_line.new.held
       (now_of c.end_line.new.said c.end_line.new.session (g.F.Files.files c.end_line.new.files) c.end_line.new.steps)
       (sym c.in-Ok-false.field-0-test ∙ told.0) told.1 told.2;
@@ -35,7 +39,8 @@ pub returns-in-Err-clause-told : goal.returns-in-Err-clause-told
 returns-in-Err-clause-told g c = λ base first taken more s.
     let p = c.loop-piece.invariant.fed base first taken s in
     line_lost base first taken c.args.block.now p.0 c.loop-piece.rest.now c.loop-piece.held
-    (now_of c.loop-piece.said c.loop-piece.session (g.F.Files.files c.loop-piece.files) c.loop-piece.steps) p.1 p.2 c.in-Some.piece.now
+    (now_of c.loop-piece.said c.loop-piece.session (g.F.Files.files c.loop-piece.files) c.loop-piece.steps) p.1 p.2
+    c.in-Some.piece.now
     c.in-Some.behind.now (sym c.in-Some.ensures) more c.end_line.new.said
     (c.in-Err.ensures.told base (talk_over first (whole_lines (taken ++ p.0))) (unfinished (taken ++ p.0)) p.2.part
     p.2.at)

@@ -1,7 +1,6 @@
 use Rattle.std.proofs.Common.{◌≡◌, ◌∙◌, ◌⊎◌, ℕ, refl, sym, subst, true}
 use Rattle.units_io.specs.Faults.{Rose}
 use Rattle.session.specs.Outside.{Outside}
-use Rattle.session.specs.Telling.{TellsIf}
 use Rattle.units.specs.Endings.{IsLeft, status_of}
 use Rattle.units.specs.Needs.{needs_input}
 use Rattle.units.specs.Work.{plan_of}

@@ -1,5 +1,5 @@
 use Rattle.std.proofs.Common.{Err, ap, subst, ◌∙◌}
-use Rattle.std.proofs.Common.{ℕ, List, sym}
+use Rattle.std.proofs.Common.{ℕ, List}
 use Rattle.command_line.specs.Usage.{usage_text}
 use Rattle.units.specs.Planning.{IsPlan, IsPlanned}
 use Rattle.units.specs.Plans as plans

@@ -1,4 +1,4 @@
-use Rattle.std.proofs.Common.{◌++◌, [], ℕ, List, ap, subst, unwrap_or, ◌∙◌}
+use Rattle.std.proofs.Common.{[], ap, subst, unwrap_or, ◌∙◌}
 use Rattle.deck.specs.Decks.{Contents}
 use Rattle.deck.specs.Tables.{table}
 use Rattle.session.specs.Commands.{text_of}

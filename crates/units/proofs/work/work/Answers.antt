@@ -1,4 +1,4 @@
-use Rattle.std.proofs.Common.{◌||◌, ℕ, List, Bool, Option, Some, None, true, false, is_some, not, ap, subst, sym, ◌∙◌}
+use Rattle.std.proofs.Common.{◌||◌, ℕ, List, Bool, Option, Some, true, false, is_some, not, ap, subst, sym, ◌∙◌}
 use Rattle.std.proofs.Common.{if◌then◌else◌}
 use Rattle.live_table.specs.Shown.{Shown}
 use Rattle.units.specs.Planning.{IsPlanned}

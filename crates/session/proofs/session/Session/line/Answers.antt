@@ -37,5 +37,7 @@ returns-in_default g c = record {
   done = subst (λ (a : Command). IfOk c.perform.result (λ reply. reply.done ≡ is_quit a)) c.read_command.ensures
       c.perform.ensures.done;
   counted = unread _ c.perform.result c.perform.ensures.unread;
+  kept = refl;
+  stores = refl;
   cause = λ h. absurd (c.perform.ensures.unread h);
 }

@@ -1,6 +1,7 @@
--- How much the deck of a text holds that includes no file.
-use Rattle.std.proofs.Common.{◌≡◌, ◌≤◌, ◌+◌, ◌*◌, ◌++◌, ℕ, List, [], ◌∷◌, Bool, true, false, length, if◌then◌else◌, sym, ap, subst, ◌∙◌, arith, map}
-use Rattle.std.specs.Prelude.{◌||◌, codes, nat_lt, nat_le, suc}
+-- How much the deck of a text holds that includes no file, and that it is within the limits.
+use Rattle.std.proofs.Common.{◌≡◌, ◌≤◌, ◌<◌, inl, inr, Result, Ok, Err, ◌+◌, ◌*◌, ◌++◌, ℕ, List, [], ◌∷◌, Bool, true}
+use Rattle.std.proofs.Common.{false, length, if◌then◌else◌, sym, ap, subst, ◌∙◌, arith, map}
+use Rattle.std.specs.Prelude.{◌||◌, codes, nat_lt, suc}
 use Rattle.std.proofs.lemmas.Bool.Decides.{nat_tests}
 use Rattle.std.specs.List.{sum_by}
 use Rattle.std.proofs.lemmas.List.Sums.{sum_by-append, sum_by-cons}
@@ -11,7 +12,9 @@ use Rattle.deck_lines.specs.declared.line.Ending.TheVariants as ending
 use Rattle.deck_lines.specs.declared.line.Block.{Block}
 use Rattle.deck_lines.specs.declared.line.Role.TheVariants.{Opens, Closes, Inside}
 use Rattle.deck_lines.specs.Blocks.{end_text}
-use Rattle.deck_lines.specs.Excerpts.{Included, NotRead, blocks_behind_line, closes_innermost, include_excerpt, line_excerpt, line_with_notice, line_without_notice, missing_end, outer_blocks, rest_excerpt}
+use Rattle.deck_lines.specs.Excerpts.{Included, NotRead, blocks_behind_line, closes_innermost, include_excerpt}
+use Rattle.deck_lines.specs.Excerpts.{line_excerpt, line_with_notice, line_without_notice, missing_end, outer_blocks}
+use Rattle.deck_lines.specs.Excerpts.{rest_excerpt}
 use Rattle.deck_lines.specs.Limits.{most_bytes, most_lines, pass_limit, text_len}
 use Rattle.deck_lines.specs.Includes.{beside, deck_of, included_below, included_by, lone_deck_of, most_depth, of_answer}
 use Rattle.std.specs.FinMap.{get-empty}
@@ -21,24 +24,28 @@ use Rattle.units_io.specs.Fetching.{answer_of}
 use Rattle.std.specs.declared.option.Option.{Option}
 use Rattle.units_io.specs.FileMap.{no_files}
 use Rattle.def_lines.specs.Lines.{logical_lines, shown}
+use Rattle.deck.specs.Decks.{Contents}
+use Rattle.deck.specs.Edits.{with_excerpt}
+use Rattle.deck.specs.Loading.{after_text, empty_deck, IsMade}
+use Rattle.deck.specs.declared.fault.DeckFault.{DeckFault}
+use Rattle.deck.specs.declared.fault.DeckFault.TheVariants.{DeckFull, OutOfMemory}
+use Rattle.deck.specs.declared.settings.Settings.{Settings}
+use Rattle.session.specs.TextDecks.{HasRoom, line_feeds, text_deck}
+use Rattle.session.proofs.LogicalSizes.{logical_room, room}
 use Rattle.deck_lines.specs.Readings.{Reading, Stands, Defines, Includes, Faulty, reading_of}
 
--- a line, and the bytes of its text
+-- the bytes of a line, and so many for the line itself
 abbrev pub size : DeckLine → ℕ
-size line = length line.text + 1
+size line = length line.text + 671
 
--- the same of a line that is read, and of the end line of a block that it may open
-abbrev pub room : Line → ℕ
-room line = length line.text + 12
-
-pub length_in_size : (lines : List DeckLine) → length lines ≤ sum_by size lines
-length_in_size [] = omega arith
-length_in_size (line ∷ lines) =
+count_in_size : (lines : List DeckLine) → 671 * length lines ≤ sum_by size lines
+count_in_size [] = omega arith
+count_in_size (line ∷ lines) =
     let more : sum_by size (line ∷ lines) ≡ size line + sum_by size lines = sum_by-cons size line lines in
-    let rest : length lines ≤ sum_by size lines = length_in_size lines in
+    let rest : 671 * length lines ≤ sum_by size lines = count_in_size lines in
     omega arith
 
-pub text_in_size : (lines : List DeckLine) → text_len lines ≤ sum_by size lines
+text_in_size : (lines : List DeckLine) → text_len lines ≤ sum_by size lines
 text_in_size [] = omega arith
 text_in_size (line ∷ lines) =
     let more : sum_by size (line ∷ lines) ≡ size line + sum_by size lines = sum_by-cons size line lines in
@@ -47,22 +54,22 @@ text_in_size (line ∷ lines) =
     let rest : text_len lines ≤ sum_by size lines = text_in_size lines in
     omega arith
 
-end_size : (block : Block) → size (missing_end block) ≤ 11
+end_size : (block : Block) → size (missing_end block) ≤ 681
 end_size block = by block.ending
   where
-    by : (e : Ending) → length (end_text e) + 1 ≤ 11
+    by : (e : Ending) → length (end_text e) + 671 ≤ 681
     by ending.ByLocale = omega arith
     by ending.ByVar = omega arith
     by ending.ByUtf8 = omega arith
 
-ends_size : (blocks : List Block) → sum_by size (map missing_end blocks) ≤ 11 * length blocks
+ends_size : (blocks : List Block) → sum_by size (map missing_end blocks) ≤ 681 * length blocks
 ends_size [] = omega arith
 ends_size (block ∷ blocks) =
     let more : sum_by size (map missing_end (block ∷ blocks))
     ≡ size (missing_end block) + sum_by size (map missing_end blocks) =
     sum_by-cons size (missing_end block) (map missing_end blocks) in
-    let one : size (missing_end block) ≤ 11 = end_size block in
-    let rest : sum_by size (map missing_end blocks) ≤ 11 * length blocks = ends_size blocks in
+    let one : size (missing_end block) ≤ 681 = end_size block in
+    let rest : sum_by size (map missing_end blocks) ≤ 681 * length blocks = ends_size blocks in
     omega arith
 
 outer_fewer : (blocks : List Block) → length (outer_blocks blocks) ≤ length blocks
@@ -88,32 +95,32 @@ ReadsNone included = (word : List ℕ) → (text : List ℕ) × (included word �
 
 line_size : (included : List ℕ → Included) (file : List ℕ) (blocks : List Block) (line : Line) → ReadsNone included
     → (reading : Reading)
-    → sum_by size (line_excerpt included file blocks line reading).lines ≡ length line.text + 1
+    → sum_by size (line_excerpt included file blocks line reading).lines ≡ length line.text + 671
 line_size included file blocks line none (Stands (Opens ending)) = omega arith
 line_size included file blocks line none (Stands (Closes ending)) = by (closes_innermost ending blocks)
   where
     by : (b : Bool)
         → sum_by size (if b then line_without_notice line else line_with_notice file line (codes "stray end")).lines
-        ≡ length line.text + 1
+        ≡ length line.text + 671
     by true = omega arith
     by false = omega arith
 line_size included file blocks line none (Stands Inside) = omega arith
 line_size included file blocks line none (Defines entry) = omega arith
 line_size included file blocks line none (Includes name) =
     let unread = none name in
-    subst (λ (i : Included). sum_by size (include_excerpt file line i).lines ≡ length line.text + 1) (sym unread.1)
+    subst (λ (i : Included). sum_by size (include_excerpt file line i).lines ≡ length line.text + 671) (sym unread.1)
     (by unread.0)
   where
-    by : (text : List ℕ) → sum_by size (include_excerpt file line (NotRead text)).lines ≡ length line.text + 1
+    by : (text : List ℕ) → sum_by size (include_excerpt file line (NotRead text)).lines ≡ length line.text + 671
     by text = omega arith
 line_size included file blocks line none (Faulty text) = omega arith
 
-pub rest_size : (included : List ℕ → Included) (file : List ℕ) (blocks : List Block) (lines : List Line)
+rest_size : (included : List ℕ → Included) (file : List ℕ) (blocks : List Block) (lines : List Line)
     → ReadsNone included
-    → sum_by size (rest_excerpt included file blocks lines).lines ≤ 11 * length blocks + sum_by room lines
+    → sum_by size (rest_excerpt included file blocks lines).lines ≤ 681 * length blocks + sum_by room lines
 unfolding rest_excerpt
 rest_size included file blocks [] none =
-    let ends : sum_by size (map missing_end blocks) ≤ 11 * length blocks = ends_size blocks in
+    let ends : sum_by size (map missing_end blocks) ≤ 681 * length blocks = ends_size blocks in
     omega arith
 rest_size included file blocks (line ∷ lines) none =
     let first = line_excerpt included file blocks line (reading_of line.text) in
@@ -121,19 +128,19 @@ rest_size included file blocks (line ∷ lines) none =
     let second = rest_excerpt included file behind lines in
     let both : sum_by size (first.lines ++ second.lines) ≡ sum_by size first.lines + sum_by size second.lines =
     sum_by-append size first.lines second.lines in
-    let one : sum_by size first.lines ≡ length line.text + 1 =
+    let one : sum_by size first.lines ≡ length line.text + 671 =
     line_size included file blocks line none (reading_of line.text) in
-    let rest : sum_by size second.lines ≤ 11 * length behind + sum_by room lines =
+    let rest : sum_by size second.lines ≤ 681 * length behind + sum_by room lines =
     rest_size included file behind lines none in
     let few : length behind ≤ length blocks + 1 = behind_few line blocks (reading_of line.text) in
     let more : sum_by room (line ∷ lines) ≡ room line + sum_by room lines = sum_by-cons room line lines in
     omega arith
 
 -- lines that are small are within the limits
-pub within_limits : (lines : List DeckLine) → sum_by size lines ≤ 100000 → pass_limit lines ≡ false
+within_limits : (lines : List DeckLine) → sum_by size lines ≤ 60000000 → pass_limit lines ≡ false
 unfolding pass_limit
 within_limits lines small =
-    let many : length lines ≤ sum_by size lines = length_in_size lines in
+    let many : 671 * length lines ≤ sum_by size lines = count_in_size lines in
     let long : text_len lines ≤ sum_by size lines = text_in_size lines in
     let few : nat_lt most_lines (length lines) ≡ false = grind (arith, nat_tests) in
     let short : nat_lt most_bytes (text_len lines) ≡ false = grind (arith, nat_tests) in
@@ -147,17 +154,46 @@ unread : (depth : ℕ) (file : List ℕ) → ReadsNone (included_by no_files (su
 unfolding included_below
 unread depth file word = (
   codes "no file: " ++ beside file word,
-  ap (λ (bytes : Option (List ℕ)). of_answer (λ w. included_below no_files depth (beside (beside file word) w)) (beside file word) (answer_of bytes))
+  ap (λ (bytes : Option (List ℕ)). of_answer (λ w. included_below no_files depth (beside (beside file word) w))
+      (beside file word) (answer_of bytes))
       (get-empty (slice_cmp nat_cmp) (beside file word)),
 )
 
--- the deck of a text that is small is within the limits
-pub small_deck_within : (name text : List ℕ) → nat_le (sum_by room (shown (logical_lines text))) 100000 ≡ true
-    → pass_limit (lone_deck_of name text).lines ≡ false
+-- the deck of a text that has room is within the limits
+pub deck_within : (name text : List ℕ) → HasRoom text → pass_limit (lone_deck_of name text).lines ≡ false
 unfolding deck_of
-small_deck_within name text small =
+deck_within name text has =
     let lines = (lone_deck_of name text).lines in
-    let most : sum_by size lines ≤ 11 * 0 + sum_by room (shown (logical_lines text)) =
+    let most : sum_by size lines ≤ 681 * 0 + sum_by room (shown (logical_lines text)) =
     rest_size (included_by no_files most_depth name) name [] (shown (logical_lines text)) (unread 15 name) in
-    let few : sum_by room (shown (logical_lines text)) ≤ 100000 = grind (arith, nat_tests) in
+    let few : sum_by room (shown (logical_lines text)) ≤ length text + 1352 * line_feeds text + 1352 =
+    logical_room text in
+    let feeds : line_feeds text < 30000 = has.0 in
+    let short : length text ≤ 16777216 = has.1 in
     within_limits lines (omega arith)
+
+-- there is one
+pub text_made : (name text : List ℕ) (settings : Settings) → HasRoom text
+    → after_text text name settings ≡ Ok (text_deck name text settings)
+unfolding text_deck
+text_made name text settings has =
+    ap (λ (b : Bool). if b then Err DeckFull else Ok (with_excerpt (lone_deck_of name text) (empty_deck settings)))
+    (deck_within name text has)
+
+same_deck : (x y : Contents) (outcome : Result Contents DeckFault) → outcome ≡ Ok x → outcome ≡ Ok y → y ≡ x
+same_deck x y outcome a b = cc
+
+no_fault : (x : Contents) (fault : DeckFault) → Ok x ≡ Err fault → ⊥
+no_fault x fault is = cc
+
+-- so no other is made
+pub made_is : (name text : List ℕ) (settings : Settings) (deck : Contents) → HasRoom text
+    → after_text text name settings ≡ Ok deck → deck ≡ text_deck name text settings
+made_is name text settings deck has is =
+    same_deck (text_deck name text settings) deck (after_text text name settings) (text_made name text settings has) is
+
+pub made_always : (name text : List ℕ) (settings : Settings) (fault : DeckFault) → HasRoom text
+    → (fault ≡ OutOfMemory → ⊥) → IsMade (after_text text name settings) (Err fault) → ⊥
+made_always name text settings fault has memory (inl is) = memory is
+made_always name text settings fault has memory (inr is) =
+    no_fault (text_deck name text settings) fault (sym (text_made name text settings has) ∙ is)

@@ -1,0 +1,30 @@
+//! The deck of a text that has room for its lines.
+
+ghost use Rattle.std.specs.Prelude.{◌≡◌, IfOk, Ok};
+ghost use Rattle.deck.specs.Loading.{after_text};
+ghost use Rattle.session.specs.TextDecks as spec;
+
+use deck::{Deck, DeckFault, Settings};
+use std::alloc::{AllocError, Global};
+
+/// The deck of a text of fewer than 30,000 line feeds, in which each include is of an absent file. The name stands in
+/// its notices. Such a text is within the limits of a deck, so the only error is want of memory.
+pub fn text_deck(
+    alloc: Global,
+    text: &[u8],
+    name: &[u8],
+    settings: Settings,
+) -> Result<Deck, AllocError>
+    requires { spec.HasRoom text.now }
+    ensures is { IfOk result (λ deck. deck ≡ spec.text_deck name.now text.now settings) }
+    ensures within { after_text text.now name.now settings ≡ Ok (spec.text_deck name.now text.now settings) }
+{
+    match Deck::from_text(alloc, text, name, settings) {
+        Ok(deck) => Ok(deck),
+        Err(fault) => match fault {
+            DeckFault::OutOfMemory => Err(AllocError),
+            // There is room for its lines.
+            _ => unreachable!(),
+        },
+    }
+}
