@@ -1,11 +1,10 @@
 //! A deck under calls.
 
-ghost use Rattle.std.specs.Prelude.{◌≡◌, IfOk};
-
 use crate::answer::{fault_text, line_of};
 use crate::call::{Call, read_call};
 use crate::edit::edit_answer;
 use crate::question::question_answer;
+use crate::settings::settings_copy;
 use deck::{Deck, DeckFault, Settings, Splice};
 use std::alloc::{AllocError, Global};
 use units_io::{Files, Text, Vars};
@@ -13,16 +12,28 @@ use units_io::{Files, Text, Vars};
 // A deck, a second one that was equal to it once, and the inverse of the last splice, where they are
 // there, and the settings of what comes after.
 #[derive(Drop)]
-pub(crate) struct Board {
+struct Board {
     deck: Option<Deck>,
     snapshot: Option<Deck>,
     inverse: Option<Splice>,
     settings: Settings,
 }
 
+// The answers to calls, one a line, of which each has its answer on one line.
+pub(crate) fn answers_to<F: Files>(
+    alloc: Global,
+    files: &mut F,
+    lines: &[u8],
+) -> Result<Vec<u8>, AllocError> {
+    let mut board = Board::new(alloc)?;
+    let mut answers = Vec::new(alloc);
+    board.add_answers(alloc, files, lines, &mut answers)?;
+    Ok(answers)
+}
+
 impl Board {
     // No deck, and the settings of the United States with no variable.
-    pub(crate) fn new(alloc: Global) -> Result<Board, AllocError> {
+    fn new(alloc: Global) -> Result<Board, AllocError> {
         let locale = Text::from_bytes(alloc, b"en_US")?;
         let vars = Vars::new(alloc);
         Ok(Board {
@@ -33,8 +44,35 @@ impl Board {
         })
     }
 
+    fn add_answers<F: Files>(
+        &mut self,
+        alloc: Global,
+        files: &mut F,
+        lines: &[u8],
+        answers: &mut Vec<u8>,
+    ) -> Result<(), AllocError> {
+        for line in lines.split_inclusive(|byte| *byte == b'\n') {
+            self.add_answer(alloc, files, line, answers)?;
+        }
+        Ok(())
+    }
+
+    // Adds the answer to a line, which may have its end with it.
+    fn add_answer<F: Files>(
+        &mut self,
+        alloc: Global,
+        files: &mut F,
+        line: &[u8],
+        answers: &mut Vec<u8>,
+    ) -> Result<(), AllocError> {
+        let call = line.strip_suffix(b"\n").unwrap_or(line);
+        answers.extend_from_slice(&self.answer_to(alloc, files, call)?)?;
+        answers.push(b'\n')?;
+        Ok(())
+    }
+
     // The answer to a line, which may be no call.
-    pub(crate) fn answer_to<F: Files>(
+    fn answer_to<F: Files>(
         &mut self,
         alloc: Global,
         files: &mut F,
@@ -44,28 +82,53 @@ impl Board {
             return line_of(alloc, b"bad call");
         };
         match call {
-            Call::Locale(name) => {
-                self.settings.locale = Text::from_bytes(alloc, name)?;
-                line_of(alloc, b"ok")
-            }
-            Call::Set(name, value) => {
-                let name = Text::from_bytes(alloc, name)?;
-                let value = Text::from_bytes(alloc, value)?;
-                self.settings.vars.set(alloc, name, value)?;
-                line_of(alloc, b"ok")
-            }
-            Call::Load(name) => {
-                let settings = settings_copy(alloc, &self.settings)?;
-                let outcome = Deck::load(alloc, files, name, settings);
-                self.take_deck(alloc, outcome)
-            }
-            Call::Text(name) => {
-                let settings = settings_copy(alloc, &self.settings)?;
-                let outcome = deck_of_text(alloc, files, name, settings);
-                self.take_deck(alloc, outcome)
-            }
+            Call::Locale(name) => self.set_locale(alloc, name),
+            Call::Set(name, value) => self.set_variable(alloc, name, value),
+            Call::Load(name) => self.load(alloc, files, name),
+            Call::Text(name) => self.load_text(alloc, files, name),
             _ => self.deck_answer(alloc, files, call),
         }
+    }
+
+    fn set_locale(&mut self, alloc: Global, name: &[u8]) -> Result<Vec<u8>, AllocError> {
+        self.settings.locale = Text::from_bytes(alloc, name)?;
+        line_of(alloc, b"ok")
+    }
+
+    fn set_variable(
+        &mut self,
+        alloc: Global,
+        name: &[u8],
+        value: &[u8],
+    ) -> Result<Vec<u8>, AllocError> {
+        let name = Text::from_bytes(alloc, name)?;
+        let value = Text::from_bytes(alloc, value)?;
+        self.settings.vars.set(alloc, name, value)?;
+        line_of(alloc, b"ok")
+    }
+
+    // Takes over the deck of a file with its includes.
+    fn load<F: Files>(
+        &mut self,
+        alloc: Global,
+        files: &mut F,
+        name: &[u8],
+    ) -> Result<Vec<u8>, AllocError> {
+        let settings = settings_copy(alloc, &self.settings)?;
+        let outcome = Deck::load(alloc, files, name, settings);
+        self.take_deck(alloc, outcome)
+    }
+
+    // Takes over the deck of the text of a file alone.
+    fn load_text<F: Files>(
+        &mut self,
+        alloc: Global,
+        files: &mut F,
+        name: &[u8],
+    ) -> Result<Vec<u8>, AllocError> {
+        let settings = settings_copy(alloc, &self.settings)?;
+        let outcome = deck_of_text(alloc, files, name, settings);
+        self.take_deck(alloc, outcome)
     }
 
     // The answer to a call that needs a deck.
@@ -79,14 +142,15 @@ impl Board {
             return line_of(alloc, b"no deck");
         };
         match call {
-            Call::Snapshot => {
-                self.snapshot = Some(deck.snapshot(alloc)?);
-                line_of(alloc, b"ok")
-            }
-            Call::Edit(edit) => {
-                let settings = settings_copy(alloc, &self.settings)?;
-                edit_answer(alloc, files, deck, &mut self.inverse, settings, edit)
-            }
+            Call::Snapshot => snapshot_answer(alloc, deck, &mut self.snapshot),
+            Call::Edit(edit) => edit_answer(
+                alloc,
+                files,
+                deck,
+                &mut self.inverse,
+                &self.settings,
+                edit,
+            ),
             Call::Ask(question) => question_answer(alloc, deck, &self.snapshot, question),
             _ => line_of(alloc, b"bad call"),
         }
@@ -108,6 +172,16 @@ impl Board {
     }
 }
 
+// Keeps a second deck that is equal.
+fn snapshot_answer(
+    alloc: Global,
+    deck: &Deck,
+    snapshot: &mut Option<Deck>,
+) -> Result<Vec<u8>, AllocError> {
+    *snapshot = Some(deck.snapshot(alloc)?);
+    line_of(alloc, b"ok")
+}
+
 // The deck of the text of a file alone.
 fn deck_of_text<F: Files>(
     alloc: Global,
@@ -117,13 +191,4 @@ fn deck_of_text<F: Files>(
 ) -> Result<Deck, DeckFault> {
     let text = files.fetch(alloc, name)?;
     Deck::from_text(alloc, text.as_bytes(), name, settings)
-}
-
-// The same settings.
-fn settings_copy(alloc: Global, settings: &Settings) -> Result<Settings, AllocError>
-    ensures { IfOk result (λ copy. copy ≡ settings.now) }
-{
-    let locale = settings.locale.copy(alloc)?;
-    let vars = settings.vars.copy(alloc)?;
-    Ok(Settings { locale, vars })
 }

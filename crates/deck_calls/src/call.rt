@@ -59,50 +59,85 @@ pub(crate) enum Question<'a> {
 
 // The call that a line spells: a word, and a space before each argument.
 pub(crate) fn read_call(line: &[u8]) -> Option<Call<'_>> {
+    if let Some(question) = plain_question(line) {
+        return Some(Call::Ask(question));
+    }
     let (word, rest) = split_at_space(line);
-    match word {
-        b"locale" => Some(Call::Locale(rest)),
-        b"set" => {
-            let (name, value) = split_at_space(rest);
-            Some(Call::Set(name, value))
+    if let Some(call) = board_call(word, rest) {
+        return Some(call);
+    }
+    if let Some(question) = key_question(word, rest) {
+        return Some(Call::Ask(question));
+    }
+    Some(Call::Edit(read_edit(word, rest)?))
+}
+
+// The questions without an argument by their words.
+const PLAIN_QUESTIONS: &[(&[u8], Question<'static>)] = &[
+    (b"count", Question::Count),
+    (b"keys", Question::Keys),
+    (b"lines", Question::Lines),
+    (b"notices", Question::Notices),
+    (b"messages", Question::Messages),
+    (b"defining", Question::Defining),
+    (b"settings", Question::Settings),
+    (b"compare", Question::Compare),
+];
+
+fn plain_question(line: &[u8]) -> Option<Question<'static>> {
+    for (word, question) in PLAIN_QUESTIONS {
+        if line == *word {
+            return Some(*question);
         }
-        b"load" => Some(Call::Load(rest)),
-        b"text" => Some(Call::Text(rest)),
-        b"snapshot" => Some(Call::Snapshot),
-        b"entry" => Some(Call::Ask(Question::Entry(rest))),
-        b"place" => Some(Call::Ask(Question::Place(rest))),
-        _ => match plain_question(line) {
-            Some(question) => Some(Call::Ask(question)),
-            None => Some(Call::Edit(read_edit(word, rest)?)),
-        },
+    }
+    None
+}
+
+// The call that makes a deck, keeps it or prepares for one.
+fn board_call<'a>(word: &[u8], rest: &'a [u8]) -> Option<Call<'a>> {
+    if word == b"locale".as_slice() {
+        Some(Call::Locale(rest))
+    } else if word == b"set".as_slice() {
+        let (name, value) = split_at_space(rest);
+        Some(Call::Set(name, value))
+    } else if word == b"load".as_slice() {
+        Some(Call::Load(rest))
+    } else if word == b"text".as_slice() {
+        Some(Call::Text(rest))
+    } else if word == b"snapshot".as_slice() {
+        Some(Call::Snapshot)
+    } else {
+        None
     }
 }
 
-// The question that a word asks.
-fn plain_question(word: &[u8]) -> Option<Question<'_>> {
-    match word {
-        b"count" => Some(Question::Count),
-        b"keys" => Some(Question::Keys),
-        b"lines" => Some(Question::Lines),
-        b"notices" => Some(Question::Notices),
-        b"messages" => Some(Question::Messages),
-        b"defining" => Some(Question::Defining),
-        b"settings" => Some(Question::Settings),
-        b"compare" => Some(Question::Compare),
-        _ => None,
+// The question about a key.
+fn key_question<'a>(word: &[u8], rest: &'a [u8]) -> Option<Question<'a>> {
+    if word == b"entry".as_slice() {
+        Some(Question::Entry(rest))
+    } else if word == b"place".as_slice() {
+        Some(Question::Place(rest))
+    } else {
+        None
     }
 }
 
 // The edit that a word and its arguments spell.
 fn read_edit<'a>(word: &[u8], rest: &'a [u8]) -> Option<Edit<'a>> {
-    match word {
-        b"define" => Some(Edit::Define(rest)),
-        b"drop" => Some(Edit::Drop(rest)),
-        b"append" => Some(Edit::Append(rest)),
-        b"switch" => Some(Edit::Switch),
-        b"back" => Some(Edit::Back),
-        b"splice" => Some(Edit::Splice(read_change(rest)?)),
-        _ => None,
+    if word == b"define".as_slice() {
+        Some(Edit::Define(rest))
+    } else if word == b"drop".as_slice() {
+        Some(Edit::Drop(rest))
+    } else if word == b"append".as_slice() {
+        Some(Edit::Append(rest))
+    } else if word == b"switch".as_slice() {
+        Some(Edit::Switch)
+    } else if word == b"back".as_slice() {
+        Some(Edit::Back)
+    } else if word == b"splice".as_slice() {
+        Some(Edit::Splice(read_change(rest)?))
+    } else {
+        None
     }
 }
 

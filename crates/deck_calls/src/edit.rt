@@ -1,10 +1,12 @@
 //! Edits of a deck, and what they answer.
 
 ghost use Rattle.std.specs.Prelude.{◌≡◌, IfOk};
+ghost use Rattle.deck.specs.Splices.{CanSplice};
 ghost use Rattle.deck_calls.specs.Answers as answers;
 
 use crate::answer::{changes_text, fault_text, line_of};
 use crate::call::{Change, Edit};
+use crate::settings::settings_copy;
 use deck::{Deck, DeckFault, Settings, Splice};
 use deck_lines::{DeckLine, DeckLines};
 use def_entry::{KeyFault, Keys, read_key};
@@ -17,23 +19,16 @@ pub(crate) fn edit_answer<F: Files>(
     files: &mut F,
     deck: &mut Deck,
     inverse: &mut Option<Splice>,
-    settings: Settings,
+    settings: &Settings,
     edit: Edit<'_>,
 ) -> Result<Vec<u8>, AllocError> {
     match edit {
         Edit::Define(line) => outcome_text(alloc, deck.define(alloc, line)),
         Edit::Drop(text) => drop_answer(alloc, deck, text),
         Edit::Append(name) => outcome_text(alloc, deck.append(alloc, files, name)),
-        Edit::Switch => outcome_text(alloc, deck.switch(alloc, settings)),
-        Edit::Splice(change) => {
-            *inverse = None;
-            let change = splice_of(alloc, change, settings)?;
-            splice_answer(alloc, deck, inverse, change)
-        }
-        Edit::Back => match inverse.take() {
-            Some(change) => splice_answer(alloc, deck, inverse, change),
-            None => line_of(alloc, b"no splice"),
-        },
+        Edit::Switch => switch_answer(alloc, deck, settings),
+        Edit::Splice(change) => change_answer(alloc, deck, inverse, settings, change),
+        Edit::Back => back_answer(alloc, deck, inverse),
     }
 }
 
@@ -56,21 +51,62 @@ fn drop_answer(alloc: Global, deck: &mut Deck, text: &[u8]) -> Result<Vec<u8>, A
     }
 }
 
+// Puts these settings in force.
+fn switch_answer(
+    alloc: Global,
+    deck: &mut Deck,
+    settings: &Settings,
+) -> Result<Vec<u8>, AllocError> {
+    let settings = settings_copy(alloc, settings)?;
+    outcome_text(alloc, deck.switch(alloc, settings))
+}
+
+// Puts lines in the place of others, under these settings.
+fn change_answer(
+    alloc: Global,
+    deck: &mut Deck,
+    inverse: &mut Option<Splice>,
+    settings: &Settings,
+    change: Change<'_>,
+) -> Result<Vec<u8>, AllocError> {
+    *inverse = None;
+    let change = splice_of(alloc, change, settings)?;
+    splice_answer(alloc, deck, inverse, change)
+}
+
+// Makes the inverse of the last splice.
+fn back_answer(
+    alloc: Global,
+    deck: &mut Deck,
+    inverse: &mut Option<Splice>,
+) -> Result<Vec<u8>, AllocError> {
+    match inverse.take() {
+        Some(change) => splice_answer(alloc, deck, inverse, change),
+        None => line_of(alloc, b"no splice"),
+    }
+}
+
 // The splice of these lines, each with the number 0, and these settings.
-fn splice_of(alloc: Global, change: Change<'_>, settings: Settings) -> Result<Splice, AllocError> {
-    let Change { at, cut, lines } = change;
+fn splice_of(alloc: Global, change: Change<'_>, settings: &Settings) -> Result<Splice, AllocError> {
+    let put = put_lines(alloc, change.lines)?;
+    let settings = settings_copy(alloc, settings)?;
+    Ok(Splice {
+        at: change.at,
+        cut: change.cut,
+        put,
+        settings,
+    })
+}
+
+// The lines to be put, which have a `;` between.
+fn put_lines(alloc: Global, texts: &[u8]) -> Result<DeckLines, AllocError> {
     let mut put = DeckLines::new(alloc);
-    for text in lines.split(|byte| *byte == b';') {
+    for text in texts.split(|byte| *byte == b';') {
         if !text.is_empty() {
             put.push(alloc, deck_line(alloc, text)?)?;
         }
     }
-    Ok(Splice {
-        at,
-        cut,
-        put,
-        settings,
-    })
+    Ok(put)
 }
 
 // A line, with the mark where a `~` stands before it.
@@ -94,9 +130,22 @@ fn splice_answer(
     inverse: &mut Option<Splice>,
     change: Splice,
 ) -> Result<Vec<u8>, AllocError> {
-    if !deck.can_splice(alloc, &change)? {
-        return line_of(alloc, b"no such splice");
+    if deck.can_splice(alloc, &change)? {
+        made_splice_answer(alloc, deck, inverse, change)
+    } else {
+        line_of(alloc, b"no such splice")
     }
+}
+
+// Makes a splice, and keeps its inverse.
+fn made_splice_answer(
+    alloc: Global,
+    deck: &mut Deck,
+    inverse: &mut Option<Splice>,
+    change: Splice,
+) -> Result<Vec<u8>, AllocError>
+    requires { CanSplice change deck.old }
+{
     match deck.splice(alloc, change) {
         Ok((keys, back)) => {
             *inverse = Some(back);

@@ -8,22 +8,20 @@ mod call;
 mod edit;
 mod question;
 mod same;
+mod settings;
 
-use board::Board;
+use board::answers_to;
 use std::io;
-use std::io::{BufRead, BufReader, BufWriter, Write};
+use std::io::{Read, Write};
 use units_io::DirFiles;
 
 fn main(rt: HostRuntime) -> io::Result<()> {
     let alloc = rt.alloc();
-    let mut board = Board::new(alloc)?;
-    let mut output = BufWriter::new(alloc, io::writer(&rt))?;
-    let input = BufReader::new(alloc, rt.reader())?;
+    let mut lines = Vec::new(alloc);
+    rt.reader().read_to_end(&mut lines)?;
+    let mut output = io::writer(&rt);
     let mut files = DirFiles::new(rt);
-    for line in input.split(alloc, b'\n') {
-        let answer = board.answer_to(alloc, &mut files, &line?)?;
-        output.write_all(&answer)?;
-        output.write_all(b"\n")?;
-    }
+    let answers = answers_to(alloc, &mut files, &lines)?;
+    output.write_all(&answers)?;
     output.flush()
 }
