@@ -1,4 +1,7 @@
 Conversions over the definitions that are built in. The values are those of the units as they are defined, by hand.
+What stands on standard error is marked.
+
+  $ units() { command units "$@" 2> err; status=$?; sed 's/^/err: /' err; return $status; }
 
 Both ways, with 8 digits, with others, and exactly.
 
@@ -129,6 +132,39 @@ The largest number, the least, and what is beyond.
   [1]
   $ units 170141183460469231731687303715884105728
   numeral too long
+  [1]
+
+Numbers whose values would have thousands of digits are refused, or have none of them, at once.
+
+  $ zeros() { head -c $1 /dev/zero | tr '\0' 0; }
+  $ units "0.$(zeros 100000)"
+  \tDefinition: 0 (esc)
+  $ units "0.$(zeros 100000)1"
+  overflow
+  [1]
+  $ units "1$(zeros 100000)"
+  overflow
+  [1]
+  $ units "5$(zeros 9000)e-9000"
+  \tDefinition: 5 (esc)
+  $ units 0e10000
+  numeral too long
+  [1]
+  $ units "2^32767"
+  overflow
+  [1]
+  $ units "(1|3)^-32767"
+  overflow
+  [1]
+  $ units "(-1)^32767"
+  \tDefinition: -1 (esc)
+  $ units "1^32768"
+  exponent out of range
+  [1]
+  $ units "0^0"
+  \tDefinition: 1 (esc)
+  $ units "0^-1"
+  division by zero
   [1]
 
 Of two nearest numbers the even one, and where both last digits are odd the greater.

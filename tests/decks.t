@@ -672,6 +672,36 @@ A snapshot stays as it is whatever becomes of the deck.
   changed: a
   different
 
+  $ printf 'm !\na 2 m\nb 3 a\nc 5 m\n' > abc.units
+  $ deck_calls <<'END'
+  > load abc.units
+  > snapshot
+  > define a 7 m
+  > compare
+  > entry a
+  > define a 7 m
+  > drop zz
+  > count
+  > lines
+  > drop a
+  > drop a
+  > compare
+  > entry a
+  > END
+  ok
+  ok
+  changed: a
+  different
+  7 m
+  changed: none
+  no such key
+  4 units, 0 prefixes, 0 functions, 0 lists, 6 lines, 0 notices
+  1 m ! | 2 a 2 m | 3 b 3 a | 4 c 5 m | 0 a 7 m | 0 a 7 m
+  changed: none
+  changed: a
+  equal
+  2 m
+
 100,000 lines are the most. Blank lines and comments count nowhere; a refused edit changes nothing.
 
   $ yes 'm !' | head -n 99999 > most.units

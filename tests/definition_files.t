@@ -13,29 +13,154 @@ The file of the first run.
   $ apart units yd in --file=first.units --exact
   \t* 36 (esc)
   \t/ 1|36 (esc)
-  $ apart units -f first.units yd kg
+  $ apart units --exact -f first.units yd kg
   unknown unit: kg
+  [1]
+  $ apart units -f first.units yd m
+  \t* 0.9144 (esc)
+  \t/ 1.0936133 (esc)
+  $ apart units -d 3 -f first.units yd m
+  \t* 0.914 (esc)
+  \t/ 1.09 (esc)
+
+Five units over two, in which values, conversions and faults are those of the definitions that are built in.
+
+  $ file e.units 'm !' 's !' 'day 86400|1 s' 'in 254|10000 m' 'ft 12|1 in'
+  $ over() { apart units -f e.units "$@"; }
+  $ over "1/2 m"
+  \tDefinition: 0.5 / m (esc)
+  $ over "m/s s/day"
+  \tDefinition: 1.1574074e-05 m / s^3 (esc)
+  $ over --exact "2^126 - 1 + 2^126"
+  \tDefinition: 170141183460469231731687303715884105727 (esc)
+  $ over --exact "2^127"
+  overflow
+  [1]
+  $ over --exact "2^126 * 3|4"
+  \tDefinition: 63802943797675961899382738893456539648 (esc)
+  $ over "(2^126 - 1 + 2^126)/2 + (2^126 - 1 + 2^126)/2"
+  overflow
+  [1]
+  $ over "sqrt(4 m^2)"
+  \tDefinition: 2 m (esc)
+  $ over "sqrt(2)"
+  no exact root
+  [1]
+  $ over "2^1|2"
+  no exact root
+  [1]
+  $ over "0 m" ft
+  \t* 0 (esc)
+  \t/ inf (esc)
+  $ over "1 m" "0 m"
+  division by zero
+  [1]
+  $ over --exact 1e-38
+  \tDefinition: 1|100000000000000000000000000000000000000 (esc)
+  $ over --exact 1e-39
+  overflow
+  [1]
+  $ over -d 1 2.5
+  \tDefinition: 2 (esc)
+  $ over -d 1 3.5
+  \tDefinition: 4 (esc)
+  $ over -d 2 99.5
+  \tDefinition: 1e+02 (esc)
+  $ over "2 m + 3 s"
+  sum of unlike units: 2 m and 3 s
+  [1]
+  $ over "2 +"
+  syntax error at 3
+  [1]
+  $ over "m^s"
+  exponent is not a number
+  [1]
+  $ over "2/s" s
+  \treciprocal conversion (esc)
+  \t* 0.5 (esc)
+  \t/ 2 (esc)
+  $ over "2^3^2"
+  \tDefinition: 512 (esc)
+  $ over "3 - (-2)^2"
+  \tDefinition: -1 (esc)
+  $ over "m)"
+  syntax error at 1
+  [1]
+
+The definitions that are built in, given as a file: whole, without those that are not linear, and without the table
+and the lists.
+
+  $ sed '/^# nonlinear$/,$d' "$BUILTIN" > linear.units
+  $ sed '/^zincgauge\[/,$d' "$BUILTIN" > functions.units
+  $ apart units -f "$BUILTIN" "1.4 m" "ft;in"
+  \t4 ft + 7.1181102 in (esc)
+  $ apart units -f linear.units "10 meters" feet
+  \t* 32.808399 (esc)
+  \t/ 0.03048 (esc)
+  $ apart units --exact -f linear.units yd m
+  \t* 1143|1250 (esc)
+  \t/ 1250|1143 (esc)
+  $ apart units -f linear.units "2 Hz" s
+  \treciprocal conversion (esc)
+  \t* 0.5 (esc)
+  \t/ 2 (esc)
+  $ apart units -f linear.units "1/2 m"
+  \tDefinition: 0.5 / m (esc)
+  $ apart units -f linear.units "J / mol K"
+  \tDefinition: 1 kg m^2 / K mol s^2 (esc)
+  $ apart units -f linear.units "60 miles per hour" m/s
+  \t* 26.8224 (esc)
+  \t/ 0.037282272 (esc)
+  $ apart units -f linear.units "250 cm3" ml
+  \t* 250 (esc)
+  \t/ 0.004 (esc)
+  $ apart units -f linear.units "sin(1)"
+  refused function: sin
+  [1]
+  $ apart units -f linear.units "sinn(1)"
+  unknown unit: sinn
+  [1]
+  $ apart units -f linear.units tempF
+  unknown unit: tempF
+  [1]
+  $ apart units -f functions.units "tempF(45)" tempC
+  \t7.2222222 (esc)
+  $ apart units -f functions.units "tempF(-460)" K
+  not in domain: tempF
+  [1]
+  $ apart units -f functions.units "tempF(-459.67)" K
+  \t* 0 (esc)
+  \t/ inf (esc)
+  $ apart units -f functions.units tempF
+  argument needed: tempF
+  [1]
+  $ apart units -f functions.units "tempcelsius(100)" tempF
+  \t212 (esc)
+  $ apart units -f functions.units "~tempC(300 K)"
+  \tDefinition: 26.85 (esc)
+  $ apart units -f functions.units "zincgauge(12)" in
+  unknown unit: zincgauge
   [1]
 
 A unit of a unit that is not there, and values beyond 127 bits.
 
   $ file y.units 'x 3|1 y'
-  $ units -f y.units x x
+  $ apart units --exact -f y.units x x
   unknown unit: y in x
   [1]
   $ file largest.units 'm !' 'a 170141183460469231731687303715884105727|1 m' 'b 2|1 a'
-  $ units --exact -f largest.units a m
+  $ apart units --exact -f largest.units a m
   \t* 170141183460469231731687303715884105727 (esc)
   \t/ 1|170141183460469231731687303715884105727 (esc)
-  $ units -f largest.units b m
+  $ apart units --exact -f largest.units b m
   overflow
   [1]
   $ file planck.units 'm !' 'h 6.62607015e-34 m'
-  $ units -f planck.units h m
+  $ apart units -f planck.units h m
   overflow
   [1]
   $ file two.units 'm !' 's !'
-  $ units --exact -f two.units m s
+  $ apart units --exact -f two.units m s
   conformability error
   \t1 m (esc)
   \t1 s (esc)
@@ -67,6 +192,12 @@ Variables, from the file and from the environment.
   \t* 3 (esc)
   \t/ 0.33333333 (esc)
 
+A variable whose value is not UTF-8 is left out.
+
+  $ apart env "$(printf 'UNITS_SIZE=sm\377ll')" units -f walk.units walk m
+  \t* 30 (esc)
+  \t/ 0.033333333 (esc)
+
 Locales.
 
   $ file g.units 'm !' '!locale en_GB' 'g 2 m' '!endlocale' '!locale en_US' 'g 3 m' '!endlocale'
@@ -79,12 +210,30 @@ Locales.
 
 Lines without an effect, each with a notice; a file that is cut off.
 
-  $ file f.units 'm !' '!endvar' 'h- 3' '!nosuch' 'ok m' 'foo2 m'
+  $ file f.units 'm !' '!endvar' 'h- 3' '!nosuch' 'ok m'
   $ apart units -f f.units ok
   \tDefinition: m = 1 m (esc)
   err: f.units:2: stray end
   err: f.units:4: unknown directive
-  err: f.units:6: bad name: foo2
+  $ truncate --size 16777217 long.units
+  $ nested() { printf "%$1s" | tr ' ' '('; printf 1; printf "%$1s" | tr ' ' ')'; }
+  $ file each.units 'm !' '1a m' a 't[m] 1 2' 'b 2 +' 'c 1e10000' "d $(nested 65)" '!nosuch' '!var V' '!endvar' \
+  >   '!include none.units' '!include long.units' '!utf8' 'foo2 m' 'ok m'
+  $ apart units -f each.units ok
+  \tDefinition: m = 1 m (esc)
+  err: each.units:2: bad name: 1a
+  err: each.units:3: bad definition
+  err: each.units:4: bad table
+  err: each.units:5: syntax error at 3
+  err: each.units:6: numeral too long
+  err: each.units:7: nested too deep
+  err: each.units:8: unknown directive
+  err: each.units:9: bad directive
+  err: each.units:10: stray end
+  err: each.units:11: no file: none.units
+  err: each.units:12: file too long: long.units
+  err: each.units:14: bad name: foo2
+  err: each.units:13: unclosed block
   $ printf 'm !\n!locale en_US\nx 2 m \\' > t.units
   $ apart units -f t.units x m
   \t* 2 (esc)
@@ -94,40 +243,40 @@ Lines without an effect, each with a notice; a file that is cut off.
 Prefixes, the longest that leaves a unit; plurals; a name before a prefix.
 
   $ file km.units 'm !' 'k- 1000' 'km 7 m'
-  $ units -f km.units km m
+  $ apart units -f km.units km m
   \t* 7 (esc)
   \t/ 0.14285714 (esc)
   $ file berry.units 'm !' 'berry 2 m'
-  $ units -f berry.units berries m
+  $ apart units -f berry.units berries m
   \t* 2 (esc)
   \t/ 0.5 (esc)
   $ file p.units 'm !' 'da- 10' 'd- 1|10' 'ab 7 m'
-  $ units -f p.units dab m
+  $ apart units -f p.units dab m
   \t* 0.7 (esc)
   \t/ 1.4285714 (esc)
 
 Cycles begin with the name in which they are met first.
 
   $ file cycle.units 'm !' 'a b' 'b a' 'c 2 a'
-  $ units -f cycle.units c
+  $ apart units -f cycle.units c
   cycle: a -> b -> a
   [1]
-  $ units -f cycle.units b
+  $ apart units -f cycle.units b
   cycle: b -> a -> b
   [1]
   $ file sine.units 'm !' 'a 2 sin'
-  $ units -f sine.units a m
+  $ apart units -f sine.units a m
   refused function: sin in a
   [1]
 
 A chain of 20,000 names, and a ring.
 
   $ { echo 'u_0 !'; for i in $(seq 20000); do echo "u_$i u_$((i - 1))"; done; } > chain.units
-  $ units -f chain.units u_20000 u_0
+  $ apart units -f chain.units u_20000 u_0
   \t* 1 (esc)
   \t/ 1 (esc)
   $ sed 's/^u_0 !$/u_0 u_20000/' chain.units > ring.units
-  $ units -f ring.units u_0 > ring
+  $ apart units -f ring.units u_0 > ring
   [1]
   $ wc -l < ring; cut -c 1-39 ring; grep -o -e '->' ring | wc -l
   1
@@ -137,7 +286,7 @@ A chain of 20,000 names, and a ring.
 A deck of as many lines as there may be, and of one more.
 
   $ yes 'm !' | head -n 100000 > full.units
-  $ units -f full.units m
+  $ apart units -f full.units m
   \tDefinition: 1 m (esc)
   $ yes 'm !' | head -n 100001 > over.units
   $ apart units -f over.units m

@@ -123,3 +123,42 @@ Nodes and room that are not there.
   refused
   0
   bad call
+
+10,000 calls that link two of 40 nodes and forget one, at random, with the room that is left and the users of a key
+between them: at times a few edges between two that forget, at times so many that the room is used up. The answers are
+those of a plain list of edges (tools/compare_edges.py --answer), with the users in the order of their numbers.
+
+  $ awk '
+  >   function below(n) { x = x * 16807 % 2147483647; return x % n }
+  >   BEGIN {
+  >     x = 1
+  >     for (i = 0; i < 40; i++) print "node"
+  >     print "reserve 100"
+  >     for (i = 1; i <= 10000; i++) {
+  >       if (below(i % 2000 < 1000 ? 40 : 4)) print "link", below(40), below(40)
+  >       else print "unsettle", below(40)
+  >       if (i % 7 == 0) { print "spare"; print "users", below(40) }
+  >     }
+  >   }' > calls
+  $ cut -d ' ' -f 1 calls | sort | uniq -c
+     8629 link
+       40 node
+        1 reserve
+     1428 spare
+     1371 unsettle
+     1428 users
+  $ edge_calls < calls > answers
+  $ paste -d ' ' calls answers | awk '$1 == "link" { print $4 }' | sort | uniq -c
+     7906 ok
+      723 refused
+  $ awk '{
+  >   count = split($0, number, " ")
+  >   for (i = 2; i <= count; i++)
+  >     for (j = i; j > 1 && number[j - 1] + 0 > number[j] + 0; j--) {
+  >       other = number[j]; number[j] = number[j - 1]; number[j - 1] = other
+  >     }
+  >   line = number[1]
+  >   for (i = 2; i <= count; i++) line = line " " number[i]
+  >   print line
+  > }' answers | md5sum
+  9faa2bfbae54784c1fb82b9818cbc855  -

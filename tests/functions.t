@@ -1,4 +1,7 @@
-Functions with their inverses, tables of points and lists of units, over the definitions that are built in.
+Functions with their inverses, tables of points and lists of units, over the definitions that are built in. What
+stands on standard error is marked.
+
+  $ units() { command units "$@" 2> err; status=$?; sed 's/^/err: /' err; return $status; }
 
 A function at a value, and where it stands as TO its inverse. Absolute zero is -459.67 degrees Fahrenheit.
 

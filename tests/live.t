@@ -220,6 +220,66 @@ stand in the query. Behind `~` a function alone is sought, and a list leads nowh
   unknown unit: nosuch
   2 settled, 15 names, 2 reductions
 
+Refused names under a call, under an inverse, under a root and at the head of a call, in a query and in an entry of
+each kind. What stands before one in the text is told before it.
+
+  $ cat > under.units <<'END'
+  > m !
+  > f(x) 2 x ; f / 2
+  > u 3 f(ln)
+  > v f(2 cos(3) nosuch)
+  > w ~f(sqrt(tan))
+  > x m(exp 2)
+  > k- 2 f(log2)
+  > h(x) f(sin(x))
+  > p[f(sin) m] 0 1, 1 2
+  > a() h
+  > END
+  $ live_calls <<'END'
+  > load under.units
+  > value f(sin)
+  > value f(2 cos(1) nosuch)
+  > value f(nosuch cos(1))
+  > value m(ln 2)
+  > value sin(nosuch)
+  > value nosuch(sin)
+  > value ~f(tan)
+  > value sqrt(exp)
+  > value u
+  > value v
+  > value w
+  > value x
+  > value km
+  > value h(1)
+  > value p(1)
+  > value a(1)
+  > unapply a 1
+  > counts
+  > value f(3)
+  > counts
+  > END
+  ok
+  refused function: sin
+  refused function: cos
+  unknown unit: nosuch
+  refused function: ln
+  refused function: sin
+  unknown unit: nosuch
+  refused function: tan
+  refused function: exp
+  refused function: ln in u
+  refused function: cos in v
+  refused function: tan in w
+  refused function: exp in x
+  refused function: log2 in k-
+  refused function: sin in h()
+  refused function: sin in p()
+  refused function: sin in h()
+  refused function: sin in h()
+  0 settled, 10 names, 0 reductions
+  6
+  1 settled, 10 names, 1 reductions
+
 A word with a prefix and a unit has two targets, gone through in that order, the unit's fault after the prefix's.
 
   $ cat > targets.units <<'END'
@@ -769,6 +829,83 @@ broken.
   cycle: q -> p -> q
   ok
   4 m
+
+A prefix that led nowhere, behind the one that did, and the name that would have followed it: a name that looked at
+them is forgotten, a query that did is answered anew, and no other name is touched. A cycle that is made and broken.
+
+  $ printf 'm !\nda- 10\nd- 1|10\nab 7 m\nx dab\ny ab\np q\nq 4 m\n' > nowhere.units
+  $ live_calls <<'END'
+  > load nowhere.units
+  > value x
+  > value y
+  > counts
+  > define da- 20
+  > counts
+  > value dab
+  > counts
+  > value x
+  > counts
+  > define b 3 m
+  > counts
+  > value dab
+  > value x
+  > counts
+  > drop b
+  > counts
+  > value x
+  > drop da-
+  > counts
+  > drop da-
+  > counts
+  > value x
+  > counts
+  > value p
+  > counts
+  > define q p
+  > counts
+  > value p
+  > value q
+  > counts
+  > drop q
+  > counts
+  > value p
+  > counts
+  > END
+  ok
+  7|10 m
+  7 m
+  5 settled, 8 names, 5 reductions
+  ok
+  4 settled, 8 names, 5 reductions
+  7|10 m
+  4 settled, 8 names, 5 reductions
+  7|10 m
+  5 settled, 8 names, 6 reductions
+  ok
+  4 settled, 9 names, 6 reductions
+  60 m
+  60 m
+  7 settled, 9 names, 9 reductions
+  ok
+  5 settled, 8 names, 9 reductions
+  7|10 m
+  ok
+  4 settled, 8 names, 10 reductions
+  ok
+  4 settled, 7 names, 10 reductions
+  7|10 m
+  5 settled, 7 names, 11 reductions
+  4 m
+  7 settled, 7 names, 13 reductions
+  ok
+  5 settled, 7 names, 13 reductions
+  cycle: p -> q -> p
+  cycle: q -> p -> q
+  5 settled, 7 names, 13 reductions
+  ok
+  5 settled, 7 names, 13 reductions
+  4 m
+  7 settled, 7 names, 15 reductions
 
 Both locales to and fro, and an append that redefines half of the names.
 

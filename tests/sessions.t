@@ -71,6 +71,45 @@ What is kept and forgotten, by its counts.
   \t/ 1.4285714 (esc)
   settled 3 of 4, reductions 3
 
+A prefix that led nowhere, behind the one that did, and the name that would have followed it: a name that looked at
+them is forgotten, and no other.
+
+  $ file x.units 'm !' 'da- 10' 'd- 1|10' 'ab 7 m' 'x dab' 'y ab'
+  $ session -q -f x.units -- x m y m :stats ':define da- 20' :stats x m :stats \
+  >   ':define b 3 m' :stats x m :stats ':drop b' :stats x m :stats
+  \t* 0.7 (esc)
+  \t/ 1.4285714 (esc)
+  \t* 7 (esc)
+  \t/ 0.14285714 (esc)
+  settled 5 of 6, reductions 5
+  settled 4 of 6, reductions 5
+  \t* 0.7 (esc)
+  \t/ 1.4285714 (esc)
+  settled 5 of 6, reductions 6
+  settled 4 of 7, reductions 6
+  \t* 60 (esc)
+  \t/ 0.016666667 (esc)
+  settled 7 of 7, reductions 9
+  settled 5 of 6, reductions 9
+  \t* 0.7 (esc)
+  \t/ 1.4285714 (esc)
+  settled 6 of 6, reductions 10
+
+A cycle that is made and broken.
+
+  $ file pq.units 'm !' 'p q' 'q 4 m'
+  $ session -q -f pq.units -- p m :stats ':define q p' :stats p q :stats ':drop q' p m :stats
+  \t* 4 (esc)
+  \t/ 0.25 (esc)
+  settled 3 of 3, reductions 3
+  settled 1 of 3, reductions 3
+  cycle: p -> q -> p
+  cycle: q -> p -> q
+  settled 1 of 3, reductions 3
+  \t* 4 (esc)
+  \t/ 0.25 (esc)
+  settled 3 of 3, reductions 5
+
 Locales and variables.
 
   $ session -q -l en_US -- quart liter ':locale en_GB' quart liter
@@ -85,6 +124,31 @@ Locales and variables.
   \t/ 0.033333333 (esc)
   \t* 3 (esc)
   \t/ 0.33333333 (esc)
+
+A variable that opens a block, in which one name is defined anew and another for the first time, and closes it again.
+A value for which no block asks changes nothing.
+
+  $ file block.units 'm !' 'a 2 m' '!var V x' 'a 3 m' 'n 5 m' '!endvar' 'b a' 'c 7 m' 'e n'
+  $ session -q -f block.units -- e b m c m :stats ':set V x' :stats b m e m :stats ':set V y' :stats b m :stats \
+  >   ':set V z' :stats e
+  unknown unit: n in e
+  \t* 2 (esc)
+  \t/ 0.5 (esc)
+  \t* 7 (esc)
+  \t/ 0.14285714 (esc)
+  settled 4 of 5, reductions 4
+  settled 2 of 6, reductions 4
+  \t* 3 (esc)
+  \t/ 0.33333333 (esc)
+  \t* 5 (esc)
+  \t/ 0.2 (esc)
+  settled 6 of 6, reductions 8
+  settled 2 of 5, reductions 8
+  \t* 2 (esc)
+  \t/ 0.5 (esc)
+  settled 4 of 5, reductions 10
+  settled 4 of 5, reductions 10
+  unknown unit: n in e
 
 The banner, the messages and the prompts.
 
@@ -104,6 +168,22 @@ The banner, the messages and the prompts.
   \t/ 0.5 (esc)
   You have:  (no-eol)
 
+Messages in force, one without text and one with blanks, are told at the start alone, and with `-q` not at all.
+
+  $ file messages.units '!locale en_GB' '!message cheerio' '!endlocale' '!message' '!message  a  b ' 'm !'
+  $ printf ':load messages.units\n:locale en_GB\n' | apart units -f messages.units
+  
+  a  b
+  1 units, 0 prefixes, 0 nonlinear units
+  You have: You have: You have:  (no-eol)
+  $ units -l en_GB -f messages.units < /dev/null
+  cheerio
+  
+  a  b
+  1 units, 0 prefixes, 0 nonlinear units
+  You have:  (no-eol)
+  $ units -q -l en_GB -f messages.units < /dev/null
+
 A pending FROM is valued anew for the reply.
 
   $ session -q -- '1 ft' ':define ft 2 m' m
@@ -115,6 +195,48 @@ A pending FROM is valued anew for the reply.
   $ session -q -- ':drop ft()' ':drop m-' '1 ms' s
   no such definition: ft()
   unknown unit: ms
+
+It stays behind each command, taken or not, behind a line that is too long, and behind `?`, which tells its fault.
+
+  $ session -q -- '1 ft' 'search no such name' ':define foo2 m' ':define w 1 m' ':drop zz' ':drop w' ':set V x' \
+  >   ':set V' ':locale en_US' ':load gone.units' ':load one.units' :stats :nosuch \
+  >   "$(printf '%65537s' | tr ' ' x)" '? # which' in
+  no matching names
+  bad name: foo2
+  no such definition: zz
+  bad command: :set
+  no file: gone.units
+  settled 3 of 65, reductions 3
+  unknown command: :nosuch
+  line too long
+  \tfeet\tft (esc)
+  \tfoot\tft (esc)
+  \tft\t12 in (esc)
+  \tin\t254|10000 m (esc)
+  \tinch\tin (esc)
+  \tm\t! (esc)
+  \tmeter\tm (esc)
+  \tmile\t5280 ft (esc)
+  \tyard\tyd (esc)
+  \tyd\t3 ft (esc)
+  \t* 12 (esc)
+  \t/ 0.083333333 (esc)
+  $ printf '1 ft\n:drop in\n?\n\nm\nquit\ns\n' | apart units
+  43 units, 18 prefixes, 4 nonlinear units
+  You have: You want: You want: unknown unit: in in ft
+  You want: unknown unit: in in ft
+  You have: You want:  (no-eol)
+
+A FROM with a fault is answered at once, and none is pending.
+
+  $ session -q -- '2 +' nosuch 'sin(1)' '2 m + 3 s' '' m s
+  syntax error at 3
+  unknown unit: nosuch
+  refused function: sin
+  sum of unlike units: 2 m and 3 s
+  conformability error
+  \t1 m (esc)
+  \t1 s (esc)
 
 Searches, and the units that conform.
 
@@ -141,6 +263,118 @@ Notices on standard error, refusals on standard output.
   bad command: :drop
   no file: gone.units
 
+Commands without what they need, with more than they take, and words that are none.
+
+  $ session -q -- :define :drop ':drop 1' ':drop # ft' :set ':set V' :locale :load ':stats 1' ':stats # all' \
+  >   : ':nosuch x' ':definex y' ': define y m' search 'search # x' searching 'quit now' 'exits'
+  bad command: :define
+  bad command: :drop
+  bad command: :drop
+  bad command: :drop
+  bad command: :set
+  bad command: :set
+  bad command: :locale
+  bad command: :load
+  bad command: :stats
+  settled 0 of 65, reductions 0
+  unknown command: :
+  unknown command: :nosuch
+  unknown command: :definex
+  unknown command: :
+  unknown unit: search
+  unknown unit: search
+  unknown unit: searching
+  unknown unit: quit
+  unknown unit: exits
+
+A definition of each kind is dropped by its own key; a locale that no block names.
+
+  $ session -q -- ':drop hms' ':drop !unitlist  hms' ':drop !unitlist hms' '1.5 hr' hms \
+  >   ':drop tempcelsius()' '300 K' tempcelsius ':drop milli-' '1 ms' ':drop m-' '1 ms' \
+  >   ':drop tempF' ':drop zincgauge()' ':drop zincgauge()' '1 in' zincgauge \
+  >   ':locale nowhere' '1 quart' ':locale en_US' '1 quart' pint
+  no such definition: hms
+  bad command: :drop
+  unknown unit: hms
+  unknown unit: tempcelsius
+  unknown unit: milli in m-
+  unknown unit: ms
+  no such definition: tempF
+  no such definition: zincgauge()
+  unknown unit: zincgauge
+  unknown unit: gallon in quart
+  \t* 2 (esc)
+  \t/ 0.5 (esc)
+
+Why a definition is refused.
+
+  $ nested() { printf "%$1s" | tr ' ' '('; printf 1; printf "%$1s" | tr ' ' ')'; }
+  $ session -q -- ':define 1a m' ':define a' ':define a 2 *' ':define a 1e10000' ":define a $(nested 65)" \
+  >   ':define t[m] 1 2' ':define !set V x' ':define !endlocale' ':define !unitlist' ':define !unitlist z m;;s' \
+  >   ':define +!unitlist z m;s' ':define f() g ()' ':define +  ok 2 m' ok m
+  bad name: 1a
+  bad definition
+  syntax error at 3
+  numeral too long
+  nested too deep
+  bad table
+  bad definition
+  bad definition
+  bad definition
+  syntax error at 0
+  bad name: !unitlist
+  bad name: g  (re)
+  \t* 2 (esc)
+  \t/ 0.5 (esc)
+
+A file that is loaded with notices, and one that is too long. A file that cannot be read ends the session.
+
+  $ truncate --size 16777217 past.units
+  $ file more.units 'm !' '!endvar' '!include gone.units' 'foo2 m' 'more 7 m' '!utf8'
+  $ session -q -- ':load more.units' more m ':load past.units' ':load gone.units' more m
+  \t* 7 (esc)
+  \t/ 0.14285714 (esc)
+  file too long: past.units
+  no file: gone.units
+  \t* 7 (esc)
+  \t/ 0.14285714 (esc)
+  err: more.units:2: stray end
+  err: more.units:3: no file: gone.units
+  err: more.units:4: bad name: foo2
+  err: more.units:6: unclosed block
+  $ session -q -- '1 m' ':load .' m
+  [4]
+  $ apart units -q < .
+  [4]
+
+The end: `quit`, `exit`, or that of the input, whether or not a line feed stands before it. Carriage returns at the
+ends of lines, comments and outer blanks are dropped; another carriage return and a NUL byte are no part of an
+expression. Input that comes byte by byte is answered alike.
+
+  $ session -q -- '1 ft' in ' quit # now' '1 ft' in
+  \t* 12 (esc)
+  \t/ 0.083333333 (esc)
+  $ session -q -- exit m ''
+  $ session -q -- '1 ft' exit m
+  $ printf '1 ft\r\n\t in # of it\r\nexit\r\nm\r\n\r\n' | apart units -q
+  \t* 12 (esc)
+  \t/ 0.083333333 (esc)
+  $ printf '1 ft\nin' | apart units -q
+  \t* 12 (esc)
+  \t/ 0.083333333 (esc)
+  $ slowly() { for byte in "$@"; do printf "$byte"; sleep 0.02; done; }
+  $ slowly 1 ' ' f t '\n' i n '\n' '#' '\n' ' ' '\n' m '\r' '\n' f t | apart units -q
+  \t* 12 (esc)
+  \t/ 0.083333333 (esc)
+  \t* 3.2808399 (esc)
+  \t/ 0.3048 (esc)
+  $ printf '1 ft\r\r\n1 \rft\n1 ft\0\nm\0m\n\0\n' | apart units -q
+  syntax error at 4
+  syntax error at 2
+  syntax error at 4
+  syntax error at 1
+  syntax error at 0
+
 A chain of 20,000 names, with an edit near its end.
 
   $ { echo 'u_0 !'; for i in $(seq 20000); do echo "u_$i u_$((i - 1))"; done; } > long.units
@@ -153,6 +387,31 @@ A chain of 20,000 names, with an edit near its end.
   \t/ 0.5 (esc)
   settled 20001 of 20001, reductions 40001
 
+A ring of as many, which an edit breaks and another closes again.
+
+  $ sed 's/^u_0 !$/u_0 u_20000/' long.units > ring.units
+  $ session -q -f ring.units -- u_20000 :stats ':define u_0 !' u_20000 u_0 :stats ':drop u_0' :stats u_0 > ring
+  $ cut -c 1-50 ring
+  cycle: u_20000 -> u_19999 -> u_19998 -> u_19997 ->
+  settled 0 of 20001, reductions 0
+  \t* 1 (esc)
+  \t/ 1 (esc)
+  settled 20001 of 20001, reductions 20001
+  settled 0 of 20001, reductions 20001
+  cycle: u_0 -> u_20000 -> u_19999 -> u_19998 -> u_1
+  $ grep cycle ring | tr -cd '>\n' | awk '{ print length }'
+  20001
+  20001
+
+A chain of 60,000 names, of which the last is asked for after each of 30,000 edits of a name beside it.
+
+  $ { echo 'u_0 !'; seq 60000 | awk '{ print "u_" $1, "u_" $1 - 1 }'; } > longer.units
+  $ rounds() { seq 30000 | sed 's/.*/:define w & u_0\nu_60000\nu_0/'; echo :stats; }
+  $ rounds | apart units -q -f longer.units | sort | uniq -c
+    30000 \t* 1 (esc)
+    30000 \t/ 1 (esc)
+        1 settled 60001 of 60002, reductions 60001
+
 A full deck, a line that is too long, a table that is too long.
 
   $ yes 'm !' | head -n 100000 > full.units
@@ -164,7 +423,36 @@ A full deck, a line that is too long, a table that is too long.
   $ session -q -- ":define t[m] $(seq 1001 | sed 's/.*/& &/' | tr '\n' ' ')"
   bad table
 
+  $ session -q -f full.units -- ':load one.units' ':define m !' :stats
+  deck full
+  deck full
+  settled 0 of 1, reductions 0
+
+Lines of 65,536 bytes, which are as long as a line may be, and longer ones, behind so many blank lines that they begin
+and end at each place where the input is cut into blocks. Comments, blanks and carriage returns count too.
+
+  $ bytes() { head -c $1 /dev/zero | tr '\0' "$2"; }
+  $ for before in 0 1 2 65534 65535 65536 65537 131071; do
+  >   for length in 65535 65536 65537 65538 131071 131072 200000; do
+  >     { bytes $before '\n'; bytes $length x; printf '\n1 ft\nin\n'; bytes $length x; } | apart units -q > said
+  >     case $length in 65535 | 65536) wanted='syntax error at 0' ;; *) wanted='line too long' ;; esac
+  >     printf '%s\n\t* 12\n\t/ 0.083333333\n%s\n' "$wanted" "$wanted" | cmp - said || echo "$length behind $before"
+  >   done
+  > done
+  $ { bytes 65536 ' '; printf '\n'; bytes 65537 ' '; printf '\n1 ft#'; bytes 65531 x; printf '\nin#'; bytes 65534 x;
+  >   echo; bytes 65533 ' '; printf 'in\r\n'; bytes 65534 ' '; printf 'in\r\n'; } | apart units -q
+  line too long
+  line too long
+  \t* 12 (esc)
+  \t/ 0.083333333 (esc)
+  line too long
+
 The trial.
 
   $ units --trial 3
   definitions 4, edits 3, reply bytes 43, settled 3 of 4, reductions 4
+  $ units --trial 20000 | tee first
+  definitions 20001, edits 20000, reply bytes 522881, settled 2 of 20001, reductions 43997
+  $ units --trial 20000 | cmp - first
+  $ units --exact --trial 3 < .
+  definitions 4, edits 3, reply bytes 36, settled 3 of 4, reductions 4

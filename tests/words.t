@@ -29,6 +29,80 @@ Words that are not taken.
   err: units: usage: units [options] [FROM [TO]]
   [2]
 
+Numbers out of their ranges, an option twice, one without its value or that is not there, an operand with a sign
+before it.
+
+  $ usage='err: units: usage: units [options] [FROM [TO]]'
+  $ for words in '-d 37 m' '-d x m' '-d -1 m' '-d' '--digits 1.5 m' '--trial 0' '--trial 20001' '--trial x' '--trial' \
+  >   '--exact --exact m' '-f a -f b m' '-d 3 --digits 4 m' '-l a --locale b m' '-t --terse m' '--trial 3 m' \
+  >   '--trial 3 -c' \
+  >   '-c -c' '-f' '-l' '-h' '--version' '-V' '-e m' '-m m' '--nosuch m' '-2 m' '--exact=1 m' '-c m ft'; do
+  >   apart units $words > said
+  >   status=$?
+  >   if [ $status != 2 ] || [ "$(cat said)" != "$usage" ]; then echo "$words: $status"; cat said; fi
+  > done
+
+Numbers with a sign and with zeros before them, an operand behind `--`, options behind operands and in one word; a
+file that a trial does not ask for.
+
+  $ apart units -d 08 m ft
+  \t* 3.2808399 (esc)
+  \t/ 0.3048 (esc)
+  $ apart units -d +8 m ft
+  \t* 3.2808399 (esc)
+  \t/ 0.3048 (esc)
+  $ apart units -d36 --exact -- m ft
+  \t* 1250|381 (esc)
+  \t/ 381|1250 (esc)
+  $ apart units m -1s ft -d2
+  \t* 3.3 (esc)
+  $ apart units --trial 3 -f none.units
+  definitions 4, edits 3, reply bytes 43, settled 3 of 4, reductions 4
+  $ apart units --trial 007
+  definitions 8, edits 7, reply bytes 127, settled 2 of 8, reductions 18
+
+No variable of the environment chooses a file or a locale.
+
+  $ apart env UNITSFILE=none.units LOCALE=en_GB LANG=en_GB units gallon liter
+  \t* 3.7854118 (esc)
+  \t/ 0.26417205 (esc)
+
+Each option by its long name.
+
+  $ apart units --digits 3 m ft
+  \t* 3.28 (esc)
+  \t/ 0.305 (esc)
+  $ apart units --one-line "10 meters" feet
+  \t* 32.808399 (esc)
+  $ apart units --compact "10 meters" feet
+  32.808399
+  0.03048
+  $ apart units --terse "10 meters" feet
+  32.808399
+  $ apart units --quiet "10 meters" feet
+  \t* 32.808399 (esc)
+  \t/ 0.03048 (esc)
+  $ apart units --strict "2 Hz" s
+  conformability error
+  \t2 / s (esc)
+  \t1 s (esc)
+  [1]
+  $ apart units --round "1.99 ft" "ft;in"
+  \t2 ft + 0 in (esc)
+  $ apart units --verbose "10 meters" feet
+  \t10 meters = 32.808399 feet (esc)
+  \t10 meters = (1 / 0.03048) feet (esc)
+  $ printf 'm !\ntwo 2 m\nbad nosuch\n' > small.units
+  $ apart units --file small.units two m
+  \t* 2 (esc)
+  \t/ 0.5 (esc)
+  $ apart units --locale en_GB gallon liter
+  \t* 4.54609 (esc)
+  \t/ 0.21996925 (esc)
+  $ apart units --check --file small.units
+  bad: unknown unit: nosuch in bad
+  [1]
+
 A file that is not there, and one that is too long.
 
   $ apart units -f none.units m ft
@@ -37,4 +111,10 @@ A file that is not there, and one that is too long.
   $ truncate --size 16777217 long.units
   $ apart units -f long.units m ft
   err: units: file too long: long.units
+  [3]
+  $ apart units -f none.units --check
+  err: units: no file: none.units
+  [3]
+  $ apart units -q -f none.units
+  err: units: no file: none.units
   [3]

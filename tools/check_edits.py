@@ -23,6 +23,8 @@ ASKED = ["counts", "value b", "value d", "value kd", "value f(2)", "value g(3)",
 CASES = [
     ([], "define b 7 km", "define b 7 km"),
     ([], "define e 7 d", "define e 7 d"),
+    ([], "define k- 10", "define k- 10"),
+    ([], "define b kd", "define b kd"),
     ([], "drop b", "drop b"),
     ([], "switch en_GB", "switch en_GB"),
     ([], "append more.units", "append more.units"),

@@ -1,7 +1,7 @@
 #!/usr/bin/env bash
-# Refuses each allocation of the built program in turn, and all from each one on, over a dozen command lines: each such run
-# ends with status 6, and each stream has a front of what it has otherwise. Needs gcc, for the allocator that it puts before
-# the C library's. A case is a command line; the last line is `N passed, M failed`.
+# Refuses each allocation of the built program in turn, and all from each one on, over command lines and sessions: each
+# such run ends with status 6, and each stream has a front of what it has otherwise. Needs gcc, for the allocator that
+# it puts before the C library's. A case is a command line; the last line is `N passed, M failed`.
 set -u
 script=$(readlink -f "${BASH_SOURCE[0]}") || exit
 root=${script%/*/*}
@@ -20,12 +20,15 @@ printf '%s\n' 'm !' '!include b.units' > sub/a.units
 echo 'z 4 m' > sub/b.units
 printf '%s\n' 'm !' 'a b' 'b a' 'c 2 a' > cycle.units
 printf '%s\n' 'm !' '!endvar' 'bad 2 nosuch' 'p- 2 q' '!unitlist z m;1/m' > faults.units
+printf '%s\n' 'm !' 'a 2 m' 'b 3 a' 'c 5 m' > kept.units
+printf '%s\n' 'a 3 m' '!nosuch' 'd 7 m' > more.units
+: > input.txt
 
 gcc -O1 -shared -fPIC -o refuse.so "$root/tools/refuse.c" || fail 'gcc did not build the allocator'
 
 # run SETTING.. : the words with these variables; gives the status, and what was written.
 run() {
-    env -i "$@" "$program" "${words[@]}" > out.txt 2> err.txt 9> refused.txt < /dev/null
+    env -i "$@" "$program" "${words[@]}" > out.txt 2> err.txt 9> refused.txt < input.txt
     status=$?
     IFS= read -r -d '' out < out.txt
     IFS= read -r -d '' err < err.txt
@@ -76,6 +79,16 @@ try_all 3 -f gone.units yd m
 try_all 3 -f long.units yd m
 try_all 4 -f . yd m
 try_all 0 --trial 3
+
+# Sessions: what is kept, forgotten and asked again, and each command.
+session() { printf '%s\n' "$@" > input.txt; }
+session '1 s' ms ':define ms 7 s' '1 s' ms ':drop ms' '1 s' ms
+try_all 0 -q
+session b m c m ':define a 7 m' :stats b m :stats
+try_all 0 -q -f kept.units
+session b m ':load more.units' b m ':set V x' ':locale en_GB' ':load gone.units' ':define a' ':drop zz' 'search a' \
+    b '?' '' :stats exit
+try_all 0 -f kept.units
 
 echo "check_memory: $total runs with an allocation refused"
 echo "$passed passed, $failed failed"

@@ -35,15 +35,37 @@ expect() {
     fi
 }
 
-# talk FROM TO: a session over a pipe that waits for the answer to each line before it sends the next.
+# hear TEXT: the session writes this next.
+hear() {
+    local heard
+    if [ -z "$1" ]; then return; fi
+    IFS= read -r -t 5 -N ${#1} heard <&"${COPROC[0]}" && [ "$heard" = "$1" ]
+}
+
+# talk [-q] TEXT LINE ..: a session over a pipe that gets each line when the text before it has come.
 talk() {
-    local answer
-    coproc units -q -1 -f first.units
-    printf '%s\n%s\n' "$1" "$2" >&"${COPROC[1]}"
-    read -r -t 5 answer <&"${COPROC[0]}" || return 1
-    printf '\t%s\n' "$answer"
-    printf 'quit\n' >&"${COPROC[1]}"
-    wait "$COPROC_PID"
+    local options=(-1 -f first.units) pid
+    if [ "$1" = -q ]; then options+=("$1"); shift; fi
+    coproc units "${options[@]}"
+    pid=$COPROC_PID
+    while [ $# != 0 ]; do
+        hear "$1" || return 99
+        printf '%s\n' "$2" >&"${COPROC[1]}"
+        shift 2
+    done
+    wait "$pid"
+}
+
+# cut_off: a session whose standard output is closed behind its first answer, while it goes on to get lines.
+cut_off() {
+    local pid answers
+    coproc units -q -f first.units
+    pid=$COPROC_PID answers=${COPROC[0]}
+    printf '2 yd\nin\n' >&"${COPROC[1]}"
+    hear $'\t* 72\n\t/ 0.013888889\n' || return 99
+    exec {answers}<&-
+    printf '2 yd\nin\nm\n' >&"${COPROC[1]}"
+    wait "$pid"
 }
 
 usage=$'units: usage: units [options] [FROM [TO]]\n'
@@ -72,13 +94,26 @@ expect 0 "${banner}You have: You want: "$'\t* 72\n\t/ 0.013888889\n'"You have: "
 expect 0 $'\t* 72\n\t/ 0.013888889\n' '' "printf '2 yd\\nin\\nquit\\nm\\n' | units -q -f first.units"
 expect 4 $'\t* 72\n\t/ 0.013888889\n' '' "{ printf '2 yd\\nin\\n'; sleep 0.2; printf ':load .\\nm\\n'; } | units -q -f first.units"
 expect 5 '' '' "printf '2 yd\\nin\\n' | units -q -f first.units >&-"
-expect 0 $'\t* 72\n' '' "talk '2 yd' in"
+expect 5 '' '' cut_off
+have='You have: ' want='You want: '
+expect 0 '' '' "talk -q '' '2 yd' '' in \$'\t* 72\n' '2 yd' '' : \$'unknown command: :\n' ft \$'\t* 6\n' quit"
+expect 0 '' '' "talk '$banner$have' '2 yd' '$want' in \$'\t* 72\n$have' :stats \$'settled 4 of 4, reductions 4\n$have' \
+    'yd # to' '$want' ':define ft 6 in' '$want' '?' \$'\tft\t6 in\n\tin\t254|10000 m\n\tm\t!\n\tyd\t3|1 ft\n$want' '' \
+    \$'\tDefinition: 3|1 ft = 0.4572 m\n$have' nosuch \$'unknown unit: nosuch\n$have' exit"
+
+# As much input as a session takes, and a byte more, behind which the line that has not ended has no answer.
+expect 0 $'line too long\n\t* 12\n\t/ 0.083333333\n' '' \
+    "{ head -c 4294967288 /dev/zero; printf '\\n1 ft\\nin'; } | units -q"
+expect 7 $'line too long\n' '' "{ head -c 4294967289 /dev/zero; printf '\\n1 ft\\nin'; } | units -q"
 
 # Where the modes of files do not bind, as for root, a file whose read fails stands in for one that may not be read.
 cp first.units locked.units
 chmod 000 locked.units
 if [ -r locked.units ]; then locked=/proc/self/mem; else locked=locked.units; fi
 expect 4 '' '' "units --exact -f $locked yd m"
+expect 4 $'\t* 72\n\t/ 0.013888889\n' '' \
+    "{ printf '2 yd\\nin\\n'; sleep 0.2; printf ':load $locked\\nm\\n\\n'; } | units -q -f first.units"
+expect 4 '' '' "units -q -f first.units < ."
 
 # Sinks that are closed, and one that is full.
 expect 5 '' '' "$yard >&-"

@@ -7,6 +7,10 @@ makes CALLS calls (10000 where none is given) over a few nodes from the SEED (1 
 given), has the program of crates/edge_calls answer them, and compares each answer with that of a
 list which is searched whole. It prints the first differences and a line with the counts, and ends
 with status 1 where there is a difference.
+
+    tools/compare_edges.py --answer < CALLS
+
+answers calls by the list, the users of a key in the order of their numbers.
 """
 
 import random
@@ -52,6 +56,10 @@ class Edges:
     def users(self, key):
         return spelled(sorted(user for user, leads_to in self.edges if leads_to == key))
 
+    def reserve(self, room):
+        self.spare = max(self.spare, room)
+        return "ok"
+
 
 def spelled(numbers):
     return " ".join(map(str, numbers)) or "none"
@@ -74,21 +82,36 @@ def random_calls(count):
             yield "spare", str(edges.spare)
         else:
             room = random.randrange(40)
-            edges.spare = max(edges.spare, room)
-            yield f"reserve {room}", "ok"
+            yield f"reserve {room}", edges.reserve(room)
+
+
+def answers(calls):
+    """The answers of the list to calls on nodes that are there."""
+    edges, nodes = Edges(), 0
+    for word, *numbers in map(str.split, calls):
+        if word == "node":
+            yield str(nodes)
+            nodes += 1
+        elif word == "spare":
+            yield str(edges.spare)
+        else:
+            yield getattr(edges, word)(*map(int, numbers))
 
 
 def main():
+    if sys.argv[1:] == ["--answer"]:
+        print("\n".join(answers(sys.stdin)))
+        return
     count = int(sys.argv[1]) if len(sys.argv) > 1 else 10_000
     random.seed(int(sys.argv[2]) if len(sys.argv) > 2 else 1)
     calls = list(random_calls(count))
     spelled_calls = "".join(call + "\n" for call, _ in calls)
     run = subprocess.run([PROGRAM], input=spelled_calls, capture_output=True, text=True, check=True)
-    answers = run.stdout.splitlines()
-    if len(answers) != len(calls):
-        sys.exit(f"{len(answers)} answers to {len(calls)} calls")
+    told = run.stdout.splitlines()
+    if len(told) != len(calls):
+        sys.exit(f"{len(told)} answers to {len(calls)} calls")
     differences = 0
-    for (call, wanted), answer in zip(calls, answers):
+    for (call, wanted), answer in zip(calls, told):
         if call.startswith("users") and answer != "none":
             answer = spelled(sorted(map(int, answer.split())))
         if answer != wanted:

@@ -16,6 +16,11 @@ does the same with the definitions of a file.
 
 answers calls by the recursion, over the files of the folder it stands in.
 
+    tools/compare_reports.py --prefixes FILE
+
+writes what a check of each prefix of a file writes, the shortest first, which is looked for as `p.units`: its notices,
+the faults of its keys, and a line with the status.
+
 Tables and their faults are those of compare_live.py. A prefix is told as faulty where its own entry
 is, gone through from the prefix on. All numbers are exact.
 """
@@ -106,14 +111,32 @@ def told(outcome):
     return str(outcome) if isinstance(outcome, Fault) else None
 
 
-def reports_on(name):
-    """The reports on the deck of a file, or nothing where it is none."""
+def deck_of(name):
+    """The deck of a file, or nothing where it is none."""
     board = compare_live.compare_decks.Board()
     try:
         board.load(Files(), name)
     except Refusal:
         return None
-    return Reports({key: text for key, (text, _) in board.deck.table().items()})
+    return board.deck
+
+
+def reports_on(name):
+    """The reports on the deck of a file, or nothing where it is none."""
+    deck = deck_of(name)
+    return deck and Reports({key: text for key, (text, _) in deck.table().items()})
+
+
+def prefix_lines(file):
+    """What checks of all prefixes of a file write."""
+    whole = Path(file).read_bytes()
+    with tempfile.TemporaryDirectory() as folder:
+        os.chdir(folder)
+        for end in range(len(whole) + 1):
+            Path("p.units").write_bytes(whole[:end])
+            lines = [*deck_of("p.units").notices, *reports_on("p.units").check()]
+            yield from [*lines, "1" if lines else "0"]
+        os.chdir("/")
 
 
 def answers_of_program(name, calls):
@@ -192,6 +215,10 @@ def main():
         reports = reports_on(load.removeprefix("load "))
         answers = [["ok"] if call.startswith("options") else reports.answer(call) for call in calls]
         for line in ["ok", *(line for answer in answers for line in answer)]:
+            sys.stdout.buffer.write((line + "\n").encode("latin-1"))
+        return 0
+    if sys.argv[1:2] == ["--prefixes"]:
+        for line in prefix_lines(sys.argv[2]):
             sys.stdout.buffer.write((line + "\n").encode("latin-1"))
         return 0
     if not PROGRAM.exists():
