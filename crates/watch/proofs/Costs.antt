@@ -1,0 +1,81 @@
+-- What queries of settled names cost.
+use Rattle.std.proofs.Common.{◌≡◌, ◌∙◌, ◌+◌, ℕ, Bool, true, false, List, [], ◌∷◌, Contains, refl, sym, ap, subst, arith}
+use Rattle.std.specs.List.{IsDistinct}
+use Rattle.std.specs.Option.{is_none}
+use Rattle.std.proofs.lemmas.List.Elements.{All-head, All-tail, All-weaker}
+use Rattle.def_entry.specs.declared.key.Key.{Key}
+use Rattle.def_entry.specs.Tables.{Table}
+use Rattle.table_names.specs.Faults.{key_fault, name_fault}
+use Rattle.table_names.specs.Reach.{key_reach, reach}
+use Rattle.live_table.specs.New.{AreNew}
+use Rattle.live_table.specs.Right.{IsRight, IsSettled}
+use Rattle.live_table.specs.States.{AsksKey, AsksWords, Becomes, Event, Kept, State, after, after_query, with_settled}
+use Rattle.live_table.proofs.New.{new_law}
+use Rattle.watch.specs.Costs.{AsksSettled, CostLaw, Stays}
+
+module _ (s : State) (right : IsRight s) where
+  none_new : (keys : List Key) → ((n : Key) → Contains keys n → IsSettled s n) → AreNew s keys []
+  unfolding IsDistinct
+  none_new keys h = record {
+    exactly = λ n. ((λ i. let no : ⊥ = omega (arith, i.1) in absurd no), λ p. absurd (p.1 (h n p.0)));
+    once = tt;
+  }
+
+  settled : (keys : List Key) → ((n : Key) → Contains keys n → IsSettled s n) → Stays s (with_settled keys s)
+  settled keys h =
+      let e = new_law s keys [] right (none_new keys h) in
+      let z : s.steps + 0 ≡ s.steps = omega arith in
+      record {
+        table = refl;
+        kept = ap (λ (t : State). t.kept) e;
+        steps = ap (λ (t : State). t.steps) e ∙ z;
+      }
+
+  asked : (closed : Bool) (keys : List Key) → ((n : Key) → Contains keys n → IsSettled s n)
+      → Stays s (after_query closed keys s)
+  asked true keys h = settled keys h
+  asked false keys h = record { table = refl; kept = refl; steps = refl }
+
+  stays_once : (e : Event) → AsksSettled s e → Stays s (after e s)
+  stays_once (AsksWords words) h = asked (is_none (name_fault s.table words)) (reach s.table words) h
+  stays_once (AsksKey k) h = asked (is_none (key_fault s.table k)) (k ∷ key_reach s.table k) h
+  stays_once (Becomes later) h = absurd h
+
+-- a state of these parts
+abbrev state_of : Table → Kept → (reductions steps : ℕ) → State
+state_of table kept reductions steps =
+    record { table = table; kept = kept; reductions = reductions; steps = steps }
+
+-- what is right, and what is settled, is so whatever was counted
+right_counted : (table : Table) (kept : Kept) (r n q m : ℕ) → IsRight (state_of table kept r n)
+    → IsRight (state_of table kept q m)
+right_counted table kept r n q m h =
+    record { present = h.present; closed = h.closed; below = h.below; right = h.right }
+
+asks_counted : (table : Table) (kept : Kept) (r n q m : ℕ) (e : Event) → AsksSettled (state_of table kept r n) e
+    → AsksSettled (state_of table kept q m) e
+asks_counted table kept r n q m (AsksWords words) h = h
+asks_counted table kept r n q m (AsksKey k) h = h
+asks_counted table kept r n q m (Becomes later) h = h
+
+module _ (s t : State) (stays : Stays s t) where
+  right_stays : IsRight s → IsRight t
+  right_stays h =
+      subst (λ (x : Table). IsRight (state_of x t.kept t.reductions t.steps)) (sym stays.table)
+      (subst (λ (x : Kept). IsRight (state_of s.table x t.reductions t.steps)) (sym stays.kept)
+      (right_counted s.table s.kept s.reductions s.steps t.reductions t.steps h))
+
+  asks_stays : (e : Event) → AsksSettled s e → AsksSettled t e
+  asks_stays e h =
+      subst (λ (x : Table). AsksSettled (state_of x t.kept t.reductions t.steps) e) (sym stays.table)
+      (subst (λ (x : Kept). AsksSettled (state_of s.table x t.reductions t.steps) e) (sym stays.kept)
+      (asks_counted s.table s.kept s.reductions s.steps t.reductions t.steps e h))
+
+pub cost_law : CostLaw
+cost_law [] s right h = record { table = refl; kept = refl; steps = refl }
+cost_law (e ∷ es) s right h =
+    let a = stays_once s right e (All-head (AsksSettled s) e es h) in
+    let b = cost_law es (after e s) (right_stays s (after e s) a right)
+    (All-weaker (AsksSettled s) (AsksSettled (after e s)) (asks_stays s (after e s) a) es
+    (All-tail (AsksSettled s) e es h)) in
+    record { table = b.table ∙ a.table; kept = b.kept ∙ a.kept; steps = b.steps ∙ a.steps }

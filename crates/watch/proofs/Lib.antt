@@ -1,0 +1,7 @@
+pub mod Asking
+pub mod Costs
+pub mod Cutting
+pub mod Edited
+pub mod Renewed
+pub mod Telling
+pub mod Underway

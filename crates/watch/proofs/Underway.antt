@@ -1,0 +1,60 @@
+-- Watches on the way through a list of them.
+use Rattle.std.proofs.Common.{◌≡◌, ◌∙◌, ◌+◌, ◌++◌, ◌<◌, ℕ, suc, List, ◌∷◌, length, map, drop, get_or, set}
+use Rattle.std.proofs.Common.{sym, ap, append_assoc, arith}
+use Rattle.std.proofs.Math.Seq.{drop-cons}
+use Rattle.def_entry.specs.Tables.{Table}
+use Rattle.reply.specs.declared.options.Options.{Options}
+use Rattle.watch.specs.Changes.{Change, told_from, told_of}
+use Rattle.watch.specs.Watched.{change_of, renewed}
+use Rattle.watch.specs.declared.watch.Watch.{Watch}
+use Rattle.watch.proofs.Renewed.{renewed_at, renewed_first, renewed_next, renewed_same}
+use Rattle.watch.proofs.Telling.{told_next}
+
+-- the first watches are renewed, and what is told of them was put behind some bytes
+pub record IsUnderway (table : Table) (options : Options) (watches now : List Watch) (i : ℕ) (start bytes : List ℕ)
+    : Type 0 where
+  pub renewed : now ≡ renewed_first (renewed table options) i watches
+  pub told : start ++ told_from 1 (map (change_of table options) watches)
+      ≡ bytes ++ told_from (i + 1) (map (change_of table options) (drop i watches))
+
+module _ (table : Table) (options : Options) (watches : List Watch) where
+  -- a watch with its reply in this table, and what that changes
+  abbrev anew : Watch → Watch
+  anew w = renewed table options w
+
+  abbrev change : Watch → Change
+  change w = change_of table options w
+
+  module _ (i : ℕ) (now : List Watch) (start bytes : List ℕ) (u : IsUnderway table options watches now i start bytes)
+      (d w : Watch) (within : i < length watches) (at : w ≡ get_or now i d) where
+    -- the next one is as it was
+    pub underway-was : w ≡ get_or watches i d
+    underway-was = at ∙ (ap (λ ws. get_or ws i d) u.renewed ∙ renewed_at anew i watches d within)
+
+    next : drop i watches ≡ w ∷ drop (i + 1) watches
+    next =
+        let e : suc i ≡ i + 1 = omega arith in
+        drop-cons watches i d within ∙ (λ j. sym underway-was j ∷ drop (e j) watches)
+
+    -- it stays
+    pub underway-same : (later : Watch) → later ≡ w → set now i later ≡ renewed_first anew i watches
+    underway-same later e =
+        (λ j. set (u.renewed j) i ((e ∙ underway-was) j)) ∙ renewed_same anew i watches d within
+
+    -- it is renewed, and what is told of it is put
+    pub underway-next : (later : Watch) (further : List ℕ) → later ≡ anew w
+        → further ≡ bytes ++ told_of (i + 1) (change w)
+        → IsUnderway table options watches (set now i later) (i + 1) start further
+    underway-next later further e put = record {
+      renewed =
+          (λ j. set (u.renewed j) i ((e ∙ ap anew underway-was) j)) ∙ renewed_next anew i watches d within;
+      told =
+          u.told
+          ∙ (ap (λ ws. bytes ++ told_from (i + 1) (map change ws)) next
+          ∙ (ap (λ bs. bytes ++ bs) (told_next (i + 1) (change w) rest)
+          ∙ (sym (append_assoc bytes (told_of (i + 1) (change w)) (told_from ((i + 1) + 1) rest))
+          ∙ ap (λ bs. bs ++ told_from ((i + 1) + 1) rest) (sym put))));
+    }
+      where
+        rest : List Change
+        rest = map change (drop (i + 1) watches)

@@ -1,0 +1,5 @@
+use Rattle.watch.proofs.Edited.{edit_law}
+use Rattle.watch.proofs.laws.edit_law.Goals as goal
+
+pub returns : goal.returns
+returns c = edit_law

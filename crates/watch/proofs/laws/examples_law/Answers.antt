@@ -1,0 +1,7 @@
+use Rattle.std.proofs.Common.{refl}
+use Rattle.std.specs.Fmt.{digits}
+use Rattle.watch.proofs.laws.examples_law.Goals as goal
+
+pub returns : goal.returns
+unfolding digits
+returns c = record { none = refl; kept = refl; first = refl; second = refl; both = refl }

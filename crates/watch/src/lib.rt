@@ -1,0 +1,13 @@
+//! Conversions that are watched: after an edit of the definitions, the replies that changed.
+#![tactic(auto)]
+
+mod fault;
+mod laws;
+mod notices;
+mod renewing;
+mod watch;
+mod watches;
+
+pub use fault::WatchFault;
+pub use laws::{cost_law, edit_law, examples_law, told_law};
+pub use watches::{MOST_WATCHES, Watches};

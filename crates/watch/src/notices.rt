@@ -1,0 +1,22 @@
+//! What is told of a watch.
+
+ghost use Rattle.std.specs.Prelude.{◌≡◌, ◌++◌, OnOk};
+ghost use Rattle.watch.specs.Changes as spec;
+
+use std::alloc::{AllocError, Global};
+
+/// Puts the line of the watch with this number and a reply.
+pub(crate) fn put_notice(
+    alloc: Global,
+    told: &mut Vec<u8>,
+    number: usize,
+    reply: &[u8],
+) -> Result<(), AllocError>
+    ensures { OnOk result (told.new.items ≡ told.old.items ++ spec.notice number reply.now) }
+{
+    told.extend_from_slice(b"watch ".as_slice())?;
+    told.extend_from_slice(number.to_string(alloc)?.as_bytes())?;
+    told.extend_from_slice(b"\n".as_slice())?;
+    told.extend_from_slice(reply)?;
+    Ok(())
+}

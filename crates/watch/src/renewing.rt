@@ -1,0 +1,85 @@
+//! Watches whose replies are asked for again.
+
+ghost use Rattle.std.specs.Prelude.{◌≡◌, ◌++◌, OnErr, OnOk, map};
+ghost use Rattle.deck.specs.Tables.{table as table_of};
+ghost use Rattle.live_table.specs.Shown.{IsRightTable};
+ghost use Rattle.reply.specs.Calls as call;
+ghost use Rattle.reply.specs.Options.{IsPrintable};
+ghost use Rattle.watch.specs.Calls.{IsPartlyRenewed};
+ghost use Rattle.watch.specs.Changes.{told_from, told_of};
+ghost use Rattle.watch.specs.Watched as spec;
+
+use crate::notices::put_notice;
+use crate::watch::{Watch, reply_bytes};
+use live_table::LiveTable;
+use reply::Options;
+use std::alloc::{AllocError, Global};
+use std::sync::ledger::Ledger;
+use units_io::Steps;
+
+/// Asks for the replies of watches again, in order, and puts what is told of them.
+pub(crate) fn renew_all<L: Ledger>(
+    alloc: Global,
+    told: &mut Vec<u8>,
+    watches: &mut Vec<Watch>,
+    table: &mut LiveTable,
+    options: &Options,
+    steps: &mut Steps<L>,
+) -> Result<(), AllocError>
+    requires printable { IsPrintable options.now }
+    requires right { IsRightTable table.old }
+    ensures told { OnOk result (told.new.items ≡ told.old.items
+        ++ told_from 1 (map (spec.change_of (table_of table.old.deck) options.now) watches.old.items)) }
+    ensures renewed { OnOk result (watches.new.items
+        ≡ map (spec.renewed (table_of table.old.deck) options.now) watches.old.items) }
+    ensures partly { OnErr result
+        (IsPartlyRenewed (table_of table.old.deck) options.now watches.old.items watches.new.items) }
+    ensures queries { call.AreMade (spec.all_queries (table_of table.old.deck) options.now watches.old.items)
+        result table.old table.new steps.old steps.new }
+    ensures deck { table.new.deck ≡ table.old.deck }
+{
+    let count = watches.len();
+    for place in 0..count {
+        renew(
+            alloc,
+            told,
+            place + 1,
+            &mut watches[place],
+            table,
+            options,
+            steps,
+        )?;
+    }
+    Ok(())
+}
+
+// Asks for the reply of the watch with this number again, and puts it where it is another than the kept one. A refusal
+// leaves the watch.
+fn renew<L: Ledger>(
+    alloc: Global,
+    told: &mut Vec<u8>,
+    number: usize,
+    watch: &mut Watch,
+    table: &mut LiveTable,
+    options: &Options,
+    steps: &mut Steps<L>,
+) -> Result<(), AllocError>
+    requires { IsPrintable options.now }
+    ensures told { OnOk result (told.new.items ≡ told.old.items
+        ++ told_of number (spec.change_of (table_of table.old.deck) options.now watch.old)) }
+    ensures renewed { OnOk result (watch.new ≡ spec.renewed (table_of table.old.deck) options.now watch.old) }
+    ensures same { OnErr result (watch.new ≡ watch.old) }
+    ensures queries { call.AreMade (spec.queries_of (table_of table.old.deck) options.now (spec.subject_of watch.old))
+        result table.old table.new steps.old steps.new }
+    ensures deck { table.new.deck ≡ table.old.deck }
+{
+    let from = watch.from.as_bytes();
+    let to = watch.to.as_bytes();
+    let reply = reply_bytes(alloc, table, options, from, to, steps)?;
+    if reply.as_bytes() == watch.reply.as_bytes() {
+        return Ok(());
+    }
+    put_notice(alloc, told, number, reply.as_bytes())?;
+    watch.reply = reply;
+    Ok(())
+}

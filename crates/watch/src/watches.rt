@@ -1,0 +1,139 @@
+//! The conversions that are watched.
+
+ghost use Rattle.std.specs.Prelude.{◌≡◌, ◌↔◌, ◌+◌, ◌++◌, ◌∷◌, ◌≤◌, [], IfOk, IsErrOf, OnErr, OnOk, length, map};
+ghost use Rattle.deck.specs.Tables.{table as table_of};
+ghost use Rattle.def_entry.specs.Tables.{Table};
+ghost use Rattle.reply.specs.Calls as call;
+ghost use Rattle.reply.specs.Options.{IsPrintable};
+ghost use Rattle.watch.specs.Calls as calls;
+ghost use Rattle.watch.specs.Changes.{notice, told};
+ghost use Rattle.watch.specs.Edits.{told_by_edit};
+ghost use Rattle.watch.specs.Watched as spec;
+ghost use Rattle.watch.specs.declared.fault.WatchFault.TheVariants.{TooMany};
+
+use crate::fault::WatchFault;
+use crate::notices::put_notice;
+use crate::renewing::renew_all;
+use crate::watch::{Watch, watch_on};
+use live_table::LiveTable;
+use reply::Options;
+use std::alloc::{AllocError, Global};
+use std::marker::Model;
+use std::sync::ledger::Ledger;
+use units_io::{Steps, Text};
+
+/// How many conversions are watched at most.
+pub const MOST_WATCHES: usize = 1000;
+
+/// Conversions that are watched, in the order in which they were added, at most 1,000. Contracts see each as FROM,
+/// TO and the bytes of its last reply.
+pub struct Watches {
+    items: Vec<Watch>,
+}
+
+// By hand, so that who drops watches proves nothing of what they hold.
+impl Drop for Watches {
+    fn drop(self) {
+        let Watches { items: _ } = self;
+    }
+}
+
+impl Model for Watches {
+    ghost use Rattle.std.specs.Prelude.{◌≤◌, List, vec_len};
+    ghost use Rattle.watch.specs.Watched.{most_watches};
+    ghost use Rattle.watch.specs.declared.watch.Watch.{Watch as Watched};
+
+    ghost Value = { List Watched };
+
+    ghost view = { λ watches. watches.items.items };
+
+    ghost invariant = { λ watches. vec_len watches.items ≤ most_watches };
+}
+
+impl Watches {
+    /// No watch. It takes no memory.
+    pub fn new(alloc: Global) -> Watches
+        ensures { result ≡ [] }
+    {
+        Watches {
+            items: Vec::new(alloc),
+        }
+    }
+
+    /// Takes all watches away. It takes no memory.
+    pub fn clear(&mut self)
+        ensures { self.new ≡ [] }
+    {
+        self.items.clear();
+    }
+
+    /// Watches a conversion, as the last, and answers the line `watch K`, K being its place from 1, and the reply to
+    /// it in the present table. It makes the queries of the reply. `TooMany` comes exactly where 1,000 conversions are
+    /// watched, and then nothing is asked; the only other error is want of memory. After each, the watches are as
+    /// before.
+    pub fn add<L: Ledger>(
+        &mut self,
+        alloc: Global,
+        table: &mut LiveTable,
+        options: &Options,
+        from: &[u8],
+        to: &[u8],
+        steps: &mut Steps<L>,
+    ) -> Result<Text, WatchFault>
+        requires { IsPrintable options.now }
+        ensures text { let table = table_of table.old.deck in IfOk result (λ text.
+            text ≡ notice (length self.old + 1) (spec.reply_to table options.now (spec.subject from.now to.now))) }
+        ensures added { OnOk result (self.new ≡ self.old
+            ++ spec.watch_on (table_of table.old.deck) options.now (spec.subject from.now to.now) ∷ []) }
+        ensures kept { OnErr result (self.new ≡ self.old) }
+        ensures full { IsErrOf result TooMany ↔ (length self.old ≡ spec.most_watches) }
+        ensures few { length self.new ≤ spec.most_watches }
+        ensures queries { calls.IsAsked
+            (spec.queries_of (table_of table.old.deck) options.now (spec.subject from.now to.now))
+            result table.old table.new steps.old steps.new }
+        ensures deck { table.new.deck ≡ table.old.deck }
+        ensures current { let table = table_of table.old.deck in
+            spec.AreCurrent table options.now self.old → spec.AreCurrent table options.now self.new }
+    {
+        let count = self.items.len();
+        if count >= MOST_WATCHES {
+            return Err(WatchFault::TooMany);
+        }
+        let watch = watch_on(alloc, table, options, from, to, steps)?;
+        let mut text = Vec::new(alloc);
+        put_notice(alloc, &mut text, count + 1, watch.reply.as_bytes())?;
+        self.items.push(watch)?;
+        Ok(Text::from(text))
+    }
+
+    /// Asks for the reply of each watch again, in order, and answers, for each whose bytes are others than those
+    /// kept, the line `watch K` and the reply: after an edit these are exactly the watches whose replies in the table
+    /// before and behind it differ. What is kept is then the reply in the present table. The only error is want of
+    /// memory; after it each watch keeps its last reply or has the present one, and no more is said of which.
+    pub fn after_edit<L: Ledger>(
+        &mut self,
+        alloc: Global,
+        table: &mut LiveTable,
+        options: &Options,
+        steps: &mut Steps<L>,
+    ) -> Result<Text, AllocError>
+        requires { IsPrintable options.now }
+        ensures told { IfOk result (λ text.
+            text ≡ told (map (spec.change_of (table_of table.old.deck) options.now) self.old)) }
+        ensures edit { (before : Table) → spec.AreCurrent before options.now self.old → IfOk result (λ text. text
+            ≡ told_by_edit before (table_of table.old.deck) options.now (map spec.subject_of self.old)) }
+        ensures renewed { OnOk result (self.new
+            ≡ map (spec.renewed (table_of table.old.deck) options.now) self.old) }
+        ensures current { OnOk result (spec.AreCurrent (table_of table.old.deck) options.now self.new) }
+        ensures partly { OnErr result
+            (calls.IsPartlyRenewed (table_of table.old.deck) options.now self.old self.new) }
+        ensures queries { call.AreMade (spec.all_queries (table_of table.old.deck) options.now self.old) result
+            table.old table.new steps.old steps.new }
+        ensures deck { table.new.deck ≡ table.old.deck }
+    {
+        table.kept_right();
+        let mut text = Vec::new(alloc);
+        renew_all(alloc, &mut text, &mut self.items, table, options, steps)?;
+        Ok(Text::from(text))
+    }
+}
