@@ -1,0 +1,45 @@
+-- A list with another member at a place, member by member.
+use Rattle.std.proofs.Common.{◌≡◌, ◌∙◌, ◌<◌, ◌≤◌, ◌+◌, ℕ, List, [], ◌∷◌, ◌++◌, drop, get_or, length, sym, ap, arith}
+use Rattle.std.proofs.Common.{zero, suc, Some, None}
+use Rattle.std.specs.Prelude.{slice_set}
+use Rattle.csv.specs.Records.{field_at}
+use Rattle.std.proofs.lemmas.List.{append-nil, append_assoc, drop_all, drop_more, get_or-set_other}
+
+module _ {X : Type 0} (all : List X) where
+  -- the members so far with those that are left, after one more
+  pub one_more : (done more : List X) (i : ℕ) (d : X) → i < length all → more ≡ done ++ get_or all i d ∷ []
+      → done ++ drop i all ≡ all → more ++ drop (i + 1) all ≡ all
+  one_more done more i d lt is h =
+      ap (λ xs. xs ++ drop (i + 1) all) is
+      ∙ (append_assoc done (get_or all i d ∷ []) (drop (i + 1) all)
+      ∙ (ap (λ xs. done ++ xs) (sym (drop_more all i d lt)) ∙ h))
+
+  pub none_left : (done : List X) (i : ℕ) → length all ≤ i → done ++ drop i all ≡ all → done ≡ all
+  none_left done i le h = sym (append-nil done) ∙ (ap (λ xs. done ++ xs) (sym (drop_all i all le)) ∙ h)
+
+get_or_at : (fields : List (List ℕ)) (i : ℕ) (kept : List ℕ) → field_at fields i ≡ Some kept
+    → get_or fields i [] ≡ kept
+unfolding field_at
+get_or_at [] i kept is = cc
+get_or_at (f ∷ fs) zero kept is = cc
+get_or_at (f ∷ fs) (suc i) kept is = get_or_at fs i kept is
+
+-- a field by its place, where another one is changed
+pub kept_field : (fields : List (List ℕ)) (place i : ℕ) (field kept : List ℕ) → (i ≡ place → ⊥) → i < length fields
+    → Some kept ≡ field_at fields i → kept ≡ get_or (slice_set fields place field) i []
+kept_field fields place i field kept other lt is =
+    sym (get_or_at fields i kept (sym is)) ∙ sym (get_or-set_other fields place i field [] other)
+
+pub no_field : (fields : List (List ℕ)) (i : ℕ) → i < length fields → None ≡ field_at fields i → ⊥
+unfolding field_at
+no_field [] i lt is = omega arith
+no_field (f ∷ fs) zero lt is = cc
+no_field (f ∷ fs) (suc i) lt is = no_field fs i (omega arith) is
+
+-- a field stands at a place of the record
+pub place_within : (fields : List (List ℕ)) (i : ℕ) (field : List ℕ) → Some field ≡ field_at fields i
+    → i < length fields
+unfolding field_at
+place_within [] i field is = cc
+place_within (f ∷ fs) zero field is = omega arith
+place_within (f ∷ fs) (suc i) field is = let below : i < length fs = place_within fs i field is in omega arith

@@ -1,0 +1,24 @@
+-- What the examples give, by the definitions.
+use Rattle.std.proofs.Common.{refl}
+use Rattle.csv.specs.Records.{field_at}
+use Rattle.csv.proofs.OnLiterals.{csv_on_literals}
+use Rattle.csv.specs.Writing.{escaped, fields_text, is_blank}
+use Rattle.frac128.specs.Numerals.{greatest}
+use Rattle.std.specs.Fmt.{digits}
+use Rattle.expr_tree.specs.Faults.{fault_from}
+use Rattle.expr_tree.specs.Lexemes.{lexemes_from, tokens_in}
+use Rattle.expr_tree.specs.Parsed.{parsed}
+use Rattle.expr_tree.specs.Reading.{tree_of}
+use Rattle.column_convert.specs.Examples.{KeptLaw, NumbersLaw, RefusedLaw}
+
+pub numbers : NumbersLaw
+numbers = (refl, refl, refl, refl, refl, refl, refl, refl, refl, refl, refl, refl)
+
+pub kept : KeptLaw
+unfolding csv_on_literals escaped fields_text is_blank field_at
+kept = (refl, refl, refl, refl)
+
+pub refused : RefusedLaw
+unfolding csv_on_literals escaped fields_text is_blank field_at greatest digits fault_from lexemes_from tokens_in parsed
+    tree_of
+refused = (refl, refl, refl)

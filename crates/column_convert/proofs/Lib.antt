@@ -1,0 +1,6 @@
+mod Reading
+mod Changing
+mod Asking
+mod Converting
+mod Examples
+mod Rows

@@ -1,0 +1,36 @@
+use Rattle.std.proofs.Common.{◌≡◌, List, subst, ap}
+use Rattle.std.specs.Prelude.{IfOk}
+use Rattle.deck.specs.Tables.{table as table_of}
+use Rattle.live_table.specs.States.{Event}
+use Rattle.reply.specs.Calls.{AreMade}
+use Rattle.reply.specs.Replies.{conversion_queries}
+use Rattle.reply.specs.declared.reply.Reply.{Reply}
+use Rattle.column_convert.specs.Cells as spec
+use Rattle.column_convert.proofs.Asking.{made, not_yet}
+use Rattle.column_convert.proofs.Converting.{asked_queries, asked_reply}
+use Rattle.column_convert.proofs.cell.number_cell.Goals as goal
+
+pub returns-in_err-asked-clause-queries : goal.returns-in_err-asked-clause-queries
+returns-in_err-asked-clause-queries g c =
+    not_yet _ c.from_residual.result _ c.args.table.now c.args.steps.now c.from_residual.ensures.1 c.kept_right.ensures
+
+pub returns-clause-cell : goal.returns-clause-cell
+returns-clause-cell g c =
+    subst (λ (w : Reply). IfOk c.cell_of.result (λ cell. cell ≡ spec.cell_of w))
+    (asked_reply (table_of c.args.table.now.deck) c.args.options.now c.args.from.now c.args.to.now c.args.number.now
+    (table_of c.deck.result.now) c.cell_options.result c.in_ok-asked.asked c.as_bytes.result.now
+    (ap table_of c.deck.ensures.deck) c.cell_options.ensures.is c.in_ok-asked.ensures c.as_bytes.ensures
+    c.in_ok-reply.reply c.in_ok-reply.ensures.reply)
+    c.cell_of.ensures
+
+pub returns-clause-queries : goal.returns-clause-queries
+returns-clause-queries g c =
+    subst (λ (es : List Event).
+    AreMade es c.cell_of.result c.args.table.now c.convert_reply.new.table c.args.steps.now c.convert_reply.new.steps)
+    (asked_queries (table_of c.args.table.now.deck) c.args.options.now c.args.from.now c.args.to.now c.args.number.now
+    (table_of c.deck.result.now) c.cell_options.result c.in_ok-asked.asked c.as_bytes.result.now
+    (ap table_of c.deck.ensures.deck) c.cell_options.ensures.is c.in_ok-asked.ensures c.as_bytes.ensures)
+    (made c.cell_of.result
+    (conversion_queries (table_of c.args.table.now.deck) c.cell_options.result c.as_bytes.result.now c.args.to.now)
+    c.args.table.now c.convert_reply.new.table c.args.steps.now c.convert_reply.new.steps c.convert_reply.ensures.deck
+    c.in_ok-reply.ensures.queries)

@@ -1,0 +1,61 @@
+-- The rows of a few inputs over a small table, found by hand.
+use Rattle.std.specs.Prelude.{◌≡◌, ℕ, true, false, List, [], ◌∷◌, codes}
+use Rattle.reply.specs.Examples.{default, small}
+use Rattle.column_convert.specs.declared.row.ColumnRow.{ColumnRow}
+use Rattle.column_convert.specs.Cells.{asked_text, first_line, is_number}
+use Rattle.column_convert.specs.Inputs.{Input, input_of}
+use Rattle.column_convert.specs.Rows.{queries, rows}
+
+abbrev pub kept : List ℕ → ColumnRow
+kept text = record { text = text; refused = false }
+
+abbrev pub refused : List ℕ → ColumnRow
+refused text = record { text = text; refused = true }
+
+-- the first column, which has a header
+abbrev pub headed : List ℕ → Input
+headed text = input_of text 1 true
+
+-- the second column, which has none
+abbrev pub second : List ℕ → Input
+second text = input_of text 2 false
+
+-- law: what is a number, and what is asked for one
+abbrev pub NumbersLaw : Type 0
+NumbersLaw =
+    (is_number (codes "-1.5e3") ≡ true)
+    × (is_number (codes ".5") ≡ true)
+    × (is_number (codes "") ≡ false)
+    × (is_number (codes "-") ≡ false)
+    × (is_number (codes "--1") ≡ false)
+    × (is_number (codes "+1") ≡ false)
+    × (is_number (codes "- 1") ≡ false)
+    × (is_number (codes "1|2") ≡ false)
+    × (is_number (codes "1 m") ≡ false)
+    × (asked_text small (codes "m/s") (codes "-2") ≡ codes "(-2) (m/s)")
+    × (asked_text small (codes "gauge") (codes "-2") ≡ codes "gauge(-2)")
+    × (first_line (codes "conformability error\n1 m\n1 s\n") ≡ codes "conformability error")
+
+-- law: records that stay as they are: no records, a header alone, short records; quotes that are not needed,
+-- carriage returns, empty lines and a byte order mark go
+abbrev pub KeptLaw : Type 0
+KeptLaw =
+    (rows small default (codes "m") (codes "m") (headed []) ≡ [])
+    × (rows small default (codes "m") (codes "m") (headed (codes "\"len\",\"a,b\"\r\n"))
+    ≡ kept (codes "len,\"a,b\"\n") ∷ [])
+    × (rows small default (codes "m") (codes "m") (second (239 ∷ 187 ∷ 191 ∷ codes "a\n\n\"\"\n"))
+    ≡ kept (codes "a\n") ∷ kept (codes "\"\"\n") ∷ [])
+    × (queries small default (codes "m") (codes "m") (second (codes "a\nb,\n")) ≡ [])
+
+-- law: fields that are no number, and replies that are refused; blanks around a field go with it
+abbrev pub RefusedLaw : Type 0
+RefusedLaw =
+    (rows small default (codes "m") (codes "m") (second (codes "a, x \nb,,c\n"))
+    ≡ refused (codes "a,error: not a number\n") ∷ refused (codes "b,error: not a number,c\n") ∷ [])
+    × (rows small default (codes "2 +") (codes "m") (headed (codes "len\n 7 \n"))
+    ≡ kept (codes "len\n") ∷ refused (codes "error: syntax error at 8\n") ∷ [])
+    × (rows small default (codes "nosuch") (codes "m") (second (codes "1,2"))
+    ≡ refused (codes "1,error: unknown unit: nosuch\n") ∷ [])
+
+abbrev pub ExamplesLaw : Type 0
+ExamplesLaw = NumbersLaw × KeptLaw × RefusedLaw

@@ -1,0 +1,29 @@
+-- The records that a reader of a text has yet to give.
+use Rattle.std.specs.Prelude.{◌≡◌, ◌+◌, ℕ, true, List, [], Option, Some, length}
+use Rattle.std.specs.Option.{option_map_or}
+use Rattle.csv.specs.Reading.{Ready, default_config, is_flexible, reader_config, reader_state, reader_trim}
+use Rattle.csv.specs.Reading.{records_from}
+use Rattle.csv.specs.Reading.{source_of}
+use Rattle.csv.specs.declared.parser.State.{State}
+use Rattle.csv.specs.declared.reader.Reader.{Reader}
+use Rattle.csv.specs.declared.reader.Trim.TheVariants as trim
+
+-- the fields of a record
+abbrev pub Fields : Type 0
+Fields = List (List ℕ)
+
+-- all records of a text from a state on
+abbrev pub records_in : State → (text : List ℕ) → List Fields
+records_in state text = records_from default_config (length text + 1) state text
+
+-- the records that a reader has left, where the text that it has left is known
+abbrev pub records_left : {R : Type 0} → (R → Option (List ℕ)) → Reader R → List Fields
+records_left text_of reader = option_map_or (records_in (reader_state reader)) (source_of text_of reader) []
+
+-- a reader with the defaults that gives one record a call, of any length, and whose text is known
+pub record IsPlain {R : Type 0} (text_of : R → Option (List ℕ)) (reader : Reader R) : Type 0 where
+  pub config : reader_config reader ≡ default_config
+  pub trim : reader_trim reader ≡ trim.None
+  pub flexible : is_flexible reader ≡ true
+  pub ready : Ready reader
+  pub known : (text : List ℕ) × (source_of text_of reader ≡ Some text)

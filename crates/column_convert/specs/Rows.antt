@@ -1,0 +1,86 @@
+-- The rows of column input.
+use Rattle.std.specs.Prelude.{◌≡◌, ◌++◌, ℕ, Bool, true, false, List, [], ◌∷◌, slice_set, Option, Some, None}
+use Rattle.csv.specs.Records.{field_at}
+use Rattle.csv.specs.Writing.{default_writer, row_text}
+use Rattle.def_entry.specs.Tables.{Table}
+use Rattle.live_table.specs.States.{Event}
+use Rattle.reply.specs.declared.options.Options.{Options}
+use Rattle.column_convert.specs.declared.cell.Cell.{Cell}
+use Rattle.column_convert.specs.declared.row.ColumnRow.{ColumnRow}
+use Rattle.column_convert.specs.Cells.{cell, cell_queries}
+use Rattle.column_convert.specs.Inputs.{Input, behind}
+use Rattle.column_convert.specs.Records.{Fields}
+
+-- a record that stays as it is
+abbrev pub kept_row : Fields → ColumnRow
+kept_row fields = record { text = row_text default_writer fields; refused = false }
+
+-- a record with this cell at a place
+abbrev pub cell_row : Fields → (place : ℕ) → Cell → ColumnRow
+cell_row fields place cell = record {
+  text = row_text default_writer (slice_set fields place cell.text);
+  refused = cell.refused;
+}
+
+module _ (table : Table) (options : Options) (from to : List ℕ) where
+  -- a record by the field of the column, where it has one
+  abbrev pub row_by : Fields → (place : ℕ) → Option (List ℕ) → ColumnRow
+  row_by fields place (Some field) = cell_row fields place (cell table options from to field)
+  row_by fields place None = kept_row fields
+
+  abbrev pub queries_by : Option (List ℕ) → List Event
+  queries_by (Some field) = cell_queries table options from to field
+  queries_by None = []
+
+  -- a record: a header stays as it is
+  abbrev pub row : (place : ℕ) (headed : Bool) → Fields → ColumnRow
+  row place true fields = kept_row fields
+  row place false fields = row_by fields place (field_at fields place)
+
+  abbrev pub row_queries : (place : ℕ) (headed : Bool) → Fields → List Event
+  row_queries place true fields = []
+  row_queries place false fields = queries_by (field_at fields place)
+
+  -- all rows, of which the first may be a header
+  abbrev pub rows_of : (place : ℕ) (headed : Bool) → List Fields → List ColumnRow
+  rows_of place headed [] = []
+  rows_of place headed (fields ∷ left) = row place headed fields ∷ rows_of place false left
+
+  abbrev pub queries_of : (place : ℕ) (headed : Bool) → List Fields → List Event
+  queries_of place headed [] = []
+  queries_of place headed (fields ∷ left) =
+      row_queries place headed fields ++ queries_of place false left
+
+  abbrev pub rows : Input → List ColumnRow
+  rows i = rows_of i.place i.headed i.left
+
+  abbrev pub queries : Input → List Event
+  queries i = queries_of i.place i.headed i.left
+
+  -- the next row, where one is left
+  abbrev pub next_of : (place : ℕ) (headed : Bool) → List Fields → Option ColumnRow
+  next_of place headed [] = None
+  next_of place headed (fields ∷ left) = Some (row place headed fields)
+
+  abbrev pub next_queries_of : (place : ℕ) (headed : Bool) → List Fields → List Event
+  next_queries_of place headed [] = []
+  next_queries_of place headed (fields ∷ left) = row_queries place headed fields
+
+  abbrev pub next_row : Input → Option ColumnRow
+  next_row i = next_of i.place i.headed i.left
+
+  abbrev pub next_queries : Input → List Event
+  next_queries i = next_queries_of i.place i.headed i.left
+
+-- a row, where there is one, before others
+abbrev pub before_rows : Option ColumnRow → List ColumnRow → List ColumnRow
+before_rows (Some row) rows = row ∷ rows
+before_rows None rows = []
+
+-- law: all rows are the next one and those behind it, and so are the queries
+abbrev pub RowsLaw : Type 0
+RowsLaw = (table : Table) (options : Options) (from to : List ℕ) (i : Input)
+    → (rows table options from to i ≡ before_rows (next_row table options from to i)
+    (rows table options from to (behind i)))
+    × (queries table options from to i ≡ next_queries table options from to i ++ queries table options from to
+    (behind i))
