@@ -1,26 +1,32 @@
 -- The answer to a line, at a point of a talk.
-use Rattle.std.proofs.Common.{◌≡◌, ◌++◌, [], ℕ, List, Bool, true, false, cond, refl, sym, ap, subst, ◌∙◌, arith}
-use Rattle.std.proofs.Common.{append_assoc, Some, None, Ok, Err}
+use Rattle.std.proofs.Common.{◌≡◌, ◌++◌, [], ℕ, List, Bool, Bor, true, false, cond, refl, sym, ap, subst, ◌∙◌, arith}
+use Rattle.std.proofs.Common.{append_assoc, Some, None, Ok, Err, IfOk, OnOk}
 use Rattle.std.specs.Prelude.{Result}
 use Rattle.std.specs.declared.option.Option.{Option}
 use Rattle.units_io.specs.FileMap.{FileMap}
-use Rattle.def_entry.specs.Keys.{key_of}
-use Rattle.def_entry.specs.declared.key.Key.{Key}
+use Rattle.deck.specs.Loading.{after_append}
+use Rattle.deck_save.specs.Saved.{saved_file}
 use Rattle.session.specs.Answering.{IsAnswered, Says}
-use Rattle.session.specs.Answers.{Answer}
-use Rattle.session.specs.Commands.{Command}
+use Rattle.session.specs.Answers.{Answer, editing, files_saved, saved_line, watching}
+use Rattle.session.specs.Commands.{Command, is_save}
 use Rattle.session.specs.Commands as command
+use Rattle.session.specs.Editing.{notice_lines}
+use Rattle.session.specs.EditResults.{EditResult, Made, Refused, edit_result, edited_by}
 use Rattle.session.specs.Hearing.{is_last, is_last_read, readable}
-use Rattle.session.specs.Parts.{IsSaid}
-use Rattle.session.specs.Sessions.{Known, State, prompt, state_of}
+use Rattle.session.specs.Parts.{IsLine, IsSaid}
+use Rattle.session.specs.Seen.{seen_command}
+use Rattle.session.specs.Sessions.{Known, State, dated_in, prompt, state_of}
 use Rattle.session.specs.Standing.{Base, IsAt, Begins, IsBefore}
-use Rattle.session.specs.Steps.{answer, answer_read, answer_to, blank_answer, conformable_answer, drop_answer}
-use Rattle.session.specs.Steps.{expression_answer}
+use Rattle.session.specs.Steps.{answer, answer_read, answer_to, blank_answer, conformable_answer, expression_answer}
 use Rattle.session.specs.Talks.{Talk, with_answer, spoken}
 use Rattle.session.specs.Telling.{TellsIf, when_told}
+use Rattle.session.specs.Watching.{is_full}
 use Rattle.session.specs.declared.answer.LineReply.{LineReply}
+use Rattle.session.specs.declared.command.Command.{Command as Declared}
+use Rattle.session.specs.declared.command.Command.TheVariants as read
 use Rattle.session.specs.declared.fault.SessionFault.{SessionFault}
 use Rattle.session.specs.declared.said.Said.{Said}
+use Rattle.watch.specs.Watched.{subject}
 
 -- files that serve are as they were when nothing changes them
 tells_stay : (needed : Bool) (files : Option FileMap) (m : FileMap) → TellsIf needed files m → files ≡ when_told files m
@@ -42,53 +48,108 @@ tells_told needed files m e = subst (λ f. TellsIf needed f m) (sym e) refl
 pub told_stay : (files : Option FileMap) (m : FileMap) → files ≡ Some m → files ≡ when_told files m
 told_stay files m e = e ∙ sym (ap (λ f. when_told f m) e)
 
--- no answer changes the files
-pub keeps_files : (session : Known) (m : FileMap) (c : Command) → (answer_to (state_of session m) c).after.files ≡ m
+-- no answer but a save changes the files
+pub keeps_files : (session : Known) (m : FileMap) (c : Command) → is_save c ≡ false
+    → (answer_to (state_of session m) c).after.files ≡ m
 unfolding answer_to
-keeps_files session m command.Blank = blank session.pending
+keeps_files session m command.Blank unsaved = blank session.pending
   where
     blank : (p : Option (List ℕ)) → (blank_answer p (state_of session m)).after.files ≡ m
     blank None = refl
     blank (Some from) = refl
-keeps_files session m command.Quit = refl
-keeps_files session m command.Conformable = listed session.pending
+keeps_files session m command.Quit unsaved = refl
+keeps_files session m command.Conformable unsaved = listed session.pending
   where
     listed : (p : Option (List ℕ)) → (conformable_answer p (state_of session m)).after.files ≡ m
     listed None = refl
     listed (Some from) = refl
-keeps_files session m (command.Search text) = refl
-keeps_files session m (command.Define line) = refl
-keeps_files session m (command.DropLast text) = dropped (key_of text)
+keeps_files session m (command.Search text) unsaved = refl
+keeps_files session m (command.Edit edit) unsaved = edited (edited_by edit (dated_in session)) []
   where
-    dropped : (k : Option Key) → (drop_answer k text (state_of session m)).after.files ≡ m
-    dropped None = refl
-    dropped (Some key) = refl
-keeps_files session m (command.Set name value) = refl
-keeps_files session m (command.Locale locale) = refl
-keeps_files session m (command.Load name) = refl
-keeps_files session m command.Stats = refl
-keeps_files session m (command.Unknown word) = refl
-keeps_files session m (command.Bad word) = refl
-keeps_files session m (command.Expression text) = expression session.pending
+    edited : (r : EditResult) (notices : List ℕ) → (editing r notices (state_of session m)).after.files ≡ m
+    edited (Refused line) notices = refl
+    edited (Made deck versions) notices = refl
+keeps_files session m (command.Load name) unsaved =
+    loaded (edit_result (after_append m name session.table.deck) name (dated_in session))
+  where
+    loaded : (r : EditResult) → (editing r (notice_lines (after_append m name session.table.deck))
+        (state_of session m)).after.files ≡ m
+    loaded (Refused line) = refl
+    loaded (Made deck versions) = refl
+keeps_files session m (command.Save name) unsaved = cc
+keeps_files session m (command.Watch from to) unsaved = watched (is_full session.watched)
+  where
+    watched : (full : Bool) → (watching full (subject from to) (state_of session m)).after.files ≡ m
+    watched true = refl
+    watched false = refl
+keeps_files session m command.Unwatch unsaved = refl
+keeps_files session m command.Stats unsaved = refl
+keeps_files session m (command.Unknown word) unsaved = refl
+keeps_files session m (command.Bad word) unsaved = refl
+keeps_files session m (command.Expression text) unsaved = expression session.pending
   where
     expression : (p : Option (List ℕ)) → (expression_answer p text (state_of session m)).after.files ≡ m
     expression None = refl
     expression (Some from) = refl
 
+-- a command of another kind is no save
+pub no_save : (c : Declared) → ((name : Bor (List ℕ)) → c ≡ read.Save name → ⊥) → is_save (seen_command c) ≡ false
+no_save read.Blank other = refl
+no_save read.Quit other = refl
+no_save read.Conformable other = refl
+no_save (read.Search text) other = refl
+no_save (read.Edit edit) other = refl
+no_save (read.Load name) other = refl
+no_save (read.Save name) other = absurd (other name refl)
+no_save (read.Watch from to) other = refl
+no_save read.Unwatch other = refl
+no_save read.Stats other = refl
+no_save (read.Unknown word) other = refl
+no_save (read.Bad word) other = refl
+no_save (read.Expression text) other = refl
+
 -- an answer that leaves the files, as a whole one
 pub said_answered : (result : Result LineReply SessionFault) (session new : Known) (m : FileMap) (c : Command)
     (needed : Bool) (files after : Option FileMap) (old steps : ℕ) → TellsIf needed files m → after ≡ files
-    → IsSaid (answer_to (state_of session m) c) result new old steps
+    → is_save c ≡ false → IsSaid (answer_to (state_of session m) c) result new old steps
     → IsAnswered (answer_to (state_of session m) c) result (record { session = session; files = files; steps = old })
     (record { session = new; files = after; steps = steps })
-said_answered (Err fault) session new m c needed files after old steps h e s = tt
-said_answered (Ok reply) session new m c needed files after old steps h e s = record {
+said_answered (Err fault) session new m c needed files after old steps h e unsaved s = tt
+said_answered (Ok reply) session new m c needed files after old steps h e unsaved s = record {
   out = s.out;
   err = s.err;
   session = s.session;
-  files = e ∙ tells_stay needed files m h ∙ ap (when_told files) (sym (keeps_files session m c));
+  files = e ∙ tells_stay needed files m h ∙ ap (when_told files) (sym (keeps_files session m c unsaved));
   steps = s.steps;
 }
+
+-- a save, which gives a file the text of the deck or says that it would be too long
+pub save_answered : (result : Result LineReply SessionFault) (session : Known) (m : FileMap) (name : List ℕ)
+    (needed : Bool) (files after : Option FileMap) (steps : ℕ) → TellsIf needed files m
+    → IfOk result (λ reply. IsLine reply (saved_line (saved_file session.table.deck) name) [] false)
+    → OnOk result ((told : FileMap) → files ≡ Some told
+    → after ≡ Some (files_saved (saved_file session.table.deck) name told))
+    → (files ≡ None → after ≡ None)
+    → IsAnswered (answer_to (state_of session m) (command.Save name)) result
+    (record { session = session; files = files; steps = steps })
+    (record { session = session; files = after; steps = steps })
+unfolding answer_to
+save_answered (Err fault) session m name needed files after steps h line saved untold = tt
+save_answered (Ok reply) session m name needed files after steps h line saved untold = record {
+  out = line.out;
+  err = line.err;
+  session = refl;
+  files = by files refl;
+  steps = omega arith;
+}
+  where
+    by : (o : Option FileMap) → files ≡ o
+        → after ≡ when_told files (files_saved (saved_file session.table.deck) name m)
+    by None e = untold e ∙ sym (ap (λ f. when_told f (files_saved (saved_file session.table.deck) name m)) e)
+    by (Some told) e =
+        let same : told ≡ m = subst (λ f. TellsIf needed f m) e h in
+        saved told e ∙ ap (λ (f : FileMap). Some (files_saved (saved_file session.table.deck) name f)) same
+        ∙ sym (ap (λ f. when_told f (files_saved (saved_file session.table.deck) name m)) e)
 
 module _ (base : Base) (talk : Talk) (part : List ℕ) (said : Said) (session : Known) (files : Option FileMap)
     (steps : ℕ) (at : IsAt base talk (record { said = said; session = session; files = files; steps = steps })) where
@@ -98,7 +159,7 @@ module _ (base : Base) (talk : Talk) (part : List ℕ) (said : Said) (session : 
   state_of_talk : state_of session talk.state.files ≡ talk.state
   state_of_talk = ap (λ s. state_of s talk.state.files) at.session
 
-  module _ (line : Option (List ℕ)) (read : line ≡ readable part) (reply : LineReply) (session_now : Known)
+  module _ (line : Option (List ℕ)) (heard : line ≡ readable part) (reply : LineReply) (session_now : Known)
       (files_now : Option FileMap) (steps_now : ℕ) (last : reply.done ≡ is_last_read line)
       (says : Says (answer_read (state_of session talk.state.files) line) reply
       (record { session = session; files = files; steps = steps })
@@ -110,10 +171,10 @@ module _ (base : Base) (talk : Talk) (part : List ℕ) (said : Said) (session : 
         (record { session = session_now; files = files_now; steps = steps_now })) state_of_talk
         (subst (λ l. Says (answer_read (state_of session talk.state.files) l) reply
         (record { session = session; files = files; steps = steps })
-        (record { session = session_now; files = files_now; steps = steps_now })) read says)
+        (record { session = session_now; files = files_now; steps = steps_now })) heard says)
 
     pub done : reply.done ≡ is_last part
-    done = last ∙ ap is_last_read read
+    done = last ∙ ap is_last_read heard
 
     abbrev text : List ℕ
     text = reply.out ++ cond reply.done [] (prompt session_now)

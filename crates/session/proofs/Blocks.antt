@@ -61,9 +61,16 @@ front_behind o mid out xs ys e f = (
 pub rose_since : (a b c : ℕ) → a ≤ b → Rose b c → Rose a c
 rose_since a b c h r = omega (arith, h, r)
 
-pub either_rose : (a b c x y z : ℕ) → a ≤ b → x ≤ y → Rose b c ⊎ Rose y z → Rose a c ⊎ Rose x z
-either_rose a b c x y z h k (inl r) = inl (rose_since a b c h r)
-either_rose a b c x y z h k (inr r) = inr (rose_since x y z k r)
+-- so did one of three, of which the last is counted from the same time
+pub any_rose : (a b c x y z p q : ℕ) → a ≤ b → x ≤ y → Rose b c ⊎ Rose y z ⊎ Rose p q → Rose a c ⊎ Rose x z ⊎ Rose p q
+any_rose a b c x y z p q h k (inl r) = inl (rose_since a b c h r)
+any_rose a b c x y z p q h k (inr (inl r)) = inr (inl (rose_since x y z k r))
+any_rose a b c x y z p q h k (inr (inr r)) = inr (inr r)
+
+-- one of two is one of three
+pub of_two : {A B C : Type 0} → A ⊎ B → A ⊎ B ⊎ C
+of_two (inl a) = inl a
+of_two (inr b) = inr (inl b)
 
 pub none_left : (left : Option (List ℕ)) (rest : List ℕ) → left ≡ Some rest → IsNoneLeft left → rest ≡ []
 none_left left rest e h = rw e at h

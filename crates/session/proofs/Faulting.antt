@@ -3,11 +3,12 @@ use Rattle.std.proofs.Common.{◌≡◌, ℕ, refl, Ok, Err}
 use Rattle.std.specs.Prelude.{Result}
 use Rattle.session.specs.Answering.{faults_after}
 use Rattle.session.specs.declared.fault.SessionFault.{SessionFault}
-use Rattle.session.specs.declared.fault.SessionFault.TheVariants.{OutOfMemory, ReadFailed}
+use Rattle.session.specs.declared.fault.SessionFault.TheVariants.{OutOfMemory, ReadFailed, WriteFailed}
 
 -- no file was asked for
 pub unread : {A : Type 0} (n : ℕ) (result : Result A SessionFault) → (result ≡ Err ReadFailed → ⊥)
     → n ≡ faults_after n result
 unread n (Ok x) h = refl
 unread n (Err ReadFailed) h = absurd (h refl)
+unread n (Err WriteFailed) h = refl
 unread n (Err OutOfMemory) h = refl

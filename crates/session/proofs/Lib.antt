@@ -15,3 +15,5 @@ pub mod TalkedThrough
 pub mod LogicalSizes
 pub mod DeckSizes
 pub mod TrialSizes
+pub mod Told
+pub mod Watches

@@ -1,11 +1,11 @@
 -- What the answer to a line leaves.
-use Rattle.std.specs.Prelude.{◌≡◌, ◌+◌, ℕ, Result, Ok, Err, ⊤}
+use Rattle.std.specs.Prelude.{◌≡◌, ◌+◌, ℕ, Result, Ok, Err, IsErrOf, ⊤}
 use Rattle.std.specs.declared.option.Option.{Option}
 use Rattle.units_io.specs.Faults.{next}
 use Rattle.units_io.specs.FileMap.{FileMap}
 use Rattle.session.specs.declared.answer.LineReply.{LineReply}
 use Rattle.session.specs.declared.fault.SessionFault.{SessionFault}
-use Rattle.session.specs.declared.fault.SessionFault.TheVariants.{ReadFailed}
+use Rattle.session.specs.declared.fault.SessionFault.TheVariants.{ReadFailed, WriteFailed}
 use Rattle.session.specs.Answers.{Answer}
 use Rattle.session.specs.Sessions.{Known}
 use Rattle.session.specs.Telling.{when_told}
@@ -36,3 +36,7 @@ IsAnswered answer (Err _) before after = ⊤
 abbrev pub faults_after : {A : Type 0} → (faults : ℕ) → Result A SessionFault → ℕ
 faults_after faults (Err ReadFailed) = next faults
 faults_after faults _ = faults
+
+-- no file fault
+abbrev pub IsCalm : {A : Type 0} → Result A SessionFault → Type 0
+IsCalm result = (IsErrOf result ReadFailed → ⊥) × (IsErrOf result WriteFailed → ⊥)

@@ -1,12 +1,19 @@
 -- What a line is answered with, and the state behind it.
-use Rattle.std.specs.Prelude.{[], ℕ, List, Option, Result}
-use Rattle.deck.specs.Decks.{Contents}
-use Rattle.deck.specs.declared.fault.DeckFault.{DeckFault}
+use Rattle.std.specs.Prelude.{◌+◌, ◌++◌, ◌∷◌, [], ℕ, List, Bool, true, false, Option, Result, Ok, Err, codes, length}
+use Rattle.units_io.specs.FileMap.{FileMap, with_file}
+use Rattle.deck.specs.Tables.{table as table_in}
+use Rattle.deck_save.specs.declared.fault.SaveFault.{SaveFault}
 use Rattle.live_table.specs.Shown.{Shown}
 use Rattle.session.specs.Asking.{Asked}
-use Rattle.session.specs.Editing.{notice_lines, refusal_line, table_after}
-use Rattle.session.specs.Queries.{asked_table, newly}
+use Rattle.session.specs.EditResults.{EditResult, Made, Refused}
+use Rattle.session.specs.Lines.{word_line}
+use Rattle.session.specs.Queries.{after_events, asked_table, newly}
 use Rattle.session.specs.Sessions.{State, known}
+use Rattle.session.specs.Versions.{Versions}
+use Rattle.session.specs.Watching.{edit_events}
+use Rattle.watch.specs.Changes.{notice}
+use Rattle.watch.specs.Edits.{told_by_edit}
+use Rattle.watch.specs.Watched.{Subject, queries_of, reply_to}
 
 -- the bytes on each sink, how many names are newly settled, and the state behind the line
 pub record Answer : Type 0 where
@@ -22,7 +29,20 @@ saying text state = record { out = text; err = []; newly = 0; after = state }
 -- a state with this table and this pending FROM
 abbrev pub with_table : Shown → (pending : Option (List ℕ)) → State → State
 with_table table pending state =
-    record { session = known state.session.options table pending; files = state.files }
+    let session = state.session in
+    record { session = known session.options table pending session.versions session.watched; files = state.files }
+
+-- a state whose deck was edited: this table, and these versions before it and behind it
+abbrev pub with_edit : Shown → Versions → State → State
+with_edit table versions state =
+    let session = state.session in
+    record { session = known session.options table session.pending versions session.watched; files = state.files }
+
+-- a state in which these conversions are watched
+abbrev pub with_watched : Shown → List Subject → State → State
+with_watched table watched state =
+    let session = state.session in
+    record { session = known session.options table session.pending session.versions watched; files = state.files }
 
 -- what is asked, with this FROM pending behind it
 abbrev pub replying : Asked → (pending : Option (List ℕ)) → State → Answer
@@ -33,20 +53,51 @@ replying asked pending state = record {
   after = with_table (asked_table asked.events state.session.table) pending state;
 }
 
--- an edit of this outcome, which is made, or refused by a line on `out`
-abbrev pub editing : Result Contents DeckFault → (named : List ℕ) → State → Answer
-editing outcome named state = record {
-  out = refusal_line outcome named;
+-- an edit that came to this, with the notices of a file that was loaded: of what is watched, all is asked for again, and
+-- what has changed is told
+abbrev pub editing : EditResult → (notices : List ℕ) → State → Answer
+editing (Refused line) notices state = saying line state
+editing (Made deck versions) notices state =
+    let session = state.session in
+    let events = edit_events deck session.options session.watched in
+    record {
+      out = told_by_edit (table_in session.table.deck) (table_in deck) session.options session.watched;
+      err = notices;
+      newly = newly events session.table;
+      after = with_edit (after_events events deck session.table) versions state;
+    }
+
+-- a conversion is watched from now on, and its reply is told; or a line says that there are as many as there may be
+abbrev pub watching : (full : Bool) → Subject → State → Answer
+watching true s state = saying (codes "too many watches\n") state
+watching false s state =
+    let session = state.session in
+    let table = table_in session.table.deck in
+    let events = queries_of table session.options s in
+    record {
+      out = notice (length session.watched + 1) (reply_to table session.options s);
+      err = [];
+      newly = newly events session.table;
+      after = with_watched (asked_table events session.table) (session.watched ++ s ∷ []) state;
+    }
+
+-- nothing is watched any more
+abbrev pub unwatching : State → Answer
+unwatching state = record { out = []; err = []; newly = 0; after = with_watched state.session.table [] state }
+
+-- a file of this name with the text of the deck, or a line that it would be too long
+abbrev pub saved_line : Result (List ℕ) SaveFault → (name : List ℕ) → List ℕ
+saved_line (Ok text) name = []
+saved_line (Err fault) name = word_line (codes "file too long: ") name
+
+abbrev pub files_saved : Result (List ℕ) SaveFault → (name : List ℕ) → FileMap → FileMap
+files_saved (Ok text) name files = with_file files name text
+files_saved (Err fault) name files = files
+
+abbrev pub saving : Result (List ℕ) SaveFault → (name : List ℕ) → State → Answer
+saving outcome name state = record {
+  out = saved_line outcome name;
   err = [];
   newly = 0;
-  after = with_table (table_after outcome state.session.table) state.session.pending state;
-}
-
--- the same of what a file adds, with its notices on `err`
-abbrev pub loading : Result Contents DeckFault → (named : List ℕ) → State → Answer
-loading outcome named state = record {
-  out = refusal_line outcome named;
-  err = notice_lines outcome;
-  newly = 0;
-  after = with_table (table_after outcome state.session.table) state.session.pending state;
+  after = record { session = state.session; files = files_saved outcome name state.files };
 }

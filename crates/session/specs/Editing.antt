@@ -1,5 +1,5 @@
 -- Edits of the deck of a session.
-use Rattle.std.specs.Prelude.{◌++◌, [], ℕ, List, Bool, true, false, Result, Ok, Err, codes}
+use Rattle.std.specs.Prelude.{◌++◌, [], ℕ, List, Bool, true, false, Option, Some, None, Result, Ok, Err, codes}
 use Rattle.units_io.specs.Named.{with_value}
 use Rattle.def_entry.specs.Faults.{entry_fault_text, is_told}
 use Rattle.deck.specs.Decks.{Contents}
@@ -7,9 +7,10 @@ use Rattle.deck.specs.declared.fault.DeckFault.{DeckFault}
 use Rattle.deck.specs.declared.fault.DeckFault.TheVariants.{BadLine, NoSuchKey, DeckFull, Absent, TooLong, ReadFailed}
 use Rattle.deck.specs.declared.fault.DeckFault.TheVariants.{OutOfMemory}
 use Rattle.deck.specs.declared.settings.Settings.{Settings}
-use Rattle.live_table.specs.Shown.{Shown}
-use Rattle.session.specs.Lines.{line_of, lines_of_texts}
-use Rattle.session.specs.Queries.{edited_table}
+use Rattle.edit_history.specs.Versions.{Version}
+use Rattle.edit_history.specs.declared.fault.HistoryFault.{HistoryFault}
+use Rattle.edit_history.specs.declared.fault.HistoryFault.TheVariants as history
+use Rattle.session.specs.Lines.{lines_of_texts}
 
 -- why an edit is refused, in words; where it is an edit of a key or a file, `named` is how that was written
 abbrev pub refusal : DeckFault → (named : List ℕ) → List ℕ
@@ -32,15 +33,15 @@ abbrev pub is_told_refusal : DeckFault → Bool
 is_told_refusal (BadLine fault) = is_told fault
 is_told_refusal _ = true
 
--- the line that refuses an edit, and nothing where it is accepted
-abbrev pub refusal_line : Result Contents DeckFault → (named : List ℕ) → List ℕ
-refusal_line (Ok deck) named = []
-refusal_line (Err fault) named = line_of (refusal fault named)
+-- the deck of a version, with the notices that stand: those of the last load
+abbrev pub deck_with : Version → Contents → Contents
+deck_with v deck = record { lines = v.lines; settings = v.settings; notices = deck.notices }
 
--- the table behind an edit; one that is refused changes nothing
-abbrev pub table_after : Result Contents DeckFault → Shown → Shown
-table_after (Ok deck) table = edited_table deck table
-table_after (Err fault) table = table
+-- why nothing was undone or redone, in words, unless memory is wanting
+abbrev pub nothing : HistoryFault → Option (List ℕ)
+nothing history.NothingToUndo = Some (codes "nothing to undo")
+nothing history.NothingToRedo = Some (codes "nothing to redo")
+nothing history.OutOfMemory = None
 
 -- the notices of what was loaded
 abbrev pub notice_lines : Result Contents DeckFault → List ℕ

@@ -2,11 +2,14 @@ pub mod Input
 pub mod Commands
 pub mod Seen
 pub mod Hearing
+pub mod Versions
 pub mod Sessions
 pub mod Lines
 pub mod Queries
 pub mod Asking
 pub mod Editing
+pub mod EditResults
+pub mod Watching
 pub mod Counting
 pub mod Answers
 pub mod Steps

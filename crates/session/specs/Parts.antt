@@ -1,14 +1,16 @@
 -- What private functions say of the answer to a line.
 use Rattle.std.specs.Prelude.{◌++◌, ◌≡◌, ◌+◌, [], ℕ, List, Bool, Result, Ok, Err, ⊤, if◌then◌else◌}
-use Rattle.deck.specs.Decks.{Contents}
-use Rattle.deck.specs.declared.fault.DeckFault.{DeckFault}
+use Rattle.live_table.specs.Calls.{IsEdit}
 use Rattle.live_table.specs.Shown.{Shown}
 use Rattle.live_table.specs.States.{Event}
 use Rattle.session.specs.declared.answer.LineReply.{LineReply}
+use Rattle.session.specs.declared.editing.EditResult.{EditResult as Declared}
+use Rattle.session.specs.declared.editing.EditResult.TheVariants as answer
 use Rattle.session.specs.Answers.{Answer}
-use Rattle.session.specs.Editing.{refusal_line, table_after}
+use Rattle.session.specs.EditResults.{EditResult, Made, Refused}
 use Rattle.session.specs.Queries.{asked_table, newly}
 use Rattle.session.specs.Sessions.{Known, prompt}
+use Rattle.session.specs.Versions.{Dated}
 
 -- what was asked is answered so, and leaves the table and the count of steps that its queries leave
 pub record Replies {A : Type 0} (events : List Event) (answer reply : A) (old new : Shown) (steps_old steps_new : ℕ)
@@ -23,15 +25,16 @@ IsReplied events answer (Ok reply) old new steps_old steps_new =
     Replies events answer reply old new steps_old steps_new
 IsReplied events answer (Err _) old new steps_old steps_new = ⊤
 
--- an edit of this outcome is made, or this line refuses it
-pub record Edits (outcome : Result Contents DeckFault) (named text : List ℕ) (old new : Shown) : Type 0 where
-  pub line : text ≡ refusal_line outcome named
-  pub table : new ≡ table_after outcome old
+-- an edit came to this: it is made
+pub record Makes (r : EditResult) (old new : Dated) : Type 0 where
+  pub is : r ≡ Made new.table.deck new.versions
+  pub edit : IsEdit old.table new.table
 
-abbrev pub IsEdited : {E : Type 0} → Result Contents DeckFault → (named : List ℕ) → Result (List ℕ) E
-    → (old new : Shown) → Type 0
-IsEdited outcome named (Ok line) old new = Edits outcome named line old new
-IsEdited outcome named (Err _) old new = ⊤
+-- or a line refuses it, and nothing changes; as with a fault
+abbrev pub IsEdited : {E : Type 0} → EditResult → Result Declared E → (old new : Dated) → Type 0
+IsEdited r (Ok answer.Made) old new = Makes r old new
+IsEdited r (Ok (answer.Refused line)) old new = (r ≡ Refused line) × (new ≡ old)
+IsEdited r (Err _) old new = new ≡ old
 
 -- these bytes on the sinks, and whether the session ends
 pub record IsLine (reply : LineReply) (text notices : List ℕ) (last : Bool) : Type 0 where

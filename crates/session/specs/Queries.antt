@@ -1,9 +1,8 @@
 -- What queries and edits leave of a live table.
-use Rattle.std.specs.Prelude.{◌≡◌, ◌+◌, ℕ, List, [], ◌∷◌}
+use Rattle.std.specs.Prelude.{◌≡◌, ◌+◌, ℕ, List}
 use Rattle.deck.specs.Decks.{Contents}
-use Rattle.deck.specs.Tables.{table as table_in}
 use Rattle.live_table.specs.Shown.{Follows, Shown, state}
-use Rattle.live_table.specs.States.{Becomes, Event, State, after_all}
+use Rattle.live_table.specs.States.{Event, State, after_all}
 
 -- a state as it is seen, with its deck
 abbrev pub shown_with : Contents → State → Shown
@@ -16,10 +15,6 @@ after_events events deck table = shown_with deck (after_all events (state table 
 -- queries leave the deck
 abbrev pub asked_table : List Event → Shown → Shown
 asked_table events table = after_events events table.deck table
-
--- an edit gives this deck
-abbrev pub edited_table : Contents → Shown → Shown
-edited_table deck table = after_events (Becomes (table_in deck) ∷ []) deck table
 
 -- how many names queries newly settle
 unfoldable pub newly : List Event → Shown → ℕ

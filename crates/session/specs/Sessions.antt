@@ -2,22 +2,50 @@
 use Rattle.std.specs.Prelude.{[], ℕ, List, Option, Some, None, refl, if◌then◌else◌, codes}
 use Rattle.std.specs.Coded.{Coded, code_by, coded×, coded_list, coded_option, coded_ℕ}
 use Rattle.units_io.specs.FileMap.{FileMap}
+use Rattle.deck.specs.contracts.settings.Settings as settings
+use Rattle.deck_lines.specs.contracts.line.DeckLine as line
+use Rattle.edit_history.specs.Versions.{Version}
 use Rattle.live_table.specs.Shown.{Shown}
 use Rattle.live_table.specs.contracts.live_table.LiveTable as live_table
 use Rattle.reply.specs.contracts.options.Options as options
 use Rattle.reply.specs.declared.options.Options.{Options}
+use Rattle.session.specs.Versions.{Dated, Versions}
+use Rattle.watch.specs.Watched.{Subject}
 
--- what contracts see of a session: how replies are written, the live table, and the text of FROM where one is pending
+-- what contracts see of a session: how replies are written, the live table, the text of FROM where one is pending, the
+-- versions of the deck that an undo and a redo give back, and the conversions that are watched
 pub record Known : Type 0 where
   pub options : Options
   pub table : Shown
   pub pending : Option (List ℕ)
+  pub versions : Versions
+  pub watched : List Subject
 
 -- it is stored as its parts
+abbrev pub version_code : Coded Version
+version_code =
+    code_by _ (coded× (coded_list line.the_row.coded) settings.the_row.coded) (λ v. (v.lines, v.settings))
+    (λ p. record { lines = p.0; settings = p.1 }) (λ _. refl)
+
+abbrev pub versions_code : Coded Versions
+versions_code =
+    code_by _ (coded× (coded_list version_code) (coded_list version_code)) (λ v. (v.past, v.future))
+    (λ p. record { past = p.0; future = p.1 }) (λ _. refl)
+
+abbrev pub subject_code : Coded Subject
+subject_code =
+    code_by _ (coded× (coded_list coded_ℕ) (coded_list coded_ℕ)) (λ s. (s.from, s.to))
+    (λ p. record { from = p.0; to = p.1 }) (λ _. refl)
+
 abbrev pub known_code : Coded Known
 known_code =
-    code_by _ (coded× options.the_row.coded (coded× live_table.the_row.coded (coded_option (coded_list coded_ℕ))))
-    (λ k. (k.options, (k.table, k.pending))) (λ p. record { options = p.0; table = p.1.0; pending = p.1.1 }) (λ _. refl)
+    code_by _
+    (coded× options.the_row.coded
+    (coded× live_table.the_row.coded
+    (coded× (coded_option (coded_list coded_ℕ)) (coded× versions_code (coded_list subject_code)))))
+    (λ k. (k.options, (k.table, (k.pending, (k.versions, k.watched)))))
+    (λ p. record { options = p.0; table = p.1.0; pending = p.1.1.0; versions = p.1.1.1.0; watched = p.1.1.1.1 })
+    (λ _. refl)
 
 -- a session and the files that it sees
 pub record State : Type 0 where
@@ -25,8 +53,17 @@ pub record State : Type 0 where
   pub files : FileMap
 
 -- of these parts
-abbrev pub known : Options → Shown → (pending : Option (List ℕ)) → Known
-known options table pending = record { options = options; table = table; pending = pending }
+abbrev pub known : Options → Shown → (pending : Option (List ℕ)) → Versions → (watched : List Subject) → Known
+known options table pending versions watched =
+    record { options = options; table = table; pending = pending; versions = versions; watched = watched }
+
+-- the same of a live table with the versions of its deck
+abbrev pub known_dated : Options → Dated → (pending : Option (List ℕ)) → (watched : List Subject) → Known
+known_dated options d pending watched = known options d.table pending d.versions watched
+
+-- the live table of a session with the versions of its deck
+abbrev pub dated_in : Known → Dated
+dated_in session = record { table = session.table; versions = session.versions }
 
 abbrev pub state_of : Known → FileMap → State
 state_of session files = record { session = session; files = files }

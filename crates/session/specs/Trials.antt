@@ -11,6 +11,7 @@ use Rattle.session.specs.Sessions.{Known, known, state_of}
 use Rattle.session.specs.Talks.{Talk, talk_on}
 use Rattle.session.specs.TextDecks.{text_deck}
 use Rattle.session.specs.TrialLines.{definitions, rounds}
+use Rattle.session.specs.Versions.{no_versions}
 
 -- a session that sees no file and has said nothing
 abbrev pub silent : Known → Talk
@@ -20,6 +21,7 @@ silent session = record { out = []; err = []; steps = 0; state = state_of sessio
 abbrev pub quiet_session : Options → Contents → Known
 quiet_session options deck =
     known (record options { quiet = true }) (record { deck = deck; kept = map_of.empty; reductions = 0 }) None
+    no_versions []
 
 -- what is told of a trial, and how many names it settled
 pub record Trial : Type 0 where

@@ -1,35 +1,42 @@
 //! The answer to a line of a session.
 
-ghost use Rattle.std.specs.Prelude.{◌≡◌, ◌≤◌, ℕ, List, length, Some, IfOk, IsErrOf, [], false};
-ghost use Rattle.std.specs.declared.option.Option.{Option};
-ghost use Rattle.units_io.specs.FileMap.{FileMap};
+ghost use Rattle.std.specs.Prelude.{◌≡◌, ◌≤◌, ℕ, List, length, map, None, Some, IfOk, IsErrOf, OnOk, [], false};
+ghost use Rattle.units_io.specs.FileMap.{FileMap, longest_file, with_file};
 ghost use Rattle.units_io.specs.Faults.{Rose};
-ghost use Rattle.def_entry.specs.Keys.{key_of};
+ghost use Rattle.deck.specs.Tables.{table as table_in};
+ghost use Rattle.deck_save.specs.Saved.{saved_file};
+ghost use Rattle.edit_history.specs.Histories.{Follows};
 ghost use Rattle.reply.specs.Options.{IsPrintable};
-ghost use Rattle.reply.specs.declared.options.Options.{Options};
-ghost use Rattle.session.specs.Answering.{IsAnswered, faults_after, scene_of};
+ghost use Rattle.session.specs.Answering.{IsAnswered, IsCalm, faults_after, scene_of};
+ghost use Rattle.session.specs.Answers.{files_saved, saved_line};
 ghost use Rattle.session.specs.Commands as commands;
 ghost use Rattle.session.specs.Hearing.{longest_line};
 ghost use Rattle.session.specs.Parts.{IsLine, IsSaid};
 ghost use Rattle.session.specs.Seen.{seen_command};
-ghost use Rattle.session.specs.Sessions.{known, state_of};
+ghost use Rattle.session.specs.Sessions.{known, known_dated, state_of};
 ghost use Rattle.session.specs.Steps as spec;
 ghost use Rattle.session.specs.Telling.{TellsIf};
+ghost use Rattle.session.specs.Versions.{Versions, dated};
+ghost use Rattle.watch.specs.Watched.{AreCurrent, Subject, subject_of};
 
 use crate::asking::{converted, defined, listed, valued};
 use crate::command::{Command, read_command};
 use crate::counting::statistics;
-use crate::editing::{define, drop_last, refusal_line, set_locale, set_variable};
 use crate::fault::SessionFault;
-use crate::lines::{line_of, no_text, notice_lines, word_line};
+use crate::lines::{line_of, no_text, word_line};
+use crate::revising::{edit, load};
 use crate::session::Session;
-use def_entry::{KeyFault, read_key};
+use crate::watching::watch;
+use deck::Deck;
+use deck_save::{SaveFault, save_text};
+use edit_history::History;
 use live_table::LiveTable;
 use reply::{FromValue, Options};
 use std::alloc::Global;
 use std::sync::ledger::Ledger;
 use survey::search_report;
-use units_io::{Files, Steps, Text};
+use units_io::{Files, Steps, StoreFault, Text};
+use watch::Watches;
 
 /// What a line is answered with, and whether it ends the session.
 #[derive(Drop)]
@@ -42,8 +49,8 @@ pub struct LineReply {
     pub done: bool,
 }
 
-// A text on `out`, and nothing on `err`.
-fn saying(alloc: Global, out: Text) -> LineReply
+/// A text on `out`, and nothing on `err`.
+pub(crate) fn saying(alloc: Global, out: Text) -> LineReply
     ensures { IsLine result out [] false }
 {
     LineReply {
@@ -63,11 +70,12 @@ fn take_from<L: Ledger>(
     steps: &mut Steps<L>,
 ) -> Result<LineReply, SessionFault>
     requires { IsPrintable options.now }
-    ensures said { (m : FileMap) → IsSaid
-        (spec.from_answer text.now (state_of (known options.now table.old pending.old) m)) result
-        (known options.now table.new pending.new) steps.old steps.new }
+    ensures said { (m : FileMap) (versions : Versions) (watched : List Subject) → IsSaid
+        (spec.from_answer text.now (state_of (known options.now table.old pending.old versions watched) m)) result
+        (known options.now table.new pending.new versions watched) steps.old steps.new }
     ensures done { IfOk result (λ reply. reply.done ≡ false) }
-    ensures unread { IsErrOf result SessionFault.ReadFailed → ⊥ }
+    ensures deck { table.new.deck ≡ table.old.deck }
+    ensures calm { IsCalm result }
 {
     match valued(alloc, options, table, text, steps)? {
         FromValue::Good(_) => {
@@ -90,11 +98,12 @@ fn answer_blank<L: Ledger>(
     steps: &mut Steps<L>,
 ) -> Result<LineReply, SessionFault>
     requires { IsPrintable options.now }
-    ensures said { (m : FileMap) → IsSaid
-        (spec.blank_answer pending.old (state_of (known options.now table.old pending.old) m)) result
-        (known options.now table.new pending.new) steps.old steps.new }
+    ensures said { (m : FileMap) (versions : Versions) (watched : List Subject) → IsSaid
+        (spec.blank_answer pending.old (state_of (known options.now table.old pending.old versions watched) m)) result
+        (known options.now table.new pending.new versions watched) steps.old steps.new }
     ensures done { IfOk result (λ reply. reply.done ≡ false) }
-    ensures unread { IsErrOf result SessionFault.ReadFailed → ⊥ }
+    ensures deck { table.new.deck ≡ table.old.deck }
+    ensures calm { IsCalm result }
 {
     let Some(from) = pending.take() else {
         return Ok(saying(alloc, no_text(alloc)));
@@ -112,11 +121,12 @@ fn answer_conformable<L: Ledger>(
     steps: &mut Steps<L>,
 ) -> Result<LineReply, SessionFault>
     requires { IsPrintable options.now }
-    ensures said { (m : FileMap) → IsSaid
-        (spec.conformable_answer pending.old (state_of (known options.now table.old pending.old) m)) result
-        (known options.now table.new pending.new) steps.old steps.new }
+    ensures said { (m : FileMap) (versions : Versions) (watched : List Subject) → IsSaid
+        (spec.conformable_answer pending.old (state_of (known options.now table.old pending.old versions watched) m)) result
+        (known options.now table.new pending.new versions watched) steps.old steps.new }
     ensures done { IfOk result (λ reply. reply.done ≡ false) }
-    ensures unread { IsErrOf result SessionFault.ReadFailed → ⊥ }
+    ensures deck { table.new.deck ≡ table.old.deck }
+    ensures calm { IsCalm result }
 {
     let Some(from) = pending.as_ref() else {
         return take_from(alloc, options, table, pending, b"?", steps);
@@ -135,11 +145,13 @@ fn answer_expression<L: Ledger>(
     steps: &mut Steps<L>,
 ) -> Result<LineReply, SessionFault>
     requires { IsPrintable options.now }
-    ensures said { (m : FileMap) → IsSaid
-        (spec.expression_answer pending.old text.now (state_of (known options.now table.old pending.old) m)) result
-        (known options.now table.new pending.new) steps.old steps.new }
+    ensures said { (m : FileMap) (versions : Versions) (watched : List Subject) → IsSaid
+        (spec.expression_answer pending.old text.now
+        (state_of (known options.now table.old pending.old versions watched) m)) result
+        (known options.now table.new pending.new versions watched) steps.old steps.new }
     ensures done { IfOk result (λ reply. reply.done ≡ false) }
-    ensures unread { IsErrOf result SessionFault.ReadFailed → ⊥ }
+    ensures deck { table.new.deck ≡ table.old.deck }
+    ensures calm { IsCalm result }
 {
     let Some(from) = pending.take() else {
         return take_from(alloc, options, table, pending, text, steps);
@@ -148,48 +160,55 @@ fn answer_expression<L: Ledger>(
     Ok(saying(alloc, reply))
 }
 
-// Takes out the last line of a key, where the text is that of a key.
-fn answer_drop(alloc: Global, table: &mut LiveTable, text: &[u8]) -> Result<LineReply, SessionFault>
-    ensures said { (options : Options) (pending : Option (List ℕ)) (m : FileMap) (steps : ℕ) → IsSaid
-        (spec.drop_answer (key_of text.now) text.now (state_of (known options table.old pending) m)) result
-        (known options table.new pending) steps steps }
-    ensures done { IfOk result (λ reply. reply.done ≡ false) }
-    ensures unread { IsErrOf result SessionFault.ReadFailed → ⊥ }
-{
-    match read_key(alloc, text) {
-        Ok(key) => Ok(saying(alloc, drop_last(alloc, table, &key, text)?)),
-        Err(KeyFault::NotKey) => {
-            Ok(saying(alloc, word_line(alloc, b"bad command: ", b":drop")?))
-        }
-        Err(KeyFault::OutOfMemory) => Err(SessionFault::OutOfMemory),
-    }
-}
-
-// Puts what a file adds, with its notices on `err`.
+// Gives a file the text of the deck.
 #[tactic(auto, unfolding(crate::specs::Steps::answer_to))]
-fn load<F: Files>(
+fn save<F: Files>(
     alloc: Global,
-    table: &mut LiveTable,
+    deck: &Deck,
     name: &[u8],
     files: &mut F,
 ) -> Result<LineReply, SessionFault>
-    ensures said { (options : Options) (pending : Option (List ℕ)) (m : FileMap) (steps : ℕ) →
-        F.files files.old ≡ Some m → IsSaid
-        (spec.answer_to (state_of (known options table.old pending) m) (commands.Load name.now)) result
-        (known options table.new pending) steps steps }
-    ensures done { IfOk result (λ reply. reply.done ≡ false) }
-    ensures kept { F.files files.new ≡ F.files files.old }
-    ensures stores { F.store_faults files.new ≡ F.store_faults files.old }
-    ensures counted { F.faults files.new ≡ faults_after (F.faults files.old) result }
-    ensures cause { IsErrOf result SessionFault.ReadFailed → Rose (F.faults files.old) (F.faults files.new) }
+    ensures line { IfOk result (λ reply. IsLine reply (saved_line (saved_file deck.now) name.now) [] false) }
+    ensures saved { OnOk result ((m : FileMap) → F.files files.old ≡ Some m →
+        F.files files.new ≡ Some (files_saved (saved_file deck.now) name.now m)) }
+    ensures untold { F.files files.old ≡ None → F.files files.new ≡ None }
+    ensures fetches { F.faults files.new ≡ F.faults files.old }
+    ensures later { F.store_faults files.old ≤ F.store_faults files.new }
+    ensures unread { IsErrOf result SessionFault.ReadFailed → ⊥ }
+    ensures cause { IsErrOf result SessionFault.WriteFailed →
+        Rose (F.store_faults files.old) (F.store_faults files.new) }
 {
-    match table.append(alloc, files, name) {
-        Ok(()) => Ok(LineReply {
-            out: no_text(alloc),
-            err: Text::from(notice_lines(alloc, table.deck())?),
-            done: false,
-        }),
-        Err(fault) => Ok(saying(alloc, refusal_line(alloc, fault, name)?)),
+    match save_text(alloc, deck) {
+        Ok(text) => {
+            store(alloc, name, text.as_bytes(), files)?;
+            Ok(saying(alloc, no_text(alloc)))
+        }
+        Err(SaveFault::TooLong) => Ok(saying(alloc, word_line(alloc, b"file too long: ", name)?)),
+        Err(SaveFault::OutOfMemory) => Err(SessionFault::OutOfMemory),
+    }
+}
+
+// Gives a file these bytes.
+fn store<F: Files>(
+    alloc: Global,
+    name: &[u8],
+    bytes: &[u8],
+    files: &mut F,
+) -> Result<(), SessionFault>
+    requires { length bytes.now ≤ longest_file }
+    ensures told { OnOk result ((m : FileMap) → F.files files.old ≡ Some m →
+        F.files files.new ≡ Some (with_file m name.now bytes.now)) }
+    ensures untold { F.files files.old ≡ None → F.files files.new ≡ None }
+    ensures fetches { F.faults files.new ≡ F.faults files.old }
+    ensures later { F.store_faults files.old ≤ F.store_faults files.new }
+    ensures unread { IsErrOf result SessionFault.ReadFailed → ⊥ }
+    ensures cause { IsErrOf result SessionFault.WriteFailed →
+        Rose (F.store_faults files.old) (F.store_faults files.new) }
+{
+    match files.store(alloc, name, bytes) {
+        Ok(()) => Ok(()),
+        Err(StoreFault::Failed) => Err(SessionFault::WriteFailed),
+        Err(StoreFault::OutOfMemory) => Err(SessionFault::OutOfMemory),
     }
 }
 
@@ -199,17 +218,25 @@ fn perform<L: Ledger>(
     alloc: Global,
     options: &Options,
     table: &mut LiveTable,
+    history: &mut History,
+    watches: &mut Watches,
     pending: &mut Option<Text>,
     command: Command<'_>,
     steps: &mut Steps<L>,
 ) -> Result<LineReply, SessionFault>
     requires printable { IsPrintable options.now }
-    requires no_file { commands.is_load (seen_command command) ≡ false }
+    requires follows { Follows history.old table.old.deck }
+    requires current { AreCurrent (table_in table.old.deck) options.now watches.old }
+    requires no_file { commands.names_file (seen_command command) ≡ false }
     ensures said { (m : FileMap) → IsSaid
-        (spec.answer_to (state_of (known options.now table.old pending.old) m) (seen_command command.entry)) result
-        (known options.now table.new pending.new) steps.old steps.new }
+        (spec.answer_to (state_of (known_dated options.now (dated table.old history.old) pending.old
+        (map subject_of watches.old)) m) (seen_command command.entry)) result
+        (known_dated options.now (dated table.new history.new) pending.new (map subject_of watches.new))
+        steps.old steps.new }
     ensures done { IfOk result (λ reply. reply.done ≡ commands.is_quit (seen_command command.entry)) }
-    ensures unread { IsErrOf result SessionFault.ReadFailed → ⊥ }
+    ensures follows { Follows history.new table.new.deck }
+    ensures current { AreCurrent (table_in table.new.deck) options.now watches.new }
+    ensures calm { IsCalm result }
 {
     match command {
         Command::Blank => answer_blank(alloc, options, table, pending, steps),
@@ -220,11 +247,13 @@ fn perform<L: Ledger>(
         }),
         Command::Conformable => answer_conformable(alloc, options, table, pending, steps),
         Command::Search(text) => Ok(saying(alloc, search_report(alloc, table, text)?)),
-        Command::Define(line) => Ok(saying(alloc, define(alloc, table, line)?)),
-        Command::DropLast(text) => answer_drop(alloc, table, text),
-        Command::Set(name, value) => Ok(saying(alloc, set_variable(alloc, table, name, value)?)),
-        Command::Locale(locale) => Ok(saying(alloc, set_locale(alloc, table, locale)?)),
-        Command::Load(_) => unreachable!(),
+        Command::Edit(change) => edit(alloc, options, table, history, watches, change, steps),
+        Command::Load(_) | Command::Save(_) => unreachable!(),
+        Command::Watch(from, to) => watch(alloc, options, table, watches, from, to, steps),
+        Command::Unwatch => {
+            watches.clear();
+            Ok(saying(alloc, no_text(alloc)))
+        }
         Command::Stats => Ok(saying(alloc, statistics(alloc, table)?)),
         Command::Unknown(word) => {
             Ok(saying(alloc, word_line(alloc, b"unknown command: ", word)?))
@@ -237,8 +266,9 @@ fn perform<L: Ledger>(
 }
 
 impl Session {
-    /// Answers a line as it was read, without its line feed. `ReadFailed` comes only where a fetch failed, which the
-    /// files count, and `OutOfMemory` where there is no memory. After either the session is used no more.
+    /// Answers a line as it was read, without its line feed. `ReadFailed` comes only where a fetch failed and
+    /// `WriteFailed` only where a store failed, which the files count, and `OutOfMemory` where there is no memory.
+    /// After each the session is used no more.
     pub fn line<F: Files, L: Ledger>(
         &mut self,
         alloc: Global,
@@ -254,16 +284,31 @@ impl Session {
             (scene_of self.new (F.files files.new) steps.new) }
         ensures done { IfOk result (λ reply. reply.done ≡ commands.is_quit (commands.command_of line.now)) }
         ensures counted { F.faults files.new ≡ faults_after (F.faults files.old) result }
-        ensures cause { IsErrOf result SessionFault.ReadFailed → Rose (F.faults files.old) (F.faults files.new) }
-        ensures kept { F.files files.new ≡ F.files files.old }
-        ensures stores { F.store_faults files.new ≡ F.store_faults files.old }
+        ensures read { IsErrOf result SessionFault.ReadFailed → Rose (F.faults files.old) (F.faults files.new) }
+        ensures written { IsErrOf result SessionFault.WriteFailed →
+            Rose (F.store_faults files.old) (F.store_faults files.new) }
+        ensures later { F.store_faults files.old ≤ F.store_faults files.new }
+        ensures kept { commands.is_save (commands.command_of line.now) ≡ false →
+            (F.files files.new ≡ F.files files.old) × (F.store_faults files.new ≡ F.store_faults files.old) }
     {
         match read_command(line) {
-            Command::Load(name) => load(alloc, &mut self.table, name, files),
+            Command::Load(name) => load(
+                alloc,
+                &self.options,
+                &mut self.table,
+                &mut self.history,
+                &mut self.watches,
+                name,
+                files,
+                steps,
+            ),
+            Command::Save(name) => save(alloc, self.table.deck(), name, files),
             command => perform(
                 alloc,
                 &self.options,
                 &mut self.table,
+                &mut self.history,
+                &mut self.watches,
                 &mut self.pending,
                 command,
                 steps,

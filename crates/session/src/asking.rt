@@ -1,10 +1,11 @@
 //! Queries of the live table of a session, and what they leave of it.
 
-ghost use Rattle.std.specs.Prelude.{None};
+ghost use Rattle.std.specs.Prelude.{◌≡◌, [], None};
 ghost use Rattle.reply.specs.Options.{IsPrintable};
 ghost use Rattle.session.specs.Asking as spec;
 ghost use Rattle.session.specs.Parts.{IsReplied};
 ghost use Rattle.session.specs.Sessions.{known};
+ghost use Rattle.session.specs.Versions.{no_versions};
 
 use crate::lines::line_of;
 use live_table::LiveTable;
@@ -23,8 +24,10 @@ pub(crate) fn valued<L: Ledger>(
     steps: &mut Steps<L>,
 ) -> Result<FromValue, AllocError>
     requires { IsPrintable options.now }
-    ensures { IsReplied (spec.valued (known options.now table.old None) text.now).events
-        (spec.worth (known options.now table.old None) text.now) result table.old table.new steps.old steps.new }
+    ensures reply { IsReplied (spec.valued (known options.now table.old None no_versions []) text.now).events
+        (spec.worth (known options.now table.old None no_versions []) text.now) result table.old table.new
+        steps.old steps.new }
+    ensures deck { table.new.deck ≡ table.old.deck }
 {
     from_value(alloc, table, options, text, steps)
 }
@@ -38,8 +41,9 @@ pub(crate) fn defined<L: Ledger>(
     steps: &mut Steps<L>,
 ) -> Result<Text, AllocError>
     requires { IsPrintable options.now }
-    ensures { let asked = spec.defined (known options.now table.old None) from.now in
+    ensures reply { let asked = spec.defined (known options.now table.old None no_versions []) from.now in
         IsReplied asked.events asked.text result table.old table.new steps.old steps.new }
+    ensures deck { table.new.deck ≡ table.old.deck }
 {
     let reply = definition_reply(alloc, table, options, from, steps)?;
     Ok(reply.text)
@@ -55,8 +59,9 @@ pub(crate) fn converted<L: Ledger>(
     steps: &mut Steps<L>,
 ) -> Result<Text, AllocError>
     requires { IsPrintable options.now }
-    ensures { let asked = spec.converted (known options.now table.old None) from.now to.now in
+    ensures reply { let asked = spec.converted (known options.now table.old None no_versions []) from.now to.now in
         IsReplied asked.events asked.text result table.old table.new steps.old steps.new }
+    ensures deck { table.new.deck ≡ table.old.deck }
 {
     let reply = convert_reply(alloc, table, options, from, to, steps)?;
     Ok(reply.text)
@@ -71,8 +76,9 @@ pub(crate) fn listed<L: Ledger>(
     steps: &mut Steps<L>,
 ) -> Result<Text, AllocError>
     requires { IsPrintable options.now }
-    ensures { let asked = spec.listed (known options.now table.old None) from.now in
+    ensures reply { let asked = spec.listed (known options.now table.old None no_versions []) from.now in
         IsReplied asked.events asked.text result table.old table.new steps.old steps.new }
+    ensures deck { table.new.deck ≡ table.old.deck }
 {
     match from_value(alloc, table, options, from, steps)? {
         FromValue::Good(value) => conformable_report(alloc, table, &value, steps),

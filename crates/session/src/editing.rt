@@ -1,80 +1,166 @@
 //! Edits of the deck of a session, and the lines that refuse them.
 
-ghost use Rattle.std.specs.Prelude.{◌≡◌, ◌↔◌, [], Ok, true, IfOk, IsErrOf};
+ghost use Rattle.std.specs.Prelude.{◌≡◌, ◌↔◌, [], codes, Ok, Some, option_map, true, IfOk, IsErrOf};
+ghost use Rattle.def_entry.specs.Keys.{key_of};
 ghost use Rattle.def_lines.specs.Blanks.{trimmed};
 ghost use Rattle.deck.specs.Edits as deck_edit;
 ghost use Rattle.deck.specs.declared.fault.DeckFault.TheVariants as deck_fault;
+ghost use Rattle.edit_history.specs.Histories.{Follows};
+ghost use Rattle.edit_history.specs.Timelines.{redone, undone};
+ghost use Rattle.session.specs.Answering.{IsCalm};
+ghost use Rattle.session.specs.EditResults.{drop_result, edit_result, edited_by, turn_result};
 ghost use Rattle.session.specs.Editing as spec;
 ghost use Rattle.session.specs.Lines as lines;
 ghost use Rattle.session.specs.Parts.{IsEdited};
+ghost use Rattle.session.specs.Seen.{seen_edit};
+ghost use Rattle.session.specs.Versions.{dated, timeline_of};
 
+use crate::command::DeckEdit;
 use crate::fault::SessionFault;
-use crate::lines::{line_of, no_text, word_line};
+use crate::lines::{line_of, word_line};
 use deck::{DeckFault, Settings};
-use def_entry::{Key, entry_fault_text, told_law};
+use def_entry::{Key, KeyFault, entry_fault_text, read_key, told_law};
+use edit_history::{History, HistoryFault, histories_are_timelines};
 use live_table::LiveTable;
 use std::alloc::{AllocError, Global};
 use units_io::Text;
 
-/// Defines by a line.
-pub(crate) fn define(
+/// What an edit came to.
+#[derive(Drop)]
+pub enum EditResult {
+    /// It is made.
+    Made,
+    /// This line refuses it, and nothing has changed.
+    Refused(Text),
+}
+
+/// Makes an edit, unless a line refuses it.
+pub(crate) fn make_edit(
     alloc: Global,
     table: &mut LiveTable,
+    history: &mut History,
+    edit: DeckEdit<'_>,
+) -> Result<EditResult, SessionFault>
+    requires { Follows history.old table.old.deck }
+    ensures edit { IsEdited (edited_by (seen_edit edit.entry) (dated table.old history.old))
+        result (dated table.old history.old) (dated table.new history.new) }
+    ensures follows { Follows history.new table.new.deck }
+    ensures calm { IsCalm result }
+{
+    match edit {
+        DeckEdit::Define(line) => define(alloc, table, history, line),
+        DeckEdit::DropLast(text) => drop_by_text(alloc, table, history, text),
+        DeckEdit::Set(name, value) => set_variable(alloc, table, history, name, value),
+        DeckEdit::Locale(locale) => set_locale(alloc, table, history, locale),
+        DeckEdit::Undo => undo(alloc, table, history),
+        DeckEdit::Redo => redo(alloc, table, history),
+    }
+}
+
+// Defines by a line.
+fn define(
+    alloc: Global,
+    table: &mut LiveTable,
+    history: &mut History,
     line: &[u8],
-) -> Result<Text, SessionFault>
-    ensures edit { IsEdited (deck_edit.after_define (trimmed line.now) table.old.deck) [] result table.old table.new }
-    ensures unread { IsErrOf result SessionFault.ReadFailed → ⊥ }
+) -> Result<EditResult, SessionFault>
+    requires { Follows history.old table.old.deck }
+    ensures edit { let was = dated table.old history.old in
+        IsEdited (edit_result (deck_edit.after_define (trimmed line.now) table.old.deck) [] was)
+        result was (dated table.new history.new) }
+    ensures follows { Follows history.new table.new.deck }
+    ensures calm { IsCalm result }
 {
     told_law();
-    match table.define(alloc, line) {
-        Ok(()) => Ok(no_text(alloc)),
-        Err(fault) => refusal_line(alloc, fault, b""),
+    histories_are_timelines();
+    match history.define(alloc, table, line) {
+        Ok(()) => Ok(EditResult::Made),
+        Err(fault) => Ok(EditResult::Refused(refusal_line(alloc, fault, b"")?)),
     }
 }
 
-/// Takes out the last active line of a key, which was written so.
-pub(crate) fn drop_last(
+// Takes out the last active line of a key, where the text is that of a key.
+fn drop_by_text(
     alloc: Global,
     table: &mut LiveTable,
+    history: &mut History,
+    text: &[u8],
+) -> Result<EditResult, SessionFault>
+    requires { Follows history.old table.old.deck }
+    ensures edit { IsEdited (drop_result (key_of text.now) text.now (dated table.old history.old))
+        result (dated table.old history.old) (dated table.new history.new) }
+    ensures follows { Follows history.new table.new.deck }
+    ensures calm { IsCalm result }
+{
+    match read_key(alloc, text) {
+        Ok(key) => drop_last(alloc, table, history, &key, text),
+        Err(KeyFault::NotKey) => {
+            let line = word_line(alloc, b"bad command: ", b":drop")?;
+            Ok(EditResult::Refused(line))
+        }
+        Err(KeyFault::OutOfMemory) => Err(SessionFault::OutOfMemory),
+    }
+}
+
+// Takes out the last active line of a key, which was written so.
+fn drop_last(
+    alloc: Global,
+    table: &mut LiveTable,
+    history: &mut History,
     key: &Key,
     text: &[u8],
-) -> Result<Text, SessionFault>
-    ensures edit { IsEdited (deck_edit.after_drop key.now table.old.deck) text.now result table.old table.new }
-    ensures unread { IsErrOf result SessionFault.ReadFailed → ⊥ }
+) -> Result<EditResult, SessionFault>
+    requires { Follows history.old table.old.deck }
+    ensures edit { let was = dated table.old history.old in
+        IsEdited (edit_result (deck_edit.after_drop key.now table.old.deck) text.now was)
+        result was (dated table.new history.new) }
+    ensures follows { Follows history.new table.new.deck }
+    ensures calm { IsCalm result }
 {
-    match table.drop_last(alloc, key) {
-        Ok(()) => Ok(no_text(alloc)),
-        Err(fault) => refusal_line(alloc, fault, text),
+    histories_are_timelines();
+    match history.drop_last(alloc, table, key) {
+        Ok(()) => Ok(EditResult::Made),
+        Err(fault) => Ok(EditResult::Refused(refusal_line(alloc, fault, text)?)),
     }
 }
 
-/// Gives a variable a value.
-pub(crate) fn set_variable(
+// Gives a variable a value.
+fn set_variable(
     alloc: Global,
     table: &mut LiveTable,
+    history: &mut History,
     name: &[u8],
     value: &[u8],
-) -> Result<Text, SessionFault>
-    ensures edit { IsEdited (Ok (deck_edit.after_switch
-        (spec.with_variable table.old.deck.settings name.now value.now) table.old.deck)) [] result table.old table.new }
-    ensures unread { IsErrOf result SessionFault.ReadFailed → ⊥ }
+) -> Result<EditResult, SessionFault>
+    requires { Follows history.old table.old.deck }
+    ensures edit { let was = dated table.old history.old in
+        IsEdited (edit_result (Ok (deck_edit.after_switch
+        (spec.with_variable table.old.deck.settings name.now value.now) table.old.deck)) [] was)
+        result was (dated table.new history.new) }
+    ensures follows { Follows history.new table.new.deck }
+    ensures calm { IsCalm result }
 {
     let settings = variable_settings(alloc, table.deck().settings(), name, value)?;
-    switch(alloc, table, settings)
+    switch(alloc, table, history, settings)
 }
 
-/// Puts another locale in force.
-pub(crate) fn set_locale(
+// Puts another locale in force.
+fn set_locale(
     alloc: Global,
     table: &mut LiveTable,
+    history: &mut History,
     locale: &[u8],
-) -> Result<Text, SessionFault>
-    ensures edit { IsEdited (Ok (deck_edit.after_switch
-        (spec.with_locale table.old.deck.settings locale.now) table.old.deck)) [] result table.old table.new }
-    ensures unread { IsErrOf result SessionFault.ReadFailed → ⊥ }
+) -> Result<EditResult, SessionFault>
+    requires { Follows history.old table.old.deck }
+    ensures edit { let was = dated table.old history.old in
+        IsEdited (edit_result (Ok (deck_edit.after_switch
+        (spec.with_locale table.old.deck.settings locale.now) table.old.deck)) [] was)
+        result was (dated table.new history.new) }
+    ensures follows { Follows history.new table.new.deck }
+    ensures calm { IsCalm result }
 {
     let settings = locale_settings(alloc, table.deck().settings(), locale)?;
-    switch(alloc, table, settings)
+    switch(alloc, table, history, settings)
 }
 
 // The settings with this value of a variable.
@@ -108,13 +194,75 @@ fn locale_settings(
 }
 
 // Puts other settings in force.
-fn switch(alloc: Global, table: &mut LiveTable, settings: Settings) -> Result<Text, SessionFault>
-    ensures edit { IsEdited (Ok (deck_edit.after_switch settings table.old.deck)) [] result table.old table.new }
-    ensures unread { IsErrOf result SessionFault.ReadFailed → ⊥ }
+fn switch(
+    alloc: Global,
+    table: &mut LiveTable,
+    history: &mut History,
+    settings: Settings,
+) -> Result<EditResult, SessionFault>
+    requires { Follows history.old table.old.deck }
+    ensures edit { let was = dated table.old history.old in
+        IsEdited (edit_result (Ok (deck_edit.after_switch settings table.old.deck)) [] was)
+        result was (dated table.new history.new) }
+    ensures follows { Follows history.new table.new.deck }
+    ensures calm { IsCalm result }
 {
-    match table.switch(alloc, settings) {
-        Ok(()) => Ok(no_text(alloc)),
-        Err(fault) => refusal_line(alloc, fault, b""),
+    histories_are_timelines();
+    match history.switch(alloc, table, settings) {
+        Ok(()) => Ok(EditResult::Made),
+        Err(fault) => Ok(EditResult::Refused(refusal_line(alloc, fault, b"")?)),
+    }
+}
+
+// Takes the last edit back that was done and not undone.
+fn undo(
+    alloc: Global,
+    table: &mut LiveTable,
+    history: &mut History,
+) -> Result<EditResult, SessionFault>
+    requires { Follows history.old table.old.deck }
+    ensures edit { let was = dated table.old history.old in
+        IsEdited (turn_result (undone (timeline_of was.table.deck was.versions)) (codes "nothing to undo") was.table.deck)
+        result was (dated table.new history.new) }
+    ensures follows { Follows history.new table.new.deck }
+    ensures calm { IsCalm result }
+{
+    histories_are_timelines();
+    match history.undo(alloc, table) {
+        Ok(()) => Ok(EditResult::Made),
+        Err(fault) => Ok(EditResult::Refused(nothing_line(alloc, fault)?)),
+    }
+}
+
+// Makes the edit again that was undone last, if no edit was made since.
+fn redo(
+    alloc: Global,
+    table: &mut LiveTable,
+    history: &mut History,
+) -> Result<EditResult, SessionFault>
+    requires { Follows history.old table.old.deck }
+    ensures edit { let was = dated table.old history.old in
+        IsEdited (turn_result (redone (timeline_of was.table.deck was.versions)) (codes "nothing to redo") was.table.deck)
+        result was (dated table.new history.new) }
+    ensures follows { Follows history.new table.new.deck }
+    ensures calm { IsCalm result }
+{
+    histories_are_timelines();
+    match history.redo(alloc, table) {
+        Ok(()) => Ok(EditResult::Made),
+        Err(fault) => Ok(EditResult::Refused(nothing_line(alloc, fault)?)),
+    }
+}
+
+// The line that says that there is nothing to undo or to redo.
+fn nothing_line(alloc: Global, fault: HistoryFault) -> Result<Text, SessionFault>
+    ensures line { IfOk result (λ line. Some line ≡ option_map lines.line_of (spec.nothing fault)) }
+    ensures calm { IsCalm result }
+{
+    match fault {
+        HistoryFault::NothingToUndo => Ok(Text::from_bytes(alloc, b"nothing to undo\n")?),
+        HistoryFault::NothingToRedo => Ok(Text::from_bytes(alloc, b"nothing to redo\n")?),
+        HistoryFault::OutOfMemory => Err(SessionFault::OutOfMemory),
     }
 }
 
@@ -128,6 +276,7 @@ pub(crate) fn refusal_line(
     ensures line { IfOk result (λ line. line ≡ lines.line_of (spec.refusal fault named.now)) }
     ensures told { IfOk result (λ _. spec.is_refusal fault ≡ true) }
     ensures read { IsErrOf result SessionFault.ReadFailed ↔ (fault ≡ deck_fault.ReadFailed) }
+    ensures unwritten { IsErrOf result SessionFault.WriteFailed → ⊥ }
 {
     match fault {
         DeckFault::BadLine(fault) => Ok(line_of(entry_fault_text(alloc, &fault)?)?),

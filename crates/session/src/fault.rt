@@ -9,6 +9,9 @@ pub enum SessionFault {
     /// A file could not be read, and the files have counted it.
     #[error("a file could not be read")]
     ReadFailed,
+    /// A file could not be written, and the files have counted it.
+    #[error("a file could not be written")]
+    WriteFailed,
     /// There is no memory.
     #[error("out of memory")]
     OutOfMemory,

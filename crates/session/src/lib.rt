@@ -11,15 +11,17 @@ mod held;
 mod laws;
 mod lines;
 mod over_source;
+mod revising;
 mod said;
 mod session;
 mod talk;
 mod text_decks;
 mod trial;
 mod trial_lines;
+mod watching;
 
 pub use answer::LineReply;
-pub use command::{Command, line_text, read_command};
+pub use command::{Command, DeckEdit, line_text, read_command};
 pub use fault::SessionFault;
 pub use held::{Held, LONGEST_LINE};
 pub use laws::{leaves_law, line_laws};

@@ -24,7 +24,7 @@ pub enum SessionEnd {
     Done,
     /// The source failed, or a file could not be read.
     ReadFault,
-    /// A sink failed.
+    /// A sink failed, or a file could not be written.
     WriteFault,
     /// There is no memory.
     NoMemory,
@@ -66,11 +66,9 @@ pub fn run_session<S: Source, O: Sink, E: Sink, F: Files, L: Ledger>(
         result ≡ SessionEnd.Done → IsReadToEnd input (S.left src.new) }
     ensures read { result ≡ SessionEnd.ReadFault →
         Rose (S.faults src.old) (S.faults src.new) ⊎ Rose (F.faults files.old) (F.faults files.new) }
-    ensures write { result ≡ SessionEnd.WriteFault →
-        Rose (O.faults out.old) (O.faults out.new) ⊎ Rose (E.faults err.old) (E.faults err.new) }
+    ensures write { result ≡ SessionEnd.WriteFault → Rose (O.faults out.old) (O.faults out.new)
+        ⊎ Rose (E.faults err.old) (E.faults err.new) ⊎ Rose (F.store_faults files.old) (F.store_faults files.new) }
     ensures too_long { result ≡ SessionEnd.InputTooLong → TookMoreThan 4294967296 (S.taken src.old) (S.taken src.new) }
-    ensures kept { F.files files.new ≡ F.files files.old }
-    ensures stores { F.store_faults files.new ≡ F.store_faults files.old }
 {
     let mut held = Held::new(alloc);
     let Ok(mut block) = vec![in alloc; 0u8; BLOCK] else {
@@ -124,13 +122,9 @@ fn answer_blocks<S: Source, O: Sink, E: Sink, F: Files, L: Ledger>(
         result ≡ SessionEnd.Done → IsReadToEnd input (S.left src.new) }
     ensures read { result ≡ SessionEnd.ReadFault →
         Rose (S.faults src.old) (S.faults src.new) ⊎ Rose (F.faults files.old) (F.faults files.new) }
-    ensures write { result ≡ SessionEnd.WriteFault →
-        Rose (O.faults out.old) (O.faults out.new) ⊎ Rose (E.faults err.old) (E.faults err.new) }
+    ensures write { result ≡ SessionEnd.WriteFault → Rose (O.faults out.old) (O.faults out.new)
+        ⊎ Rose (E.faults err.old) (E.faults err.new) ⊎ Rose (F.store_faults files.old) (F.store_faults files.new) }
     ensures too_long { result ≡ SessionEnd.InputTooLong → TookMoreThan 4294967296 (S.taken src.old) (S.taken src.new) }
-    ensures kept { F.files files.new ≡ F.files files.old }
-    ensures stores { F.store_faults files.new ≡ F.store_faults files.old }
-    ensures out_later { O.faults out.old ≤ O.faults out.new }
-    ensures err_later { E.faults err.old ≤ E.faults err.new }
 {
     let mut total = 0u64;
     while total <= MOST_INPUT {
@@ -149,6 +143,7 @@ fn answer_blocks<S: Source, O: Sink, E: Sink, F: Files, L: Ledger>(
                 Ok(()) => return SessionEnd::Done,
                 Err(fault) => match fault {
                     SessionFault::ReadFailed => return SessionEnd::ReadFault,
+                    SessionFault::WriteFailed => return SessionEnd::WriteFault,
                     SessionFault::OutOfMemory => return SessionEnd::NoMemory,
                 },
             }
@@ -164,6 +159,7 @@ fn answer_blocks<S: Source, O: Sink, E: Sink, F: Files, L: Ledger>(
             Ok(true) => return SessionEnd::Done,
             Err(fault) => match fault {
                 SessionFault::ReadFailed => return SessionEnd::ReadFault,
+                SessionFault::WriteFailed => return SessionEnd::WriteFault,
                 SessionFault::OutOfMemory => return SessionEnd::NoMemory,
             },
         }

@@ -1,20 +1,26 @@
 //! A session: its state and its prompt.
 
-ghost use Rattle.std.specs.Prelude.{◌≡◌, None};
+ghost use Rattle.std.specs.Prelude.{◌≡◌, [], None};
 ghost use Rattle.reply.specs.Options.{IsPrintable};
 ghost use Rattle.session.specs.Sessions.{known, prompt};
+ghost use Rattle.session.specs.Versions.{no_versions};
 
+use edit_history::History;
 use live_table::LiveTable;
 use reply::Options;
 use std::alloc::Global;
 use std::marker::Model;
 use units_io::Text;
+use watch::Watches;
 
-/// A session: how replies are written, the live table, and the text of FROM where one is pending.
+/// A session: how replies are written, the live table with the history of its edits, the text of FROM where one is
+/// pending, and the conversions that are watched.
 pub struct Session {
     pub(crate) options: Options,
     pub(crate) table: LiveTable,
+    pub(crate) history: History,
     pub(crate) pending: Option<Text>,
+    pub(crate) watches: Watches,
 }
 
 // By hand, so that who drops a session proves nothing of what it holds.
@@ -23,34 +29,45 @@ impl Drop for Session {
         let Session {
             options: _,
             table: _,
+            history: _,
             pending: _,
+            watches: _,
         } = self;
     }
 }
 
 impl Model for Session {
+    ghost use Rattle.std.specs.Prelude.{map};
+    ghost use Rattle.deck.specs.Tables.{table as table_in};
     ghost use Rattle.reply.specs.Options.{IsPrintable};
-    ghost use Rattle.session.specs.Sessions.{Known, known, known_code};
+    ghost use Rattle.edit_history.specs.Histories.{Follows};
+    ghost use Rattle.session.specs.Sessions.{Known, known_code, known_dated};
+    ghost use Rattle.session.specs.Versions.{dated};
+    ghost use Rattle.watch.specs.Watched.{AreCurrent, subject_of};
 
     ghost Value = { Known };
 
     ghost coded = { known_code };
 
-    ghost view = { λ s. known s.options s.table s.pending };
+    ghost view = { λ s.
+        known_dated s.options (dated s.table s.history) s.pending (map subject_of s.watches) };
 
-    ghost invariant = { λ s. IsPrintable s.options };
+    ghost invariant = { λ s. IsPrintable s.options × Follows s.history s.table.deck
+        × AreCurrent (table_in s.table.deck) s.options s.watches };
 }
 
 impl Session {
-    /// A session over a table, with no FROM pending. It takes no memory.
-    pub fn new(_alloc: Global, table: LiveTable, options: Options) -> Session
+    /// A session over a table, with no FROM pending, nothing to undo and nothing watched. It takes no memory.
+    pub fn new(alloc: Global, table: LiveTable, options: Options) -> Session
         requires { IsPrintable options }
-        ensures { result ≡ known options table None }
+        ensures { result ≡ known options table None no_versions [] }
     {
         Session {
             options,
             table,
+            history: History::new(alloc),
             pending: None,
+            watches: Watches::new(alloc),
         }
     }
 

@@ -41,8 +41,9 @@ pub fn feed<F: Files, L: Ledger>(
         (now_of said.new session.new (F.files files.new) steps.new) }
     ensures counted { F.faults files.new ≡ faults_after (F.faults files.old) result }
     ensures cause { IsErrOf result SessionFault.ReadFailed → Rose (F.faults files.old) (F.faults files.new) }
-    ensures kept { F.files files.new ≡ F.files files.old }
-    ensures stores { F.store_faults files.new ≡ F.store_faults files.old }
+    ensures written { IsErrOf result SessionFault.WriteFailed →
+        Rose (F.store_faults files.old) (F.store_faults files.new) }
+    ensures later { F.store_faults files.old ≤ F.store_faults files.new }
 {
     let mut rest = block;
     while let Some((piece, behind)) = cut_at(rest, b'\n') {
@@ -75,8 +76,9 @@ pub fn feed_end<F: Files, L: Ledger>(
         (λ _. IsBefore base (talk_on first input) said.new) }
     ensures counted { F.faults files.new ≡ faults_after (F.faults files.old) result }
     ensures cause { IsErrOf result SessionFault.ReadFailed → Rose (F.faults files.old) (F.faults files.new) }
-    ensures kept { F.files files.new ≡ F.files files.old }
-    ensures stores { F.store_faults files.new ≡ F.store_faults files.old }
+    ensures written { IsErrOf result SessionFault.WriteFailed →
+        Rose (F.store_faults files.old) (F.store_faults files.new) }
+    ensures later { F.store_faults files.old ≤ F.store_faults files.new }
 {
     if held.is_empty() {
         return Ok(());
@@ -107,8 +109,9 @@ fn end_line<F: Files, L: Ledger>(
         (with_answer talk (spec.answer talk.state (part ++ piece.now)) (part ++ piece.now)) said.new) }
     ensures counted { F.faults files.new ≡ faults_after (F.faults files.old) result }
     ensures cause { IsErrOf result SessionFault.ReadFailed → Rose (F.faults files.old) (F.faults files.new) }
-    ensures kept { F.files files.new ≡ F.files files.old }
-    ensures stores { F.store_faults files.new ≡ F.store_faults files.old }
+    ensures written { IsErrOf result SessionFault.WriteFailed →
+        Rose (F.store_faults files.old) (F.store_faults files.new) }
+    ensures later { F.store_faults files.old ≤ F.store_faults files.new }
 {
     if held.is_empty() {
         let done = reply(alloc, session, short(piece), said, files, steps);
@@ -155,8 +158,9 @@ fn reply<F: Files, L: Ledger>(
         (λ _. IsBefore base (with_answer talk (spec.answer talk.state part) part) said.new) }
     ensures counted { F.faults files.new ≡ faults_after (F.faults files.old) result }
     ensures cause { IsErrOf result SessionFault.ReadFailed → Rose (F.faults files.old) (F.faults files.new) }
-    ensures kept { F.files files.new ≡ F.files files.old }
-    ensures stores { F.store_faults files.new ≡ F.store_faults files.old }
+    ensures written { IsErrOf result SessionFault.WriteFailed →
+        Rose (F.store_faults files.old) (F.store_faults files.new) }
+    ensures later { F.store_faults files.old ≤ F.store_faults files.new }
 {
     let reply = match answer_line(alloc, session, line, files, steps) {
         Ok(reply) => reply,
@@ -184,8 +188,9 @@ fn answer_line<F: Files, L: Ledger>(
     ensures done { IfOk result (λ reply. reply.done ≡ is_last_read (option_copied line.entry)) }
     ensures counted { F.faults files.new ≡ faults_after (F.faults files.old) result }
     ensures cause { IsErrOf result SessionFault.ReadFailed → Rose (F.faults files.old) (F.faults files.new) }
-    ensures kept { F.files files.new ≡ F.files files.old }
-    ensures stores { F.store_faults files.new ≡ F.store_faults files.old }
+    ensures written { IsErrOf result SessionFault.WriteFailed →
+        Rose (F.store_faults files.old) (F.store_faults files.new) }
+    ensures later { F.store_faults files.old ≤ F.store_faults files.new }
 {
     match line {
         Some(line) => session.line(alloc, line, files, steps),

@@ -7,8 +7,7 @@ use Rattle.session.proofs.over_source.answer_blocks.Given as goal
 abbrev pub invariant-loop-total : goal.invariant-loop-total
 invariant-loop-total g l = record {
   later : g.F.Files.faults l.initial.files ≤ g.F.Files.faults l.files;
-  kept : g.F.Files.files l.files ≡ g.F.Files.files l.initial.files;
-  stores : g.F.Files.store_faults l.files ≡ g.F.Files.store_faults l.initial.files;
+  stores_later : g.F.Files.store_faults l.initial.files ≤ g.F.Files.store_faults l.files;
   earlier : g.S.Source.faults l.initial.src ≤ g.S.Source.faults l.src;
   out_later : g.O.Sink.faults l.initial.out ≤ g.O.Sink.faults l.out;
   err_later : g.E.Sink.faults l.initial.err ≤ g.E.Sink.faults l.err;

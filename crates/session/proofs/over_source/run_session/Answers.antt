@@ -1,5 +1,5 @@
 use Rattle.std.proofs.Common.{[], refl, arith, sym, ◌∙◌}
-use Rattle.session.proofs.Blocks.{open_front, opens, either_rose}
+use Rattle.session.proofs.Blocks.{any_rose, of_two, open_front, opens}
 use Rattle.session.proofs.Holding.{readable_short}
 use Rattle.session.proofs.over_source.run_session.Goals as goal
 
@@ -20,5 +20,8 @@ returns-clause-heard g c = λ first input before q at.
     (c.new-held.ensures ∙ sym (readable_short [] (omega arith))))
 
 pub returns-clause-write : goal.returns-clause-write
-returns-clause-write g c = λ r. either_rose _ _ _ _ _ _ c.write.ensures.out_later c.write.ensures.err_later
+returns-clause-write g c = λ r. any_rose _ _ _ _ _ _ _ _ c.write.ensures.out_later c.write.ensures.err_later
     (c.answer_blocks.ensures.write r)
+
+pub returns-in-Err-clause-write : goal.returns-in-Err-clause-write
+returns-in-Err-clause-write g c = λ r. of_two c.in-Err.ensures.cause

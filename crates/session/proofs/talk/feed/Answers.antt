@@ -1,4 +1,4 @@
-use Rattle.std.proofs.Common.{◌++◌, ap, sym, ◌∙◌, option_map}
+use Rattle.std.proofs.Common.{◌++◌, arith, ap, sym, ◌∙◌, option_map}
 use Rattle.def_entry.specs.Seen.{seen_pair}
 use Rattle.session.specs.Input.{whole_lines, unfinished}
 use Rattle.session.specs.Standing.{now_of}
@@ -21,8 +21,7 @@ returns-in-Ok-true-clause-told g c = λ base first taken more s.
 pub loop-piece-preserved : goal.loop-piece-preserved
 loop-piece-preserved g c = record {
   counted = c.in-Ok-false.ensures.counted ∙ c.loop-piece.invariant.counted;
-  kept = c.in-Ok-false.ensures.kept ∙ c.loop-piece.invariant.kept;
-  stores = c.in-Ok-false.ensures.stores ∙ c.loop-piece.invariant.stores;
+  later = omega (arith, c.in-Ok-false.ensures.later, c.loop-piece.invariant.later);
   fed = λ base first taken s.
       let p = c.loop-piece.invariant.fed base first taken s in
       let told = c.in-Ok-false.ensures.told base (talk_over first (whole_lines (taken ++ p.0)))

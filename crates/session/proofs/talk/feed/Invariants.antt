@@ -1,4 +1,4 @@
-use Rattle.std.proofs.Common.{◌≡◌, ◌++◌, ℕ, List, length}
+use Rattle.std.proofs.Common.{◌≡◌, ◌++◌, ◌≤◌, ℕ, List, length}
 use Rattle.session.specs.Standing.{Base, Stands, now_of}
 use Rattle.session.specs.Talks.{Talk}
 use Rattle.session.proofs.talk.feed.Given as goal
@@ -6,8 +6,7 @@ use Rattle.session.proofs.talk.feed.Given as goal
 abbrev pub invariant-loop-piece : goal.invariant-loop-piece
 invariant-loop-piece g l = record {
   counted : g.F.Files.faults l.files ≡ g.F.Files.faults l.initial.files;
-  kept : g.F.Files.files l.files ≡ g.F.Files.files l.initial.files;
-  stores : g.F.Files.store_faults l.files ≡ g.F.Files.store_faults l.initial.files;
+  later : g.F.Files.store_faults l.initial.files ≤ g.F.Files.store_faults l.files;
   fed : (base : Base) (first : Talk) (taken : List ℕ) → Stands base first taken l.initial.held
       (now_of l.initial.said l.initial.session (g.F.Files.files l.initial.files) l.initial.steps)
       → (done : List ℕ) × (l.block ≡ done ++ l.rest) × Stands base first (taken ++ done) l.held

@@ -1,0 +1,81 @@
+-- What is told behind an edit of what is watched.
+use Rattle.std.proofs.Common.{◌≡◌, ◌+◌, ◌∷◌, [], ℕ, List, Ok, Option, refl, sym, ap, subst, ◌∙◌, arith}
+use Rattle.units_io.specs.FileMap.{FileMap}
+use Rattle.deck.specs.Decks.{Contents}
+use Rattle.deck.specs.Tables.{table as table_in}
+use Rattle.edit_history.specs.Histories.{Course}
+use Rattle.edit_history.specs.Timelines.{timeline}
+use Rattle.edit_history.specs.Versions.{version_of}
+use Rattle.live_table.specs.Shown.{Follows, Shown}
+use Rattle.live_table.specs.States.{Becomes, Event}
+use Rattle.live_table.proofs.Following.{follows_both}
+use Rattle.reply.specs.declared.options.Options.{Options}
+use Rattle.session.specs.Answers.{editing}
+use Rattle.session.specs.EditResults.{EditResult, Made, Refused}
+use Rattle.session.specs.Parts.{IsEdited, Makes, Said}
+use Rattle.session.specs.Queries.{Leaves, after_events}
+use Rattle.session.specs.Sessions.{State, known, known_dated, state_of}
+use Rattle.session.specs.Versions.{Dated, dated, versions_of}
+use Rattle.session.specs.Watching.{edit_events, watched_queries}
+use Rattle.session.specs.declared.answer.LineReply.{LineReply}
+use Rattle.session.specs.declared.editing.EditResult.{EditResult as Declared}
+use Rattle.session.specs.declared.editing.EditResult.TheVariants as answer
+use Rattle.session.specs.declared.fault.SessionFault.{SessionFault}
+use Rattle.session.proofs.Leaving.{leaves}
+use Rattle.watch.specs.Edits.{told_by_edit}
+use Rattle.watch.specs.Watched.{Subject}
+
+no_more : (n : ℕ) → n ≡ n + 0
+no_more n = omega arith
+
+-- an answer that says that the edit is made
+pub is_made : (r : EditResult) (said : Declared) (old new : Dated) → said ≡ answer.Made
+    → IsEdited {E = SessionFault} r (Ok said) old new → Makes r old new
+is_made r said old new e is = subst (λ (a : Declared). IsEdited {E = SessionFault} r (Ok a) old new) e is
+
+module _ (r : EditResult) (notices : List ℕ) (options : Options) (pending : Option (List ℕ)) (m : FileMap) (old : Shown)
+    (before : Course) (watched : List Subject) (reply : LineReply) where
+  abbrev was : State
+  was = state_of (known_dated options (dated old before) pending watched) m
+
+  -- a line refuses the edit
+  pub refused_answered : (new : Dated) (n : ℕ) → r ≡ Refused reply.out → new ≡ dated old before → reply.err ≡ []
+      → Said (editing r notices was) reply (known_dated options new pending watched) n n
+  refused_answered new n is same quiet =
+      subst (λ (e : EditResult). Said (editing e notices was) reply (known_dated options new pending watched) n n)
+      (sym is) (record {
+        out = refl;
+        err = quiet;
+        session = ap (λ (d : Dated). known_dated options d pending watched) same;
+        steps = no_more n;
+      })
+
+  module _ (mid new : Shown) (after : Course) (watched_now : List Subject) (n k : ℕ)
+      (makes : Makes r (dated old before) (dated mid after))
+      (asked : Follows (watched_queries (table_in mid.deck) options watched) mid new n k) (deck : new.deck ≡ mid.deck)
+      (same : watched_now ≡ watched) where
+    abbrev events : List Event
+    events = edit_events mid.deck options watched
+
+    left : Leaves events old new n k
+    left = leaves events old new n k
+        (follows_both (Becomes (table_in mid.deck) ∷ []) (watched_queries (table_in mid.deck) options watched) old mid new
+        n n k (makes.edit n) asked)
+
+    behind : known_dated options (dated new after) pending watched_now
+        ≡ known options (after_events events mid.deck old) pending (versions_of (timeline after (version_of mid.deck)))
+        watched
+    behind =
+        ap (λ (w : List Subject). known_dated options (dated new after) pending w) same
+        ∙ ap (λ (d : Contents). known options new pending (versions_of (timeline after (version_of d))) watched) deck
+        ∙ ap (λ (t : Shown). known options t pending (versions_of (timeline after (version_of mid.deck))) watched)
+        (left.table ∙ ap (λ (d : Contents). after_events events d old) deck)
+
+    -- the edit is made, and what it has changed is told
+    pub made_answered : reply.out ≡ told_by_edit (table_in old.deck) (table_in mid.deck) options watched
+        → reply.err ≡ notices
+        → Said (editing r notices was) reply (known_dated options (dated new after) pending watched_now) n k
+    made_answered told noticed =
+        subst (λ (e : EditResult). Said (editing e notices was) reply
+        (known_dated options (dated new after) pending watched_now) n k) (sym makes.is)
+        (record { out = told; err = noticed; session = behind; steps = left.steps })

@@ -1,0 +1,37 @@
+-- The versions of the deck of a session that an undo and a redo give back.
+use Rattle.std.specs.Prelude.{[], List}
+use Rattle.deck.specs.Decks.{Contents}
+use Rattle.edit_history.specs.Histories.{Course}
+use Rattle.edit_history.specs.Timelines.{Timeline, edited, timeline}
+use Rattle.edit_history.specs.Versions.{Version, version_of}
+use Rattle.live_table.specs.Shown.{Shown}
+
+-- those before the present one, the last of them first, and those that were undone, the one undone last first
+pub record Versions : Type 0 where
+  pub past : List Version
+  pub future : List Version
+
+-- none: a deck that was not edited
+abbrev pub no_versions : Versions
+no_versions = record { past = []; future = [] }
+
+-- with the present one they are a timeline
+abbrev pub timeline_of : Contents → Versions → Timeline
+timeline_of deck versions = record { past = versions.past; present = version_of deck; future = versions.future }
+
+abbrev pub versions_of : Timeline → Versions
+versions_of t = record { past = t.past; future = t.future }
+
+-- a live table with the versions of its deck
+pub record Dated : Type 0 where
+  pub table : Shown
+  pub versions : Versions
+
+-- those behind an edit to this deck: the version before it is put on the past, and the future is empty
+abbrev pub versions_behind : Contents → Dated → Versions
+versions_behind deck before = versions_of (edited (version_of deck) (timeline_of before.table.deck before.versions))
+
+-- by its history
+abbrev pub dated : Shown → Course → Dated
+dated table history =
+    record { table = table; versions = versions_of (timeline history (version_of table.deck)) }

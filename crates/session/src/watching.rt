@@ -1,0 +1,84 @@
+//! Conversions that a session watches.
+
+ghost use Rattle.std.specs.Prelude.{◌≡◌, ℕ, List, map, IfOk, OnOk, false};
+ghost use Rattle.std.specs.declared.option.Option.{Option};
+ghost use Rattle.units_io.specs.FileMap.{FileMap};
+ghost use Rattle.def_entry.specs.Tables.{Table};
+ghost use Rattle.deck.specs.Tables.{table as table_in};
+ghost use Rattle.reply.specs.Calls.{AreMade};
+ghost use Rattle.reply.specs.Options.{IsPrintable};
+ghost use Rattle.session.specs.Answering.{IsCalm};
+ghost use Rattle.session.specs.Answers.{watching};
+ghost use Rattle.session.specs.Parts.{IsSaid};
+ghost use Rattle.session.specs.Sessions.{known, state_of};
+ghost use Rattle.session.specs.Versions.{Versions};
+ghost use Rattle.session.specs.Watching.{is_full, watched_queries};
+ghost use Rattle.watch.specs.Edits.{told_by_edit};
+ghost use Rattle.watch.specs.Watched.{AreCurrent, subject, subject_of};
+
+use crate::answer::{LineReply, saying};
+use crate::fault::SessionFault;
+use live_table::LiveTable;
+use reply::Options;
+use std::alloc::{AllocError, Global};
+use std::sync::ledger::Ledger;
+use units_io::{Steps, Text};
+use watch::{WatchFault, Watches};
+
+/// What an edit has changed of what is watched, for which all is asked for again. The only error is want of memory, after
+/// which nothing is watched.
+pub(crate) fn tell_changes<L: Ledger>(
+    alloc: Global,
+    options: &Options,
+    table: &mut LiveTable,
+    watches: &mut Watches,
+    steps: &mut Steps<L>,
+) -> Result<Text, AllocError>
+    requires { IsPrintable options.now }
+    ensures told { (before : Table) → AreCurrent before options.now watches.old → IfOk result (λ text. text
+        ≡ told_by_edit before (table_in table.old.deck) options.now (map subject_of watches.old)) }
+    ensures watched { OnOk result (map subject_of watches.new ≡ map subject_of watches.old) }
+    ensures current { AreCurrent (table_in table.new.deck) options.now watches.new }
+    ensures queries { AreMade (watched_queries (table_in table.old.deck) options.now (map subject_of watches.old))
+        result table.old table.new steps.old steps.new }
+    ensures deck { table.new.deck ≡ table.old.deck }
+{
+    match watches.after_edit(alloc, table, options, steps) {
+        Ok(text) => Ok(text),
+        Err(fault) => {
+            watches.clear();
+            Err(fault)
+        }
+    }
+}
+
+/// Watches a conversion, and tells its reply, unless as many are watched as there may be.
+pub(crate) fn watch<L: Ledger>(
+    alloc: Global,
+    options: &Options,
+    table: &mut LiveTable,
+    watches: &mut Watches,
+    from: &[u8],
+    to: &[u8],
+    steps: &mut Steps<L>,
+) -> Result<LineReply, SessionFault>
+    requires printable { IsPrintable options.now }
+    requires current { AreCurrent (table_in table.old.deck) options.now watches.old }
+    ensures said { (pending : Option (List ℕ)) (versions : Versions) (m : FileMap) → IsSaid
+        (watching (is_full (map subject_of watches.old)) (subject from.now to.now)
+        (state_of (known options.now table.old pending versions (map subject_of watches.old)) m)) result
+        (known options.now table.new pending versions (map subject_of watches.new)) steps.old steps.new }
+    ensures done { IfOk result (λ reply. reply.done ≡ false) }
+    ensures deck { table.new.deck ≡ table.old.deck }
+    ensures current { AreCurrent (table_in table.new.deck) options.now watches.new }
+    ensures calm { IsCalm result }
+{
+    match watches.add(alloc, table, options, from, to, steps) {
+        Ok(text) => Ok(saying(alloc, text)),
+        Err(WatchFault::TooMany) => {
+            let line = Text::from_bytes(alloc, b"too many watches\n")?;
+            Ok(saying(alloc, line))
+        }
+        Err(WatchFault::OutOfMemory) => Err(SessionFault::OutOfMemory),
+    }
+}
