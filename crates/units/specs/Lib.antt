@@ -1,12 +1,1 @@
-pub mod Asked
-pub mod BuiltIn
-pub mod Calls
-pub mod Definitions
-pub mod Endings
 pub mod Environment
-pub mod Needs
-pub mod Options
-pub mod Planning
-pub mod Plans
-pub mod Settings
-pub mod Work

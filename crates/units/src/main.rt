@@ -1,30 +1,18 @@
 //! Converts between units by definitions of a file, or by those that are built in.
 #![tactic(auto)]
 
-mod asking;
-mod built_in;
-mod definitions;
 mod environment;
-mod halt;
-mod no_deck;
-mod options;
-mod plan;
-mod run;
-mod status;
 #[cfg(test)]
 mod tests;
-mod words_plan;
-mod work;
 
 ghost use Rattle.std.specs.Prelude.{◌≡◌, ◌<◌};
 
 use environment::{collect_vars, collect_words};
-use run::units_main;
-use status::Status;
 use std::marker::Brand;
 use std::process::ExitCode;
 use std::sync::ledger::{Blank, Ledger};
 use units_io::{DirFiles, StdSink, StdSource, Steps, Texts, Vars};
+use units_run::{Status, units_main};
 
 // The run on the system's streams and files, with a count of steps that nobody reads.
 fn run_on<L: Ledger>(rt: HostRuntime, words: &Texts, vars: &Vars, blank: Blank) -> Status

@@ -1,0 +1,5 @@
+//! Runs of the program over files, sources and sinks in memory that fail at a given call.
+#![tactic(auto)]
+
+#[cfg(test)]
+mod tests;

@@ -1,0 +1,97 @@
+-- A plan, by the words.
+use Rattle.std.proofs.Common.{◌≡◌, ◌&&◌, ◌||◌, inl, inr, ℕ, List, Bool, true, false, Result, Err, Some, None, refl, sym}
+use Rattle.std.proofs.Common.{ap, subst, ◌∙◌, if◌then◌else◌}
+use Rattle.std.specs.declared.option.Option.{Option}
+use Rattle.units_io.specs.FileMap.{FileMap}
+use Rattle.units_io.specs.Named.{Pairs}
+use Rattle.command_line.specs.Taken.{are_taken}
+use Rattle.command_line.specs.Fields.{command_line_of}
+use Rattle.command_line.specs.Usage.{usage_text}
+use Rattle.command_line.specs.declared.fields.CommandLine.{CommandLine}
+use Rattle.deck.specs.Decks.{Contents}
+use Rattle.deck.specs.Loading.{IsLoaded, MayFail, faults_after_load}
+use Rattle.deck.specs.declared.fault.DeckFault.{DeckFault}
+use Rattle.deck.specs.declared.fault.DeckFault.TheVariants as fault
+use Rattle.session.specs.Telling.{TellsIf}
+use Rattle.units_run.specs.Definitions.{no_deck_line}
+use Rattle.units_run.specs.Needs.{is_session, loads_file, needs_files}
+use Rattle.units_run.specs.Planning.{IsPlanned}
+use Rattle.units_run.specs.Plans.{complaint}
+use Rattle.units_run.specs.Work.{file_plan, line_plan, plan_of}
+use Rattle.units_run.specs.declared.plan.Plan.{Plan}
+use Rattle.units_run.specs.declared.status.Status.TheVariants.{NoFile, Usage}
+
+-- words that are taken, and words that are not
+pub plan_taken : (words : List (List ℕ)) (vars : Pairs) (m : FileMap) (line : CommandLine) → are_taken words ≡ true
+    → line ≡ command_line_of words → line_plan line vars m ≡ plan_of words vars m
+unfolding plan_of
+plan_taken words vars m line taken read =
+    ap (λ (l : CommandLine). line_plan l vars m) read
+    ∙ sym (ap (λ b. if b then line_plan (command_line_of words) vars m else complaint usage_text Usage) taken)
+
+pub plan_untaken : (words : List (List ℕ)) (vars : Pairs) (m : FileMap) → are_taken words ≡ false
+    → complaint usage_text Usage ≡ plan_of words vars m
+unfolding plan_of
+plan_untaken words vars m taken =
+    sym (ap (λ b. if b then line_plan (command_line_of words) vars m else complaint usage_text Usage) taken)
+
+-- there is no deck
+pub deck_missing : {E : Type 0} (outcome : Result Contents DeckFault) (fault : DeckFault) (line : CommandLine)
+    (name : List ℕ) (m : FileMap) (result : Result Plan E) (n : ℕ) → (MayFail fault → ⊥) → IsLoaded outcome (Err fault)
+    → IsPlanned (complaint (no_deck_line fault name) NoFile) m result n n
+    → IsPlanned (file_plan line name outcome m) m result n n
+deck_missing outcome fault line name m result n known (inl may) planned = absurd (known may)
+deck_missing outcome fault line name m result n known (inr is) planned =
+    subst (λ (o : Result Contents DeckFault). IsPlanned (file_plan line name o m) m result n n) (sym is) planned
+
+-- then no fetch failed
+pub none_failed : (n : ℕ) (fault : DeckFault) → (MayFail fault → ⊥)
+    → faults_after_load {T = Contents} n (Err fault) ≡ n
+none_failed n (fault.BadLine reason) known = refl
+none_failed n fault.NoSuchKey known = refl
+none_failed n fault.DeckFull known = refl
+none_failed n fault.Absent known = refl
+none_failed n fault.TooLong known = refl
+none_failed n fault.ReadFailed known = absurd (known (inr refl))
+none_failed n fault.OutOfMemory known = refl
+
+left_false : (a b : Bool) → (a || b) ≡ false → a ≡ false
+left_false true b e = e
+left_false false b e = refl
+
+-- what words do not need, their command line does not load
+pub loads_needed : (words : List (List ℕ)) (line : CommandLine) → are_taken words ≡ true → line ≡ command_line_of words
+    → needs_files words ≡ false → loads_file line ≡ false
+loads_needed words line taken read none =
+    let read_line = command_line_of words in
+    ap loads_file read
+    ∙ left_false (loads_file read_line) (is_session read_line)
+    (sym (ap (λ b. b && (loads_file read_line || is_session read_line)) taken) ∙ none)
+
+-- what serves a need serves a lesser one
+pub tells_less : {X : Type 0} (needed less : Bool) (o : Option X) (x : X) → (needed ≡ false → less ≡ false)
+    → TellsIf needed o x → TellsIf less o x
+tells_less needed less (Some told) x h s = s
+tells_less needed less None x h s = h s
+
+-- a session needs files
+pub input_files : (words : List (List ℕ)) → (are_taken words && is_session (command_line_of words)) ≡ true
+    → needs_files words ≡ true
+input_files words e =
+    by (are_taken words) (loads_file (command_line_of words)) (is_session (command_line_of words)) e
+  where
+    by : (a l s : Bool) → (a && s) ≡ true → (a && (l || s)) ≡ true
+    by true true s e = refl
+    by true false s e = e
+    by false l s e = e
+
+-- where something is needed it is told
+pub tells_needed : {X : Type 0} (needed : Bool) (o : Option X) (x : X) → needed ≡ true → TellsIf needed o x → o ≡ Some x
+tells_needed true None x e h = cc
+tells_needed false None x e h = cc
+tells_needed needed (Some told) x e h = ap Some h
+
+-- what is told is told, needed or not
+pub tells_told : {X : Type 0} (needed : Bool) (o : Option X) (x : X) → o ≡ Some x → TellsIf needed o x
+tells_told needed (Some told) x e = cc
+tells_told needed None x e = cc

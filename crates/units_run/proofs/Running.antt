@@ -1,0 +1,169 @@
+-- The run of a plan.
+use Rattle.std.proofs.Common.{◌≡◌, ◌≤◌, ◌⊎◌, inl, inr, ℕ, List, Bool, true, false, Some, None, refl, sym, ap, subst}
+use Rattle.std.proofs.Common.{◌∙◌, arith}
+use Rattle.std.specs.declared.option.Option.{Option}
+use Rattle.units_io.specs.Bytes.{grown}
+use Rattle.units_io.specs.FileMap.{FileMap}
+use Rattle.session.specs.Hearing.{heard}
+use Rattle.session.specs.Input.{whole_lines, lines_of}
+use Rattle.session.specs.Outside.{Outside}
+use Rattle.session.specs.Sessions.{Known}
+use Rattle.session.specs.Talks.{Talk}
+use Rattle.session.specs.Telling.{TellsIf, when_told}
+use Rattle.session.specs.Waiting.{Opens}
+use Rattle.session.specs.Written.{Course, IsAll, IsEnded, session_course}
+use Rattle.session.specs.declared.over_source.SessionEnd.{SessionEnd}
+use Rattle.session.specs.declared.over_source.SessionEnd.TheVariants as end
+use Rattle.session.specs.declared.said.Said.{Said}
+use Rattle.units_run.specs.Calls.{run_over}
+use Rattle.units_run.specs.Endings.{IsFaultless, IsLeft, IsStated, IsWorked, MayEnd, status_of}
+use Rattle.units_run.specs.Planning.{IsPlan}
+use Rattle.units_run.specs.Plans as plans
+use Rattle.units_run.specs.declared.plan.Plan.TheVariants.{Whole, Opened}
+use Rattle.units_run.specs.declared.status.Status.{Status}
+use Rattle.units_run.specs.declared.status.Status.TheVariants.{Done, Refused, Usage, NoFile, ReadFault, WriteFault}
+use Rattle.units_run.specs.declared.status.Status.TheVariants.{NoMemory, InputTooLong}
+
+worked_stated : (missing : Bool) (status : Status) → IsWorked missing status → IsStated status
+worked_stated missing Done w = tt
+worked_stated missing Refused w = tt
+worked_stated missing NoFile w = tt
+worked_stated missing Usage w = tt
+worked_stated true ReadFault w = absurd w
+worked_stated true WriteFault w = absurd w
+worked_stated true NoMemory w = absurd w
+worked_stated true InputTooLong w = absurd w
+worked_stated false ReadFault w = absurd w
+worked_stated false WriteFault w = absurd w
+worked_stated false NoMemory w = absurd w
+worked_stated false InputTooLong w = absurd w
+
+-- the ending of a whole plan is a stated one
+pub may_end_stated : (taken missing : Bool) (status : Status) → MayEnd taken missing status → IsStated status
+may_end_stated false missing status is = subst IsStated (sym is) tt
+may_end_stated true missing status is = worked_stated missing status is
+
+pub whole_left : (course : Course) (wanted status : Status) (before after : Outside) → IsStated status → status ≡ wanted
+    → IsAll course.whole before after → IsLeft course wanted status before after
+whole_left course wanted Done before after stated is all = (is, all)
+whole_left course wanted Refused before after stated is all = (is, all)
+whole_left course wanted Usage before after stated is all = (is, all)
+whole_left course wanted NoFile before after stated is all = (is, all)
+whole_left course wanted ReadFault before after stated is all = absurd stated
+whole_left course wanted WriteFault before after stated is all = absurd stated
+whole_left course wanted NoMemory before after stated is all = absurd stated
+whole_left course wanted InputTooLong before after stated is all = absurd stated
+
+-- the course of a plan, and its ending
+abbrev pub plan_course : plans.Plan → FileMap → (input : List ℕ) → Course
+plan_course want files input = record {
+  whole = (run_over want files (heard (lines_of input))).output;
+  shown = λ taken. (run_over want files (whole_lines taken)).output;
+  input = input;
+}
+
+abbrev pub plan_end : plans.Plan → FileMap → (input : List ℕ) → Status
+plan_end want files input = (run_over want files (heard (lines_of input))).status
+
+-- a whole plan that is written
+pub whole_run : (want : plans.Plan) (files : FileMap) (input : List ℕ) (said : Said) (status : Status)
+    (before after : Outside) → IsStated status → IsPlan want files (Whole said status) before.steps after.steps
+    → after.out ≡ grown before.out said.out.items → after.err ≡ grown before.err said.err.items
+    → after.files ≡ when_told before.files files
+    → IsLeft (plan_course want files input) (plan_end want files input) status before after
+whole_run (plans.Whole run) files input said status before after stated planned out err kept =
+    whole_left (plan_course (plans.Whole run) files input) run.status status before after stated planned.ends
+    (record {
+      out = out ∙ ap (grown before.out) planned.out;
+      err = err ∙ ap (grown before.err) planned.err;
+      files = kept;
+      steps = planned.steps;
+    })
+whole_run (plans.Opened talk) files input said status before after stated planned out err kept = absurd planned
+
+-- a session that is opened
+pub opened_talk : (want : plans.Plan) (files : FileMap) (said : Said) (session : Known) (before now : Outside)
+    → IsPlan want files (Opened said session) before.steps now.steps → now.out ≡ before.out → now.err ≡ before.err
+    → now.files ≡ before.files → before.files ≡ Some files → before.fetch_faults ≤ now.fetch_faults
+    → (first : Talk) × (want ≡ plans.Opened first) × Opens first said session before now
+opened_talk (plans.Whole run) files said session before now planned out err kept told faults = absurd planned
+opened_talk (plans.Opened first) files said session before now planned out err kept told faults = (
+  first,
+  refl,
+  record {
+    out = out;
+    err = err;
+    files = kept;
+    faults = faults;
+    at = record {
+      out = planned.out;
+      err = planned.err;
+      session = planned.session;
+      files = kept ∙ told ∙ planned.files;
+      steps = planned.steps;
+    };
+  },
+)
+
+session_left : (course : Course) (end : SessionEnd) (before after : Outside) → IsEnded course end before after
+    → IsLeft course Done (status_of end) before after
+session_left course end.Done before after ended = (refl, ended)
+session_left course end.ReadFault before after ended = ended
+session_left course end.WriteFault before after ended = ended
+session_left course end.NoMemory before after ended = ended
+session_left course end.InputTooLong before after ended = ended
+
+-- the run of an opened plan is that of its session
+pub opened_run : (want : plans.Plan) (first : Talk) (files : FileMap) (input : List ℕ) (end : SessionEnd)
+    (before after : Outside) → want ≡ plans.Opened first → IsEnded (session_course first input) end before after
+    → IsLeft (plan_course want files input) (plan_end want files input) (status_of end) before after
+opened_run want first files input end before after is ended =
+    subst
+    (λ (w : plans.Plan). IsLeft (plan_course w files input) (plan_end w files input) (status_of end) before after)
+    (sym is) (session_left (session_course first input) end before after ended)
+
+-- files that are told are as they were when nothing changes them
+pub tells_stay : (needed : Bool) (files : Option FileMap) (m : FileMap) → TellsIf needed files m
+    → files ≡ when_told files m
+tells_stay needed None m h = refl
+tells_stay needed (Some told) m h = ap Some h
+
+-- a session that failed so ended so
+pub read_end : (e : SessionEnd) → status_of e ≡ ReadFault → e ≡ end.ReadFault
+read_end end.Done is = cc
+read_end end.ReadFault is = refl
+read_end end.WriteFault is = cc
+read_end end.NoMemory is = cc
+read_end end.InputTooLong is = cc
+
+pub write_end : (e : SessionEnd) → status_of e ≡ WriteFault → e ≡ end.WriteFault
+write_end end.Done is = cc
+write_end end.ReadFault is = cc
+write_end end.WriteFault is = refl
+write_end end.NoMemory is = cc
+write_end end.InputTooLong is = cc
+
+pub done_end : (e : SessionEnd) → status_of e ≡ Done → e ≡ end.Done
+done_end end.Done is = refl
+done_end end.ReadFault is = cc
+done_end end.WriteFault is = cc
+done_end end.NoMemory is = cc
+done_end end.InputTooLong is = cc
+
+-- an ending that is neither a failed read nor a failed write is no fault
+pub no_fault : (ending : Status) → (ending ≡ ReadFault → ⊥) → (ending ≡ WriteFault → ⊥) → IsFaultless ending
+no_fault Done read write = tt
+no_fault Refused read write = tt
+no_fault Usage read write = tt
+no_fault NoFile read write = tt
+no_fault ReadFault read write = absurd (read refl)
+no_fault WriteFault read write = absurd (write refl)
+no_fault NoMemory read write = tt
+no_fault InputTooLong read write = tt
+
+pub neither : {A B : Type 0} → (A → ⊥) → (B → ⊥) → A ⊎ B → ⊥
+neither a b (inl x) = a x
+neither a b (inr x) = b x
+
+pub same_le : (n k : ℕ) → k ≡ n → n ≤ k
+same_le n k e = omega arith

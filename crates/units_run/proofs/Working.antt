@@ -1,0 +1,76 @@
+-- Plans over a deck.
+use Rattle.std.proofs.Common.{◌≡◌, ◌+◌, ◌++◌, ◌||◌, ℕ, List, [], Bool, true, false, not, is_some, Option, Result, IfOk}
+use Rattle.std.proofs.Common.{sym, ap, subst, ◌∙◌, if◌then◌else◌}
+use Rattle.units_io.specs.FileMap.{FileMap}
+use Rattle.def_entry.specs.Tables.{Table}
+use Rattle.def_lines.specs.Words.{is_empty}
+use Rattle.command_line.specs.declared.fields.CommandLine.{CommandLine}
+use Rattle.deck.specs.Decks.{Contents}
+use Rattle.deck.specs.Tables.{table}
+use Rattle.live_table.specs.Shown.{Follows, Shown}
+use Rattle.live_table.specs.States.{Event}
+use Rattle.reply.specs.declared.options.Options.{Options}
+use Rattle.reply.specs.declared.reply.Reply.{Reply}
+use Rattle.reply.specs.Options.{style_of}
+use Rattle.session.specs.Lines.{lines_of_texts}
+use Rattle.session.specs.Queries.{LeavesLaw, newly}
+use Rattle.session.specs.declared.said.Said.{Said}
+use Rattle.survey.specs.Checks.{check_report, check_queries}
+use Rattle.units_run.specs.Asked.{Asked, asked_for}
+use Rattle.units_run.specs.Options.{options_of}
+use Rattle.units_run.specs.Planning.{IsFor, IsPlan}
+use Rattle.units_run.specs.Work.{checked, checked_lines, fresh, replied}
+use Rattle.units_run.specs.declared.plan.Plan.{Plan}
+use Rattle.units_run.specs.declared.plan.Plan.TheVariants.{Whole}
+use Rattle.units_run.specs.declared.status.Status.{Status}
+use Rattle.units_run.specs.declared.status.Status.TheVariants.{Done, Refused}
+
+-- what is asked for by equal options and texts
+pub asked_same : (t : Table) (a b : Options) (from from_too to to_too : List ℕ) → a ≡ b → from ≡ from_too → to ≡ to_too
+    → asked_for t a from to ≡ asked_for t b from_too to_too
+asked_same t a b from from_too to to_too o f g =
+    ap (λ (x : Options). asked_for t x from to) o
+    ∙ (ap (λ (x : List ℕ). asked_for t b x to) f ∙ ap (λ (x : List ℕ). asked_for t b from_too x) g)
+
+-- the plan of a command line is that of its kind
+pub work_kind : {E : Type 0} (result : Result Plan E) (from : Option (List ℕ)) (check session : Bool)
+    → not (is_some from || check) ≡ session → IfOk result (IsFor true false session)
+    → IfOk result (IsFor true false (not (is_some from || check)))
+work_kind result from check session is kind =
+    subst (λ (s : Bool). IfOk result (IsFor true false s)) (sym is) kind
+
+module _ (law : LeavesLaw) (deck : Contents) (before after : Shown) (old new : ℕ) (is : before ≡ fresh deck)
+    (m : FileMap) where
+  -- the steps of queries of a table of which no name is settled
+  queries-counted : (es : List Event) → Follows es before after old new → new ≡ old + newly es (fresh deck)
+  queries-counted es follows =
+      (law es (fresh deck) after old new (subst (λ (s : Shown). Follows es s after old new) is follows)).steps
+
+  -- a reply
+  pub reply-planned : (asked : Asked) (reply : Reply) (said : Said) (status : Status)
+      → (reply ≡ asked.reply) × Follows asked.queries before after old new → said.out.items ≡ reply.text
+      → said.err.items ≡ lines_of_texts deck.notices → status ≡ (if reply.refused then Refused else Done)
+      → IsPlan (replied deck asked) m (Whole said status) old new
+  reply-planned asked reply said status answer out err ends = record {
+    out = out ∙ ap (λ (r : Reply). r.text) answer.0;
+    err = err;
+    ends = ends ∙ ap (λ (r : Reply). if r.refused then Refused else Done) answer.0;
+    steps = queries-counted asked.queries answer.1;
+  }
+
+  -- a check
+  pub check-planned : (line : CommandLine) (notices report lines : List ℕ) (said : Said) (status : Status)
+      → notices ≡ lines_of_texts deck.notices → report ≡ check_report (table deck) (style_of (options_of line))
+      → Follows (check_queries (table deck)) before after old new → lines ≡ notices ++ report
+      → said.out.items ≡ lines → said.err.items ≡ [] → status ≡ (if is_empty lines then Done else Refused)
+      → IsPlan (checked line deck) m (Whole said status) old new
+  check-planned line notices report lines said status noticed is follows written out err ends =
+      let whole : lines ≡ checked_lines line deck =
+      written
+      ∙ (ap (λ (ls : List ℕ). ls ++ report) noticed ∙ ap (λ (ls : List ℕ). lines_of_texts deck.notices ++ ls) is) in
+      record {
+        out = out ∙ whole;
+        err = err;
+        ends = ends ∙ ap (λ (ls : List ℕ). if is_empty ls then Done else Refused) whole;
+        steps = queries-counted (check_queries (table deck)) follows;
+      }

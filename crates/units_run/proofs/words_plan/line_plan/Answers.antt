@@ -1,0 +1,22 @@
+use Rattle.std.proofs.Common.{ℕ, Option, subst, sym}
+use Rattle.deck.specs.declared.settings.Settings.{Settings}
+use Rattle.session.specs.Trials.{trial}
+use Rattle.units_run.specs.Options.{options_of}
+use Rattle.units_run.specs.Planning.{IsPlan}
+use Rattle.units_run.specs.Settings.{settings_of}
+use Rattle.units_run.specs.Work.{plan_by, trial_plan}
+use Rattle.units_run.proofs.words_plan.line_plan.Goals as goal
+
+pub returns-in_ok-trial_plan-in-Some-clause-told :
+    goal.returns-in_ok-trial_plan-in-Some-clause-told
+returns-in_ok-trial_plan-in-Some-clause-told g c = λ m s.
+    let line = c.args.line.now in
+    let plan = c.in_ok-trial_plan-in-Some in
+    let old = c.args.steps.now in
+    let new = c.trial_plan.new.steps in
+    subst
+    (λ (rounds : Option ℕ). IsPlan (plan_by rounds line (settings_of line c.args.vars.now) m) m plan.field-0 old new)
+    (sym c.in-Some.is)
+    (subst
+    (λ (st : Settings). IsPlan (trial_plan (trial (options_of line) st c.in-Some.rounds)) m plan.field-0 old new)
+    c.in_ok-settings.ensures (plan.ensures.told m))

@@ -1,0 +1,25 @@
+use Rattle.std.proofs.Common.{Err, ap, subst, ◌∙◌}
+use Rattle.std.proofs.Common.{ℕ, List}
+use Rattle.units_run.specs.Planning.{IsPlan, IsPlanned}
+use Rattle.units_run.specs.Plans as plans
+use Rattle.units_run.specs.Plans.{complaint}
+use Rattle.units_run.specs.declared.status.Status.TheVariants.{Usage}
+use Rattle.units_run.proofs.Planned.{loads_needed, plan_taken, plan_untaken, tells_less}
+use Rattle.units_run.proofs.words_plan.make_plan.Goals as goal
+
+pub returns-in-Ok-clause-told : goal.returns-in-Ok-clause-told
+returns-in-Ok-clause-told g c = λ m s.
+    let words = c.args.words.now in
+    let read = c.in-Ok.ensures in
+    subst (λ (p : plans.Plan). IsPlanned p m c.line_plan.result c.args.steps.now c.line_plan.new.steps)
+    (plan_taken words c.args.vars.now m c.in-Ok.line read.taken read.read)
+    (c.line_plan.ensures.told m (tells_less _ _ _ m (loads_needed words c.in-Ok.line read.taken read.read) s))
+
+pub returns-in_ok-complaint-in-Err-Usage-clause-told : goal.returns-in_ok-complaint-in-Err-Usage-clause-told
+returns-in_ok-complaint-in-Err-Usage-clause-told g c = λ m s.
+    let plan = c.in_ok-complaint-in-Err-Usage in
+    subst (λ (p : plans.Plan). IsPlan p m plan.field-0 c.args.steps.now c.args.steps.now)
+    (ap (λ (t : List ℕ). complaint t Usage) c.usage_text.ensures
+    ∙ plan_untaken c.args.words.now c.args.vars.now m
+    (c.in-Err-Usage.ensures.usage (ap Err c.in-Err-Usage.field-0-is)))
+    (plan.ensures.told m c.args.steps.now)

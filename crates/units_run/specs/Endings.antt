@@ -1,0 +1,76 @@
+-- What a run leaves, by its ending.
+use Rattle.std.specs.Prelude.{◌≡◌, ℕ, List, Bool, true, false, ⊤}
+use Rattle.command_line.specs.Taken.{are_taken}
+use Rattle.command_line.specs.Fields.{command_line_of}
+use Rattle.session.specs.Outside.{Outside, Rests}
+use Rattle.session.specs.Written.{Course, IsAll, IsCutShort, IsFront}
+use Rattle.session.specs.declared.over_source.SessionEnd.{SessionEnd}
+use Rattle.session.specs.declared.over_source.SessionEnd.TheVariants as end
+use Rattle.units_run.specs.Calls.{Call, course_of, run_of}
+use Rattle.units_run.specs.Needs.{loads_file}
+use Rattle.units_run.specs.declared.status.Status.{Status}
+use Rattle.units_run.specs.declared.status.Status.TheVariants as status
+use Rattle.units_run.specs.declared.status.Status.TheVariants.{ReadFault, WriteFault, NoMemory, InputTooLong}
+
+-- the number that the process ends with
+abbrev pub code_of : Status → ℕ
+code_of status.Done = 0
+code_of status.Refused = 1
+code_of status.Usage = 2
+code_of status.NoFile = 3
+code_of status.ReadFault = 4
+code_of status.WriteFault = 5
+code_of status.NoMemory = 6
+code_of status.InputTooLong = 7
+
+-- an ending that is the end of a run, and neither a fault, a limit nor want of memory
+abbrev pub IsStated : Status → Type 0
+IsStated ReadFault = ⊥
+IsStated WriteFault = ⊥
+IsStated NoMemory = ⊥
+IsStated InputTooLong = ⊥
+IsStated ending = ⊤
+
+-- an ending that no fault makes
+abbrev pub IsFaultless : Status → Type 0
+IsFaultless ReadFault = ⊥
+IsFaultless WriteFault = ⊥
+IsFaultless ending = ⊤
+
+-- an ending of words that are taken, by whether they lead to a definition file, of which there may be no deck
+abbrev pub IsWorked : (missing : Bool) → Status → Type 0
+IsWorked missing status.Done = ⊤
+IsWorked missing status.Refused = ⊤
+IsWorked true status.NoFile = ⊤
+IsWorked missing ending = ⊥
+
+-- how a run may end, faults, limits and want of memory aside, by whether its words are taken
+abbrev pub MayEnd : (taken missing : Bool) → Status → Type 0
+MayEnd false missing ending = ending ≡ status.Usage
+MayEnd true missing ending = IsWorked missing ending
+
+-- the same by the words
+abbrev pub MayEndBy : (words : List (List ℕ)) → Status → Type 0
+MayEndBy words ending = MayEnd (are_taken words) (loads_file (command_line_of words)) ending
+
+-- how a session ended, as an ending of the run
+abbrev pub status_of : SessionEnd → Status
+status_of end.Done = status.Done
+status_of end.ReadFault = status.ReadFault
+status_of end.WriteFault = status.WriteFault
+status_of end.NoMemory = status.NoMemory
+status_of end.InputTooLong = status.InputTooLong
+
+-- what is left of a run of this course and this ending: all of it; or a front, which is cut behind the bytes taken
+-- where the input is too long, and where a read failed that is none of a file
+abbrev pub IsLeft : Course → (wanted : Status) → Status → (before after : Outside) → Type 0
+IsLeft course wanted ReadFault before after =
+    IsFront course.whole before after × (Rests before.fetch_faults after.fetch_faults → IsCutShort course before after)
+IsLeft course wanted InputTooLong before after = IsFront course.whole before after × IsCutShort course before after
+IsLeft course wanted WriteFault before after = IsFront course.whole before after
+IsLeft course wanted NoMemory before after = IsFront course.whole before after
+IsLeft course wanted ending before after = (ending ≡ wanted) × IsAll course.whole before after
+
+-- what a run leaves: that of its words, variables, files and input, by its ending
+abbrev pub IsRun : Call → Status → (before after : Outside) → Type 0
+IsRun call ending before after = IsLeft (course_of call) (run_of call).status ending before after

@@ -1,0 +1,11 @@
+pub mod Asked
+pub mod BuiltIn
+pub mod Calls
+pub mod Definitions
+pub mod Endings
+pub mod Needs
+pub mod Options
+pub mod Planning
+pub mod Plans
+pub mod Settings
+pub mod Work

@@ -1,0 +1,45 @@
+-- A plan as the program has it.
+use Rattle.std.specs.Prelude.{◌≡◌, ◌+◌, ℕ, Bool, true, Some, Result, Ok, Err, ⊤}
+use Rattle.std.specs.declared.alloc.AllocError.{AllocError}
+use Rattle.units_io.specs.FileMap.{FileMap}
+use Rattle.live_table.specs.Shown.{Follows, Shown}
+use Rattle.reply.specs.declared.reply.Reply.{Reply}
+use Rattle.session.specs.Standing.{IsAt}
+use Rattle.session.specs.Waiting.{at_first}
+use Rattle.session.specs.declared.said.Said.{Said}
+use Rattle.units_run.specs.Asked.{Asked}
+use Rattle.units_run.specs.Endings.{MayEnd}
+use Rattle.units_run.specs.Plans as plans
+use Rattle.units_run.specs.declared.plan.Plan.{Plan}
+use Rattle.units_run.specs.declared.plan.Plan.TheVariants.{Whole, Opened}
+use Rattle.units_run.specs.declared.status.Status.{Status}
+use Rattle.units_run.specs.declared.status.Status.TheVariants.{NoFile}
+
+-- a whole run, as it is said, whose steps are taken
+pub record IsSaid (want : plans.WholeRun) (said : Said) (status : Status) (steps_old steps_new : ℕ) : Type 0 where
+  pub out : said.out.items ≡ want.out
+  pub err : said.err.items ≡ want.err
+  pub ends : status ≡ want.status
+  pub steps : steps_new ≡ steps_old + want.steps
+
+-- the program's plan is this one
+abbrev pub IsPlan : plans.Plan → FileMap → Plan → (steps_old steps_new : ℕ) → Type 0
+IsPlan (plans.Whole run) files (Whole said status) steps_old steps_new = IsSaid run said status steps_old steps_new
+IsPlan (plans.Opened talk) files (Opened said session) steps_old steps_new =
+    IsAt (at_first steps_old) talk (record { said = said; session = session; files = Some files; steps = steps_new })
+IsPlan want files plan steps_old steps_new = ⊥
+
+abbrev pub IsPlanned : {E : Type 0} → plans.Plan → FileMap → Result Plan E → (steps_old steps_new : ℕ) → Type 0
+IsPlanned want files (Ok plan) steps_old steps_new = IsPlan want files plan steps_old steps_new
+IsPlanned want files (Err _) steps_old steps_new = ⊤
+
+-- which plan there may be: a whole run by how it may end, which where the words lead to a session is only since there
+-- is no deck; and a session only where they lead to one
+abbrev pub IsFor : (taken missing session : Bool) → Plan → Type 0
+IsFor taken missing session (Whole said status) = (session ≡ true → status ≡ NoFile) × MayEnd taken missing status
+IsFor taken missing session (Opened said opened) = (taken ≡ true) × (session ≡ true)
+
+-- a live table gave this reply, and made the queries for it
+abbrev pub IsReplied : Asked → Result Reply AllocError → Shown → Shown → (old new : ℕ) → Type 0
+IsReplied asked (Ok reply) before after old new = (reply ≡ asked.reply) × Follows asked.queries before after old new
+IsReplied asked (Err _) before after old new = ⊤

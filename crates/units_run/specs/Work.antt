@@ -1,0 +1,95 @@
+-- What the words ask for: the usage line, a trial, a reply, a report, or a session.
+use Rattle.std.specs.Prelude.{◌++◌, ℕ, List, [], Option, Some, None, Result, Ok, Err, if◌then◌else◌, unwrap_or}
+use Rattle.std.specs.FinMap as map_of
+use Rattle.units_io.specs.FileMap.{FileMap}
+use Rattle.units_io.specs.Named.{Pairs}
+use Rattle.def_lines.specs.Words.{is_empty}
+use Rattle.command_line.specs.Taken.{are_taken}
+use Rattle.command_line.specs.Fields.{command_line_of}
+use Rattle.command_line.specs.Usage.{usage_text}
+use Rattle.command_line.specs.declared.fields.CommandLine.{CommandLine}
+use Rattle.deck.specs.Decks.{Contents}
+use Rattle.deck.specs.Loading.{after_load}
+use Rattle.deck.specs.Tables.{table}
+use Rattle.deck.specs.declared.fault.DeckFault.{DeckFault}
+use Rattle.deck.specs.declared.settings.Settings.{Settings}
+use Rattle.live_table.specs.Shown.{Shown}
+use Rattle.reply.specs.Options.{style_of}
+use Rattle.session.specs.Commands.{text_of}
+use Rattle.session.specs.Lines.{lines_of_texts}
+use Rattle.session.specs.Queries.{newly}
+use Rattle.session.specs.Sessions.{known, state_of}
+use Rattle.session.specs.Talks.{opened}
+use Rattle.session.specs.Trials.{Trial, trial}
+use Rattle.session.specs.Versions.{no_versions}
+use Rattle.survey.specs.Checks.{check_report, check_queries}
+use Rattle.units_run.specs.Asked.{Asked, asked_for}
+use Rattle.units_run.specs.Definitions.{built_in_deck, no_deck_line}
+use Rattle.units_run.specs.Options.{options_of}
+use Rattle.units_run.specs.Plans.{Plan, Whole, Opened, complaint}
+use Rattle.units_run.specs.Settings.{settings_of}
+use Rattle.units_run.specs.declared.status.Status.TheVariants.{Done, Refused, Usage, NoFile}
+
+-- a deck of which no name is settled
+abbrev pub fresh : Contents → Shown
+fresh deck = record { deck = deck; kept = map_of.empty; reductions = 0 }
+
+-- a reply on `out`, with the notices on `err`
+abbrev pub replied : Contents → Asked → Plan
+replied deck asked = Whole (record {
+  out = asked.reply.text;
+  err = lines_of_texts deck.notices;
+  steps = newly asked.queries (fresh deck);
+  status = if asked.reply.refused then Refused else Done;
+})
+
+-- the check report, with the notices at its head
+abbrev pub checked_lines : CommandLine → Contents → List ℕ
+checked_lines line deck = lines_of_texts deck.notices ++ check_report (table deck) (style_of (options_of line))
+
+-- the same on `out`; a line of it is a refusal
+abbrev pub checked : CommandLine → Contents → Plan
+checked line deck = Whole (record {
+  out = checked_lines line deck;
+  err = [];
+  steps = newly (check_queries (table deck)) (fresh deck);
+  status = if is_empty (checked_lines line deck) then Done else Refused;
+})
+
+-- a session over a deck
+abbrev pub opened_over : CommandLine → Contents → FileMap → Plan
+opened_over line deck files = Opened (opened (state_of (known (options_of line) (fresh deck) None no_versions []) files))
+
+-- what is done with a deck: the reply to FROM, the check, or a session
+abbrev pub work_by : (from : Option (List ℕ)) → CommandLine → Contents → FileMap → Plan
+work_by (Some from) line deck files =
+    replied deck (asked_for (table deck) (options_of line) (text_of from) (text_of (unwrap_or line.to [])))
+work_by None line deck files = if line.check then checked line deck else opened_over line deck files
+
+-- the same over the file of this name, of which there may be no deck
+abbrev pub file_plan : CommandLine → (name : List ℕ) → Result Contents DeckFault → FileMap → Plan
+file_plan line name (Ok deck) files = work_by line.from line deck files
+file_plan line name (Err fault) files = complaint (no_deck_line fault name) NoFile
+
+-- the same over the definition file, or over the built-in text where none is named
+abbrev pub deck_plan : (file : Option (List ℕ)) → CommandLine → Settings → FileMap → Plan
+deck_plan None line settings files = work_by line.from line (built_in_deck settings) files
+deck_plan (Some name) line settings files = file_plan line name (after_load files name settings) files
+
+-- what is told of a trial
+abbrev pub trial_plan : Trial → Plan
+trial_plan trial = Whole (record { out = trial.text; err = []; steps = trial.steps; status = Done })
+
+-- a trial, or work on a deck
+abbrev pub plan_by : (rounds : Option ℕ) → CommandLine → Settings → FileMap → Plan
+plan_by (Some rounds) line settings files = trial_plan (trial (options_of line) settings rounds)
+plan_by None line settings files = deck_plan line.file line settings files
+
+-- what a command line asks for
+abbrev pub line_plan : CommandLine → Pairs → FileMap → Plan
+line_plan line vars files = plan_by line.trial line (settings_of line vars) files
+
+-- what the words lead to
+unfoldable pub plan_of : (words : List (List ℕ)) → (vars : Pairs) → FileMap → Plan
+plan_of words vars files =
+    if are_taken words then line_plan (command_line_of words) vars files else complaint usage_text Usage

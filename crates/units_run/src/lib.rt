@@ -1,0 +1,18 @@
+//! What a run of the program does: the definitions that its words ask for, and the reply, the check, the trial or the
+//! session over them.
+#![tactic(auto)]
+
+mod asking;
+mod built_in;
+mod definitions;
+mod halt;
+mod no_deck;
+mod options;
+mod plan;
+mod run;
+mod status;
+mod words_plan;
+mod work;
+
+pub use run::units_main;
+pub use status::Status;

@@ -1,0 +1,52 @@
+//! A run over a file of which there is no deck.
+ghost use Rattle.std.specs.Prelude.{◌≡◌, ℕ, Bool, true, IfOk, IsErrOf};
+ghost use Rattle.units_io.specs.FileMap.{FileMap};
+ghost use Rattle.deck.specs.Loading.{MayFail};
+ghost use Rattle.units_run.specs.Definitions as spec;
+ghost use Rattle.units_run.specs.Planning.{IsFor, IsPlanned};
+ghost use Rattle.units_run.specs.Plans.{complaint};
+
+use crate::halt::Halt;
+use crate::plan::Plan;
+use crate::status::Status;
+use deck::DeckFault;
+use std::alloc::{AllocError, Global};
+
+/// The line on `err` that says why there is no deck of the file of this name, where no fetch failed and there was
+/// enough memory.
+pub(crate) fn no_deck_plan(alloc: Global, fault: &DeckFault, name: &[u8]) -> Result<Plan, Halt>
+    ensures told { (m : FileMap) (n : ℕ) →
+        IsPlanned (complaint (spec.no_deck_line fault.now name.now) Status.NoFile) m result n n }
+    ensures kind { (session : Bool) → IfOk result (IsFor true true session) }
+    ensures fault { IfOk result (λ plan. MayFail fault.now → ⊥) }
+    ensures cause { IsErrOf result Halt.ReadFault → fault.now ≡ DeckFault.ReadFailed }
+{
+    match fault {
+        DeckFault::ReadFailed => Err(Halt::ReadFault),
+        DeckFault::OutOfMemory => Err(Halt::NoMemory),
+        _ => Ok(no_deck_complaint(alloc, fault, name)?),
+    }
+}
+
+// The line on `err`.
+fn no_deck_complaint(alloc: Global, fault: &DeckFault, name: &[u8]) -> Result<Plan, AllocError>
+    ensures told { (m : FileMap) (n : ℕ) →
+        IsPlanned (complaint (spec.no_deck_line fault.now name.now) Status.NoFile) m result n n }
+    ensures kind { (session : Bool) → IfOk result (IsFor true true session) }
+{
+    let mut text = Vec::from_slice(alloc, no_deck(fault))?;
+    text.extend_from_slice(name)?;
+    text.push(b'\n')?;
+    Plan::complaint(alloc, &text, Status::NoFile)
+}
+
+// Why there is none.
+fn no_deck(fault: &DeckFault) -> &'static [u8]
+    ensures { result.now ≡ spec.no_deck fault.now }
+{
+    match fault {
+        DeckFault::TooLong => b"units: file too long: ".as_slice(),
+        DeckFault::DeckFull => b"units: deck full: ".as_slice(),
+        _ => b"units: no file: ".as_slice(),
+    }
+}

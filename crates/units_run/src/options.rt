@@ -1,0 +1,27 @@
+//! How replies are made and written, by the command line.
+ghost use Rattle.std.specs.Prelude.{◌≡◌};
+ghost use Rattle.reply.specs.Options.{IsPrintable};
+ghost use Rattle.units_run.specs.Options as spec;
+
+use command_line::CommandLine;
+use reply::Options;
+
+/// The options that a command line asks for.
+#[tactic(auto, unfolding(crate::specs::Options::options_of))]
+pub(crate) fn options_of(line: &CommandLine) -> Options
+    requires { spec.HasDigits line.now }
+    ensures is { result ≡ spec.options_of line.now }
+    ensures printable { IsPrintable result }
+{
+    let compact = line.compact || line.terse;
+    Options {
+        digits: line.digits.unwrap_or(8),
+        exact: line.exact,
+        strict: line.strict || line.terse,
+        one_line: line.one_line || line.terse,
+        compact,
+        quiet: line.quiet || line.terse,
+        round: line.round,
+        verbose: line.verbose && !compact,
+    }
+}

@@ -1,0 +1,155 @@
+//! What the words lead to.
+ghost use Rattle.std.specs.Prelude.{◌≡◌, ◌≤◌, IfOk, IsErrOf, OnOk, Some, true, false, is_some, not, ◌||◌};
+ghost use Rattle.units_io.specs.FileMap.{FileMap};
+ghost use Rattle.units_io.specs.Faults.{Rose};
+ghost use Rattle.command_line.specs.Taken.{are_taken};
+ghost use Rattle.command_line.specs.Fields.{command_line_of};
+ghost use Rattle.deck.specs.Loading.{after_load};
+ghost use Rattle.session.specs.Telling.{TellsIf};
+ghost use Rattle.session.specs.Trials.{trial};
+ghost use Rattle.units_run.specs.Needs.{is_session, loads_file, needs_files, needs_input};
+ghost use Rattle.units_run.specs.Options.{HasDigits, HasRounds, options_of as options_by};
+ghost use Rattle.units_run.specs.Planning.{IsFor, IsPlanned};
+ghost use Rattle.units_run.specs.Settings as settings;
+ghost use Rattle.units_run.specs.Work as spec;
+
+use crate::definitions::{built_in_deck, settings_of};
+use crate::halt::Halt;
+use crate::no_deck::no_deck_plan;
+use crate::options::options_of;
+use crate::plan::Plan;
+use crate::status::Status;
+use crate::work::work;
+use command_line::{CommandLine, WordsFault, read_words, usage_text};
+use deck::{Deck, Settings};
+use session::{Said, run_trial};
+use std::alloc::{AllocError, Global};
+use std::sync::ledger::Ledger;
+use units_io::{Files, Steps, Text, Vars};
+
+/// What these words and variables lead to over these files.
+pub(crate) fn make_plan<F: Files, L: Ledger>(
+    alloc: Global,
+    words: &[Text],
+    vars: &Vars,
+    files: &mut F,
+    steps: &mut Steps<L>,
+) -> Result<Plan, Halt>
+    ensures told { (m : FileMap) → TellsIf (needs_files words.now) (F.files files.old) m →
+        IsPlanned (spec.plan_of words.now vars.now m) m result steps.old steps.new }
+    ensures kind { IfOk result
+        (IsFor (are_taken words.now) (loads_file (command_line_of words.now)) (needs_input words.now)) }
+    ensures calm { OnOk result (F.faults files.new ≡ F.faults files.old) }
+    ensures cause { IsErrOf result Halt.ReadFault → Rose (F.faults files.old) (F.faults files.new) }
+    ensures kept { F.files files.new ≡ F.files files.old }
+    ensures stores { F.store_faults files.new ≡ F.store_faults files.old }
+    ensures unasked { needs_files words.now ≡ false → files.new ≡ files.old }
+{
+    match read_words(alloc, words) {
+        Ok(line) => line_plan(alloc, &line, vars, files, steps),
+        Err(WordsFault::Usage) => Ok(Plan::complaint(alloc, usage_text(), Status::Usage)?),
+        Err(WordsFault::OutOfMemory) => Err(Halt::NoMemory),
+    }
+}
+
+// What a command line leads to: a trial, or work on a deck.
+fn line_plan<F: Files, L: Ledger>(
+    alloc: Global,
+    line: &CommandLine,
+    vars: &Vars,
+    files: &mut F,
+    steps: &mut Steps<L>,
+) -> Result<Plan, Halt>
+    requires digits { HasDigits line.now }
+    requires rounds { HasRounds line.now }
+    ensures told { (m : FileMap) → TellsIf (loads_file line.now) (F.files files.old) m →
+        IsPlanned (spec.line_plan line.now vars.now m) m result steps.old steps.new }
+    ensures kind { IfOk result (IsFor true (loads_file line.now) (is_session line.now)) }
+    ensures calm { OnOk result (F.faults files.new ≡ F.faults files.old) }
+    ensures cause { IsErrOf result Halt.ReadFault → Rose (F.faults files.old) (F.faults files.new) }
+    ensures kept { F.files files.new ≡ F.files files.old }
+    ensures stores { F.store_faults files.new ≡ F.store_faults files.old }
+    ensures unasked { loads_file line.now ≡ false → files.new ≡ files.old }
+{
+    let settings = settings_of(alloc, line, vars)?;
+    match line.trial {
+        Some(rounds) => Ok(trial_plan(alloc, line, settings, rounds, steps)?),
+        None => deck_plan(alloc, line, settings, files, steps),
+    }
+}
+
+// What is told of a trial. The only error is want of memory.
+fn trial_plan<L: Ledger>(
+    alloc: Global,
+    line: &CommandLine,
+    settings: Settings,
+    rounds: u16,
+    steps: &mut Steps<L>,
+) -> Result<Plan, AllocError>
+    requires digits { HasDigits line.now }
+    requires some { 1 ≤ rounds }
+    requires few { rounds ≤ 20000 }
+    ensures told { (m : FileMap) →
+        IsPlanned (spec.trial_plan (trial (options_by line.now) settings rounds)) m result steps.old steps.new }
+    ensures kind { IfOk result (IsFor true false false) }
+{
+    let text = run_trial(alloc, options_of(line), settings, rounds, steps)?;
+    let said = Said {
+        out: text.into_bytes(),
+        err: Vec::new(alloc),
+    };
+    Ok(Plan::Whole(said, Status::Done))
+}
+
+// What a command line leads to over its definition file, or over the built-in text where none is named.
+fn deck_plan<F: Files, L: Ledger>(
+    alloc: Global,
+    line: &CommandLine,
+    settings: Settings,
+    files: &mut F,
+    steps: &mut Steps<L>,
+) -> Result<Plan, Halt>
+    requires { HasDigits line.now }
+    ensures told { (m : FileMap) → TellsIf (is_some line.now.file) (F.files files.old) m →
+        IsPlanned (spec.deck_plan line.now.file line.now settings m) m result steps.old steps.new }
+    ensures kind { IfOk result
+        (IsFor true (is_some line.now.file) (not (is_some line.now.from || line.now.check))) }
+    ensures calm { OnOk result (F.faults files.new ≡ F.faults files.old) }
+    ensures cause { IsErrOf result Halt.ReadFault → Rose (F.faults files.old) (F.faults files.new) }
+    ensures kept { F.files files.new ≡ F.files files.old }
+    ensures stores { F.store_faults files.new ≡ F.store_faults files.old }
+    ensures unasked { is_some line.now.file ≡ false → files.new ≡ files.old }
+{
+    match &line.file {
+        Some(name) => file_plan(alloc, line, settings, name.as_bytes(), files, steps),
+        None => {
+            let deck = built_in_deck(alloc, settings)?;
+            Ok(work(alloc, line, deck, steps)?)
+        }
+    }
+}
+
+// What a command line leads to over the file of this name.
+fn file_plan<F: Files, L: Ledger>(
+    alloc: Global,
+    line: &CommandLine,
+    settings: Settings,
+    name: &[u8],
+    files: &mut F,
+    steps: &mut Steps<L>,
+) -> Result<Plan, Halt>
+    requires { HasDigits line.now }
+    ensures told { (m : FileMap) → F.files files.old ≡ Some m →
+        IsPlanned (spec.file_plan line.now name.now (after_load m name.now settings) m) m result
+        steps.old steps.new }
+    ensures kind { IfOk result (IsFor true true (not (is_some line.now.from || line.now.check))) }
+    ensures calm { OnOk result (F.faults files.new ≡ F.faults files.old) }
+    ensures cause { IsErrOf result Halt.ReadFault → Rose (F.faults files.old) (F.faults files.new) }
+    ensures kept { F.files files.new ≡ F.files files.old }
+    ensures stores { F.store_faults files.new ≡ F.store_faults files.old }
+{
+    match Deck::load(alloc, files, name, settings) {
+        Ok(deck) => Ok(work(alloc, line, deck, steps)?),
+        Err(fault) => no_deck_plan(alloc, &fault, name),
+    }
+}

@@ -1,0 +1,160 @@
+//! What is done with a deck: the reply to FROM, the check, or a session.
+ghost use Rattle.std.specs.Prelude.{◌≡◌, ◌||◌, ℕ, [], IfOk, Some, None, true, false, is_some, not, unwrap_or};
+ghost use Rattle.std.specs.Prelude.{if◌then◌else◌};
+ghost use Rattle.units_io.specs.FileMap.{FileMap};
+ghost use Rattle.def_lines.specs.Words.{is_empty};
+ghost use Rattle.session.specs.Commands.{text_of};
+ghost use Rattle.units_run.specs.Endings.{IsWorked};
+ghost use Rattle.units_run.specs.Options.{HasDigits};
+ghost use Rattle.units_run.specs.Planning.{IsFor, IsPlanned};
+ghost use Rattle.units_run.specs.Work as spec;
+
+use crate::asking::ask;
+use crate::options::options_of;
+use crate::plan::Plan;
+use crate::status::Status;
+use command_line::CommandLine;
+use deck::Deck;
+use live_table::LiveTable;
+use session::{Said, Session, leaves_law, line_text, notice_lines};
+use std::alloc::{AllocError, Global};
+use std::mem;
+use std::sync::ledger::Ledger;
+use survey::check_report;
+use units_io::Steps;
+
+/// The plan of a command line over a deck: the reply to FROM where that stands, or the check, or else a session. The
+/// only error is want of memory. A table that was asked for a reply or a check stays in memory: the system takes that
+/// back with the process, at once.
+pub(crate) fn work<L: Ledger>(
+    alloc: Global,
+    line: &CommandLine,
+    deck: Deck,
+    steps: &mut Steps<L>,
+) -> Result<Plan, AllocError>
+    requires { HasDigits line.now }
+    ensures told { (m : FileMap) →
+        IsPlanned (spec.work_by line.now.from line.now deck m) m result steps.old steps.new }
+    ensures kind { IfOk result (IsFor true false (not (is_some line.now.from || line.now.check))) }
+{
+    let mut table = LiveTable::new(alloc, deck);
+    match &line.from {
+        Some(from) => {
+            let plan = reply_plan(alloc, line, from.as_bytes(), &mut table, steps);
+            mem::forget(table);
+            plan
+        }
+        None => {
+            if line.check {
+                let plan = check_plan(alloc, line, &mut table, steps);
+                mem::forget(table);
+                return plan;
+            }
+            session_plan(alloc, line, table)
+        }
+    }
+}
+
+// The reply to FROM, with the notices on `err`.
+fn reply_plan<L: Ledger>(
+    alloc: Global,
+    line: &CommandLine,
+    from: &[u8],
+    table: &mut LiveTable,
+    steps: &mut Steps<L>,
+) -> Result<Plan, AllocError>
+    requires digits { HasDigits line.now }
+    requires fresh { table.old ≡ spec.fresh table.old.deck }
+    ensures told { (m : FileMap) →
+        IsPlanned (spec.work_by (Some from.now) line.now table.old.deck m) m result steps.old steps.new }
+    ensures kind { IfOk result (IsFor true false false) }
+{
+    leaves_law();
+    let notices = notice_lines(alloc, table.deck())?;
+    let options = options_of(line);
+    let reply = ask(
+        alloc,
+        table,
+        &options,
+        line_text(from),
+        to_text(line),
+        steps,
+    )?;
+    let status = reply_status(reply.refused);
+    let said = Said {
+        out: reply.text.into_bytes(),
+        err: notices,
+    };
+    Ok(Plan::Whole(said, status))
+}
+
+// The check report, with the notices at its head.
+fn check_plan<L: Ledger>(
+    alloc: Global,
+    line: &CommandLine,
+    table: &mut LiveTable,
+    steps: &mut Steps<L>,
+) -> Result<Plan, AllocError>
+    requires digits { HasDigits line.now }
+    requires fresh { table.old ≡ spec.fresh table.old.deck }
+    ensures told { (m : FileMap) → IsPlanned (spec.checked line.now table.old.deck) m result steps.old steps.new }
+    ensures kind { IfOk result (IsFor true false false) }
+{
+    leaves_law();
+    let mut lines = notice_lines(alloc, table.deck())?;
+    let options = options_of(line);
+    let report = check_report(alloc, table, &options, steps)?;
+    lines.extend_from_slice(report.as_bytes())?;
+    let status = check_status(lines.as_slice());
+    let said = Said {
+        out: lines,
+        err: Vec::new(alloc),
+    };
+    Ok(Plan::Whole(said, status))
+}
+
+// A session over a table of which no name is settled.
+fn session_plan(alloc: Global, line: &CommandLine, table: LiveTable) -> Result<Plan, AllocError>
+    requires digits { HasDigits line.now }
+    requires fresh { table ≡ spec.fresh table.deck }
+    ensures told { (m : FileMap) (n : ℕ) → IsPlanned (spec.opened_over line.now table.deck m) m result n n }
+    ensures kind { IfOk result (IsFor true false true) }
+{
+    let session = Session::new(alloc, table, options_of(line));
+    let said = Said::opening(alloc, &session)?;
+    Ok(Plan::Opened(said, session))
+}
+
+// TO as it is read, which is blank where it does not stand.
+fn to_text(line: &CommandLine) -> &[u8]
+    ensures { result.now ≡ text_of (unwrap_or line.now.to []) }
+{
+    match &line.to {
+        Some(to) => line_text(to.as_bytes()),
+        None => line_text(b""),
+    }
+}
+
+// How a reply ends the run.
+fn reply_status(refused: bool) -> Status
+    ensures is { result ≡ (if refused then Status.Refused else Status.Done) }
+    ensures worked { IsWorked false result }
+{
+    if refused {
+        Status::Refused
+    } else {
+        Status::Done
+    }
+}
+
+// How a check report ends the run.
+fn check_status(report: &[u8]) -> Status
+    ensures is { result ≡ (if is_empty report.now then Status.Done else Status.Refused) }
+    ensures worked { IsWorked false result }
+{
+    if report.is_empty() {
+        Status::Done
+    } else {
+        Status::Refused
+    }
+}
