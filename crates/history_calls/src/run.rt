@@ -1,0 +1,117 @@
+//! A run: a load, and calls on the table of its deck and the history of its edits.
+
+ghost use Rattle.edit_history.specs.Histories.{Follows};
+
+use crate::answers::{
+    drop_answer, lines_answer, made_text, switch_answer, undone_text, value_answer,
+};
+use crate::call::{Call, read_call};
+use deck::{Deck, DeckFault, Settings};
+use def_entry::cut_at;
+use edit_history::History;
+use live_table::LiveTable;
+use std::alloc::{AllocError, Global};
+use units_io::{Files, Text, Vars};
+
+// The answers to lines, one a line. The first line, `load FILE`, loads a deck; where it does not, its answer is the
+// only one. `value EXPRESSION` is a query of its live table and `lines` tells its lines; `define LINE`, `drop KEY`,
+// `switch LOCALE` and `append FILE` are edits, which `undo` takes back and `redo` makes again. The only error is want of
+// memory.
+pub(crate) fn answers_to<F: Files>(
+    alloc: Global,
+    files: &mut F,
+    lines: &[u8],
+) -> Result<Vec<u8>, AllocError> {
+    let (first, calls) = split_first_line(lines);
+    let name = first.strip_prefix(b"load ".as_slice()).unwrap_or(first);
+    let locale = Text::from_bytes(alloc, b"en_US")?;
+    let vars = Vars::new(alloc);
+    match Deck::load(alloc, files, name, Settings { locale, vars }) {
+        Ok(deck) => table_answers(alloc, files, deck, calls),
+        Err(DeckFault::OutOfMemory) => Err(AllocError),
+        Err(_) => Vec::from_slice(alloc, b"no deck\n"),
+    }
+}
+
+// The answers to calls on the table of a deck that was not edited.
+fn table_answers<F: Files>(
+    alloc: Global,
+    files: &mut F,
+    deck: Deck,
+    calls: &[u8],
+) -> Result<Vec<u8>, AllocError> {
+    let mut table = LiveTable::new(alloc, deck);
+    let mut history = History::new(alloc);
+    let mut answers = Vec::from_slice(alloc, b"ok\n")?;
+    add_answers(alloc, files, &mut history, &mut table, calls, &mut answers)?;
+    Ok(answers)
+}
+
+// Adds the answers to calls, of which the last may have no line feed behind it.
+fn add_answers<F: Files>(
+    alloc: Global,
+    files: &mut F,
+    history: &mut History,
+    table: &mut LiveTable,
+    calls: &[u8],
+    answers: &mut Vec<u8>,
+) -> Result<(), AllocError>
+    requires { Follows history.old table.old.deck }
+{
+    let mut rest = calls;
+    while let Some((line, behind)) = cut_at(rest, b'\n') {
+        add_answer(alloc, files, history, table, line, answers)?;
+        rest = behind;
+    }
+    if rest.is_empty() {
+        return Ok(());
+    }
+    add_answer(alloc, files, history, table, rest, answers)
+}
+
+// Adds the answer to a line.
+fn add_answer<F: Files>(
+    alloc: Global,
+    files: &mut F,
+    history: &mut History,
+    table: &mut LiveTable,
+    line: &[u8],
+    answers: &mut Vec<u8>,
+) -> Result<(), AllocError>
+    requires { Follows history.old table.old.deck }
+    ensures { Follows history.new table.new.deck }
+{
+    let answer = answer_to(alloc, files, history, table, read_call(line))?;
+    answers.extend_from_slice(answer.as_bytes())?;
+    answers.push(b'\n')?;
+    Ok(())
+}
+
+// The answer to a line, which may be no call.
+fn answer_to<F: Files>(
+    alloc: Global,
+    files: &mut F,
+    history: &mut History,
+    table: &mut LiveTable,
+    call: Option<Call<'_>>,
+) -> Result<Text, AllocError>
+    requires { Follows history.old table.old.deck }
+    ensures { Follows history.new table.new.deck }
+{
+    match call {
+        Some(Call::Value(text)) => value_answer(alloc, table, text),
+        Some(Call::Lines) => lines_answer(alloc, table),
+        Some(Call::Define(line)) => made_text(alloc, history.define(alloc, table, line)),
+        Some(Call::Drop(key)) => drop_answer(alloc, history, table, key),
+        Some(Call::Switch(locale)) => switch_answer(alloc, history, table, locale),
+        Some(Call::Append(name)) => made_text(alloc, history.append(alloc, table, files, name)),
+        Some(Call::Undo) => undone_text(alloc, history.undo(alloc, table)),
+        Some(Call::Redo) => undone_text(alloc, history.redo(alloc, table)),
+        None => Text::from_bytes(alloc, b"no call"),
+    }
+}
+
+// What stands before the first line feed, and what stands behind it.
+fn split_first_line(lines: &[u8]) -> (&[u8], &[u8]) {
+    cut_at(lines, b'\n').unwrap_or((lines, b""))
+}
