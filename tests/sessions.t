@@ -375,6 +375,296 @@ expression. Input that comes byte by byte is answered alike.
   syntax error at 1
   syntax error at 0
 
+Undo and redo: of a definition, and with nothing left.
+
+  $ session -q -f chain.units -- ':define a 7 m' b m :undo b m :redo b m :redo
+  \t* 21 (esc)
+  \t/ 0.047619048 (esc)
+  \t* 6 (esc)
+  \t/ 0.16666667 (esc)
+  \t* 21 (esc)
+  \t/ 0.047619048 (esc)
+  nothing to redo
+  $ session -q -f chain.units -- b m c m ':define a 7 m' :undo :stats ':drop zz' :undo
+  \t* 6 (esc)
+  \t/ 0.16666667 (esc)
+  \t* 5 (esc)
+  \t/ 0.2 (esc)
+  settled 2 of 4, reductions 4
+  no such definition: zz
+  nothing to undo
+
+An undo of each kind of edit, a load with an open block among them; what was undone is lost by a new edit.
+
+  $ file unclosed.units '!locale en_US' 'g 3 m'
+  $ session -q -f chain.units -- ':load unclosed.units' ':drop a' ':locale en_GB' ':set x y' ':define a 9 m' \
+  >   :undo :undo :undo g m :undo a m :undo g :undo :redo g m ':define a 4 m' :redo
+  \t* 3 (esc)
+  \t/ 0.33333333 (esc)
+  \t* 2 (esc)
+  \t/ 0.5 (esc)
+  unknown unit: g
+  nothing to undo
+  \t* 3 (esc)
+  \t/ 0.33333333 (esc)
+  nothing to redo
+  err: unclosed.units:1: unclosed block
+  $ session -q -f walk.units -- ':set UNITS_SIZE small' walk m :undo walk m :redo walk m
+  \t* 3 (esc)
+  \t/ 0.33333333 (esc)
+  \t* 30 (esc)
+  \t/ 0.033333333 (esc)
+  \t* 3 (esc)
+  \t/ 0.33333333 (esc)
+  $ session -q -l en_US -- ':locale en_GB' quart liter :undo quart liter :redo quart liter
+  \t* 1.1365225 (esc)
+  \t/ 0.87987699 (esc)
+  \t* 0.94635295 (esc)
+  \t/ 1.0566882 (esc)
+  \t* 1.1365225 (esc)
+  \t/ 0.87987699 (esc)
+
+A line that was dropped comes back where it stood. A load is undone and made again with the blocks that it closed, and
+with what was defined behind it.
+
+  $ file twice.units 'm !' 'a 2 m' 'b a'
+  $ session -q -f twice.units -- ':drop a' :undo ':save order.units' && cmp twice.units order.units
+  $ session -q -f twice.units -- ':define a 7 m' ':load unclosed.units' ':define h 2 g' :undo h :undo :undo b m \
+  >   :redo :redo :redo ':locale en_GB' h ':locale en_US' h m
+  unknown unit: h
+  \t* 2 (esc)
+  \t/ 0.5 (esc)
+  unknown unit: g in h
+  \t* 6 (esc)
+  \t/ 0.16666667 (esc)
+  err: unclosed.units:1: unclosed block
+
+An edit that changes no key is one to undo, and forgets nothing. One that is refused is none, and loses nothing that was
+undone.
+
+  $ session -q -f chain.units -- b m ':define a 2 m' ':set x y' ':define a 7 m' :undo :undo :stats :undo :undo :stats
+  \t* 6 (esc)
+  \t/ 0.16666667 (esc)
+  settled 1 of 4, reductions 3
+  nothing to undo
+  settled 1 of 4, reductions 3
+  $ session -q -f chain.units -- ':define a 7 m' ':define b 4 a' :undo ':define foo2 m' ':drop zz' ':load gone.units' \
+  >   b m :redo b m :undo :undo :undo b m
+  bad name: foo2
+  no such definition: zz
+  no file: gone.units
+  \t* 21 (esc)
+  \t/ 0.047619048 (esc)
+  \t* 28 (esc)
+  \t/ 0.035714286 (esc)
+  nothing to undo
+  \t* 6 (esc)
+  \t/ 0.16666667 (esc)
+
+A pending FROM stays behind an undo, a redo and a save, and is valued anew.
+
+  $ session -q -f chain.units -- '1 a' ':define a 7 m' :undo m
+  \t* 2 (esc)
+  \t/ 0.5 (esc)
+  $ session -q -f chain.units -- '1 a' ':define a 7 m' :undo :redo ':save pending.units' :redo m
+  nothing to redo
+  \t* 7 (esc)
+  \t/ 0.14285714 (esc)
+  $ session -q -- ':undo x' ':redo x' :save ':undo # x' ':redo # x' ':save # x'
+  bad command: :undo
+  bad command: :redo
+  bad command: :save
+  nothing to undo
+  nothing to redo
+  bad command: :save
+
+Saved decks: what is in force, and a text that ends in a backslash; a load sees what was saved.
+
+  $ file local.units 'm !' '!locale en_US' 'g 3 m' '!endlocale'
+  $ session -q -f local.units -- ':define h 2 g' ':save s.units'
+  $ cat s.units
+  m !
+  g 3 m
+  h 2 g
+  $ units -l en_GB -f s.units h m
+  \t* 6 (esc)
+  \t/ 0.16666667 (esc)
+  $ file slash.units 'm !' '\ 3 m' 'x \\' ''
+  $ session -q -f slash.units -- x m ':save t.units' && cmp slash.units t.units
+  \t* 3 (esc)
+  \t/ 0.33333333 (esc)
+  $ session -q -f chain.units -- ':define a 9 m' ':save u.units' :undo ':load u.units' a m
+  \t* 9 (esc)
+  \t/ 0.11111111 (esc)
+
+A save in the middle of a locale's block, which the file did not close, with that locale in force and without it.
+
+  $ session -q -f twice.units -- ':load unclosed.units' ':define h 2 g' ':save us.units' ':locale en_GB' ':save gb.units'
+  err: unclosed.units:1: unclosed block
+  $ cat us.units
+  m !
+  a 2 m
+  b a
+  g 3 m
+  h 2 g
+  $ cat gb.units
+  m !
+  a 2 m
+  b a
+  h 2 g
+
+All that is built in, saved and loaded again: the same definitions, with no notice, and the same text of them.
+
+  $ session -q -- ':save all.units'
+  $ session -q -f all.units -- ':save again.units' && cmp all.units again.units
+  $ units -l en_GB -f all.units < /dev/null
+  43 units, 18 prefixes, 4 nonlinear units
+  You have:  (no-eol)
+
+A text as long as a file may be, and one that is longer by a byte.
+
+  $ longest() { printf 'm !\nx %*sm%b' "$1" '' "$2"; }
+  $ longest 16777208 '\n' > longest.units
+  $ longest 16777209 '' > unended.units
+  $ stat -c %s longest.units unended.units
+  16777216
+  16777216
+  $ session -q -f longest.units -- ':save saved.units' x m && cmp longest.units saved.units
+  \t* 1 (esc)
+  \t/ 1 (esc)
+  $ session -q -f unended.units -- ':save too.units' x m && cat too.units
+  file too long: too.units
+  \t* 1 (esc)
+  \t/ 1 (esc)
+  cat: too.units: No such file or directory
+  [1]
+
+Watched conversions: each reply as it is, then each that an edit changes, behind its number. An edit that changes none
+tells nothing.
+
+  $ session -q -f chain.units -- ':watch b ; m' ':watch c ; m' ':define a 7 m' ':define a 7 m'
+  watch 1
+  \t* 6 (esc)
+  \t/ 0.16666667 (esc)
+  watch 2
+  \t* 5 (esc)
+  \t/ 0.2 (esc)
+  watch 1
+  \t* 21 (esc)
+  \t/ 0.047619048 (esc)
+  $ session -q -f chain.units -- ':watch b ; m' ':watch c ; m' ':define a 7 m' ':define a 7 m' ':drop m' :unwatch :undo
+  watch 1
+  \t* 6 (esc)
+  \t/ 0.16666667 (esc)
+  watch 2
+  \t* 5 (esc)
+  \t/ 0.2 (esc)
+  watch 1
+  \t* 21 (esc)
+  \t/ 0.047619048 (esc)
+  watch 1
+  unknown unit: m in a
+  watch 2
+  unknown unit: m in c
+
+Each kind of edit tells what it has changed, and one that is refused tells only that.
+
+  $ session -q -f walk.units -- ':watch walk ; m' ':set UNITS_SIZE small' :undo :redo ':set UNITS_SIZE tiny' ':drop walk' \
+  >   ':drop walk' :undo
+  watch 1
+  \t* 30 (esc)
+  \t/ 0.033333333 (esc)
+  watch 1
+  \t* 3 (esc)
+  \t/ 0.33333333 (esc)
+  watch 1
+  \t* 30 (esc)
+  \t/ 0.033333333 (esc)
+  watch 1
+  \t* 3 (esc)
+  \t/ 0.33333333 (esc)
+  watch 1
+  unknown unit: walk
+  no such definition: walk
+  watch 1
+  \t* 3 (esc)
+  \t/ 0.33333333 (esc)
+  $ session -q -l en_US -- ':watch quart ; liter' ':locale en_GB' ':define foo2 m' ':load gone.units'
+  watch 1
+  \t* 0.94635295 (esc)
+  \t/ 1.0566882 (esc)
+  watch 1
+  \t* 1.1365225 (esc)
+  \t/ 0.87987699 (esc)
+  bad name: foo2
+  no file: gone.units
+  $ session -q -f chain.units -- ':watch nosuch ; m' ':watch g ; m' ':load unclosed.units' ':define nosuch 2 g'
+  watch 1
+  unknown unit: nosuch
+  watch 2
+  unknown unit: g
+  watch 2
+  \t* 3 (esc)
+  \t/ 0.33333333 (esc)
+  watch 1
+  \t* 6 (esc)
+  \t/ 0.16666667 (esc)
+  err: unclosed.units:1: unclosed block
+
+What is watched is asked for again behind each edit, and what that settles is counted; a pending FROM stays.
+
+  $ session -q -f chain.units -- ':watch b ; m' :stats '1 c' ':define a 7 m' :unwatch ':define a 8 m' m :stats
+  watch 1
+  \t* 6 (esc)
+  \t/ 0.16666667 (esc)
+  settled 3 of 4, reductions 3
+  watch 1
+  \t* 21 (esc)
+  \t/ 0.047619048 (esc)
+  \t* 5 (esc)
+  \t/ 0.2 (esc)
+  settled 2 of 4, reductions 6
+
+The sides of a watch stand before and behind its first semicolon, and neither may be blank. There are at most 1,000.
+
+  $ session -q -f chain.units -- :watch ':watch b' ':watch ; m' ':watch b ;' ':watch b ; ?' ':watch b ; # m' ':unwatch b' \
+  >   ':watch b;c;m # sum'
+  bad command: :watch
+  bad command: :watch
+  bad command: :watch
+  bad command: :watch
+  bad command: :watch
+  bad command: :watch
+  bad command: :unwatch
+  watch 1
+  \t1 c + 1 m (esc)
+  $ { seq 1001 | sed 's/.*/:watch b ; m/'; echo ':define a 7 m'; echo :unwatch; echo ':watch a ; m'; } > many
+  $ apart units -q -f chain.units < many > said; grep -c '^watch' said; sed -n '2998,3004p;5999,$p' said
+  2001
+  watch 1000
+  \t* 6 (esc)
+  \t/ 0.16666667 (esc)
+  too many watches
+  watch 1
+  \t* 21 (esc)
+  \t/ 0.047619048 (esc)
+  watch 1000
+  \t* 21 (esc)
+  \t/ 0.047619048 (esc)
+  watch 1
+  \t* 7 (esc)
+  \t/ 0.14285714 (esc)
+
+A file that cannot be written ends a session.
+
+  $ mkdir folder
+  $ session -q -f local.units -- ':define h 2 g' ':save folder' h m
+  [5]
+  $ session -q -f chain.units -- a m ':save none/x.units' m
+  \t* 2 (esc)
+  \t/ 0.5 (esc)
+  [5]
+
 A chain of 20,000 names, with an edit near its end.
 
   $ { echo 'u_0 !'; for i in $(seq 20000); do echo "u_$i u_$((i - 1))"; done; } > long.units

@@ -77,9 +77,9 @@ if [ "$(id -u)" = 0 ]; then as_other="$(command -v setpriv) --reuid=65534 --regi
 rm -rf three/crates/units/out
 expect 'a release that nobody may write beside' 0 "$answer" '' "$as_other three/bin/units $yard"
 
-echo '// an edit' >> two/crates/units/src/run.rt
+echo '// an edit' >> two/crates/units_run/src/run.rt
 expect 'other sources and no toolchain' 127 '' '*not built yet*no command rt*README.md*' "two/bin/units $yard"
-sed -i '$d' two/crates/units/src/run.rt
+sed -i '$d' two/crates/units_run/src/run.rt
 expect 'the sources as before' 0 "$answer" '' "two/bin/units $yard"
 echo 'more' >> two/release/units-x86_64-linux
 expect 'a release that was changed' 127 '' '*not built yet*' "two/bin/units $yard"
@@ -89,7 +89,7 @@ expect 'a proof that fails' 126 '' '*units_io was not proved*build.log*' "PATH=\
 fake_rt "if [ \$1 = run ]; then cp $program out/units; : > out/units.stamp; fi"
 expect 'a build' 0 "$answer" '*ten minutes*units_io is proved (1 of *units is proved*' "PATH=\$PATH:$folder/rt one/bin/units $yard"
 expect 'what was built' 0 "$answer" '' "one/bin/units $yard"
-echo '// an edit' >> one/crates/units/src/run.rt
+echo '// an edit' >> one/crates/units_run/src/run.rt
 expect 'what was built, older than its sources' 127 '' '*is older than its sources*no command rt*' "one/bin/units $yard"
 chmod -R a-w one
 expect 'a build that cannot be written' 126 '' '*cannot be written*' "PATH=\$PATH:$folder/rt $as_other one/bin/units $yard"

@@ -1,7 +1,8 @@
 #!/usr/bin/env bash
 # Refuses each allocation of the built program in turn, and all from each one on, over command lines and sessions: each
-# such run ends with status 6, and each stream has a front of what it has otherwise. Needs gcc, for the allocator that
-# it puts before the C library's. A case is a command line; the last line is `N passed, M failed`.
+# such run ends with status 6, each stream has a front of what it has otherwise, and a file that is saved is as it was or
+# whole, with no other beside it. Needs gcc, for the allocator that it puts before the C library's. A case is a command line;
+# the last line is `N passed, M failed`.
 set -u
 script=$(readlink -f "${BASH_SOURCE[0]}") || exit
 root=${script%/*/*}
@@ -26,23 +27,25 @@ printf '%s\n' 'a 3 m' '!nosuch' 'd 7 m' > more.units
 
 gcc -O1 -shared -fPIC -o refuse.so "$root/tools/refuse.c" || fail 'gcc did not build the allocator'
 
-# run SETTING.. : the words with these variables; gives the status, and what was written.
+# run SETTING.. : the words with these variables; gives the status, and what was written and saved.
 run() {
+    printf 'old\n' > saved.units
     env -i "$@" "$program" "${words[@]}" > out.txt 2> err.txt 9> refused.txt < input.txt
     status=$?
     IFS= read -r -d '' out < out.txt
     IFS= read -r -d '' err < err.txt
+    IFS= read -r -d '' saved < saved.units
 }
 
 total=0 passed=0 failed=0
 
 # try_all STATUS WORD..: a run that ends with this status where memory is found.
 try_all() {
-    local wanted=$1 whole_out whole_err i later count=0 wrong=0
+    local wanted=$1 whole_out whole_err whole_saved i later count=0 wrong=0
     shift
     words=("$@")
     run A=1 B=2
-    whole_out=$out whole_err=$err
+    whole_out=$out whole_err=$err whole_saved=$saved
     [ "$status" = "$wanted" ] || wrong=1
     for later in "" LATER=1; do
         for ((i = 1; ; i++)); do
@@ -51,6 +54,10 @@ try_all() {
             count=$((count + 1))
             if [ "$status" != 6 ] || [[ $whole_out != "$out"* ]] || [[ $whole_err != "$err"* ]]; then
                 echo "check_memory: units $*: with allocation $i refused ${later:+and all later ones }it ended with $status"
+                wrong=1
+            fi
+            if { [ "$saved" != $'old\n' ] && [ "$saved" != "$whole_saved" ]; } || [ -e .units-save-0 ]; then
+                echo "check_memory: units $*: with allocation $i refused ${later:+and all later ones }it saved $saved"
                 wrong=1
             fi
         done
@@ -89,6 +96,9 @@ try_all 0 -q -f kept.units
 session b m ':load more.units' b m ':set V x' ':locale en_GB' ':load gone.units' ':define a' ':drop zz' 'search a' \
     b '?' '' :stats exit
 try_all 0 -f kept.units
+session ':define a 7 m' ':drop c' ':locale en_GB' ':load more.units' :undo :undo b m :undo :undo :redo b m ':save saved.units' \
+    ':drop b' ':load saved.units' :undo :undo :undo :undo
+try_all 0 -q -f kept.units
 
 echo "check_memory: $total runs with an allocation refused"
 echo "$passed passed, $failed failed"

@@ -115,6 +115,11 @@ expect 4 $'\t* 72\n\t/ 0.013888889\n' '' \
     "{ printf '2 yd\\nin\\n'; sleep 0.2; printf ':load $locked\\nm\\n\\n'; } | units -q -f first.units"
 expect 4 '' '' "units -q -f first.units < ."
 
+# Files that cannot be saved: a folder, one that is not there, one that takes no file, and what is no file.
+for name in . gone/s.units /proc/s.units /dev/full; do
+    expect 5 $'\t* 72\n\t/ 0.013888889\n' '' "printf '2 yd\\nin\\n:save $name\\nm\\n\\n' | units -q -f first.units"
+done
+
 # Sinks that are closed, and one that is full.
 expect 5 '' '' "$yard >&-"
 expect 5 '' '' 'units -d 0 2>&-'

@@ -30,7 +30,7 @@ from pathlib import Path
 ROOT = Path(__file__).resolve().parent.parent
 TESTS = ROOT / "tests"
 MANUAL = ROOT / "share/man/man1"
-BUILT_IN = ROOT / "crates/units/src/built_in.rt"
+BUILT_IN = ROOT / "crates/units_run/src/built_in.rt"
 SECONDS = 120  # for all commands of a file
 INDENT = b"  "
 UNPRINTABLE = re.compile(rb"[\x00-\x09\x0b-\x1f\x7f-\xff]")
