@@ -1,0 +1,56 @@
+#!/usr/bin/env bash
+# Times `:save` in a session over decks of 25,000, 50,000 and 100,000 lines `u_i C u_j`, each time to a new file, with the
+# write to the disk; and a load of what was saved. Prints the milliseconds of a save, those of the processor and those that passed,
+# each from the lowest of five sessions of 20 saves, less the lowest of five of none.
+#   bench/saves.sh
+set -u
+root=$(cd "$(dirname "${BASH_SOURCE[0]}")/.." && pwd)
+program=$("$root/tools/built.sh" units) || exit
+exec python3 - "$program" <<'PYTHON'
+import os
+import resource
+import subprocess
+import sys
+import tempfile
+import time
+from pathlib import Path
+
+PROGRAM = sys.argv[1]
+SAVES = 20
+
+
+def busy():
+    usage = resource.getrusage(resource.RUSAGE_CHILDREN)
+    return usage.ru_utime + usage.ru_stime
+
+
+def timed(deck, lines):
+    """The lowest milliseconds of five sessions, of the processor and passed."""
+    given = "".join(line + "\n" for line in lines).encode()
+    rounds = []
+    for _ in range(5):
+        start, before = time.perf_counter(), busy()
+        run = subprocess.run([PROGRAM, "-q", "-f", deck], input=given, stdout=subprocess.PIPE, check=False)
+        rounds.append(((busy() - before) * 1e3, (time.perf_counter() - start) * 1e3))
+        if run.returncode != 0 or run.stdout != b"":
+            sys.exit(f"{lines}: status {run.returncode}, {run.stdout[-200:]!r}")
+    return [min(row) for row in zip(*rounds)]
+
+
+def say(what, times):
+    print(f"{what:44} {times[0]:8.1f} ms of the processor {times[1]:8.1f} ms passed", flush=True)
+
+
+with tempfile.TemporaryDirectory() as folder:
+    os.chdir(folder)
+    for count in [25_000, 50_000, 100_000]:
+        text = "".join(["u_0 !\n", *(f"u_{i} {1 + i % 3} u_{i // 2}\n" for i in range(1, count))])
+        Path("deck").write_text(text)
+        loading = timed("deck", [])
+        say(f"{count} lines, loaded", loading)
+        saved = timed("deck", [f":save saved-{i}" for i in range(SAVES)])
+        say("  saved", [(a - b) / SAVES for a, b in zip(saved, loading)])
+        if any(Path(f"saved-{i}").read_text() != text for i in range(SAVES)):
+            sys.exit("what was saved is not what was loaded")
+        say("  what was saved, loaded", timed("saved-0", []))
+PYTHON

@@ -1,0 +1,52 @@
+#!/usr/bin/env bash
+# Times the program of crates/history_calls over decks of 100,000 lines `u_i C u_j`: 30,000 lines that are defined, undone one by
+# one and defined again one by one; a line dropped, another locale and a file of a line appended, each undone and made again.
+# Prints the lowest of a few runs, less what the load takes.
+#   bench/undo.sh
+set -u
+root=$(cd "$(dirname "${BASH_SOURCE[0]}")/.." && pwd)
+program=$("$root/tools/built.sh" history_calls) || exit
+PYTHONPATH="$root/bench" PYTHONDONTWRITEBYTECODE=1 exec python3 - "$program" <<'PYTHON'
+import functools
+import os
+import sys
+import tempfile
+from pathlib import Path
+
+import timing
+from timing import say
+
+COUNT, EDITS, PASSES = 100_000, 30_000, 20
+timed = functools.partial(timing.timed, sys.argv[1])
+
+
+def definitions():
+    calls = [f"define u_{i * 3 + 1} {i % 7 + 1} u_{i}" for i in range(EDITS)]
+    loading = timed(["load shorter", "value 1"], "1", runs=2)
+    before = timed(["load shorter", *calls], "ok", runs=2)
+    say(f"{EDITS} lines defined", before.less(loading))
+    undone = timed(["load shorter", *calls, *["undo"] * EDITS], "ok", runs=2)
+    say(f"{EDITS} of them undone, one by one", undone.less(before))
+    redone = timed(["load shorter", *calls, *["undo"] * EDITS, *["redo"] * EDITS], "ok", runs=2)
+    say(f"{EDITS} of them made again", redone.less(undone))
+
+
+def others():
+    for what, name, edit in [
+        ("a line dropped", "deck", "drop u_50000"),
+        ("another locale", "deck", "switch en_GB"),
+        ("a file of a line appended", "shorter", "append line"),
+    ]:
+        before = timed([f"load {name}", edit], "ok")
+        say(f"{what}, undone and made again", timed([f"load {name}", edit, *["undo", "redo"] * PASSES], "ok").less(before, PASSES))
+
+
+with tempfile.TemporaryDirectory() as folder:
+    os.chdir(folder)
+    lines = ["u_0 !\n", *(f"u_{i} {1 + i % 3} u_{i // 2}\n" for i in range(1, COUNT))]
+    Path("deck").write_text("".join(lines))
+    Path("shorter").write_text("".join(lines[: COUNT - EDITS]))
+    Path("line").write_text("u_1 5 u_0\n")
+    definitions()
+    others()
+PYTHON
