@@ -6,8 +6,8 @@
 A public clause is a `requires` or an `ensures` of a function, a method or a trait that a library lets out by `pub use`, and
 its words are cited through the imports of its file. A definition is named in the section of its crate, in the first column
 of a row or in the text below the rows. The last column of a row says in which files the names stand: of `specs/`, or of the
-sources for a type that clauses see. Each shortcoming is told on a line, and the last line is `N passed, M failed`, with the
-definitions and the names counted.
+sources for a type that clauses see. Each shortcoming is told on a line, then how many definitions and names stand, and the
+last line is `1 passed, 0 failed` or counts what is missing.
 """
 
 import re
@@ -226,8 +226,9 @@ def main():
             lines, count = misplaced(crate, section)
             told += lines
             passed += count
-    print("\n".join([*told, f"{passed} passed, {len(told)} failed"]))
-    sys.exit(1 if told else 0)
+    told.append(f"{passed} definitions and names stand where they should")
+    print("\n".join([*told, "1 passed, 0 failed" if len(told) == 1 else f"0 passed, {len(told) - 1} failed"]))
+    sys.exit(1 if len(told) > 1 else 0)
 
 
 if __name__ == "__main__":
