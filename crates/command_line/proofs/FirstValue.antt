@@ -1,5 +1,6 @@
 -- Of a parse that succeeds, what the parser of an argument says of its first value.
-use Rattle.std.proofs.Common.{◌≡◌, ◌∙◌, ◌⊎◌, inl, inr, refl, sym, ap, subst, ℕ, ◌<◌, Bool, true, false, cond, suc, zero, arith, List, []}
+use Rattle.std.proofs.Common.{◌≡◌, ◌∙◌, ◌⊎◌, inl, inr, refl, sym, ap, subst, ℕ, ◌<◌, Bool, true, false, cond, suc, zero}
+use Rattle.std.proofs.Common.{arith, List, []}
 use Rattle.std.proofs.Common.{◌∷◌, length, map, slice_index_or, Option, Some, None, option_map, Bor}
 use Rattle.std.specs.Prelude.{slice_get, ◌&&◌, ◌==◌, option_and_then}
 use Rattle.std.specs.List.{All}

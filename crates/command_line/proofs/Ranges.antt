@@ -1,5 +1,6 @@
--- Of a parse that succeeds, the numbers at `--digits` and `--trial`.
-use Rattle.std.proofs.Common.{◌≡◌, ◌∙◌, ◌⊎◌, inl, inr, refl, ap, ℕ, Bool, true, false, arith, [], Option, Some, None, IfSome, codes}
+-- Of a parse that succeeds, the numbers at `--digits`, `--trial` and `--column`.
+use Rattle.std.proofs.Common.{◌≡◌, ◌∙◌, ◌⊎◌, inl, inr, refl, ap, ℕ, Bool, true, false, arith, [], Option, Some, None}
+use Rattle.std.proofs.Common.{IfSome, codes}
 use Rattle.std.proofs.Common.{rules}
 use Rattle.std.specs.Prelude.{pos}
 use Rattle.std.specs.Str.Parse.{IsNumeral, starts_with_minus, without_leading_plus}
@@ -64,8 +65,14 @@ digits_parser = search rules
 pub trial_parser : HasParser (codes "trial") (vp.Signed (pos 1) (pos 20000)) units_app.top.rules
 trial_parser = search rules
 
+pub column_parser : HasParser (codes "column") (vp.Signed (pos 1) (pos 65535)) units_app.top.rules
+column_parser = search rules
+
 pub built_digits_parser : HasParser (codes "digits") (vp.Signed (pos 1) (pos 36)) (built units_app).top.rules
 built_digits_parser = search rules
 
 pub built_trial_parser : HasParser (codes "trial") (vp.Signed (pos 1) (pos 20000)) (built units_app).top.rules
 built_trial_parser = search rules
+
+pub built_column_parser : HasParser (codes "column") (vp.Signed (pos 1) (pos 65535)) (built units_app).top.rules
+built_column_parser = search rules

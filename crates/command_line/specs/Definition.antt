@@ -22,6 +22,12 @@ mode_rules = flag_rule (codes "quiet") (letter (codes "q"))
     ∷ flag_rule (codes "check") (letter (codes "c"))
     ∷ []
 
+-- the options for records of fields
+abbrev pub column_rules : List Rule
+column_rules = option_rule (codes "column") None (number_up_to 65535)
+    ∷ flag_rule (codes "header") None
+    ∷ []
+
 -- what the program works on
 abbrev pub source_rules : List Rule
 source_rules = option_rule (codes "file") (letter (codes "f")) any_text
@@ -33,4 +39,4 @@ source_rules = option_rule (codes "file") (letter (codes "f")) any_text
 
 -- the command of this program
 abbrev pub units_app : App
-units_app = with_rules bare_app (reply_rules ++ mode_rules ++ source_rules)
+units_app = with_rules bare_app (reply_rules ++ mode_rules ++ column_rules ++ source_rules)

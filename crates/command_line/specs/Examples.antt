@@ -21,6 +21,8 @@ no_line = record {
   file = None;
   locale = None;
   trial = None;
+  column = None;
+  header = false;
   from = None;
   to = None;
 }
@@ -75,6 +77,16 @@ pub record TakesExamples : Type 0 where
       (record no_line { quiet = true; from = Some (codes "m"); to = Some (codes "ft") })
   pub empty_from : AreLine (codes "" ∷ []) (record no_line { from = Some [] })
   pub help_as_from : AreLine (codes "help" ∷ []) (record no_line { from = Some (codes "help") })
+  pub column_with_header : AreLine
+      (codes "--column" ∷ codes "2" ∷ codes "--header" ∷ codes "feet" ∷ codes "m" ∷ [])
+      (record no_line {
+        column = Some 2;
+        header = true;
+        from = Some (codes "feet");
+        to = Some (codes "m");
+      })
+  pub column_most : AreLine (codes "m" ∷ codes "--column=65535" ∷ codes "ft # x" ∷ [])
+      (record no_line { column = Some 65535; from = Some (codes "m"); to = Some (codes "ft # x") })
 
 -- words that are no command line
 pub record RefusesExamples : Type 0 where
@@ -99,6 +111,13 @@ pub record RefusesExamples : Type 0 where
   pub check_of_empty_from : are_taken (codes "--check" ∷ codes "" ∷ []) ≡ false
   pub trial_of_from : are_taken (codes "--trial" ∷ codes "9" ∷ codes "m" ∷ []) ≡ false
   pub check_of_trial : are_taken (codes "-c" ∷ codes "--trial" ∷ codes "9" ∷ []) ≡ false
+  pub column_zero : are_taken (codes "--column" ∷ codes "0" ∷ codes "m" ∷ codes "ft" ∷ []) ≡ false
+  pub column_beyond : are_taken (codes "--column=65536" ∷ codes "m" ∷ codes "ft" ∷ []) ≡ false
+  pub column_without_to : are_taken (codes "--column=1" ∷ codes "m" ∷ []) ≡ false
+  pub column_to_blank : are_taken (codes "--column=1" ∷ codes "m" ∷ codes " # ft" ∷ []) ≡ false
+  pub column_to_question : are_taken (codes "--column=1" ∷ codes "m" ∷ codes "? # ft" ∷ []) ≡ false
+  pub column_of_check : are_taken (codes "--column=1" ∷ codes "--check" ∷ []) ≡ false
+  pub header_alone : are_taken (codes "--header" ∷ codes "m" ∷ codes "ft" ∷ []) ≡ false
   pub minus_first : are_taken (codes "-5" ∷ []) ≡ false
   pub no_text : are_taken ((255 ∷ []) ∷ []) ≡ false
   pub no_text_behind : are_taken (codes "m" ∷ (255 ∷ []) ∷ []) ≡ false

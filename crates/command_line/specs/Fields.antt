@@ -36,6 +36,8 @@ fields_of rows = record {
   file = first_of (codes "file") rows;
   locale = first_of (codes "locale") rows;
   trial = number_at (codes "trial") rows;
+  column = number_at (codes "column") rows;
+  header = has_flag (codes "header") rows;
   from = first_of (codes "from") rows;
   to = first_of (codes "to") rows;
 }

@@ -1,10 +1,14 @@
 -- Which words are a command line of this program.
-use Rattle.std.specs.Prelude.{◌+◌, ◌&&◌, ℕ, Bool, List, [], ◌∷◌, true, false, is_some, nat_le}
-use Rattle.std.specs.Prelude.{if◌then◌else◌}
+use Rattle.std.specs.Prelude.{◌+◌, ◌&&◌, ◌||◌, ℕ, Bool, List, [], ◌∷◌, true, false, not, is_some, nat_le}
+use Rattle.std.specs.Prelude.{if◌then◌else◌, codes}
 use Rattle.std.specs.List.{list_all}
-use Rattle.std.specs.Str.{is_utf8}
+use Rattle.std.specs.Option.{option_map_or}
+use Rattle.std.specs.Str.{bytes_eq, is_utf8}
 use Rattle.clap.specs.Kinds.{Kinds}
 use Rattle.clap.specs.Words.{Text, fault_of}
+use Rattle.def_lines.specs.Blanks.{after_blanks}
+use Rattle.def_lines.specs.Lines.{cleaned}
+use Rattle.def_lines.specs.Words.{is_empty}
 use Rattle.command_line.specs.Definition.{units_app}
 use Rattle.command_line.specs.Fields.{command_line_of}
 use Rattle.command_line.specs.declared.fields.CommandLine.{CommandLine}
@@ -26,6 +30,28 @@ one_if stands = if stands then 1 else 0
 abbrev pub work_count : CommandLine → ℕ
 work_count line = one_if (is_some line.from) + one_if line.check + one_if (is_some line.trial)
 
--- clap takes the words, and at most one of FROM, `--check` and `--trial` stands
+-- what a FROM or TO word says: it is read without a final carriage return, then without `#` and what follows,
+-- then without outer blanks
+abbrev pub operand_text : Text → Text
+operand_text word = after_blanks (cleaned word)
+
+-- the TO word is neither blank nor `?`
+abbrev pub is_target : Text → Bool
+is_target to = not (is_empty (operand_text to) || bytes_eq (operand_text to) (codes "?"))
+
+-- FROM stands, with a TO that is neither blank nor `?`
+abbrev pub is_conversion : CommandLine → Bool
+is_conversion line = is_some line.from && option_map_or is_target line.to false
+
+-- `--column` stands only with a conversion, and `--header` only with `--column`
+abbrev pub columns_fit : CommandLine → Bool
+columns_fit line =
+    (not (is_some line.column) || is_conversion line) && (not line.header || is_some line.column)
+
+-- at most one of FROM, `--check` and `--trial` stands, and the options for columns stand where they may
+abbrev pub arguments_fit : CommandLine → Bool
+arguments_fit line = nat_le (work_count line) 1 && columns_fit line
+
+-- clap takes the words, and their arguments fit each other
 unfoldable pub are_taken : List Text → Bool
-are_taken words = are_parsed words && nat_le (work_count (command_line_of words)) 1
+are_taken words = are_parsed words && arguments_fit (command_line_of words)

@@ -3,8 +3,9 @@ ghost use Rattle.std.specs.Prelude.{◌≡◌, ◌∷◌, [], IfOk, Some, None, 
 ghost use Rattle.clap.specs.Words.{app_of, with_rule};
 ghost use Rattle.command_line.specs.Rules.{flag_rule, option_rule, operand_rule, with_rules};
 ghost use Rattle.command_line.specs.Rules.{bare_app, any_text, letter, number_up_to};
-ghost use Rattle.command_line.specs.Definition.{reply_rules, mode_rules, source_rules, units_app};
+ghost use Rattle.command_line.specs.Definition.{reply_rules, mode_rules, column_rules, source_rules, units_app};
 
+use clap::builder::ValueParser;
 use clap::{Arg, ArgAction, Command, value_parser};
 use std::alloc::{AllocError, Global};
 
@@ -15,7 +16,8 @@ pub fn units_command<'a>(alloc: Global) -> Result<Command<'a>, AllocError>
     let bare = bare_command(alloc);
     let with_replies = with_reply_options(alloc, bare)?;
     let with_modes = with_mode_options(alloc, with_replies)?;
-    with_sources(alloc, with_modes)
+    let with_columns = with_column_options(alloc, with_modes)?;
+    with_sources(alloc, with_columns)
 }
 
 /// The command without arguments. Words for help or the version are not taken.
@@ -54,6 +56,14 @@ fn with_mode_options<'a>(alloc: Global, command: Command<'a>) -> Result<Command<
         ("check", Some('c')),
     ];
     with_flags(alloc, command, &flags)
+}
+
+/// Adds the options for records of fields.
+fn with_column_options<'a>(alloc: Global, command: Command<'a>) -> Result<Command<'a>, AllocError>
+    ensures { IfOk result (λ r. app_of r ≡ with_rules (app_of command.entry) column_rules) }
+{
+    let command = with_column(alloc, command)?;
+    with_flag(alloc, command, "header", None)
 }
 
 /// Adds what the program works on: definition file, locale, trial and the two operands.
@@ -147,11 +157,33 @@ fn with_trial<'a>(alloc: Global, command: Command<'a>) -> Result<Command<'a>, Al
     ensures { IfOk result (λ r. app_of r ≡ with_rule (app_of command.entry)
         (option_rule (codes "trial") None (number_up_to 20000))) }
 {
-    let trial = Arg::new(alloc, "trial")
-        .long("trial")
+    let number = value_parser!(u16).range(1..=20000);
+    with_value_option(alloc, command, "trial", number)
+}
+
+fn with_column<'a>(alloc: Global, command: Command<'a>) -> Result<Command<'a>, AllocError>
+    ensures { IfOk result (λ r. app_of r ≡ with_rule (app_of command.entry)
+        (option_rule (codes "column") None (number_up_to 65535))) }
+{
+    let number = value_parser!(u16).range(1..=65535);
+    with_value_option(alloc, command, "column", number)
+}
+
+/// Adds an option without a letter, with the values that the parser takes.
+fn with_value_option<'a>(
+    alloc: Global,
+    command: Command<'a>,
+    name: &'a str,
+    parser: ValueParser<'a>,
+) -> Result<Command<'a>, AllocError>
+    ensures { IfOk result (λ r. app_of r
+        ≡ with_rule (app_of command.entry) (option_rule name.entry.now None (Some parser.entry))) }
+{
+    let option = Arg::new(alloc, name)
+        .long(name)
         .action(ArgAction::Set)
-        .value_parser(value_parser!(u16).range(1..=20000));
-    command.arg(trial)
+        .value_parser(parser);
+    command.arg(option)
 }
 
 fn with_operand<'a>(

@@ -37,6 +37,10 @@ pub struct CommandLine {
     pub locale: Option<Text>,
     /// The size of a trial, 1 to 20,000.
     pub trial: Option<u16>,
+    /// The field that is converted in each record of the input, 1 to 65,535.
+    pub column: Option<u16>,
+    /// The first record stays as it is.
+    pub header: bool,
     /// What is to be converted.
     pub from: Option<Text>,
     /// What it is converted to.
@@ -47,9 +51,11 @@ pub struct CommandLine {
 pub fn command_line_from(alloc: Global, matches: &ArgMatches<'_>) -> Result<CommandLine, AllocError>
     requires digits { HasNumberUpTo (codes "digits") 36 (rows_of (found_of matches.now)) }
     requires trial { HasNumberUpTo (codes "trial") 20000 (rows_of (found_of matches.now)) }
+    requires column { HasNumberUpTo (codes "column") 65535 (rows_of (found_of matches.now)) }
     ensures fields { IfOk result (λ line. line ≡ fields_of (rows_of (found_of matches.now))) }
     ensures digits { IfOk result (λ line. IfSome line.digits (λ n. (1 ≤ n) × (n ≤ 36))) }
     ensures trial { IfOk result (λ line. IfSome line.trial (λ n. (1 ≤ n) × (n ≤ 20000))) }
+    ensures column { IfOk result (λ line. IfSome line.column (λ n. (1 ≤ n) × (n ≤ 65535))) }
 {
     let file = text_of(alloc, matches, "file")?;
     let locale = text_of(alloc, matches, "locale")?;
@@ -69,6 +75,8 @@ pub fn command_line_from(alloc: Global, matches: &ArgMatches<'_>) -> Result<Comm
         file,
         locale,
         trial: trial_of(matches),
+        column: column_of(matches),
+        header: flag_of(matches, "header"),
         from,
         to,
     })
@@ -91,6 +99,17 @@ fn trial_of(matches: &ArgMatches<'_>) -> Option<u16>
     ensures range { IfSome result (λ n. (1 ≤ n) × (n ≤ 20000)) }
 {
     match value_of(matches, "trial") {
+        Some(text) => Some(number_in(text)),
+        None => None,
+    }
+}
+
+fn column_of(matches: &ArgMatches<'_>) -> Option<u16>
+    requires { HasNumberUpTo (codes "column") 65535 (rows_of (found_of matches.now)) }
+    ensures value { result ≡ number_at (codes "column") (rows_of (found_of matches.now)) }
+    ensures range { IfSome result (λ n. (1 ≤ n) × (n ≤ 65535)) }
+{
+    match value_of(matches, "column") {
         Some(text) => Some(number_in(text)),
         None => None,
     }

@@ -40,6 +40,8 @@ pub fn parse<'a>(alloc: Global, words: &'a [&'a str]) -> Result<ArgMatches<'a>, 
         HasNumberUpTo (codes "digits") 36 (rows_of (found_of matches))) }
     ensures trial { IfOk result (λ matches.
         HasNumberUpTo (codes "trial") 20000 (rows_of (found_of matches))) }
+    ensures column { IfOk result (λ matches.
+        HasNumberUpTo (codes "column") 65535 (rows_of (found_of matches))) }
 {
     let mut command = units_command(alloc)?;
     match command.try_get_matches_from_mut(words) {

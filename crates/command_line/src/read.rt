@@ -1,12 +1,13 @@
 //! The words of the command line, read.
 ghost use Rattle.std.specs.Prelude.{◌≡◌, ◌≤◌, IfOk, IfSome, true, false};
+ghost use Rattle.command_line.specs.Taken as spec;
 ghost use Rattle.command_line.specs.Taken.{are_taken, are_parsed, work_count};
-ghost use Rattle.command_line.specs.Taken.{one_if as one_if_stands};
 ghost use Rattle.command_line.specs.Fields.{command_line_of};
 
 use crate::fault::WordsFault;
 use crate::fields::{CommandLine, command_line_from};
 use crate::parse::{parse, texts_of};
+use def_lines::{clean, trim_front};
 use std::alloc::Global;
 use units_io::Text;
 
@@ -20,26 +21,36 @@ pub fn read_words(alloc: Global, words: &[Text]) -> Result<CommandLine, WordsFau
     ensures usage { result ≡ Err WordsFault.Usage → are_taken words.now ≡ false }
     ensures digits { IfOk result (λ line. IfSome line.digits (λ n. (1 ≤ n) × (n ≤ 36))) }
     ensures trial { IfOk result (λ line. IfSome line.trial (λ n. (1 ≤ n) × (n ≤ 20000))) }
+    ensures column { IfOk result (λ line. IfSome line.column (λ n. (1 ≤ n) × (n ≤ 65535))) }
     ensures work { IfOk result (λ line. work_count line ≤ 1) }
+    ensures sides { IfOk result (λ line. IfSome line.column (λ _. spec.is_conversion line ≡ true)) }
 {
     let line = parsed_line(alloc, words)?;
-    if count_of_work(&line) > 1 {
+    if !arguments_fit(&line) {
         return Err(WordsFault::Usage);
     }
     Ok(line)
 }
 
-/// The words as clap reads them, before the test between FROM, `--check` and `--trial`.
+/// The words as clap reads them, before any test between them.
 fn parsed_line(alloc: Global, words: &[Text]) -> Result<CommandLine, WordsFault>
     ensures parsed { IfOk result (λ _. are_parsed words.now ≡ true) }
     ensures read { IfOk result (λ line. line ≡ command_line_of words.now) }
     ensures usage { result ≡ Err WordsFault.Usage → are_parsed words.now ≡ false }
     ensures digits { IfOk result (λ line. IfSome line.digits (λ n. (1 ≤ n) × (n ≤ 36))) }
     ensures trial { IfOk result (λ line. IfSome line.trial (λ n. (1 ≤ n) × (n ≤ 20000))) }
+    ensures column { IfOk result (λ line. IfSome line.column (λ n. (1 ≤ n) × (n ≤ 65535))) }
 {
     let texts = texts_of(alloc, words)?;
     let matches = parse(alloc, texts.as_slice())?;
     Ok(command_line_from(alloc, &matches)?)
+}
+
+/// At most one of FROM, `--check` and `--trial` stands, and the options for columns stand where they may.
+fn arguments_fit(line: &CommandLine) -> bool
+    ensures { result ≡ spec.arguments_fit line.now }
+{
+    count_of_work(line) <= 1 && columns_fit(line)
 }
 
 /// How many of FROM, `--check` and `--trial` stand.
@@ -50,7 +61,32 @@ fn count_of_work(line: &CommandLine) -> u8
 }
 
 fn one_if(stands: bool) -> u8
-    ensures { result ≡ one_if_stands stands }
+    ensures { result ≡ spec.one_if stands }
 {
     if stands { 1 } else { 0 }
+}
+
+/// `--column` stands only with a conversion, and `--header` only with `--column`.
+fn columns_fit(line: &CommandLine) -> bool
+    ensures { result ≡ spec.columns_fit line.now }
+{
+    (line.column.is_none() || is_conversion(line)) && (!line.header || line.column.is_some())
+}
+
+/// FROM stands, with a TO that is neither blank nor `?`.
+fn is_conversion(line: &CommandLine) -> bool
+    ensures { result ≡ spec.is_conversion line.now }
+{
+    match &line.to {
+        Some(to) => line.from.is_some() && is_target(to.as_bytes()),
+        None => false,
+    }
+}
+
+/// The TO word is neither blank nor `?`.
+fn is_target(to: &[u8]) -> bool
+    ensures { result ≡ spec.is_target to.now }
+{
+    let text = trim_front(clean(to));
+    !(text.is_empty() || text == b"?".as_slice())
 }

@@ -25,4 +25,6 @@ returns c = record {
   flag_after_from = (refl, refl);
   empty_from = (refl, refl);
   help_as_from = (refl, refl);
+  column_with_header = (refl, refl);
+  column_most = (refl, refl);
 }

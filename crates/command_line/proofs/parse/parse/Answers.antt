@@ -1,8 +1,8 @@
 use Rattle.std.proofs.Common.{ap, sym, ◌∙◌, map, inl, inr, subst, codes}
 use Rattle.clap.specs.Words.{App, fault_of, is_simple, is_simple_and_free, matches_of, IsAmong, kind_of}
 use Rattle.command_line.proofs.Simple.{units_app-is_simple, units_app-is_free}
-use Rattle.command_line.proofs.Ranges.{number_in_range, digits_parser, trial_parser}
-use Rattle.command_line.proofs.Ranges.{built_digits_parser, built_trial_parser}
+use Rattle.command_line.proofs.Ranges.{number_in_range, column_parser, digits_parser, trial_parser}
+use Rattle.command_line.proofs.Ranges.{built_column_parser, built_digits_parser, built_trial_parser}
 use Rattle.command_line.proofs.parse.parse.Goals as goal
 
 pub returns-in-Ok-clause-exact : goal.returns-in-Ok-clause-exact
@@ -29,6 +29,14 @@ returns-in-Ok-clause-trial c = elim c.in-Ok.ensures.after [
   | inr kept ↦
       number_in_range _ _ _ _ (codes "trial") 20000 (λ e. cc) c.in_ok-command.ensures
       trial_parser built_trial_parser kept.2 c.in-Ok.ensures.ok.1
+]
+
+pub returns-in-Ok-clause-column : goal.returns-in-Ok-clause-column
+returns-in-Ok-clause-column c = elim c.in-Ok.ensures.after [
+  | inl broken ↦ absurd (c.in-Ok.ensures.fails broken)
+  | inr kept ↦
+      number_in_range _ _ _ _ (codes "column") 65535 (λ e. cc) c.in_ok-command.ensures
+      column_parser built_column_parser kept.2 c.in-Ok.ensures.ok.1
 ]
 
 pub returns-clause-exact : goal.returns-clause-exact
