@@ -1,0 +1,3 @@
+mod Rowing
+mod Taking
+pub mod Writing

@@ -1,0 +1,16 @@
+-- Bytes that are taken, and counted.
+use Rattle.std.proofs.Common.{◌≡◌, ◌+◌, ◌++◌, ◌-◌, ◌^◌, ◌≤◌, ◌∙◌, ℕ, List, min, length, take, length-append}
+use Rattle.std.proofs.Common.{length-take, ap, subst, sym, arith}
+use Rattle.session.specs.Waiting.{TookAtLeast}
+use Rattle.session.proofs.Blocks.{took_more}
+
+module _ (items buf new : List ℕ) (n : ℕ) (is : new ≡ items ++ take n buf) (within : n ≤ length buf) where
+  longer : length new ≡ length items + n
+  longer = omega (arith, ap length is, length-append items (take n buf), length-take n buf)
+
+  -- as many bytes are there as were taken
+  pub took_bytes : (before old now : ℕ) → TookAtLeast (length items) before old → now ≡ min (old + n) (2 ^ 64 - 1)
+      → TookAtLeast (length new) before now
+  took_bytes before old now at count =
+      subst (λ (total : ℕ). TookAtLeast total before now) (sym longer)
+      (took_more (length items) n before old now at count)

@@ -1,0 +1,74 @@
+//! Column input, which is read whole before a row is written.
+
+ghost use Rattle.std.specs.Prelude.{◌≡◌, ◌≤◌, ◌<◌, [], List, ℕ, Some, IfErr, IfOk, IsErrOf, OnOk, length};
+ghost use Rattle.units_io.specs.Faults.{Rose};
+ghost use Rattle.session.specs.Outside.{TookMoreThan};
+ghost use Rattle.column_run.specs.Endings.{IsCutOff};
+ghost use Rattle.column_run.specs.declared.end.ColumnEnd.TheVariants as end;
+
+use crate::end::ColumnEnd;
+use std::alloc::Global;
+use units_io::{Source, Text};
+
+const BLOCK: usize = 65_536;
+
+/// The most bytes of column input.
+pub(crate) const MOST_INPUT: usize = 16_777_216;
+
+/// All bytes of a source, to its end.
+pub(crate) fn read_input<S: Source>(alloc: Global, src: &mut S) -> Result<Text, ColumnEnd>
+    ensures told { (input : List ℕ) → S.left src.old ≡ Some input →
+        IfOk result (λ text. (text ≡ input) × (S.left src.new ≡ Some [])) }
+    ensures read { IsErrOf result end.ReadFault → Rose (S.faults src.old) (S.faults src.new) }
+    ensures too_long { IsErrOf result end.InputTooLong →
+        TookMoreThan 16777216 (S.taken src.old) (S.taken src.new) }
+    ensures over { IfErr result IsCutOff }
+{
+    let Ok(mut block) = vec![in alloc; 0u8; BLOCK] else {
+        return Err(ColumnEnd::NoMemory);
+    };
+    read_by(alloc, src, block.as_mut_slice())
+}
+
+// All bytes of a source, to its end, by a block at a time.
+fn read_by<S: Source>(alloc: Global, src: &mut S, block: &mut [u8]) -> Result<Text, ColumnEnd>
+    requires some { 0 < length block.old }
+    requires small { length block.old ≤ 65536 }
+    ensures told { (input : List ℕ) → S.left src.old ≡ Some input →
+        IfOk result (λ text. (text ≡ input) × (S.left src.new ≡ Some [])) }
+    ensures read { IsErrOf result end.ReadFault → Rose (S.faults src.old) (S.faults src.new) }
+    ensures too_long { IsErrOf result end.InputTooLong →
+        TookMoreThan 16777216 (S.taken src.old) (S.taken src.new) }
+    ensures over { IfErr result IsCutOff }
+{
+    let mut text = Vec::new(alloc);
+    match take_all(src, block, &mut text) {
+        Ok(()) => Ok(Text::from(text)),
+        Err(end) => Err(end),
+    }
+}
+
+// Takes them behind no bytes.
+fn take_all<S: Source>(src: &mut S, block: &mut [u8], text: &mut Vec<u8>) -> Result<(), ColumnEnd>
+    requires some { 0 < length block.old }
+    requires small { length block.old ≤ 65536 }
+    requires empty { text.old.items ≡ [] }
+    ensures told { (input : List ℕ) → S.left src.old ≡ Some input →
+        OnOk result ((text.new.items ≡ input) × (S.left src.new ≡ Some [])) }
+    ensures read { IsErrOf result end.ReadFault → Rose (S.faults src.old) (S.faults src.new) }
+    ensures too_long { IsErrOf result end.InputTooLong →
+        TookMoreThan 16777216 (S.taken src.old) (S.taken src.new) }
+    ensures over { IfErr result IsCutOff }
+{
+    while text.len() <= MOST_INPUT {
+        let n = match src.take(block) {
+            Ok(n) => n,
+            Err(_) => return Err(ColumnEnd::ReadFault),
+        };
+        if n == 0 {
+            return Ok(());
+        }
+        text.extend_from_slice(&block[..n])?;
+    }
+    Err(ColumnEnd::InputTooLong)
+}
