@@ -1,3 +1,4 @@
+pub mod Converting
 pub mod BuiltInDeck
 pub mod Planned
 pub mod Running

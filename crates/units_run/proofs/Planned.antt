@@ -1,6 +1,6 @@
 -- A plan, by the words.
 use Rattle.std.proofs.Common.{◌≡◌, ◌&&◌, ◌||◌, inl, inr, ℕ, List, Bool, true, false, Result, Err, Some, None, refl, sym}
-use Rattle.std.proofs.Common.{ap, subst, ◌∙◌, if◌then◌else◌}
+use Rattle.std.proofs.Common.{ap, subst, ◌∙◌, if◌then◌else◌, is_some, not}
 use Rattle.std.specs.declared.option.Option.{Option}
 use Rattle.units_io.specs.FileMap.{FileMap}
 use Rattle.units_io.specs.Named.{Pairs}
@@ -14,7 +14,8 @@ use Rattle.deck.specs.declared.fault.DeckFault.{DeckFault}
 use Rattle.deck.specs.declared.fault.DeckFault.TheVariants as fault
 use Rattle.session.specs.Telling.{TellsIf}
 use Rattle.units_run.specs.Definitions.{no_deck_line}
-use Rattle.units_run.specs.Needs.{is_session, loads_file, needs_files}
+use Rattle.units_run.specs.Needs.{converts_column, is_column, is_session, loads_file, most_input, needs_files}
+use Rattle.units_run.specs.Needs.{opens_session}
 use Rattle.units_run.specs.Planning.{IsPlanned}
 use Rattle.units_run.specs.Plans.{complaint}
 use Rattle.units_run.specs.Work.{file_plan, line_plan, plan_of}
@@ -95,3 +96,46 @@ tells_needed needed (Some told) x e h = ap Some h
 pub tells_told : {X : Type 0} (needed : Bool) (o : Option X) (x : X) → o ≡ Some x → TellsIf needed o x
 tells_told needed (Some told) x e = cc
 tells_told needed None x e = cc
+
+-- words that lead to a session lead to no column
+both_none : (taken trial from check column : Bool) → (taken && (not trial && not (from || check))) ≡ true
+    → (taken && ((not trial && from) && column)) ≡ true → ⊥
+both_none true false true check column e f = cc
+both_none true false false check column e f = cc
+both_none true true from check column e f = cc
+both_none false trial from check column e f = cc
+
+pub no_column : (words : List (List ℕ)) → opens_session words ≡ true → converts_column words ≡ true → ⊥
+no_column words e f =
+    let line = command_line_of words in
+    both_none (are_taken words) (is_some line.trial) (is_some line.from) line.check (is_some line.column) e f
+
+pub false_by : (b : Bool) → (b ≡ true → ⊥) → b ≡ false
+false_by true h = absurd (h refl)
+false_by false h = refl
+
+pub not_both : (b : Bool) → b ≡ true → b ≡ false → ⊥
+not_both true e f = cc
+not_both false e f = cc
+
+-- a session takes as much input as it may
+pub session_most : (words : List (List ℕ)) → opens_session words ≡ true → 4294967296 ≡ most_input words
+session_most words e =
+    sym (ap (λ (b : Bool). if b then 16777216 else 4294967296)
+    (false_by (converts_column words) (no_column words e)))
+
+pub column_most : (words : List (List ℕ)) → converts_column words ≡ true → 16777216 ≡ most_input words
+column_most words e = sym (ap (λ (b : Bool). if b then 16777216 else 4294967296) e)
+
+-- words that are not taken lead to neither
+pub no_lead : (words : List (List ℕ)) → are_taken words ≡ false → (opens_session words || converts_column words) ≡ true
+    → ⊥
+no_lead words untaken leads =
+    let line = command_line_of words in
+    not_both (opens_session words || converts_column words) leads
+    (ap
+    (λ (b : Bool). (b && is_session line) || (b && is_column line)) untaken)
+
+pub or_true : (b : Bool) → (b || true) ≡ true
+or_true true = refl
+or_true false = refl

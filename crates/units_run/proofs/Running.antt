@@ -16,7 +16,7 @@ use Rattle.session.specs.declared.over_source.SessionEnd.{SessionEnd}
 use Rattle.session.specs.declared.over_source.SessionEnd.TheVariants as end
 use Rattle.session.specs.declared.said.Said.{Said}
 use Rattle.units_run.specs.Calls.{run_over}
-use Rattle.units_run.specs.Endings.{IsFaultless, IsLeft, IsStated, IsWorked, MayEnd, status_of}
+use Rattle.units_run.specs.Endings.{IsFaultless, IsLeft, IsLeftOf, IsStated, IsWorked, MayEnd, status_of}
 use Rattle.units_run.specs.Planning.{IsPlan}
 use Rattle.units_run.specs.Plans as plans
 use Rattle.units_run.specs.declared.plan.Plan.TheVariants.{Whole, Opened}
@@ -57,20 +57,20 @@ whole_left course wanted InputTooLong before after stated is all = absurd stated
 -- the course of a plan, and its ending
 abbrev pub plan_course : plans.Plan → FileMap → (input : List ℕ) → Course
 plan_course want files input = record {
-  whole = (run_over want files (heard (lines_of input))).output;
-  shown = λ taken. (run_over want files (whole_lines taken)).output;
+  whole = (run_over want files input (heard (lines_of input))).output;
+  shown = λ taken. (run_over want files input (whole_lines taken)).output;
   input = input;
 }
 
 abbrev pub plan_end : plans.Plan → FileMap → (input : List ℕ) → Status
-plan_end want files input = (run_over want files (heard (lines_of input))).status
+plan_end want files input = (run_over want files input (heard (lines_of input))).status
 
 -- a whole plan that is written
 pub whole_run : (want : plans.Plan) (files : FileMap) (input : List ℕ) (said : Said) (status : Status)
     (before after : Outside) → IsStated status → IsPlan want files (Whole said status) before.steps after.steps
     → after.out ≡ grown before.out said.out.items → after.err ≡ grown before.err said.err.items
     → after.files ≡ when_told before.files files
-    → IsLeft (plan_course want files input) (plan_end want files input) status before after
+    → IsLeftOf want (plan_course want files input) (plan_end want files input) status before after
 whole_run (plans.Whole run) files input said status before after stated planned out err kept =
     whole_left (plan_course (plans.Whole run) files input) run.status status before after stated planned.ends
     (record {
@@ -80,6 +80,7 @@ whole_run (plans.Whole run) files input said status before after stated planned 
       steps = planned.steps;
     })
 whole_run (plans.Opened talk) files input said status before after stated planned out err kept = absurd planned
+whole_run (plans.Columns work) files input said status before after stated planned out err kept = absurd planned
 
 -- a session that is opened
 pub opened_talk : (want : plans.Plan) (files : FileMap) (said : Said) (session : Known) (before now : Outside)
@@ -87,6 +88,7 @@ pub opened_talk : (want : plans.Plan) (files : FileMap) (said : Said) (session :
     → now.files ≡ before.files → before.files ≡ Some files → before.fetch_faults ≤ now.fetch_faults
     → (first : Talk) × (want ≡ plans.Opened first) × Opens first said session before now
 opened_talk (plans.Whole run) files said session before now planned out err kept told faults = absurd planned
+opened_talk (plans.Columns work) files said session before now planned out err kept told faults = absurd planned
 opened_talk (plans.Opened first) files said session before now planned out err kept told faults = (
   first,
   refl,
@@ -116,10 +118,10 @@ session_left course end.InputTooLong before after ended = ended
 -- the run of an opened plan is that of its session
 pub opened_run : (want : plans.Plan) (first : Talk) (files : FileMap) (input : List ℕ) (end : SessionEnd)
     (before after : Outside) → want ≡ plans.Opened first → IsEnded (session_course first input) end before after
-    → IsLeft (plan_course want files input) (plan_end want files input) (status_of end) before after
+    → IsLeftOf want (plan_course want files input) (plan_end want files input) (status_of end) before after
 opened_run want first files input end before after is ended =
     subst
-    (λ (w : plans.Plan). IsLeft (plan_course w files input) (plan_end w files input) (status_of end) before after)
+    (λ (w : plans.Plan). IsLeftOf w (plan_course w files input) (plan_end w files input) (status_of end) before after)
     (sym is) (session_left (session_course first input) end before after ended)
 
 -- files that are told are as they were when nothing changes them
@@ -142,6 +144,13 @@ write_end end.ReadFault is = cc
 write_end end.WriteFault is = refl
 write_end end.NoMemory is = cc
 write_end end.InputTooLong is = cc
+
+pub long_end : (e : SessionEnd) → status_of e ≡ InputTooLong → e ≡ end.InputTooLong
+long_end end.Done is = cc
+long_end end.ReadFault is = cc
+long_end end.WriteFault is = cc
+long_end end.NoMemory is = cc
+long_end end.InputTooLong is = refl
 
 pub done_end : (e : SessionEnd) → status_of e ≡ Done → e ≡ end.Done
 done_end end.Done is = refl

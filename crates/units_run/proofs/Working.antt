@@ -1,5 +1,6 @@
 -- Plans over a deck.
-use Rattle.std.proofs.Common.{◌≡◌, ◌+◌, ◌++◌, ◌||◌, ℕ, List, [], Bool, true, false, not, is_some, Option, Result, IfOk}
+use Rattle.std.proofs.Common.{◌≡◌, ◌+◌, ◌++◌, ◌&&◌, ◌||◌, ℕ, List, [], Bool, true, false, not, is_some, Some, unwrap_or}
+use Rattle.std.proofs.Common.{Option, Result, IfOk}
 use Rattle.std.proofs.Common.{sym, ap, subst, ◌∙◌, if◌then◌else◌}
 use Rattle.units_io.specs.FileMap.{FileMap}
 use Rattle.def_entry.specs.Tables.{Table}
@@ -19,7 +20,8 @@ use Rattle.survey.specs.Checks.{check_report, check_queries}
 use Rattle.units_run.specs.Asked.{Asked, asked_for}
 use Rattle.units_run.specs.Options.{options_of}
 use Rattle.units_run.specs.Planning.{IsFor, IsPlan}
-use Rattle.units_run.specs.Work.{checked, checked_lines, fresh, replied}
+use Rattle.units_run.specs.Work.{checked, checked_lines, fresh, from_plan, replied, work_by}
+use Rattle.session.specs.Commands.{text_of}
 use Rattle.units_run.specs.declared.plan.Plan.{Plan}
 use Rattle.units_run.specs.declared.plan.Plan.TheVariants.{Whole}
 use Rattle.units_run.specs.declared.status.Status.{Status}
@@ -33,11 +35,22 @@ asked_same t a b from from_too to to_too o f g =
     ∙ (ap (λ (x : List ℕ). asked_for t b x to) f ∙ ap (λ (x : List ℕ). asked_for t b from_too x) g)
 
 -- the plan of a command line is that of its kind
-pub work_kind : {E : Type 0} (result : Result Plan E) (from : Option (List ℕ)) (check session : Bool)
-    → not (is_some from || check) ≡ session → IfOk result (IsFor true false session)
-    → IfOk result (IsFor true false (not (is_some from || check)))
-work_kind result from check session is kind =
-    subst (λ (s : Bool). IfOk result (IsFor true false s)) (sym is) kind
+pub work_kind : {E : Type 0} (result : Result Plan E) (from : Option (List ℕ)) (check : Bool) (column : Option ℕ)
+    (session converts : Bool) → not (is_some from || check) ≡ session → (is_some from && is_some column) ≡ converts
+    → IfOk result (IsFor true false session converts)
+    → IfOk result (IsFor true false (not (is_some from || check)) (is_some from && is_some column))
+work_kind result from check column session converts is has kind =
+    subst (λ (s : Bool). IfOk result (IsFor true false s (is_some from && is_some column))) (sym is)
+    (subst (λ (b : Bool). IfOk result (IsFor true false session b)) (sym has) kind)
+
+-- what is done with a FROM that stands, by its column
+pub from_stands : (line : CommandLine) (deck : Contents) (m : FileMap) (from word : List ℕ) (column : Option ℕ)
+    → line.from ≡ Some word → from ≡ word → line.column ≡ column
+    → from_plan column line (text_of from) (text_of (unwrap_or line.to [])) deck ≡ work_by line.from line deck m
+from_stands line deck m from word column stands same is =
+    ap (λ (c : Option ℕ). from_plan c line (text_of from) (text_of (unwrap_or line.to [])) deck) (sym is)
+    ∙ ap (λ (f : List ℕ). work_by (Some f) line deck m) same
+    ∙ ap (λ (f : Option (List ℕ)). work_by f line deck m) (sym stands)
 
 module _ (law : LeavesLaw) (deck : Contents) (before after : Shown) (old new : ℕ) (is : before ≡ fresh deck)
     (m : FileMap) where

@@ -1,28 +1,56 @@
 -- A run: one function of words, variables, files and input.
-use Rattle.std.specs.Prelude.{ℕ, List}
+use Rattle.std.specs.Prelude.{ℕ, List, if◌then◌else◌}
+use Rattle.deck.specs.Tables.{table}
+use Rattle.column_convert.specs.Inputs.{input_of}
+use Rattle.column_convert.specs.Rows.{queries, rows}
+use Rattle.column_convert.specs.declared.row.ColumnRow.{ColumnRow}
+use Rattle.column_run.specs.Outputs.{is_refused, text_of}
 use Rattle.units_io.specs.FileMap.{FileMap}
 use Rattle.units_io.specs.Named.{Pairs}
 use Rattle.session.specs.Hearing.{heard}
 use Rattle.session.specs.Input.{lines_of, whole_lines}
+use Rattle.session.specs.Queries.{newly}
 use Rattle.session.specs.Talks.{talk_over}
 use Rattle.session.specs.Written.{Course, Output, output_of}
-use Rattle.units_run.specs.Plans.{Plan, Whole, Opened}
-use Rattle.units_run.specs.Work.{plan_of}
+use Rattle.units_run.specs.Plans.{Plan, Whole, Opened, Columns, ColumnWork}
+use Rattle.units_run.specs.Work.{fresh, plan_of}
 use Rattle.units_run.specs.declared.status.Status.{Status}
-use Rattle.units_run.specs.declared.status.Status.TheVariants.{Done}
+use Rattle.units_run.specs.declared.status.Status.TheVariants.{Done, Refused}
 
 -- the bytes for each sink, how many names are newly settled, the files at the end, and the ending
 pub record Run : Type 0 where
   pub output : Output
   pub status : Status
 
+-- the rows of a column over an input, and the queries that are made for them
+abbrev pub rows_of : ColumnWork → (input : List ℕ) → List ColumnRow
+rows_of work input = rows (table work.deck) work.options work.from work.to (input_of input work.column work.header)
+
+abbrev pub steps_of : ColumnWork → (input : List ℕ) → ℕ
+steps_of work input =
+    newly (queries (table work.deck) work.options work.from work.to (input_of input work.column work.header))
+    (fresh work.deck)
+
+-- the run of a column over its whole input; a row that is refused makes it a refusal
+abbrev pub column_run : ColumnWork → FileMap → (input : List ℕ) → Run
+column_run work files input = record {
+  output = record {
+    out = text_of (rows_of work input);
+    err = work.err;
+    steps = steps_of work input;
+    files = files;
+  };
+  status = if is_refused (rows_of work input) then Refused else Done;
+}
+
 -- the run of a plan, once these lines of its input are answered
-abbrev pub run_over : Plan → FileMap → (lines : List (List ℕ)) → Run
-run_over (Whole run) files lines = record {
+abbrev pub run_over : Plan → FileMap → (input : List ℕ) → (lines : List (List ℕ)) → Run
+run_over (Whole run) files input lines = record {
   output = record { out = run.out; err = run.err; steps = run.steps; files = files };
   status = run.status;
 }
-run_over (Opened talk) files lines = record { output = output_of (talk_over talk lines); status = Done }
+run_over (Opened talk) files input lines = record { output = output_of (talk_over talk lines); status = Done }
+run_over (Columns work) files input lines = column_run work files input
 
 -- what is asked of a run
 pub record Call : Type 0 where
@@ -36,11 +64,11 @@ plan_for call = plan_of call.words call.vars call.files
 
 -- the run of these words and variables over these files and this input
 abbrev pub run_of : Call → Run
-run_of call = run_over (plan_for call) call.files (heard (lines_of call.input))
+run_of call = run_over (plan_for call) call.files call.input (heard (lines_of call.input))
 
 -- the run so far, where only these bytes of the input were taken: exactly their whole lines are answered
 abbrev pub shown_of : Call → (taken : List ℕ) → Run
-shown_of call taken = run_over (plan_for call) call.files (whole_lines taken)
+shown_of call taken = run_over (plan_for call) call.files call.input (whole_lines taken)
 
 -- the course of what is asked for
 abbrev pub course_of : Call → Course

@@ -3,10 +3,14 @@ use Rattle.std.specs.Prelude.{◌≡◌, ℕ, List, Bool, true, false, ⊤}
 use Rattle.command_line.specs.Taken.{are_taken}
 use Rattle.command_line.specs.Fields.{command_line_of}
 use Rattle.session.specs.Outside.{Outside, Rests}
-use Rattle.session.specs.Written.{Course, IsAll, IsCutShort, IsFront}
+use Rattle.session.specs.Written.{Course, IsAll, IsCutShort, IsFront, Output}
+use Rattle.units_io.specs.Bytes.{GrowsByFront}
 use Rattle.session.specs.declared.over_source.SessionEnd.{SessionEnd}
 use Rattle.session.specs.declared.over_source.SessionEnd.TheVariants as end
-use Rattle.units_run.specs.Calls.{Call, course_of, run_of}
+use Rattle.column_run.specs.declared.end.ColumnEnd.{ColumnEnd}
+use Rattle.column_run.specs.declared.end.ColumnEnd.TheVariants as column
+use Rattle.units_run.specs.Calls.{Call, course_of, plan_for, run_of}
+use Rattle.units_run.specs.Plans.{Plan, Columns}
 use Rattle.units_run.specs.Needs.{loads_file}
 use Rattle.units_run.specs.declared.status.Status.{Status}
 use Rattle.units_run.specs.declared.status.Status.TheVariants as status
@@ -61,6 +65,15 @@ status_of end.WriteFault = status.WriteFault
 status_of end.NoMemory = status.NoMemory
 status_of end.InputTooLong = status.InputTooLong
 
+-- and how a conversion of a column ended
+abbrev pub column_status : ColumnEnd → Status
+column_status column.Done = status.Done
+column_status column.Refused = status.Refused
+column_status column.ReadFault = status.ReadFault
+column_status column.WriteFault = status.WriteFault
+column_status column.NoMemory = status.NoMemory
+column_status column.InputTooLong = status.InputTooLong
+
 -- what is left of a run of this course and this ending: all of it; or a front, which is cut behind the bytes taken
 -- where the input is too long, and where a read failed that is none of a file
 abbrev pub IsLeft : Course → (wanted : Status) → Status → (before after : Outside) → Type 0
@@ -71,6 +84,23 @@ IsLeft course wanted WriteFault before after = IsFront course.whole before after
 IsLeft course wanted NoMemory before after = IsFront course.whole before after
 IsLeft course wanted ending before after = (ending ≡ wanted) × IsAll course.whole before after
 
+-- what is left of a run over column input: all of it; or no byte of it, where its input is not there in full; or a
+-- front
+abbrev pub IsConverted : Output → (wanted : Status) → Status → (before after : Outside) → Type 0
+IsConverted output wanted ReadFault before after =
+    (after.out ≡ before.out) × GrowsByFront before.err after.err output.err
+IsConverted output wanted InputTooLong before after =
+    (after.out ≡ before.out) × GrowsByFront before.err after.err output.err
+IsConverted output wanted WriteFault before after = IsFront output before after
+IsConverted output wanted NoMemory before after = IsFront output before after
+IsConverted output wanted ending before after = (ending ≡ wanted) × IsAll output before after
+
+-- the same of any plan
+abbrev pub IsLeftOf : Plan → Course → (wanted : Status) → Status → (before after : Outside) → Type 0
+IsLeftOf (Columns work) course wanted ending before after = IsConverted course.whole wanted ending before after
+IsLeftOf plan course wanted ending before after = IsLeft course wanted ending before after
+
 -- what a run leaves: that of its words, variables, files and input, by its ending
 abbrev pub IsRun : Call → Status → (before after : Outside) → Type 0
-IsRun call ending before after = IsLeft (course_of call) (run_of call).status ending before after
+IsRun call ending before after =
+    IsLeftOf (plan_for call) (course_of call) (run_of call).status ending before after

@@ -1,5 +1,5 @@
 -- What the words need: files, or input.
-use Rattle.std.specs.Prelude.{◌&&◌, ◌||◌, ℕ, List, Bool, is_some, not}
+use Rattle.std.specs.Prelude.{◌&&◌, ◌||◌, ℕ, List, Bool, is_some, not, if◌then◌else◌}
 use Rattle.command_line.specs.Taken.{are_taken}
 use Rattle.command_line.specs.Fields.{command_line_of}
 use Rattle.command_line.specs.declared.fields.CommandLine.{CommandLine}
@@ -13,8 +13,24 @@ abbrev pub loads_file : CommandLine → Bool
 loads_file line = not (is_some line.trial) && is_some line.file
 
 -- the words lead to a session
+abbrev pub opens_session : (words : List (List ℕ)) → Bool
+opens_session words = are_taken words && is_session (command_line_of words)
+
+-- FROM is converted in a column; beside `--trial` no FROM stands
+abbrev pub is_column : CommandLine → Bool
+is_column line = not (is_some line.trial) && is_some line.from && is_some line.column
+
+-- the words lead to a column that is converted
+abbrev pub converts_column : (words : List (List ℕ)) → Bool
+converts_column words = are_taken words && is_column (command_line_of words)
+
+-- the words lead to a session, or to a column that is converted
 abbrev pub needs_input : (words : List (List ℕ)) → Bool
-needs_input words = are_taken words && is_session (command_line_of words)
+needs_input words = opens_session words || converts_column words
+
+-- the most bytes of input that are taken
+abbrev pub most_input : (words : List (List ℕ)) → ℕ
+most_input words = if converts_column words then 16777216 else 4294967296
 
 -- the words lead to a definition file, or to a session, whose lines may name files
 abbrev pub needs_files : (words : List (List ℕ)) → Bool

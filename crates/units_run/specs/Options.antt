@@ -20,6 +20,10 @@ options_of line = record {
 abbrev pub HasDigits : CommandLine → Type 0
 HasDigits line = IfSome line.digits (λ n. (1 ≤ n) × (n ≤ 36))
 
+-- where a column is asked for, it is from 1 to 65,535
+abbrev pub HasColumn : CommandLine → Type 0
+HasColumn line = IfSome line.column (λ n. (1 ≤ n) × (n ≤ 65535))
+
 -- where a trial is asked for, it is of 1 to 20,000 rounds
 abbrev pub HasRounds : CommandLine → Type 0
 HasRounds line = IfSome line.trial (λ n. (1 ≤ n) × (n ≤ 20000))

@@ -1,8 +1,9 @@
 -- A plan as the program has it.
-use Rattle.std.specs.Prelude.{◌≡◌, ◌+◌, ℕ, Bool, true, Some, Result, Ok, Err, ⊤}
+use Rattle.std.specs.Prelude.{◌≡◌, ◌+◌, ◌||◌, ◌≤◌, ℕ, Bool, true, Some, Result, Ok, Err, ⊤}
 use Rattle.std.specs.declared.alloc.AllocError.{AllocError}
 use Rattle.units_io.specs.FileMap.{FileMap}
 use Rattle.live_table.specs.Shown.{Follows, Shown}
+use Rattle.reply.specs.Options.{IsPrintable}
 use Rattle.reply.specs.declared.reply.Reply.{Reply}
 use Rattle.session.specs.Standing.{IsAt}
 use Rattle.session.specs.Waiting.{at_first}
@@ -11,7 +12,9 @@ use Rattle.units_run.specs.Asked.{Asked}
 use Rattle.units_run.specs.Endings.{MayEnd}
 use Rattle.units_run.specs.Plans as plans
 use Rattle.units_run.specs.declared.plan.Plan.{Plan}
-use Rattle.units_run.specs.declared.plan.Plan.TheVariants.{Whole, Opened}
+use Rattle.units_run.specs.Work.{fresh}
+use Rattle.units_run.specs.declared.column_plan.ColumnPlan.{ColumnPlan}
+use Rattle.units_run.specs.declared.plan.Plan.TheVariants.{Whole, Opened, Columns}
 use Rattle.units_run.specs.declared.status.Status.{Status}
 use Rattle.units_run.specs.declared.status.Status.TheVariants.{NoFile}
 
@@ -22,22 +25,38 @@ pub record IsSaid (want : plans.WholeRun) (said : Said) (status : Status) (steps
   pub ends : status ≡ want.status
   pub steps : steps_new ≡ steps_old + want.steps
 
+-- a column is to be converted so, and no step is taken yet
+pub record IsColumn (want : plans.ColumnWork) (plan : ColumnPlan) (steps_old steps_new : ℕ) : Type 0 where
+  pub table : plan.table ≡ fresh want.deck
+  pub options : plan.options ≡ want.options
+  pub from : plan.from ≡ want.from
+  pub to : plan.to ≡ want.to
+  pub column : plan.column ≡ want.column
+  pub header : plan.header ≡ want.header
+  pub err : plan.notices.items ≡ want.err
+  pub steps : steps_new ≡ steps_old
+
 -- the program's plan is this one
 abbrev pub IsPlan : plans.Plan → FileMap → Plan → (steps_old steps_new : ℕ) → Type 0
 IsPlan (plans.Whole run) files (Whole said status) steps_old steps_new = IsSaid run said status steps_old steps_new
 IsPlan (plans.Opened talk) files (Opened said session) steps_old steps_new =
     IsAt (at_first steps_old) talk (record { said = said; session = session; files = Some files; steps = steps_new })
+IsPlan (plans.Columns work) files (Columns plan) steps_old steps_new = IsColumn work plan steps_old steps_new
 IsPlan want files plan steps_old steps_new = ⊥
 
 abbrev pub IsPlanned : {E : Type 0} → plans.Plan → FileMap → Result Plan E → (steps_old steps_new : ℕ) → Type 0
 IsPlanned want files (Ok plan) steps_old steps_new = IsPlan want files plan steps_old steps_new
 IsPlanned want files (Err _) steps_old steps_new = ⊤
 
--- which plan there may be: a whole run by how it may end, which where the words lead to a session is only since there
--- is no deck; and a session only where they lead to one
-abbrev pub IsFor : (taken missing session : Bool) → Plan → Type 0
-IsFor taken missing session (Whole said status) = (session ≡ true → status ≡ NoFile) × MayEnd taken missing status
-IsFor taken missing session (Opened said opened) = (taken ≡ true) × (session ≡ true)
+-- which plan there may be: a whole run by how it may end, which where the words lead to a session or to a column is
+-- only since there is no deck; a session only where they lead to one, and a column only where they lead to one, with
+-- options that can be printed and a number from 1
+abbrev pub IsFor : (taken missing session column : Bool) → Plan → Type 0
+IsFor taken missing session column (Whole said status) =
+    ((session || column) ≡ true → status ≡ NoFile) × MayEnd taken missing status
+IsFor taken missing session column (Opened said opened) = (taken ≡ true) × (session ≡ true)
+IsFor taken missing session column (Columns plan) =
+    (taken ≡ true) × (column ≡ true) × IsPrintable plan.options × (1 ≤ plan.column)
 
 -- a live table gave this reply, and made the queries for it
 abbrev pub IsReplied : Asked → Result Reply AllocError → Shown → Shown → (old new : ℕ) → Type 0

@@ -1,5 +1,7 @@
--- What the words lead to before any input is taken: a whole run, or a session that is opened.
-use Rattle.std.specs.Prelude.{ℕ, List, []}
+-- What the words lead to before any input is taken: a whole run, a session that is opened, or a column to be converted.
+use Rattle.std.specs.Prelude.{ℕ, Bool, List, []}
+use Rattle.deck.specs.Decks.{Contents}
+use Rattle.reply.specs.declared.options.Options.{Options}
 use Rattle.session.specs.Talks.{Talk}
 use Rattle.units_run.specs.declared.status.Status.{Status}
 
@@ -10,9 +12,21 @@ pub record WholeRun : Type 0 where
   pub steps : ℕ
   pub status : Status
 
+-- a deck of which no name is settled, the options, FROM and TO, the number of the column, from 1, whether there is a
+-- header, and what stands on `err` before the input is taken
+pub record ColumnWork : Type 0 where
+  pub deck : Contents
+  pub options : Options
+  pub from : List ℕ
+  pub to : List ℕ
+  pub column : ℕ
+  pub header : Bool
+  pub err : List ℕ
+
 pub data Plan : Type 0 where
   Whole : WholeRun → Plan
   Opened : Talk → Plan
+  Columns : ColumnWork → Plan
 
 -- a text on `err`, and nothing else
 abbrev pub complaint : (text : List ℕ) → Status → Plan

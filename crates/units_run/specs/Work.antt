@@ -26,7 +26,7 @@ use Rattle.survey.specs.Checks.{check_report, check_queries}
 use Rattle.units_run.specs.Asked.{Asked, asked_for}
 use Rattle.units_run.specs.Definitions.{built_in_deck, no_deck_line}
 use Rattle.units_run.specs.Options.{options_of}
-use Rattle.units_run.specs.Plans.{Plan, Whole, Opened, complaint}
+use Rattle.units_run.specs.Plans.{Plan, Whole, Opened, Columns, complaint}
 use Rattle.units_run.specs.Settings.{settings_of}
 use Rattle.units_run.specs.declared.status.Status.TheVariants.{Done, Refused, Usage, NoFile}
 
@@ -58,12 +58,26 @@ checked line deck = Whole (record {
 
 -- a session over a deck
 abbrev pub opened_over : CommandLine → Contents → FileMap → Plan
-opened_over line deck files = Opened (opened (state_of (known (options_of line) (fresh deck) None no_versions []) files))
+opened_over line deck files =
+    Opened (opened (state_of (known (options_of line) (fresh deck) None no_versions []) files))
 
--- what is done with a deck: the reply to FROM, the check, or a session
+-- what is done with FROM: its reply, or the column of this number is converted
+abbrev pub from_plan : (column : Option ℕ) → CommandLine → (from to : List ℕ) → Contents → Plan
+from_plan None line from to deck = replied deck (asked_for (table deck) (options_of line) from to)
+from_plan (Some column) line from to deck = Columns (record {
+  deck = deck;
+  options = options_of line;
+  from = from;
+  to = to;
+  column = column;
+  header = line.header;
+  err = lines_of_texts deck.notices;
+})
+
+-- what is done with a deck: the reply to FROM or the conversion of a column, the check, or a session
 abbrev pub work_by : (from : Option (List ℕ)) → CommandLine → Contents → FileMap → Plan
 work_by (Some from) line deck files =
-    replied deck (asked_for (table deck) (options_of line) (text_of from) (text_of (unwrap_or line.to [])))
+    from_plan line.column line (text_of from) (text_of (unwrap_or line.to [])) deck
 work_by None line deck files = if line.check then checked line deck else opened_over line deck files
 
 -- the same over the file of this name, of which there may be no deck

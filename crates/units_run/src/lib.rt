@@ -4,6 +4,8 @@
 
 mod asking;
 mod built_in;
+mod column_plan;
+mod columns;
 mod definitions;
 mod halt;
 mod no_deck;

@@ -17,7 +17,7 @@ use std::alloc::{AllocError, Global};
 pub(crate) fn no_deck_plan(alloc: Global, fault: &DeckFault, name: &[u8]) -> Result<Plan, Halt>
     ensures told { (m : FileMap) (n : ℕ) →
         IsPlanned (complaint (spec.no_deck_line fault.now name.now) Status.NoFile) m result n n }
-    ensures kind { (session : Bool) → IfOk result (IsFor true true session) }
+    ensures kind { (session column : Bool) → IfOk result (IsFor true true session column) }
     ensures fault { IfOk result (λ plan. MayFail fault.now → ⊥) }
     ensures cause { IsErrOf result Halt.ReadFault → fault.now ≡ DeckFault.ReadFailed }
 {
@@ -32,7 +32,7 @@ pub(crate) fn no_deck_plan(alloc: Global, fault: &DeckFault, name: &[u8]) -> Res
 fn no_deck_complaint(alloc: Global, fault: &DeckFault, name: &[u8]) -> Result<Plan, AllocError>
     ensures told { (m : FileMap) (n : ℕ) →
         IsPlanned (complaint (spec.no_deck_line fault.now name.now) Status.NoFile) m result n n }
-    ensures kind { (session : Bool) → IfOk result (IsFor true true session) }
+    ensures kind { (session column : Bool) → IfOk result (IsFor true true session column) }
 {
     let mut text = Vec::from_slice(alloc, no_deck(fault))?;
     text.extend_from_slice(name)?;

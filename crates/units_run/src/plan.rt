@@ -1,10 +1,11 @@
 //! What the words lead to before any input is taken.
-ghost use Rattle.std.specs.Prelude.{◌≡◌, ℕ, Bool, true, IfOk};
+ghost use Rattle.std.specs.Prelude.{◌≡◌, ◌||◌, ℕ, Bool, true, IfOk};
 ghost use Rattle.units_io.specs.FileMap.{FileMap};
 ghost use Rattle.units_run.specs.Endings.{MayEnd};
 ghost use Rattle.units_run.specs.Planning.{IsFor, IsPlanned};
 ghost use Rattle.units_run.specs.Plans as spec;
 
+use crate::column_plan::ColumnPlan;
 use crate::status::Status;
 use session::{Said, Session};
 use std::alloc::{AllocError, Global};
@@ -16,14 +17,16 @@ pub(crate) enum Plan {
     Whole(Said, Status),
     /// A session, and what stands before its first line.
     Opened(Said, Session),
+    /// A column of the input that is to be converted.
+    Columns(ColumnPlan),
 }
 
 impl Plan {
     /// A text on `err`, and nothing else.
     pub(crate) fn complaint(alloc: Global, text: &[u8], status: Status) -> Result<Plan, AllocError>
         ensures told { (m : FileMap) (n : ℕ) → IsPlanned (spec.complaint text.now status) m result n n }
-        ensures kind { (taken missing session : Bool) → (session ≡ true → status ≡ Status.NoFile) →
-            MayEnd taken missing status → IfOk result (IsFor taken missing session) }
+        ensures kind { (taken missing session column : Bool) → ((session || column) ≡ true → status ≡ Status.NoFile) →
+            MayEnd taken missing status → IfOk result (IsFor taken missing session column) }
     {
         let said = Said {
             out: Vec::new(alloc),

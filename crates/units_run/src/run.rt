@@ -1,12 +1,13 @@
 //! The run of the program.
-ghost use Rattle.std.specs.Prelude.{◌≡◌, ◌⊎◌, ℕ, List, Some, false, true};
+ghost use Rattle.std.specs.Prelude.{◌≡◌, ◌⊎◌, ℕ, List, [], Some, false, true};
 ghost use Rattle.units_io.specs.Faults.{Rose};
 ghost use Rattle.units_io.specs.FileMap.{FileMap};
 ghost use Rattle.session.specs.Outside.{IsReadToEnd, Rests, TookMoreThan, outside_of};
 ghost use Rattle.session.specs.Telling.{TellsIf};
-ghost use Rattle.units_run.specs.Endings.{IsFaultless, IsRun, IsStated, MayEndBy, status_of as status_by};
-ghost use Rattle.units_run.specs.Needs.{needs_files, needs_input};
+ghost use Rattle.units_run.specs.Endings.{IsFaultless, IsRun, IsStated, IsWorked, MayEndBy, status_of as status_by};
+ghost use Rattle.units_run.specs.Needs.{converts_column, most_input, needs_files, needs_input, opens_session};
 
+use crate::columns::convert_column;
 use crate::halt::Halt;
 use crate::plan::Plan;
 use crate::status::Status;
@@ -24,11 +25,13 @@ use units_io::{Files, Sink, Source, Steps, Text, Vars};
 /// `run`: with a stated status (0 to 3) all bytes of the run stand on both sinks, its files and its count of steps are
 /// those of the run, and the status is its own; with any other each sink holds a front of its bytes, which where the
 /// input was too long (7), and where the source failed (4), is exactly what is shown for the whole lines of the bytes
-/// taken. Files and input that the words do not need are not asked for, and need not be told.
+/// taken, and of a column no byte on `out`. Files and input that the words do not need are not asked for, and need not
+/// be told.
 ///
-/// `heard`: a session that is done has read its input to the end, or to a line that ends it. `ends`: which stated
-/// statuses there may be is decided by the words alone, whatever is told. `source`, `no_deck`, `unasked`: nothing is
-/// taken outside of a session or without a deck, and no file is asked for where none is needed. `read`, `write`,
+/// `heard`: a session that is done has read its input to the end, or to a line that ends it. `whole`: a column that is
+/// converted, also where a cell is an error, has read it to the end. `ends`: which stated statuses there may be is
+/// decided by the words alone, whatever is told. `source`, `no_deck`, `unasked`: nothing is taken outside of a session
+/// and of a column or without a deck, and no file is asked for where none is needed. `read`, `write`,
 /// `too_long`: faults come only where they were counted, and the limit only where it is passed. `complete`: where no
 /// count rises the status is 0 to 3, 7 or 6. `kept`, `stores`: outside of a session, whatever the ending, and whether
 /// the files are told or not, they are as before, and none was stored.
@@ -51,8 +54,11 @@ pub fn units_main<S: Source, O: Sink, E: Sink, F: Files, L: Ledger>(
         (outside_of (S.left src.new) (O.written out.new) (E.written err.new)
         (F.files files.new) (F.faults files.new) steps.new) }
     ensures heard { (m : FileMap) (input : List ℕ) → F.files files.old ≡ Some m → S.left src.old ≡ Some input →
-        needs_input words.now ≡ true → result ≡ Status.Done → IsReadToEnd input (S.left src.new) }
+        opens_session words.now ≡ true → result ≡ Status.Done → IsReadToEnd input (S.left src.new) }
     ensures ends { IsStated result → MayEndBy words.now result }
+    ensures whole { (m : FileMap) (input : List ℕ) → TellsIf (needs_files words.now) (F.files files.old) m →
+        S.left src.old ≡ Some input → converts_column words.now ≡ true → IsWorked false result →
+        S.left src.new ≡ Some [] }
     ensures source { needs_input words.now ≡ false → src.new ≡ src.old }
     ensures no_deck { result ≡ Status.NoFile → src.new ≡ src.old }
     ensures unasked { needs_files words.now ≡ false → files.new ≡ files.old }
@@ -60,12 +66,13 @@ pub fn units_main<S: Source, O: Sink, E: Sink, F: Files, L: Ledger>(
         Rose (S.faults src.old) (S.faults src.new) ⊎ Rose (F.faults files.old) (F.faults files.new) }
     ensures write { result ≡ Status.WriteFault → Rose (O.faults out.old) (O.faults out.new)
         ⊎ Rose (E.faults err.old) (E.faults err.new) ⊎ Rose (F.store_faults files.old) (F.store_faults files.new) }
-    ensures too_long { result ≡ Status.InputTooLong → TookMoreThan 4294967296 (S.taken src.old) (S.taken src.new) }
+    ensures too_long { result ≡ Status.InputTooLong → TookMoreThan (most_input words.now)
+        (S.taken src.old) (S.taken src.new) }
     ensures complete { Rests (S.faults src.old) (S.faults src.new) → Rests (F.faults files.old) (F.faults files.new) →
         Rests (O.faults out.old) (O.faults out.new) → Rests (E.faults err.old) (E.faults err.new) →
         Rests (F.store_faults files.old) (F.store_faults files.new) → IsFaultless result }
-    ensures kept { needs_input words.now ≡ false → F.files files.new ≡ F.files files.old }
-    ensures stores { needs_input words.now ≡ false → F.store_faults files.new ≡ F.store_faults files.old }
+    ensures kept { opens_session words.now ≡ false → F.files files.new ≡ F.files files.old }
+    ensures stores { opens_session words.now ≡ false → F.store_faults files.new ≡ F.store_faults files.old }
 {
     match make_plan(alloc, words, vars, files, steps) {
         Ok(Plan::Whole(said, status)) => match said.write(out, err) {
@@ -79,6 +86,7 @@ pub fn units_main<S: Source, O: Sink, E: Sink, F: Files, L: Ledger>(
             mem::forget(session);
             status_of(end)
         }
+        Ok(Plan::Columns(plan)) => convert_column(alloc, plan, src, out, err, steps),
         Err(Halt::ReadFault) => Status::ReadFault,
         Err(Halt::NoMemory) => Status::NoMemory,
     }

@@ -1,5 +1,5 @@
 //! What the words lead to.
-ghost use Rattle.std.specs.Prelude.{◌≡◌, ◌≤◌, IfOk, IsErrOf, OnOk, Some, true, false, is_some, not, ◌||◌};
+ghost use Rattle.std.specs.Prelude.{◌≡◌, ◌≤◌, ◌&&◌, ◌||◌, IfOk, IsErrOf, OnOk, Some, true, false, is_some, not};
 ghost use Rattle.units_io.specs.FileMap.{FileMap};
 ghost use Rattle.units_io.specs.Faults.{Rose};
 ghost use Rattle.command_line.specs.Taken.{are_taken};
@@ -7,8 +7,8 @@ ghost use Rattle.command_line.specs.Fields.{command_line_of};
 ghost use Rattle.deck.specs.Loading.{after_load};
 ghost use Rattle.session.specs.Telling.{TellsIf};
 ghost use Rattle.session.specs.Trials.{trial};
-ghost use Rattle.units_run.specs.Needs.{is_session, loads_file, needs_files, needs_input};
-ghost use Rattle.units_run.specs.Options.{HasDigits, HasRounds, options_of as options_by};
+ghost use Rattle.units_run.specs.Needs.{converts_column, is_column, is_session, loads_file, needs_files, opens_session};
+ghost use Rattle.units_run.specs.Options.{HasColumn, HasDigits, HasRounds, options_of as options_by};
 ghost use Rattle.units_run.specs.Planning.{IsFor, IsPlanned};
 ghost use Rattle.units_run.specs.Settings as settings;
 ghost use Rattle.units_run.specs.Work as spec;
@@ -38,7 +38,8 @@ pub(crate) fn make_plan<F: Files, L: Ledger>(
     ensures told { (m : FileMap) → TellsIf (needs_files words.now) (F.files files.old) m →
         IsPlanned (spec.plan_of words.now vars.now m) m result steps.old steps.new }
     ensures kind { IfOk result
-        (IsFor (are_taken words.now) (loads_file (command_line_of words.now)) (needs_input words.now)) }
+        (IsFor (are_taken words.now) (loads_file (command_line_of words.now)) (opens_session words.now)
+        (converts_column words.now)) }
     ensures calm { OnOk result (F.faults files.new ≡ F.faults files.old) }
     ensures cause { IsErrOf result Halt.ReadFault → Rose (F.faults files.old) (F.faults files.new) }
     ensures kept { F.files files.new ≡ F.files files.old }
@@ -62,9 +63,10 @@ fn line_plan<F: Files, L: Ledger>(
 ) -> Result<Plan, Halt>
     requires digits { HasDigits line.now }
     requires rounds { HasRounds line.now }
+    requires column { HasColumn line.now }
     ensures told { (m : FileMap) → TellsIf (loads_file line.now) (F.files files.old) m →
         IsPlanned (spec.line_plan line.now vars.now m) m result steps.old steps.new }
-    ensures kind { IfOk result (IsFor true (loads_file line.now) (is_session line.now)) }
+    ensures kind { IfOk result (IsFor true (loads_file line.now) (is_session line.now) (is_column line.now)) }
     ensures calm { OnOk result (F.faults files.new ≡ F.faults files.old) }
     ensures cause { IsErrOf result Halt.ReadFault → Rose (F.faults files.old) (F.faults files.new) }
     ensures kept { F.files files.new ≡ F.files files.old }
@@ -91,7 +93,7 @@ fn trial_plan<L: Ledger>(
     requires few { rounds ≤ 20000 }
     ensures told { (m : FileMap) →
         IsPlanned (spec.trial_plan (trial (options_by line.now) settings rounds)) m result steps.old steps.new }
-    ensures kind { IfOk result (IsFor true false false) }
+    ensures kind { IfOk result (IsFor true false false false) }
 {
     let text = run_trial(alloc, options_of(line), settings, rounds, steps)?;
     let said = Said {
@@ -109,11 +111,13 @@ fn deck_plan<F: Files, L: Ledger>(
     files: &mut F,
     steps: &mut Steps<L>,
 ) -> Result<Plan, Halt>
-    requires { HasDigits line.now }
+    requires digits { HasDigits line.now }
+    requires column { HasColumn line.now }
     ensures told { (m : FileMap) → TellsIf (is_some line.now.file) (F.files files.old) m →
         IsPlanned (spec.deck_plan line.now.file line.now settings m) m result steps.old steps.new }
     ensures kind { IfOk result
-        (IsFor true (is_some line.now.file) (not (is_some line.now.from || line.now.check))) }
+        (IsFor true (is_some line.now.file) (not (is_some line.now.from || line.now.check))
+        (is_some line.now.from && is_some line.now.column)) }
     ensures calm { OnOk result (F.faults files.new ≡ F.faults files.old) }
     ensures cause { IsErrOf result Halt.ReadFault → Rose (F.faults files.old) (F.faults files.new) }
     ensures kept { F.files files.new ≡ F.files files.old }
@@ -138,11 +142,13 @@ fn file_plan<F: Files, L: Ledger>(
     files: &mut F,
     steps: &mut Steps<L>,
 ) -> Result<Plan, Halt>
-    requires { HasDigits line.now }
+    requires digits { HasDigits line.now }
+    requires column { HasColumn line.now }
     ensures told { (m : FileMap) → F.files files.old ≡ Some m →
         IsPlanned (spec.file_plan line.now name.now (after_load m name.now settings) m) m result
         steps.old steps.new }
-    ensures kind { IfOk result (IsFor true true (not (is_some line.now.from || line.now.check))) }
+    ensures kind { IfOk result (IsFor true true (not (is_some line.now.from || line.now.check))
+        (is_some line.now.from && is_some line.now.column)) }
     ensures calm { OnOk result (F.faults files.new ≡ F.faults files.old) }
     ensures cause { IsErrOf result Halt.ReadFault → Rose (F.faults files.old) (F.faults files.new) }
     ensures kept { F.files files.new ≡ F.files files.old }

@@ -1,15 +1,17 @@
 //! What is done with a deck: the reply to FROM, the check, or a session.
-ghost use Rattle.std.specs.Prelude.{◌≡◌, ◌||◌, ℕ, [], IfOk, Some, None, true, false, is_some, not, unwrap_or};
+ghost use Rattle.std.specs.Prelude.{◌≡◌, ◌≤◌, ◌&&◌, ◌||◌, ℕ, [], IfOk, Some, None, true, false, is_some, not};
+ghost use Rattle.std.specs.Prelude.{unwrap_or};
 ghost use Rattle.std.specs.Prelude.{if◌then◌else◌};
 ghost use Rattle.units_io.specs.FileMap.{FileMap};
 ghost use Rattle.def_lines.specs.Words.{is_empty};
 ghost use Rattle.session.specs.Commands.{text_of};
 ghost use Rattle.units_run.specs.Endings.{IsWorked};
-ghost use Rattle.units_run.specs.Options.{HasDigits};
+ghost use Rattle.units_run.specs.Options.{HasColumn, HasDigits};
 ghost use Rattle.units_run.specs.Planning.{IsFor, IsPlanned};
 ghost use Rattle.units_run.specs.Work as spec;
 
 use crate::asking::ask;
+use crate::column_plan::ColumnPlan;
 use crate::options::options_of;
 use crate::plan::Plan;
 use crate::status::Status;
@@ -21,7 +23,7 @@ use std::alloc::{AllocError, Global};
 use std::mem;
 use std::sync::ledger::Ledger;
 use survey::check_report;
-use units_io::Steps;
+use units_io::{Steps, Text};
 
 /// The plan of a command line over a deck: the reply to FROM where that stands, or the check, or else a session. The
 /// only error is want of memory. A table that was asked for a reply or a check stays in memory: the system takes that
@@ -32,14 +34,19 @@ pub(crate) fn work<L: Ledger>(
     deck: Deck,
     steps: &mut Steps<L>,
 ) -> Result<Plan, AllocError>
-    requires { HasDigits line.now }
+    requires digits { HasDigits line.now }
+    requires column { HasColumn line.now }
     ensures told { (m : FileMap) →
         IsPlanned (spec.work_by line.now.from line.now deck m) m result steps.old steps.new }
-    ensures kind { IfOk result (IsFor true false (not (is_some line.now.from || line.now.check))) }
+    ensures kind { IfOk result (IsFor true false (not (is_some line.now.from || line.now.check))
+        (is_some line.now.from && is_some line.now.column)) }
 {
     let mut table = LiveTable::new(alloc, deck);
     match &line.from {
         Some(from) => {
+            if let Some(column) = line.column {
+                return column_plan(alloc, line, column, from.as_bytes(), table);
+            }
             let plan = reply_plan(alloc, line, from.as_bytes(), &mut table, steps);
             mem::forget(table);
             plan
@@ -65,9 +72,10 @@ fn reply_plan<L: Ledger>(
 ) -> Result<Plan, AllocError>
     requires digits { HasDigits line.now }
     requires fresh { table.old ≡ spec.fresh table.old.deck }
-    ensures told { (m : FileMap) →
-        IsPlanned (spec.work_by (Some from.now) line.now table.old.deck m) m result steps.old steps.new }
-    ensures kind { IfOk result (IsFor true false false) }
+    ensures told { (m : FileMap) → IsPlanned
+        (spec.from_plan None line.now (text_of from.now) (text_of (unwrap_or line.now.to [])) table.old.deck) m result
+        steps.old steps.new }
+    ensures kind { IfOk result (IsFor true false false false) }
 {
     leaves_law();
     let notices = notice_lines(alloc, table.deck())?;
@@ -88,6 +96,36 @@ fn reply_plan<L: Ledger>(
     Ok(Plan::Whole(said, status))
 }
 
+// A column that is to be converted from FROM.
+fn column_plan(
+    alloc: Global,
+    line: &CommandLine,
+    column: u16,
+    from: &[u8],
+    table: LiveTable,
+) -> Result<Plan, AllocError>
+    requires digits { HasDigits line.now }
+    requires some { 1 ≤ column }
+    requires fresh { table ≡ spec.fresh table.deck }
+    ensures told { (m : FileMap) (n : ℕ) → IsPlanned
+        (spec.from_plan (Some column) line.now (text_of from.now) (text_of (unwrap_or line.now.to [])) table.deck) m
+        result n n }
+    ensures kind { IfOk result (IsFor true false false true) }
+{
+    let notices = notice_lines(alloc, table.deck())?;
+    let from = Text::from_bytes(alloc, line_text(from))?;
+    let to = Text::from_bytes(alloc, to_text(line))?;
+    Ok(Plan::Columns(ColumnPlan {
+        notices,
+        table,
+        options: options_of(line),
+        from,
+        to,
+        column,
+        header: line.header,
+    }))
+}
+
 // The check report, with the notices at its head.
 fn check_plan<L: Ledger>(
     alloc: Global,
@@ -98,7 +136,7 @@ fn check_plan<L: Ledger>(
     requires digits { HasDigits line.now }
     requires fresh { table.old ≡ spec.fresh table.old.deck }
     ensures told { (m : FileMap) → IsPlanned (spec.checked line.now table.old.deck) m result steps.old steps.new }
-    ensures kind { IfOk result (IsFor true false false) }
+    ensures kind { IfOk result (IsFor true false false false) }
 {
     leaves_law();
     let mut lines = notice_lines(alloc, table.deck())?;
@@ -118,7 +156,7 @@ fn session_plan(alloc: Global, line: &CommandLine, table: LiveTable) -> Result<P
     requires digits { HasDigits line.now }
     requires fresh { table ≡ spec.fresh table.deck }
     ensures told { (m : FileMap) (n : ℕ) → IsPlanned (spec.opened_over line.now table.deck m) m result n n }
-    ensures kind { IfOk result (IsFor true false true) }
+    ensures kind { IfOk result (IsFor true false true false) }
 {
     let session = Session::new(alloc, table, options_of(line));
     let said = Said::opening(alloc, &session)?;

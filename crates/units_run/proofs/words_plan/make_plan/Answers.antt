@@ -1,10 +1,14 @@
 use Rattle.std.proofs.Common.{Err, ap, subst, ◌∙◌}
-use Rattle.std.proofs.Common.{ℕ, List}
+use Rattle.std.proofs.Common.{ℕ, List, Bool, refl, sym}
+use Rattle.command_line.specs.Fields.{command_line_of}
+use Rattle.command_line.specs.Taken.{are_taken}
+use Rattle.units_run.specs.Endings.{MayEnd}
+use Rattle.units_run.specs.Needs.{converts_column, loads_file, opens_session}
 use Rattle.units_run.specs.Planning.{IsPlan, IsPlanned}
 use Rattle.units_run.specs.Plans as plans
 use Rattle.units_run.specs.Plans.{complaint}
 use Rattle.units_run.specs.declared.status.Status.TheVariants.{Usage}
-use Rattle.units_run.proofs.Planned.{loads_needed, plan_taken, plan_untaken, tells_less}
+use Rattle.units_run.proofs.Planned.{loads_needed, no_lead, plan_taken, plan_untaken, tells_less}
 use Rattle.units_run.proofs.words_plan.make_plan.Goals as goal
 
 pub returns-in-Ok-clause-told : goal.returns-in-Ok-clause-told
@@ -23,3 +27,12 @@ returns-in_ok-complaint-in-Err-Usage-clause-told g c = λ m s.
     ∙ plan_untaken c.args.words.now c.args.vars.now m
     (c.in-Err-Usage.ensures.usage (ap Err c.in-Err-Usage.field-0-is)))
     (plan.ensures.told m c.args.steps.now)
+
+pub returns-in_ok-complaint-in-Err-Usage-clause-kind : goal.returns-in_ok-complaint-in-Err-Usage-clause-kind
+returns-in_ok-complaint-in-Err-Usage-clause-kind g c =
+    let words = c.args.words.now in
+    let untaken = c.in-Err-Usage.ensures.usage (ap Err c.in-Err-Usage.field-0-is) in
+    c.in_ok-complaint-in-Err-Usage.ensures.kind (are_taken words) (loads_file (command_line_of words))
+    (opens_session words) (converts_column words)
+    (λ leads. absurd (no_lead words untaken leads))
+    (subst (λ (b : Bool). MayEnd b (loads_file (command_line_of words)) Usage) (sym untaken) refl)

@@ -1,28 +1,55 @@
-use Rattle.std.proofs.Common.{◌||◌, ℕ, List, Bool, Option, Some, true, false, is_some, not, ap, subst, sym, ◌∙◌}
+use Rattle.std.proofs.Common.{[], None, unwrap_or}
+use Rattle.std.proofs.Common.{◌&&◌, ◌||◌, ℕ, List, Bool, Option, Some, true, false, is_some, not, ap, subst, sym, ◌∙◌}
 use Rattle.std.proofs.Common.{if◌then◌else◌}
 use Rattle.live_table.specs.Shown.{Shown}
 use Rattle.units_run.specs.Planning.{IsPlanned}
-use Rattle.units_run.specs.Work.{checked, opened_over, work_by}
-use Rattle.units_run.proofs.Working.{work_kind}
+use Rattle.session.specs.Commands.{text_of}
+use Rattle.units_run.specs.Plans.{Plan as Planned}
+use Rattle.units_run.specs.Work.{checked, from_plan, opened_over, work_by}
+use Rattle.units_run.proofs.Working.{from_stands, work_kind}
 use Rattle.units_run.proofs.work.work.Goals as goal
 
-pub returns-in-Some-clause-told : goal.returns-in-Some-clause-told
-returns-in-Some-clause-told g c = λ m.
+pub returns-in-Some-column-clause-told : goal.returns-in-Some-column-clause-told
+returns-in-Some-column-clause-told g c = λ m.
+    let line = c.args.line.now in
+    let n = c.args.steps.now in
+    subst (λ (p : Planned). IsPlanned p m c.column_plan.result n n)
+    (from_stands line c.args.deck m c.as_bytes.result.now c.in-Some.from (Some c.in-Some-column.column) c.in-Some.is
+    c.as_bytes.ensures c.in-Some-column.is)
+    (subst
+    (λ (t : Shown). IsPlanned
+    (from_plan (Some c.in-Some-column.column) line (text_of c.as_bytes.result.now) (text_of (unwrap_or line.to []))
+    t.deck) m c.column_plan.result n n)
+    c.new-table.ensures (c.column_plan.ensures.told m n))
+
+pub returns-in-Some-column-clause-kind : goal.returns-in-Some-column-clause-kind
+returns-in-Some-column-clause-kind g c =
+    work_kind c.column_plan.result c.args.line.now.from c.args.line.now.check c.args.line.now.column false true
+    (ap (λ (from : Option (List ℕ)). not (is_some from || c.args.line.now.check)) c.in-Some.is)
+    (ap (λ (from : Option (List ℕ)). is_some from && is_some c.args.line.now.column) c.in-Some.is
+    ∙ ap is_some c.in-Some-column.is)
+    c.column_plan.ensures.kind
+
+pub returns-in_default-clause-told : goal.returns-in_default-clause-told
+returns-in_default-clause-told g c = λ m.
     let line = c.args.line.now in
     let old = c.args.steps.now in
     let new = c.reply_plan-plan.new.steps in
-    subst (λ (from : Option (List ℕ)). IsPlanned (work_by from line c.args.deck m) m c.reply_plan-plan.result old new)
-    (sym c.in-Some.is)
-    (subst (λ (from : List ℕ). IsPlanned (work_by (Some from) line c.args.deck m) m c.reply_plan-plan.result old new)
-    c.as_bytes.ensures
+    subst (λ (p : Planned). IsPlanned p m c.reply_plan-plan.result old new)
+    (from_stands line c.args.deck m c.as_bytes-in-Some.result.now c.in-Some.from None c.in-Some.is
+    c.as_bytes-in-Some.ensures c.in_default.is)
     (subst
-    (λ (t : Shown). IsPlanned (work_by (Some c.as_bytes.result.now) line t.deck m) m c.reply_plan-plan.result old new)
-    c.new-table.ensures (c.reply_plan-plan.ensures.told m)))
+    (λ (t : Shown). IsPlanned
+    (from_plan None line (text_of c.as_bytes-in-Some.result.now) (text_of (unwrap_or line.to [])) t.deck) m
+    c.reply_plan-plan.result old new)
+    c.new-table.ensures (c.reply_plan-plan.ensures.told m))
 
-pub returns-in-Some-clause-kind : goal.returns-in-Some-clause-kind
-returns-in-Some-clause-kind g c =
-    work_kind c.reply_plan-plan.result c.args.line.now.from c.args.line.now.check false
+pub returns-in_default-clause-kind : goal.returns-in_default-clause-kind
+returns-in_default-clause-kind g c =
+    work_kind c.reply_plan-plan.result c.args.line.now.from c.args.line.now.check c.args.line.now.column false false
     (ap (λ (from : Option (List ℕ)). not (is_some from || c.args.line.now.check)) c.in-Some.is)
+    (ap (λ (from : Option (List ℕ)). is_some from && is_some c.args.line.now.column) c.in-Some.is
+    ∙ ap is_some c.in_default.is)
     c.reply_plan-plan.ensures.kind
 
 pub returns-then-line-clause-told : goal.returns-then-line-clause-told
@@ -41,9 +68,10 @@ returns-then-line-clause-told g c = λ m.
 
 pub returns-then-line-clause-kind : goal.returns-then-line-clause-kind
 returns-then-line-clause-kind g c =
-    work_kind c.check_plan-plan.result c.args.line.now.from c.args.line.now.check false
+    work_kind c.check_plan-plan.result c.args.line.now.from c.args.line.now.check c.args.line.now.column false false
     (ap (λ (from : Option (List ℕ)). not (is_some from || c.args.line.now.check)) c.in-None.is
     ∙ ap not c.if-line.true)
+    (ap (λ (from : Option (List ℕ)). is_some from && is_some c.args.line.now.column) c.in-None.is)
     c.check_plan-plan.ensures.kind
 
 pub returns-else-line-clause-told : goal.returns-else-line-clause-told
@@ -61,7 +89,8 @@ returns-else-line-clause-told g c = λ m.
 
 pub returns-else-line-clause-kind : goal.returns-else-line-clause-kind
 returns-else-line-clause-kind g c =
-    work_kind c.session_plan.result c.args.line.now.from c.args.line.now.check true
+    work_kind c.session_plan.result c.args.line.now.from c.args.line.now.check c.args.line.now.column true false
     (ap (λ (from : Option (List ℕ)). not (is_some from || c.args.line.now.check)) c.in-None.is
     ∙ ap not c.if-line.false)
+    (ap (λ (from : Option (List ℕ)). is_some from && is_some c.args.line.now.column) c.in-None.is)
     c.session_plan.ensures.kind

@@ -1,0 +1,126 @@
+-- The conversion of a column.
+use Rattle.std.proofs.Common.{◌≡◌, ◌+◌, ◌∙◌, ℕ, Bool, true, false, List, refl, ap, subst}
+use Rattle.std.proofs.Common.{if◌then◌else◌}
+use Rattle.deck.specs.Tables.{table}
+use Rattle.live_table.specs.Shown.{Follows, Shown}
+use Rattle.live_table.specs.States.{Event}
+use Rattle.reply.specs.declared.options.Options.{Options}
+use Rattle.units_io.specs.Bytes.{grown}
+use Rattle.units_io.specs.FileMap.{FileMap}
+use Rattle.session.specs.Outside.{Outside}
+use Rattle.session.specs.Queries.{LeavesLaw}
+use Rattle.session.specs.Telling.{when_told}
+use Rattle.column_convert.specs.Inputs.{input_of}
+use Rattle.column_convert.specs.Rows.{queries, rows}
+use Rattle.column_run.specs.Outputs.{IsWritten, is_over, is_refused}
+use Rattle.column_run.specs.declared.end.ColumnEnd.{ColumnEnd}
+use Rattle.column_run.specs.declared.end.ColumnEnd.TheVariants as column
+use Rattle.column_run.proofs.Writing.{front_all}
+use Rattle.units_run.specs.Calls.{column_run, rows_of, steps_of}
+use Rattle.units_run.specs.Endings.{IsConverted, IsStated, IsWorked, column_status}
+use Rattle.units_run.specs.Planning.{IsColumn, IsPlan}
+use Rattle.units_run.specs.Plans as plans
+use Rattle.units_run.specs.Plans.{ColumnWork}
+use Rattle.units_run.specs.Work.{fresh}
+use Rattle.units_run.specs.declared.column_plan.ColumnPlan.{ColumnPlan}
+use Rattle.units_run.specs.declared.plan.Plan.TheVariants.{Columns}
+use Rattle.units_run.specs.declared.status.Status.{Status}
+use Rattle.units_run.specs.declared.status.Status.TheVariants as status
+use Rattle.units_run.specs.declared.status.Status.TheVariants.{Done, Refused}
+
+-- the ending of rows, as one of the run
+done_by : (refused : Bool) → (if refused then column.Refused else column.Done) ≡ column.Done
+    → Done ≡ (if refused then Refused else Done)
+done_by true e = cc
+done_by false e = refl
+
+refused_by : (refused : Bool) → (if refused then column.Refused else column.Done) ≡ column.Refused
+    → Refused ≡ (if refused then Refused else Done)
+refused_by true e = refl
+refused_by false e = cc
+
+module _ (work : ColumnWork) (m : FileMap) (input : List ℕ) (before after : Outside)
+    (noticed : after.err ≡ grown before.err work.err) (files : after.files ≡ when_told before.files m) where
+  -- a conversion that ended so, by what its rows wrote
+  pub converted : (end : ColumnEnd) → IsWritten (rows_of work input) end before.out after.out
+      → (is_over end ≡ true → after.steps ≡ before.steps + steps_of work input)
+      → IsConverted (column_run work m input).output (column_run work m input).status (column_status end) before after
+  converted column.Done w counted = (
+    done_by (is_refused (rows_of work input)) w.0,
+    record { out = w.1; err = noticed; files = files; steps = counted refl },
+  )
+  converted column.Refused w counted = (
+    refused_by (is_refused (rows_of work input)) w.0,
+    record { out = w.1; err = noticed; files = files; steps = counted refl },
+  )
+  converted column.ReadFault w counted = (w, front_all _ _ _ noticed)
+  converted column.InputTooLong w counted = (w, front_all _ _ _ noticed)
+  converted column.WriteFault w counted = record { out = w; err = front_all _ _ _ noticed }
+  converted column.NoMemory w counted = record { out = w; err = front_all _ _ _ noticed }
+
+-- which stated endings there are
+pub ends_worked : (end : ColumnEnd) → IsStated (column_status end) → IsWorked false (column_status end)
+ends_worked column.Done s = tt
+ends_worked column.Refused s = tt
+ends_worked column.ReadFault s = absurd s
+ends_worked column.WriteFault s = absurd s
+ends_worked column.NoMemory s = absurd s
+ends_worked column.InputTooLong s = absurd s
+
+pub worked_more : (missing : Bool) (status : Status) → IsWorked false status → IsWorked missing status
+worked_more missing status.Done w = tt
+worked_more missing status.Refused w = tt
+worked_more missing status.Usage w = absurd w
+worked_more missing status.NoFile w = absurd w
+worked_more missing status.ReadFault w = absurd w
+worked_more missing status.WriteFault w = absurd w
+worked_more missing status.NoMemory w = absurd w
+worked_more missing status.InputTooLong w = absurd w
+
+-- a column that is planned
+pub planned_column : (want : plans.Plan) (m : FileMap) (plan : ColumnPlan) (old new : ℕ)
+    → IsPlan want m (Columns plan) old new
+    → (work : ColumnWork) × (want ≡ plans.Columns work) × IsColumn work plan old new
+planned_column (plans.Whole run) m plan old new planned = absurd planned
+planned_column (plans.Opened talk) m plan old new planned = absurd planned
+planned_column (plans.Columns work) m plan old new planned = (work, refl, planned)
+
+-- only a run that is over came to its end
+pub over_worked : (end : ColumnEnd) → IsWorked false (column_status end) → is_over end ≡ true
+over_worked column.Done w = refl
+over_worked column.Refused w = refl
+over_worked column.ReadFault w = absurd w
+over_worked column.WriteFault w = absurd w
+over_worked column.NoMemory w = absurd w
+over_worked column.InputTooLong w = absurd w
+
+module _ (work : ColumnWork) (plan : ColumnPlan) (n now : ℕ) (at : IsColumn work plan n now) (from to : List ℕ)
+    (is_from : from ≡ plan.from) (is_to : to ≡ plan.to) where
+  -- what is made of the parts of a plan is made of the work
+  pub by_work : {X : Type 0} (f : Shown → Options → (from to : List ℕ) → (column : ℕ) → (header : Bool) → X)
+      → f plan.table plan.options from to plan.column plan.header
+      ≡ f (fresh work.deck) work.options work.from work.to work.column work.header
+  by_work f =
+      ap (λ (s : Shown). f s plan.options from to plan.column plan.header) at.table
+      ∙ ap (λ (o : Options). f (fresh work.deck) o from to plan.column plan.header) at.options
+      ∙ ap (λ (t : List ℕ). f (fresh work.deck) work.options t to plan.column plan.header) (is_from ∙ at.from)
+      ∙ ap (λ (t : List ℕ). f (fresh work.deck) work.options work.from t plan.column plan.header) (is_to ∙ at.to)
+      ∙ ap (λ (k : ℕ). f (fresh work.deck) work.options work.from work.to k plan.header) at.column
+      ∙ ap (λ (h : Bool). f (fresh work.deck) work.options work.from work.to work.column h) at.header
+
+  pub rows_same : (input : List ℕ)
+      → rows (table plan.table.deck) plan.options from to (input_of input plan.column plan.header) ≡ rows_of work input
+  rows_same input = by_work (λ s o f t k h. rows (table s.deck) o f t (input_of input k h))
+
+  -- the steps of the queries that were made
+  pub steps_same : LeavesLaw → (input : List ℕ) (after : Shown) (new : ℕ)
+      → Follows (queries (table plan.table.deck) plan.options from to (input_of input plan.column plan.header))
+      plan.table after now new
+      → new ≡ n + steps_of work input
+  steps_same law input after new follows =
+      let made = queries (table work.deck) work.options work.from work.to (input_of input work.column work.header) in
+      (law made (fresh work.deck) after now new
+      (subst (λ (s : Shown). Follows made s after now new) at.table
+      (subst (λ (es : List Event). Follows es plan.table after now new)
+      (by_work (λ s o f t k h. queries (table s.deck) o f t (input_of input k h))) follows))).steps
+      ∙ ap (λ (k : ℕ). k + steps_of work input) at.steps

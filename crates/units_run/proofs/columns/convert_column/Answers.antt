@@ -1,0 +1,58 @@
+use Rattle.std.proofs.Common.{◌∙◌, List, false, sym, ap, subst, arith}
+use Rattle.units_io.specs.Bytes.{grown, GrowsByFront}
+use Rattle.session.specs.Outside.{Outside}
+use Rattle.column_convert.specs.declared.row.ColumnRow.{ColumnRow}
+use Rattle.column_run.specs.Outputs.{IsWritten}
+use Rattle.column_run.proofs.Writing.{grown_none}
+use Rattle.units_run.specs.Calls.{column_run}
+use Rattle.units_run.specs.Endings.{IsConverted, IsStated, IsWorked}
+use Rattle.units_run.specs.declared.status.Status.{Status}
+use Rattle.units_run.proofs.Converting.{converted, ends_worked, rows_same, steps_same}
+use Rattle.units_run.proofs.columns.convert_column.Goals as goal
+
+pub returns-in-Err-clause-told : goal.returns-in-Err-clause-told
+returns-in-Err-clause-told g c = λ work m input files faults now n q at fs. record {
+  out = (0, omega arith, grown_none (g.O.Sink.written c.args.out.now));
+  err = subst (GrowsByFront (g.E.Sink.written c.args.err.now) (g.E.Sink.written c.put_all.new.sink))
+      (c.as_slice.ensures.value ∙ at.err) c.in-Err.ensures.front;
+}
+
+pub returns-clause-told : goal.returns-clause-told
+returns-clause-told g c = λ work m input files faults now n q at fs.
+    let before : Outside = record {
+      left = g.S.Source.left c.args.src.now;
+      out = g.O.Sink.written c.args.out.now;
+      err = g.E.Sink.written c.args.err.now;
+      files = files;
+      fetch_faults = faults;
+      steps = n;
+    } in
+    let after : Outside = record {
+      left = g.S.Source.left c.run_columns-end.new.src;
+      out = g.O.Sink.written c.run_columns-end.new.out;
+      err = g.E.Sink.written c.put_all.new.sink;
+      files = files;
+      fetch_faults = now;
+      steps = c.run_columns-end.new.steps;
+    } in
+    subst
+    (λ (st : Status). IsConverted (column_run work m input).output (column_run work m input).status st before after)
+    (sym c.status_of.ensures)
+    (converted work m input before after
+    (c.in-Ok.ensures.all ∙ ap (grown (g.E.Sink.written c.args.err.now)) (c.as_slice.ensures.value ∙ at.err)) fs
+    c.run_columns-end.result
+    (subst
+    (λ (rs : List ColumnRow). IsWritten rs c.run_columns-end.result (g.O.Sink.written c.args.out.now)
+    (g.O.Sink.written c.run_columns-end.new.out))
+    (rows_same work c.args.plan n c.args.steps.now at c.as_bytes.result.now c.as_bytes-2.result.now c.as_bytes.ensures
+    c.as_bytes-2.ensures input)
+    (c.run_columns-end.ensures.told input q))
+    (λ over.
+    steps_same work c.args.plan n c.args.steps.now at c.as_bytes.result.now c.as_bytes-2.result.now c.as_bytes.ensures
+    c.as_bytes-2.ensures c.leaves_law.ensures input c.run_columns-end.new.table c.run_columns-end.new.steps
+    (c.run_columns-end.ensures.queries input q over)))
+
+pub returns-clause-ends : goal.returns-clause-ends
+returns-clause-ends g c = λ s.
+    subst (IsWorked false) (sym c.status_of.ensures)
+    (ends_worked c.run_columns-end.result (subst IsStated c.status_of.ensures s))

@@ -1,0 +1,81 @@
+//! The conversion of a column.
+
+ghost use Rattle.std.specs.Prelude.{◌≡◌, ◌≤◌, ◌⊎◌, [], List, ℕ, Some, false};
+ghost use Rattle.std.specs.declared.option.Option.{Option};
+ghost use Rattle.reply.specs.Options.{IsPrintable};
+ghost use Rattle.session.specs.Outside.{TookMoreThan, outside_of};
+ghost use Rattle.session.specs.Telling.{when_told};
+ghost use Rattle.units_io.specs.FileMap.{FileMap};
+ghost use Rattle.units_io.specs.Faults.{Rose};
+ghost use Rattle.units_run.specs.Calls.{column_run as run_over};
+ghost use Rattle.units_run.specs.Endings.{IsConverted, IsStated, IsWorked, column_status as status_by};
+ghost use Rattle.units_run.specs.Planning.{IsColumn};
+ghost use Rattle.units_run.specs.Plans.{ColumnWork};
+
+use crate::column_plan::ColumnPlan;
+use crate::status::Status;
+use column_run::{ColumnEnd, run_columns};
+use session::leaves_law;
+use std::alloc::Global;
+use std::mem;
+use std::sync::ledger::Ledger;
+use units_io::{Sink, Source, Steps, put_all};
+
+/// Writes the notices, and then the rows of the input, which is read to its end before.
+pub(crate) fn convert_column<S: Source, O: Sink, E: Sink, L: Ledger>(
+    alloc: Global,
+    plan: ColumnPlan,
+    src: &mut S,
+    out: &mut O,
+    err: &mut E,
+    steps: &mut Steps<L>,
+) -> Status
+    requires printable { IsPrintable plan.options }
+    requires column { 1 ≤ plan.column }
+    ensures told { (work : ColumnWork) (m : FileMap) (input : List ℕ) (files : Option FileMap) (faults now n : ℕ) →
+        S.left src.old ≡ Some input → IsColumn work plan n steps.old → files ≡ when_told files m →
+        IsConverted (run_over work m input).output (run_over work m input).status result
+        (outside_of (S.left src.old) (O.written out.old) (E.written err.old) files faults n)
+        (outside_of (S.left src.new) (O.written out.new) (E.written err.new) files now steps.new) }
+    ensures ends { IsStated result → IsWorked false result }
+    ensures whole { (input : List ℕ) → S.left src.old ≡ Some input → IsWorked false result → S.left src.new ≡ Some [] }
+    ensures read { result ≡ Status.ReadFault → Rose (S.faults src.old) (S.faults src.new) }
+    ensures write { result ≡ Status.WriteFault →
+        Rose (O.faults out.old) (O.faults out.new) ⊎ Rose (E.faults err.old) (E.faults err.new) }
+    ensures too_long { result ≡ Status.InputTooLong → TookMoreThan 16777216 (S.taken src.old) (S.taken src.new) }
+{
+    leaves_law();
+    match put_all(err, plan.notices.as_slice()) {
+        Ok(()) => {}
+        Err(_) => return Status::WriteFault,
+    }
+    let mut plan = plan;
+    let end = run_columns(
+        alloc,
+        &mut plan.table,
+        &plan.options,
+        plan.from.as_bytes(),
+        plan.to.as_bytes(),
+        plan.column,
+        plan.header,
+        src,
+        out,
+        steps,
+    );
+    mem::forget(plan);
+    status_of(end)
+}
+
+// How a conversion that ended so ends the run.
+fn status_of(end: ColumnEnd) -> Status
+    ensures { result ≡ status_by end }
+{
+    match end {
+        ColumnEnd::Done => Status::Done,
+        ColumnEnd::Refused => Status::Refused,
+        ColumnEnd::ReadFault => Status::ReadFault,
+        ColumnEnd::WriteFault => Status::WriteFault,
+        ColumnEnd::NoMemory => Status::NoMemory,
+        ColumnEnd::InputTooLong => Status::InputTooLong,
+    }
+}
