@@ -36,11 +36,37 @@ before it.
   $ for words in '-d 37 m' '-d x m' '-d -1 m' '-d' '--digits 1.5 m' '--trial 0' '--trial 20001' '--trial x' '--trial' \
   >   '--exact --exact m' '-f a -f b m' '-d 3 --digits 4 m' '-l a --locale b m' '-t --terse m' '--trial 3 m' \
   >   '--trial 3 -c' \
-  >   '-c -c' '-f' '-l' '-h' '--version' '-V' '-e m' '-m m' '--nosuch m' '-2 m' '--exact=1 m' '-c m ft'; do
+  >   '-c -c' '-f' '-l' '-h' '--version' '-V' '-e m' '-m m' '--nosuch m' '-2 m' '--exact=1 m' '-c m ft' \
+  >   '--column 0 m ft' '--column 65536 m ft' '--column x m ft' '--column -1 m ft' '--column m ft' '--column=1' \
+  >   '--column 1 --column 1 m ft' '--header --header --column 1 m ft' '--header=1 --column 1 m ft'; do
   >   apart units $words > said
   >   status=$?
   >   if [ $status != 2 ] || [ "$(cat said)" != "$usage" ]; then echo "$words: $status"; cat said; fi
   > done
+
+A column without a conversion: no TO, one that is blank or `?` whatever stands in its comment, no FROM, other work. A
+header without a column.
+
+  $ refused() {
+  >   apart units "$@" < /dev/null > said
+  >   status=$?
+  >   if [ $status != 2 ] || [ "$(cat said)" != "$usage" ]; then echo "$*: $status"; cat said; fi
+  > }
+  $ for to in '' ' ' '# ft' " $(printf '\t')# ft" '?' ' ? ' '?# ft' "?$(printf '\r')" "$(printf '\r')"; do
+  >   refused --column 1 m "$to"
+  >   refused --header --column 1 m "$to"
+  > done
+  $ refused --column 1 m
+  $ refused --column 1
+  $ refused --column 1 --header
+  $ refused --column 1 --check
+  $ refused --column 1 --trial 3
+  $ refused --column 1 --check m ft
+  $ refused --column 1 --trial 3 m ft
+  $ refused --header
+  $ refused --header m
+  $ refused --header m ft
+  $ refused --header --check
 
 Numbers with a sign and with zeros before them, an operand behind `--`, options behind operands and in one word; a
 file that a trial does not ask for.
