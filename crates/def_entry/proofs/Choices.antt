@@ -1,31 +1,41 @@
 -- The options of a function, read one by one.
-use Rattle.std.proofs.Common.{◌≡◌, ◌<◌, ◌≤◌, ◌+◌, ◌-◌, ◌&&◌, ℕ, suc, zero, List, Bool, true, false, cond, Option, Some, None, refl, sym, ap, ◌∙◌, arith}
+use Rattle.std.proofs.Common.{◌≡◌, ◌<◌, ◌≤◌, ◌+◌, ◌-◌, ◌&&◌, ℕ, suc, zero, List, Bool, true, false, cond, Option, Some}
+use Rattle.std.proofs.Common.{None, refl, sym, ap, ◌∙◌, arith}
 use Rattle.def_lines.specs.Blanks.{after_blanks}
 use Rattle.def_entry.specs.declared.options.Choice.{Choice}
 use Rattle.def_entry.specs.declared.options.Choice.TheVariants.{Units, Domain, Range, NoError}
-use Rattle.def_entry.specs.Options.{Options, begins_with, begins_with_no_error, behind, choice_at, options_from, with_choice, with_next}
+use Rattle.def_entry.specs.Options.{Options, begins_with, begins_with_no_error, behind, choice_at, options_from}
+use Rattle.def_entry.specs.Options.{with_choice, with_next}
 use Rattle.def_entry.specs.Steps.{◌>>=◌}
 
+-- where two tests hold together, the first does
 and_left : (a b : Bool) → (a && b) ≡ true → a ≡ true
 and_left true b e = refl
 and_left false b e = e
 
-begins_by : (text : List ℕ) (choice : Choice) (u d r n : Bool) → begins_with Units text ≡ u → begins_with Domain text ≡ d → begins_with Range text ≡ r → begins_with_no_error text ≡ n
-    → cond u (Some Units) (cond d (Some Domain) (cond r (Some Range) (cond n (Some NoError) None))) ≡ Some choice → begins_with choice text ≡ true
+-- which option begins, by the tests of each
+begins_by : (text : List ℕ) (choice : Choice) (u d r n : Bool) → begins_with Units text ≡ u
+    → begins_with Domain text ≡ d → begins_with Range text ≡ r → begins_with_no_error text ≡ n
+    → cond u (Some Units) (cond d (Some Domain) (cond r (Some Range) (cond n (Some NoError) None))) ≡ Some choice
+    → begins_with choice text ≡ true
 begins_by text choice true d r n eu ed er en e = let i : choice ≡ Units = cc in ap (λ x. begins_with x text) i ∙ eu
 begins_by text choice false true r n eu ed er en e = let i : choice ≡ Domain = cc in ap (λ x. begins_with x text) i ∙ ed
-begins_by text choice false false true n eu ed er en e = let i : choice ≡ Range = cc in ap (λ x. begins_with x text) i ∙ er
+begins_by text choice false false true n eu ed er en e = let i : choice ≡ Range = cc in ap (λ x. begins_with x text) i
+    ∙ er
 begins_by text choice false false false true eu ed er en e =
     let i : choice ≡ NoError = cc in ap (λ x. begins_with x text) i ∙ and_left (begins_with NoError text) _ en
 begins_by text choice false false false false eu ed er en e = cc
 
 -- the option that begins at the front begins with its word
-pub begins-choice_at : (text : List ℕ) (found : Option Choice) (choice : Choice) → found ≡ choice_at text → found ≡ Some choice → begins_with choice text ≡ true
+pub begins-choice_at : (text : List ℕ) (found : Option Choice) (choice : Choice) → found ≡ choice_at text
+    → found ≡ Some choice → begins_with choice text ≡ true
 begins-choice_at text found choice is some =
-    begins_by text choice (begins_with Units text) (begins_with Domain text) (begins_with Range text) (begins_with_no_error text) refl refl refl refl (sym is ∙ some)
+    begins_by text choice (begins_with Units text) (begins_with Domain text) (begins_with Range text)
+    (begins_with_no_error text) refl refl refl refl (sym is ∙ some)
 
 -- one step of reading options
-next : (n : ℕ) (o : Options) (text rest : List ℕ) (found : Option Choice) → 0 < n → rest ≡ after_blanks text → found ≡ choice_at rest
+next : (n : ℕ) (o : Options) (text rest : List ℕ) (found : Option Choice) → 0 < n → rest ≡ after_blanks text
+    → found ≡ choice_at rest
     → options_from n o text ≡ with_next (options_from (n - 1)) found o rest
 unfolding options_from
 next zero o text rest found some front is = absurd (omega arith)
@@ -36,15 +46,20 @@ next (suc n) o text rest found some front is =
     ∙ ap (λ k. with_next (options_from k) found o rest) less
 
 -- no further option
-pub next-none : (most k : ℕ) (o : Options) (text rest : List ℕ) (found : Option Choice) (whole : Option (Options × List ℕ)) → k ≤ most
-    → options_from (suc most - k) o text ≡ whole → rest ≡ after_blanks text → found ≡ choice_at rest → found ≡ None → Some (o, rest) ≡ whole
+pub next-none : (most k : ℕ) (o : Options) (text rest : List ℕ) (found : Option Choice)
+    (whole : Option (Options × List ℕ)) → k ≤ most
+    → options_from (suc most - k) o text ≡ whole → rest ≡ after_blanks text → found ≡ choice_at rest → found ≡ None
+    → Some (o, rest) ≡ whole
 next-none most k o text rest found whole less is front at none =
     let some : 0 < suc most - k = omega arith in
-    sym (sym is ∙ next (suc most - k) o text rest found some front at ∙ ap (λ x. with_next (options_from (suc most - k - 1)) x o rest) none)
+    sym (sym is ∙ next (suc most - k) o text rest found some front at
+    ∙ ap (λ x. with_next (options_from (suc most - k - 1)) x o rest) none)
 
 -- a further option
-pub next-some : (most k : ℕ) (o : Options) (text rest value : List ℕ) (found : Option Choice) (choice : Choice) (made whole : Option (Options × List ℕ)) → k ≤ most
-    → options_from (suc most - k) o text ≡ whole → rest ≡ after_blanks text → found ≡ choice_at rest → found ≡ Some choice → value ≡ behind choice rest → made ≡ with_choice choice o value
+pub next-some : (most k : ℕ) (o : Options) (text rest value : List ℕ) (found : Option Choice) (choice : Choice)
+    (made whole : Option (Options × List ℕ)) → k ≤ most
+    → options_from (suc most - k) o text ≡ whole → rest ≡ after_blanks text → found ≡ choice_at rest
+    → found ≡ Some choice → value ≡ behind choice rest → made ≡ with_choice choice o value
     → (made >>= (λ f. options_from (suc most - (k + 1)) f.0 f.1)) ≡ whole
 next-some most k o text rest value found choice made whole less is front at some from by =
     let more : 0 < suc most - k = omega arith in
@@ -58,7 +73,8 @@ next-some most k o text rest value found choice made whole less is front at some
     ∙ ap (λ m. made >>= (λ f. options_from m f.0 f.1)) count)
 
 -- no option is left to be read
-pub next-end : (most k : ℕ) (o : Options) (text : List ℕ) (whole : Option (Options × List ℕ)) → most < k → options_from (suc most - k) o text ≡ whole → None ≡ whole
+pub next-end : (most k : ℕ) (o : Options) (text : List ℕ) (whole : Option (Options × List ℕ)) → most < k
+    → options_from (suc most - k) o text ≡ whole → None ≡ whole
 unfolding options_from
 next-end most k o text whole more is =
     let e : 0 ≡ suc most - k = omega arith in ap (λ m. options_from m o text) e ∙ is

@@ -1,5 +1,6 @@
 -- Texts that are cut at the first of some bytes, as the parts between those bytes.
-use Rattle.std.proofs.Common.{◌≡◌, ◌<◌, ◌≤◌, ◌+◌, ◌==◌, ℕ, List, [], ◌∷◌, Bool, true, false, cond, length, take, drop, Option, Some, None, option_map, unwrap_or, refl, ap, ◌∙◌, arith, length-drop}
+use Rattle.std.proofs.Common.{◌≡◌, ◌<◌, ◌≤◌, ◌+◌, ◌==◌, ℕ, List, [], ◌∷◌, Bool, true, false, cond, length, take, drop}
+use Rattle.std.proofs.Common.{Option, Some, None, option_map, unwrap_or, refl, ap, ◌∙◌, arith, length-drop}
 use Rattle.std.specs.List.{position_or_len, slice_split}
 use Rattle.std.specs.Prelude.{nat_lt}
 use Rattle.std.proofs.lemmas.Bool.Decides.{Decides-ltb}
@@ -21,21 +22,28 @@ pub parts-some : (mark : ℕ) (text front behind : List ℕ) → cut_at mark tex
     → slice_split (λ b. b == mark) text ≡ front ∷ slice_split (λ b. b == mark) behind
 parts-some mark text front behind cut = go (nat_lt (place mark text) (length text)) refl cut
   where
-    go : (t : Bool) → nat_lt (place mark text) (length text) ≡ t → around t (place mark text) text ≡ Some (front, behind) → slice_split (λ b. b == mark) text ≡ front ∷ slice_split (λ b. b == mark) behind
+    go : (t : Bool) → nat_lt (place mark text) (length text) ≡ t
+        → around t (place mark text) text ≡ Some (front, behind)
+        → slice_split (λ b. b == mark) text ≡ front ∷ slice_split (λ b. b == mark) behind
     go true e cut =
-        let first : take (place mark text) text ≡ front = ap (λ o. (unwrap_or {T = List ℕ × List ℕ} o (front, behind)).0) cut in
-        let second : drop (place mark text + 1) text ≡ behind = ap (λ o. (unwrap_or {T = List ℕ × List ℕ} o (front, behind)).1) cut in
+        let first : take (place mark text) text ≡ front =
+        ap (λ o. (unwrap_or {T = List ℕ × List ℕ} o (front, behind)).0) cut in
+        let second : drop (place mark text + 1) text ≡ behind =
+        ap (λ o. (unwrap_or {T = List ℕ × List ℕ} o (front, behind)).1) cut in
         slice_split_first (λ b. b == mark) text 0 ((Decides-ltb (place mark text) (length text)).0 e)
         ∙ (λ i. first i ∷ slice_split (λ b. b == mark) (second i))
     go false e cut = cc
 
 -- and it gets shorter
-pub shorter : (mark : ℕ) (text front behind : List ℕ) → cut_at mark text ≡ Some (front, behind) → length behind < length text
+pub shorter : (mark : ℕ) (text front behind : List ℕ) → cut_at mark text ≡ Some (front, behind)
+    → length behind < length text
 shorter mark text front behind cut = go (nat_lt (place mark text) (length text)) refl cut
   where
-    go : (t : Bool) → nat_lt (place mark text) (length text) ≡ t → around t (place mark text) text ≡ Some (front, behind) → length behind < length text
+    go : (t : Bool) → nat_lt (place mark text) (length text) ≡ t
+        → around t (place mark text) text ≡ Some (front, behind) → length behind < length text
     go true e cut =
-        let second : drop (place mark text + 1) text ≡ behind = ap (λ o. (unwrap_or {T = List ℕ × List ℕ} o (front, behind)).1) cut in
+        let second : drop (place mark text + 1) text ≡ behind =
+        ap (λ o. (unwrap_or {T = List ℕ × List ℕ} o (front, behind)).1) cut in
         let less : place mark text < length text = (Decides-ltb (place mark text) (length text)).0 e in
         omega (arith, ap length second, length-drop (place mark text + 1) text)
     go false e cut = cc
@@ -44,7 +52,8 @@ shorter mark text front behind cut = go (nat_lt (place mark text) (length text))
 pub parts-none : (mark : ℕ) (text : List ℕ) → cut_at mark text ≡ None → slice_split (λ b. b == mark) text ≡ text ∷ []
 parts-none mark text cut = go (nat_lt (place mark text) (length text)) refl cut
   where
-    go : (t : Bool) → nat_lt (place mark text) (length text) ≡ t → around t (place mark text) text ≡ None → slice_split (λ b. b == mark) text ≡ text ∷ []
+    go : (t : Bool) → nat_lt (place mark text) (length text) ≡ t → around t (place mark text) text ≡ None
+        → slice_split (λ b. b == mark) text ≡ text ∷ []
     go true e cut = cc
     go false e cut =
         let more : length text ≤ place mark text = ltb-false (place mark text) (length text) e in

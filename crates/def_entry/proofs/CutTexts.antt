@@ -1,5 +1,7 @@
 -- Texts that are cut at a byte, put together again.
-use Rattle.std.proofs.Common.{◌≡◌, ◌<◌, ◌-◌, ◌&&◌, ◌≤◌, ◌+◌, ◌==◌, ℕ, suc, List, [], ◌∷◌, ◌++◌, Bool, true, false, not, cond, length, take, drop, get_or, Option, Some, None, option_map, unwrap_or, refl, sym, ap, ◌∙◌, arith, one-add, add-one, length-append, true≢false}
+use Rattle.std.proofs.Common.{◌≡◌, ◌<◌, ◌-◌, ◌&&◌, ◌≤◌, ◌+◌, ◌==◌, ℕ, suc, List, [], ◌∷◌, ◌++◌, Bool, true, false, not}
+use Rattle.std.proofs.Common.{cond, length, take, drop, get_or, Option, Some, None, option_map, unwrap_or, refl, sym}
+use Rattle.std.proofs.Common.{ap, ◌∙◌, arith, one-add, add-one, length-append, true≢false}
 use Rattle.std.specs.List.{list_all, position, position_or_len, prefix_len}
 use Rattle.std.specs.Prelude.{nat_lt, slice_index}
 use Rattle.std.proofs.lemmas.Bool.{and_parts, eqb-true, ltb-false}
@@ -15,38 +17,47 @@ not_true true e = cc
 not_true false e = refl
 
 -- the first byte that passes stands behind those that do not
-pub place-at : (p : ℕ → Bool) (front : List ℕ) (b : ℕ) (behind : List ℕ) → list_all (λ c. not (p c)) front ≡ true → p b ≡ true
+pub place-at : (p : ℕ → Bool) (front : List ℕ) (b : ℕ) (behind : List ℕ) → list_all (λ c. not (p c)) front ≡ true
+    → p b ≡ true
     → position_or_len p (front ++ (b ∷ behind)) ≡ length front
 place-at p [] b behind clear passes = ap (λ t. cond (not t) (1 + position_or_len p behind) 0) passes
-place-at p (c ∷ front) b behind clear passes = go (and_parts (not (p c)) (list_all (λ c. not (p c)) front) clear) (place-at p front b behind)
+place-at p (c ∷ front) b behind clear passes =
+    go (and_parts (not (p c)) (list_all (λ c. not (p c)) front) clear) (place-at p front b behind)
   where
     go : (not (p c) ≡ true) × (list_all (λ c. not (p c)) front ≡ true)
-        → (list_all (λ c. not (p c)) front ≡ true → p b ≡ true → position_or_len p (front ++ (b ∷ behind)) ≡ length front)
+        → (list_all (λ c. not (p c)) front ≡ true → p b ≡ true
+        → position_or_len p (front ++ (b ∷ behind)) ≡ length front)
         → position_or_len p ((c ∷ front) ++ (b ∷ behind)) ≡ length (c ∷ front)
     go parts rest =
         ap (λ t. cond t (1 + position_or_len p (front ++ (b ∷ behind))) 0) parts.0
         ∙ one-add (position_or_len p (front ++ (b ∷ behind)))
         ∙ ap suc (rest parts.1 passes)
 
-pub position-at : (p : ℕ → Bool) (front : List ℕ) (b : ℕ) (behind : List ℕ) → list_all (λ c. not (p c)) front ≡ true → p b ≡ true
+-- the first place that passes is behind a front of which none does
+pub position-at : (p : ℕ → Bool) (front : List ℕ) (b : ℕ) (behind : List ℕ) → list_all (λ c. not (p c)) front ≡ true
+    → p b ≡ true
     → position p (front ++ (b ∷ behind)) ≡ Some (length front)
 position-at p front b behind clear passes =
     let within : length front < length (front ++ (b ∷ behind)) = omega (arith, length-append front (b ∷ behind)) in
     ap (λ n. cond (nat_lt n (length (front ++ (b ∷ behind)))) (Some n) None) (place-at p front b behind clear passes)
-    ∙ ap (λ t. cond t (Some (length front)) None) ((Decides-ltb (length front) (length (front ++ (b ∷ behind)))).1 within)
+    ∙ ap (λ t. cond t (Some (length front)) None)
+    ((Decides-ltb (length front) (length (front ++ (b ∷ behind)))).1 within)
 
 -- the byte at that place
 pub index-at : (front : List ℕ) (b : ℕ) (behind : List ℕ) → slice_index (front ++ (b ∷ behind)) (length front) ≡ b
 index-at front b behind =
     let none : length front ≤ length front = omega arith in
     let least : length front - length front ≡ 0 = omega arith in
-    get_or-append_right front (b ∷ behind) (length front) (length front) 0 refl none ∙ ap (λ n. get_or (b ∷ behind) n 0) least
+    get_or-append_right front (b ∷ behind) (length front) (length front) 0 refl none
+    ∙ ap (λ n. get_or (b ∷ behind) n 0) least
 
 -- a text is cut where the mark stands behind a text that lacks it
-pub cut-at : (mark : ℕ) (front behind : List ℕ) → lacks mark front ≡ true → cut_at mark (front ++ (mark ∷ behind)) ≡ Some (front, behind)
+pub cut-at : (mark : ℕ) (front behind : List ℕ) → lacks mark front ≡ true
+    → cut_at mark (front ++ (mark ∷ behind)) ≡ Some (front, behind)
 cut-at mark front behind clear =
     let text : List ℕ = front ++ (mark ∷ behind) in
-    ap (option_map {U = List ℕ × List ℕ} (λ n. (take n text, drop (n + 1) text))) (position-at (λ b. b == mark) front mark behind clear ((Decides-eqb mark mark).1 refl))
+    ap (option_map {U = List ℕ × List ℕ} (λ n. (take n text, drop (n + 1) text)))
+    (position-at (λ b. b == mark) front mark behind clear ((Decides-eqb mark mark).1 refl))
     ∙ (λ i. Some (take-append_seam front (mark ∷ behind) i, drop-append-add front (mark ∷ behind) 1 i))
 
 -- what stands before the first byte that passes has none
@@ -69,6 +80,7 @@ pub record Around (p : ℕ → Bool) (text : List ℕ) (n : ℕ) : Type 0 where
   pub passes : p (slice_index text n) ≡ true
   pub clear : list_all (λ c. not (p c)) (take n text) ≡ true
 
+-- a place that is found has such a front
 pub around : (p : ℕ → Bool) (text : List ℕ) (n : ℕ) → position p text ≡ Some n → Around p text n
 around p text n found = go (nat_lt (position_or_len p text) (length text)) refl found
   where
@@ -77,12 +89,14 @@ around p text n found = go (nat_lt (position_or_len p text) (length text)) refl 
       within = less;
       whole =
           sym (take-append-drop m text)
-          ∙ ap (λ t. take m text ++ t) (drop-cons text m 0 less ∙ ap (λ k. slice_index text m ∷ drop k text) (sym (add-one m)));
+          ∙ ap (λ t. take m text ++ t)
+          (drop-cons text m 0 less ∙ ap (λ k. slice_index text m ∷ drop k text) (sym (add-one m)));
       passes = ap (λ k. p (slice_index text k)) (sym same) ∙ passes_at_first p text 0 (omega (arith, same, less));
       clear = ap (λ k. list_all (λ c. not (p c)) (take k text)) (sym same) ∙ front-clear (λ c. not (p c)) text;
     }
 
-    go : (t : Bool) → nat_lt (position_or_len p text) (length text) ≡ t → cond t (Some (position_or_len p text)) None ≡ Some n
+    go : (t : Bool) → nat_lt (position_or_len p text) (length text) ≡ t
+        → cond t (Some (position_or_len p text)) None ≡ Some n
         → Around p text n
     go true e found =
         let same : position_or_len p text ≡ n = cc in
@@ -106,16 +120,20 @@ cut-is mark text front behind cut = go (position (λ b. b == mark) text) refl cu
         let byte : slice_index text n ≡ mark = eqb-true (slice_index text n) mark at.passes in
         (at.whole ∙ (λ i. first i ++ (byte i ∷ second i)), ap (lacks mark) (sym first) ∙ at.clear)
 
+-- where none is found, none passes
 all-clear : (p : ℕ → Bool) (text : List ℕ) → position p text ≡ None → list_all (λ c. not (p c)) text ≡ true
 all-clear p text none = go (nat_lt (position_or_len p text) (length text)) refl none
   where
-    go : (t : Bool) → nat_lt (position_or_len p text) (length text) ≡ t → cond t (Some (position_or_len p text)) None ≡ None
+    go : (t : Bool) → nat_lt (position_or_len p text) (length text) ≡ t
+        → cond t (Some (position_or_len p text)) None ≡ None
         → list_all (λ c. not (p c)) text ≡ true
     go true e none = cc
     go false e none =
         let more : length text ≤ position_or_len p text = ltb-false (position_or_len p text) (length text) e in
-        let all : position_or_len p text ≡ length text = omega (arith, more, prefix_len-le-length (λ c. not (p c)) text) in
-        ap (λ t. list_all (λ c. not (p c)) t) (sym (ap (λ k. take k text) all ∙ take-length text)) ∙ front-clear (λ c. not (p c)) text
+        let all : position_or_len p text ≡ length text =
+        omega (arith, more, prefix_len-le-length (λ c. not (p c)) text) in
+        ap (λ t. list_all (λ c. not (p c)) t) (sym (ap (λ k. take k text) all ∙ take-length text))
+        ∙ front-clear (λ c. not (p c)) text
 
 -- a text that is not cut lacks the mark
 pub cut-none : (mark : ℕ) (text : List ℕ) → cut_at mark text ≡ None → lacks mark text ≡ true
@@ -128,8 +146,10 @@ cut-none mark text none = go (position (λ b. b == mark) text) refl none
 
 -- a text with the mark in it does not lack it
 stands : (m : ℕ) (front behind : List ℕ) → lacks m (front ++ (m ∷ behind)) ≡ true → ⊥
-stands m [] behind clear = let here : (m == m) ≡ true = (Decides-eqb m m).1 refl in true≢false (sym clear ∙ ap (λ t. not t && lacks m behind) here)
-stands m (b ∷ front) behind clear = stands m front behind (and_parts (not (b == m)) (lacks m (front ++ (m ∷ behind))) clear).1
+stands m [] behind clear = let here : (m == m) ≡ true =
+    (Decides-eqb m m).1 refl in true≢false (sym clear ∙ ap (λ t. not t && lacks m behind) here)
+stands m (b ∷ front) behind clear =
+    stands m front behind (and_parts (not (b == m)) (lacks m (front ++ (m ∷ behind))) clear).1
 
 -- and the other way round
 pub cut-lacks : (mark : ℕ) (text : List ℕ) → lacks mark text ≡ true → cut_at mark text ≡ None
@@ -138,5 +158,6 @@ cut-lacks mark text clear = go (cut_at mark text) refl
     go : (found : Option (List ℕ × List ℕ)) → cut_at mark text ≡ found → cut_at mark text ≡ None
     go None e = e
     go (Some parts) e =
-        let is : (text ≡ parts.0 ++ (mark ∷ parts.1)) × (lacks mark parts.0 ≡ true) = cut-is mark text parts.0 parts.1 e in
+        let is : (text ≡ parts.0 ++ (mark ∷ parts.1)) × (lacks mark parts.0 ≡ true) =
+        cut-is mark text parts.0 parts.1 e in
         absurd (stands mark parts.0 parts.1 (ap (lacks mark) (sym is.0) ∙ clear))

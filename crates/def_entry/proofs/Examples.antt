@@ -19,20 +19,27 @@ use Rattle.def_entry.specs.Options.{options_from}
 use Rattle.def_entry.specs.PointLists.{points_of}
 use Rattle.def_entry.specs.Reading.{what_of}
 
+-- the examples of entries
 pub entries : EntriesLaw
-unfolding gcd gcd_within greatest reduced rises words_of fault_from lexemes_from tokens_in parsed tree_of form_of heading interval_at number_of options_from points_of what_of
+unfolding gcd gcd_within greatest reduced rises words_of fault_from lexemes_from tokens_in parsed tree_of form_of
+    heading interval_at number_of options_from points_of what_of
 entries = (refl, refl, refl, refl, refl, refl, refl, refl, refl)
 
+-- the examples of faults
 pub faults : FaultsLaw
-unfolding gcd gcd_within greatest reduced rises words_of fault_from lexemes_from tokens_in parsed tree_of form_of heading interval_at number_of options_from points_of what_of
+unfolding gcd gcd_within greatest reduced rises words_of fault_from lexemes_from tokens_in parsed tree_of form_of
+    heading interval_at number_of options_from points_of what_of
 faults = (refl, refl, refl, refl, refl, refl, refl, refl, refl, refl, refl, refl)
 
+-- the examples of keys
 keys_read : KeysLaw
 unfolding key_of
 keys_read = record { written = refl; read = refl; refused = refl }
 
+-- the examples of texts of faults
 faults_told : FaultTextsLaw
 faults_told = refl
 
+-- all of them
 pub examples : ExamplesLaw
 examples = record { entries = entries; faults = faults; keys_read = keys_read; faults_told = faults_told }

@@ -1,5 +1,6 @@
 -- Texts whose front ends at the first byte of a kind.
-use Rattle.std.proofs.Common.{◌≡◌, ◌<◌, ◌≤◌, ◌+◌, ◌∷◌, [], ◌++◌, ℕ, suc, List, Bool, true, false, not, cond, length, take, drop, reverse, refl, sym, ap, ◌∙◌, one-add}
+use Rattle.std.proofs.Common.{◌≡◌, ◌<◌, ◌≤◌, ◌+◌, ◌∷◌, [], ◌++◌, ℕ, suc, List, Bool, true, false, not, cond, length}
+use Rattle.std.proofs.Common.{take, drop, reverse, refl, sym, ap, ◌∙◌, one-add}
 use Rattle.std.specs.List.{before_first, list_all, position_or_len}
 use Rattle.std.specs.Prelude.{nat_lt}
 use Rattle.std.proofs.lemmas.Bool.{and_parts, ltb-false}
@@ -12,7 +13,8 @@ use Rattle.units_io.specs.Blanks.{is_blank}
 use Rattle.def_lines.specs.Blanks.{after_blanks, before_blanks, trimmed}
 use Rattle.def_lines.specs.Parts.{is_begun}
 use Rattle.def_lines.specs.Words.{behind_word, first_word}
-use Rattle.def_lines.proofs.Trimming.{after_blanks-blank, after_blanks-word, before_blanks-word, is_begun-after_blanks, trimmed-begun, trimmed-blank}
+use Rattle.def_lines.proofs.Trimming.{after_blanks-blank, after_blanks-word, before_blanks-word, is_begun-after_blanks}
+use Rattle.def_lines.proofs.Trimming.{trimmed-begun, trimmed-blank}
 use Rattle.def_entry.specs.Headings.{stands_apart}
 use Rattle.def_entry.proofs.CutTexts.{front-clear, not_true, place-at}
 
@@ -21,7 +23,9 @@ abbrev pub stops : (ℕ → Bool) → List ℕ → Bool
 stops p [] = true
 stops p (b ∷ text) = p b
 
-place-all : (p : ℕ → Bool) (text : List ℕ) → list_all (λ c. not (p c)) text ≡ true → position_or_len p text ≡ length text
+-- where no byte passes, the place is the length
+place-all : (p : ℕ → Bool) (text : List ℕ) → list_all (λ c. not (p c)) text ≡ true
+    → position_or_len p text ≡ length text
 place-all p [] clear = refl
 place-all p (b ∷ text) clear = go (and_parts (not (p b)) (list_all (λ c. not (p c)) text) clear) (place-all p text)
   where
@@ -29,7 +33,8 @@ place-all p (b ∷ text) clear = go (and_parts (not (p b)) (list_all (λ c. not 
         → (list_all (λ c. not (p c)) text ≡ true → position_or_len p text ≡ length text)
         → position_or_len p (b ∷ text) ≡ length (b ∷ text)
     go parts rest =
-        ap (λ t. cond t (1 + position_or_len p text) 0) parts.0 ∙ one-add (position_or_len p text) ∙ ap suc (rest parts.1)
+        ap (λ t. cond t (1 + position_or_len p text) 0) parts.0 ∙ one-add (position_or_len p text)
+        ∙ ap suc (rest parts.1)
 
 -- a front without such a byte is what stands before the first one
 pub before-at : (p : ℕ → Bool) (front behind : List ℕ) → list_all (λ c. not (p c)) front ≡ true → stops p behind ≡ true
@@ -37,7 +42,8 @@ pub before-at : (p : ℕ → Bool) (front behind : List ℕ) → list_all (λ c.
 before-at p front [] clear stop =
     ap (before_first p) (append-nil front) ∙ ap (λ n. take n front) (place-all p front clear) ∙ take-length front
 before-at p front (b ∷ behind) clear stop =
-    ap (λ n. take n (front ++ (b ∷ behind))) (place-at p front b behind clear stop) ∙ take-append_seam front (b ∷ behind)
+    ap (λ n. take n (front ++ (b ∷ behind))) (place-at p front b behind clear stop)
+    ∙ take-append_seam front (b ∷ behind)
 
 -- a text, by what stands before the first such byte
 pub record Parted (p : ℕ → Bool) (text : List ℕ) : Type 0 where
@@ -47,6 +53,7 @@ pub record Parted (p : ℕ → Bool) (text : List ℕ) : Type 0 where
   pub clear : list_all (λ c. not (p c)) front ≡ true
   pub stop : stops p behind ≡ true
 
+-- each text is parted at the first byte that passes
 pub parted : (p : ℕ → Bool) (text : List ℕ) → Parted p text
 parted p text =
     let n : ℕ = position_or_len p text in
@@ -58,7 +65,8 @@ parted p text =
       stop = go (nat_lt (position_or_len p text) (length text)) refl;
     }
   where
-    go : (t : Bool) → nat_lt (position_or_len p text) (length text) ≡ t → stops p (drop (position_or_len p text) text) ≡ true
+    go : (t : Bool) → nat_lt (position_or_len p text) (length text) ≡ t
+        → stops p (drop (position_or_len p text) text) ≡ true
     go true e =
         let less : position_or_len p text < length text = (Decides-ltb (position_or_len p text) (length text)).0 e in
         ap (stops p) (drop-cons text (position_or_len p text) 0 less) ∙ passes_at_first p text 0 less
@@ -68,6 +76,7 @@ parted p text =
 
 -- blanks
 
+-- a text that has begun has no blanks in front
 pub after_blanks-begun : (text : List ℕ) → is_begun text ≡ true → after_blanks text ≡ text
 after_blanks-begun [] begun = refl
 after_blanks-begun (b ∷ text) begun = after_blanks-word b text (not_true (is_blank b) begun)
@@ -78,12 +87,15 @@ before_blanks-again text =
     ap (λ t. reverse (after_blanks t)) (reverse-reverse (after_blanks (reverse text)))
     ∙ ap reverse (after_blanks-begun (after_blanks (reverse text)) (is_begun-after_blanks (reverse text)))
 
+-- trimmed at its end, a text trims to the same
 pub trimmed-before_blanks : (text : List ℕ) → trimmed (before_blanks text) ≡ trimmed text
 trimmed-before_blanks text = ap after_blanks (before_blanks-again text)
 
+-- so it does behind more blanks
 pub trimmed-blanks : (blanks text : List ℕ) → list_all is_blank blanks ≡ true → trimmed (blanks ++ text) ≡ trimmed text
 trimmed-blanks [] text clear = refl
-trimmed-blanks (b ∷ blanks) text clear = go (and_parts (is_blank b) (list_all is_blank blanks) clear) (trimmed-blanks blanks text)
+trimmed-blanks (b ∷ blanks) text clear =
+    go (and_parts (is_blank b) (list_all is_blank blanks) clear) (trimmed-blanks blanks text)
   where
     go : (is_blank b ≡ true) × (list_all is_blank blanks ≡ true)
         → (list_all is_blank blanks ≡ true → trimmed (blanks ++ text) ≡ trimmed text)
@@ -103,7 +115,8 @@ before_blanks-front (b ∷ word) text clear =
     go parts rest = before_blanks-word b (word ++ text) (not_true (is_blank b) parts.0) ∙ ap (λ t. b ∷ t) (rest parts.1)
 
 -- a blank in front stays, or nothing does
-blank_stays : (b : ℕ) (text : List ℕ) → is_blank b ≡ true → stands_apart (reverse (after_blanks (text ++ b ∷ []))) ≡ true
+blank_stays : (b : ℕ) (text : List ℕ) → is_blank b ≡ true
+    → stands_apart (reverse (after_blanks (text ++ b ∷ []))) ≡ true
 blank_stays b [] blank = ap (λ t. stands_apart (reverse t)) (after_blanks-blank b [] blank)
 blank_stays b (c ∷ text) blank = go (is_blank c) refl (blank_stays b text blank)
   where
@@ -115,10 +128,13 @@ blank_stays b (c ∷ text) blank = go (is_blank c) refl (blank_stays b text blan
         ∙ ap stands_apart (reverse-append (c ∷ text) (b ∷ []))
         ∙ blank
 
+-- trimmed at its end, a text still stands apart
 pub apart-before_blanks : (text : List ℕ) → stands_apart text ≡ true → stands_apart (before_blanks text) ≡ true
 apart-before_blanks [] apart = refl
-apart-before_blanks (b ∷ text) apart = ap (λ t. stands_apart (reverse (after_blanks t))) (reverse-append (b ∷ []) text) ∙ blank_stays b (reverse text) apart
+apart-before_blanks (b ∷ text) apart = ap (λ t. stands_apart (reverse (after_blanks t))) (reverse-append (b ∷ []) text)
+    ∙ blank_stays b (reverse text) apart
 
+-- and a word stops before it
 pub stops-apart : (text : List ℕ) → stands_apart text ≡ true → stops is_blank text ≡ true
 stops-apart [] apart = refl
 stops-apart (b ∷ text) apart = apart
@@ -128,14 +144,17 @@ pub record FirstWord (text word behind : List ℕ) : Type 0 where
   pub first : first_word (trimmed text) ≡ word
   pub rest : behind_word (trimmed text) ≡ trimmed behind
 
+-- the first word behind blanks, before what stands apart
 pub first-word : (blanks word behind : List ℕ) → list_all is_blank blanks ≡ true → is_begun (word ++ behind) ≡ true
     → list_all (λ b. not (is_blank b)) word ≡ true
     → stands_apart behind ≡ true → FirstWord (blanks ++ (word ++ behind)) word behind
 first-word blanks word behind clear begun is_word apart =
     let bare : trimmed (blanks ++ (word ++ behind)) ≡ word ++ before_blanks behind =
-    trimmed-blanks blanks (word ++ behind) clear ∙ trimmed-begun (word ++ behind) begun ∙ before_blanks-front word behind is_word in
+    trimmed-blanks blanks (word ++ behind) clear ∙ trimmed-begun (word ++ behind) begun
+    ∙ before_blanks-front word behind is_word in
     let front : first_word (word ++ before_blanks behind) ≡ word =
-    before-at is_blank word (before_blanks behind) is_word (stops-apart (before_blanks behind) (apart-before_blanks behind apart)) in
+    before-at is_blank word (before_blanks behind) is_word
+    (stops-apart (before_blanks behind) (apart-before_blanks behind apart)) in
     record {
       first = ap first_word bare ∙ front;
       rest =

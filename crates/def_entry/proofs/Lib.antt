@@ -1,3 +1,4 @@
+pub mod BuiltPairs
 pub mod Choices
 pub mod CutParts
 pub mod CutTexts
@@ -10,6 +11,7 @@ pub mod PairSteps
 pub mod Parts
 pub mod PointRuns
 pub mod PointWords
+pub mod ReadForms
 pub mod Runs
 pub mod SameKeys
 pub mod Texts

@@ -1,5 +1,6 @@
 -- What the form of a line says, as it is read.
-use Rattle.std.proofs.Common.{◌≡◌, ◌∷◌, [], ◌++◌, ℕ, List, Bool, true, false, cond, map, Option, Some, None, Result, Ok, Err, refl, sym, ap, ◌∙◌, subst}
+use Rattle.std.proofs.Common.{◌≡◌, ◌∷◌, [], ◌++◌, ℕ, List, Bool, true, false, cond, map, Option, Some, None, Result, Ok}
+use Rattle.std.proofs.Common.{Err, refl, sym, ap, ◌∙◌, subst}
 use Rattle.units_io.specs.Outcomes.{◌>>=◌}
 use Rattle.expr_tree.specs.Syntax.{Syntax}
 use Rattle.piecewise.specs.Lines.{Point}
@@ -7,8 +8,10 @@ use Rattle.piecewise.specs.Points.{is_table}
 use Rattle.def_entry.specs.declared.fault.EntryFault.{EntryFault}
 use Rattle.def_entry.specs.declared.fault.EntryFault.TheVariants.{BadTable}
 use Rattle.def_entry.specs.Entries.{FunctionDef, What, Primitive, Dimensionless, Body, Function, Alias, Table, ListOf}
-use Rattle.def_entry.specs.EntryGrammar.{ArePoints, AreTreesOf, HasPoints, IsSaidOf, IsTreeOf, Says, expression, expressions, in_unit_text, out_unit_text}
-use Rattle.def_entry.specs.FormGrammar.{WrittenForm, PrimitiveForm, DimensionlessForm, BodyForm, FunctionForm, AliasForm, TableForm, ListForm}
+use Rattle.def_entry.specs.EntryGrammar.{ArePoints, AreTreesOf, HasPoints, IsSaidOf, IsTreeOf, Says, expression}
+use Rattle.def_entry.specs.EntryGrammar.{expressions, in_unit_text, out_unit_text}
+use Rattle.def_entry.specs.FormGrammar.{WrittenForm, PrimitiveForm, DimensionlessForm, BodyForm, FunctionForm}
+use Rattle.def_entry.specs.FormGrammar.{AliasForm, TableForm, ListForm}
 use Rattle.def_entry.specs.Forms.{Form, some_text}
 use Rattle.def_entry.specs.Options.{Units}
 use Rattle.def_entry.specs.Outcomes.{or_fault, tree_in}
@@ -38,15 +41,18 @@ meaning name (ListForm parts) = list_trees parts >>= (λ trees. Ok (ListOf trees
 
 -- points
 
+-- points that are written are read
 pub points-at : (text : List ℕ) (points : List Point) → ArePoints text points → points_in text ≡ Ok points
 points-at text points is =
-    ap (λ o. or_fault BadTable o >>= (λ ps. or_fault BadTable (table_points ps))) ((points_read text points).1 is.0) ∙ ap (λ t. or_fault BadTable (cond t (Some points) None)) is.1
+    ap (λ o. or_fault BadTable o >>= (λ ps. or_fault BadTable (table_points ps))) ((points_read text points).1 is.0)
+    ∙ ap (λ t. or_fault BadTable (cond t (Some points) None)) is.1
 
 -- the points of a table are, or are not, such
 pub data PointsOf (text : List ℕ) : Type 0 where
   Points : (points : List Point) → ArePoints text points → PointsOf text
   NoPoints : ((points : List Point) → ArePoints text points → ⊥) → points_in text ≡ Err BadTable → PointsOf text
 
+-- a text has points or is no table
 pub points-of : (text : List ℕ) → PointsOf text
 points-of text = go (points_of text) refl
   where
@@ -64,41 +70,55 @@ points-of text = go (points_of text) refl
     by points e false f =
         NoPoints
         (λ qs is. differ (sym f ∙ ap is_table (same points qs (sym e ∙ (points_read text qs).1 is.0)) ∙ is.1))
-        (ap (λ o. or_fault BadTable o >>= (λ ps. or_fault BadTable (table_points ps))) e ∙ ap (λ t. or_fault BadTable (cond t (Some points) None)) f)
+        (ap (λ o. or_fault BadTable o >>= (λ ps. or_fault BadTable (table_points ps))) e
+        ∙ ap (λ t. or_fault BadTable (cond t (Some points) None)) f)
 
     go : (found : Option (List Point)) → points_of text ≡ found → PointsOf text
     go None e =
-        NoPoints (λ qs is. apart qs (sym e ∙ (points_read text qs).1 is.0)) (ap (λ o. or_fault BadTable o >>= (λ ps. or_fault BadTable (table_points ps))) e)
+        NoPoints (λ qs is. apart qs (sym e ∙ (points_read text qs).1 is.0))
+        (ap (λ o. or_fault BadTable o >>= (λ ps. or_fault BadTable (table_points ps))) e)
     go (Some points) e = by points e (is_table points) refl
 
 -- faults of expressions
 
+-- a unit runs through its expression, if it has one
 runs-unit : (text : List ℕ) → Runs (unit_tree text) (expression None (some_text text))
 runs-unit [] = runs-done None
-runs-unit (b ∷ text) = runs-map (tree_in None (b ∷ text)) (λ tree. Some tree) ((None, b ∷ text) ∷ []) (runs-tree None (b ∷ text))
+runs-unit (b ∷ text) =
+    runs-map (tree_in None (b ∷ text)) (λ tree. Some tree) ((None, b ∷ text) ∷ []) (runs-tree None (b ∷ text))
 
-runs-units : (units : Option Units) → Runs (units_in units) (expression None (in_unit_text units) ++ expression None (out_unit_text units))
+-- both units run through theirs
+runs-units : (units : Option Units)
+    → Runs (units_in units) (expression None (in_unit_text units) ++ expression None (out_unit_text units))
 runs-units None = runs-done (None, None)
 runs-units (Some units) =
-    runs-then (unit_tree units.in_unit) (λ first. unit_tree units.out_unit >>= (λ second. Ok (first, second))) (expression None (some_text units.in_unit))
+    runs-then (unit_tree units.in_unit) (λ first. unit_tree units.out_unit >>= (λ second. Ok (first, second)))
+    (expression None (some_text units.in_unit))
     (expression None (some_text units.out_unit)) (runs-unit units.in_unit)
-    (λ first. runs-map (unit_tree units.out_unit) (λ second. (first, second)) (expression None (some_text units.out_unit)) (runs-unit units.out_unit))
+    (λ first. runs-map (unit_tree units.out_unit) (λ second. (first, second))
+    (expression None (some_text units.out_unit)) (runs-unit units.out_unit))
 
+-- so does an inverse
 runs-inverse : (name : List ℕ) (text : Option (List ℕ)) → Runs (inverse_in name text) (expression (Some name) text)
 runs-inverse name None = runs-done None
-runs-inverse name (Some text) = runs-map (tree_in (Some name) text) (λ tree. Some tree) ((Some name, text) ∷ []) (runs-tree (Some name) text)
+runs-inverse name (Some text) =
+    runs-map (tree_in (Some name) text) (λ tree. Some tree) ((Some name, text) ∷ []) (runs-tree (Some name) text)
 
+-- a list runs through its parts
 runs-list : (parts : List (List ℕ)) → Runs (list_trees parts) (map (λ part. (None, part)) parts)
 runs-list [] = runs-done []
 runs-list (part ∷ parts) =
-    runs-then (tree_in None part) (λ tree. list_trees parts >>= (λ trees. Ok (tree ∷ trees))) ((None, part) ∷ []) (map (λ part. (None, part)) parts) (runs-tree None part)
+    runs-then (tree_in None part) (λ tree. list_trees parts >>= (λ trees. Ok (tree ∷ trees))) ((None, part) ∷ [])
+    (map (λ part. (None, part)) parts) (runs-tree None part)
     (λ tree. runs-map (list_trees parts) (λ trees. tree ∷ trees) (map (λ part. (None, part)) parts) (runs-list parts))
 
+-- a function through its units and bodies
 runs-function : (name parameter : List ℕ) (form : Form)
     → Runs (function_of name parameter form) (expressions name (FunctionForm parameter form))
 runs-function name parameter form =
     runs-then (units_in form.options.units)
-    (λ units. tree_in (Some parameter) form.forward >>= (λ forward. inverse_in name form.inverse >>= (λ inverse. Ok (function form units forward inverse))))
+    (λ units. tree_in (Some parameter) form.forward
+    >>= (λ forward. inverse_in name form.inverse >>= (λ inverse. Ok (function form units forward inverse))))
     (expression None (in_unit_text form.options.units) ++ expression None (out_unit_text form.options.units))
     ((Some parameter, form.forward) ∷ expression (Some name) form.inverse)
     (runs-units form.options.units)
@@ -107,25 +127,32 @@ runs-function name parameter form =
     ((Some parameter, form.forward) ∷ [])
     (expression (Some name) form.inverse)
     (runs-tree (Some parameter) form.forward)
-    (λ forward. runs-map (inverse_in name form.inverse) (λ inverse. function form units forward inverse) (expression (Some name) form.inverse) (runs-inverse name form.inverse)))
+    (λ forward. runs-map (inverse_in name form.inverse) (λ inverse. function form units forward inverse)
+    (expression (Some name) form.inverse) (runs-inverse name form.inverse)))
 
 -- where a table has points, the expressions decide
-pub runs-meaning : (name : List ℕ) (form : WrittenForm) → HasPoints form → Runs (meaning name form) (expressions name form)
+pub runs-meaning : (name : List ℕ) (form : WrittenForm) → HasPoints form
+    → Runs (meaning name form) (expressions name form)
 runs-meaning name PrimitiveForm has = runs-done Primitive
 runs-meaning name DimensionlessForm has = runs-done Dimensionless
-runs-meaning name (BodyForm body) has = runs-map (tree_in None body) (λ tree. Body tree) ((None, body) ∷ []) (runs-tree None body)
+runs-meaning name (BodyForm body) has =
+    runs-map (tree_in None body) (λ tree. Body tree) ((None, body) ∷ []) (runs-tree None body)
 runs-meaning name (FunctionForm parameter form) has = runs-function name parameter form
 runs-meaning name (AliasForm target) has = runs-done (Alias target)
 runs-meaning name (TableForm unit text) has =
-    subst (λ given. Runs given ((None, unit) ∷ [])) (sym (ap (λ p. p >>= (λ ps. table_of unit ps)) (points-at text has.0 has.1)))
-    (runs-map (tree_in None unit) (λ tree. Table (record { unit = tree; points = has.0 })) ((None, unit) ∷ []) (runs-tree None unit))
-runs-meaning name (ListForm parts) has = runs-map (list_trees parts) (λ trees. ListOf trees) (map (λ part. (None, part)) parts) (runs-list parts)
+    subst (λ given. Runs given ((None, unit) ∷ []))
+    (sym (ap (λ p. p >>= (λ ps. table_of unit ps)) (points-at text has.0 has.1)))
+    (runs-map (tree_in None unit) (λ tree. Table (record { unit = tree; points = has.0 })) ((None, unit) ∷ [])
+    (runs-tree None unit))
+runs-meaning name (ListForm parts) has =
+    runs-map (list_trees parts) (λ trees. ListOf trees) (map (λ part. (None, part)) parts) (runs-list parts)
 
 -- a form has points, or is a table without
 pub data FormPoints (name : List ℕ) (form : WrittenForm) : Type 0 where
   Has : HasPoints form → FormPoints name form
   HasNone : (HasPoints form → ⊥) → meaning name form ≡ Err BadTable → FormPoints name form
 
+-- a form has points, or none are wanted
 pub form-points : (name : List ℕ) (form : WrittenForm) → FormPoints name form
 form-points name (TableForm unit text) = go (points-of text)
   where
@@ -141,7 +168,9 @@ form-points name (ListForm parts) = Has tt
 
 -- what is said
 
-some-tree : (binder : Option (List ℕ)) (text : List ℕ) (tree : Option Syntax) → (tree_in binder text >>= (λ t. Ok (Some t))) ≡ Ok tree
+-- a tree that is read is the tree of its text
+some-tree : (binder : Option (List ℕ)) (text : List ℕ) (tree : Option Syntax)
+    → (tree_in binder text >>= (λ t. Ok (Some t))) ≡ Ok tree
     → IsTreeOf binder (Some text) tree
 some-tree binder text tree e =
     let step = bind_ok (tree_in binder text) (λ t. Ok (Some t)) tree e in
@@ -150,33 +179,40 @@ some-tree binder text tree e =
     same : (x y : Option Syntax) → ◌≡◌ {A = Result (Option Syntax) EntryFault} (Ok y) (Ok x) → x ≡ y
     same x y e = cc
 
+-- and the tree of a text is read
 tree-some : (binder : Option (List ℕ)) (text : List ℕ) (tree : Option Syntax) → IsTreeOf binder (Some text) tree
     → (tree_in binder text >>= (λ t. Ok (Some t))) ≡ Ok tree
 tree-some binder text tree is = ap (λ r. r >>= (λ t. Ok (Some t))) (ok-tree binder text is.0 is.1) ∙ ap Ok (sym is.2)
 
+-- a unit that is read has its tree
 unit-ok : (text : List ℕ) (tree : Option Syntax) → unit_tree text ≡ Ok tree → IsTreeOf None (some_text text) tree
 unit-ok [] tree e = cc
 unit-ok (b ∷ text) tree e = some-tree None (b ∷ text) tree e
 
+-- and a unit with its tree is read
 ok-unit : (text : List ℕ) (tree : Option Syntax) → IsTreeOf None (some_text text) tree → unit_tree text ≡ Ok tree
 ok-unit [] tree is = ap Ok (sym is)
 ok-unit (b ∷ text) tree is = tree-some None (b ∷ text) tree is
 
 -- the parts of two trees that are given
 
+-- the tree of the first unit
 abbrev first_tree : Result (Option Syntax × Option Syntax) EntryFault → Option Syntax
 first_tree (Ok p) = p.0
 first_tree (Err f) = None
 
+-- the tree of the second
 abbrev second_tree : Result (Option Syntax × Option Syntax) EntryFault → Option Syntax
 second_tree (Ok p) = p.1
 second_tree (Err f) = None
 
+-- units that are read have their trees
 units-ok : (units : Option Units) (first second : Option Syntax) → units_in units ≡ Ok (first, second)
     → IsTreeOf None (in_unit_text units) first × IsTreeOf None (out_unit_text units) second
 units-ok None first second e = (sym (ap first_tree e), sym (ap second_tree e))
 units-ok (Some units) first second e =
-    let one = bind_ok (unit_tree units.in_unit) (λ a. unit_tree units.out_unit >>= (λ b. Ok (a, b))) (first, second) e in
+    let one = bind_ok (unit_tree units.in_unit) (λ a. unit_tree units.out_unit >>= (λ b. Ok (a, b)))
+    (first, second) e in
     let two = bind_ok (unit_tree units.out_unit) (λ b. Ok (one.0, b)) (first, second) one.2 in
     let a : one.0 ≡ first = ap first_tree two.2 in
     let b : two.0 ≡ second = ap second_tree two.2 in (
@@ -184,6 +220,7 @@ units-ok (Some units) first second e =
       subst (IsTreeOf None (some_text units.out_unit)) b (unit-ok units.out_unit two.0 two.1),
     )
 
+-- and units with their trees are read
 ok-units : (units : Option Units) (first second : Option Syntax) → IsTreeOf None (in_unit_text units) first
     → IsTreeOf None (out_unit_text units) second
     → units_in units ≡ Ok (first, second)
@@ -192,11 +229,13 @@ ok-units (Some units) first second is other =
     ap (λ r. r >>= (λ a. unit_tree units.out_unit >>= (λ b. Ok (a, b)))) (ok-unit units.in_unit first is)
     ∙ ap (λ r. r >>= (λ b. Ok (first, b))) (ok-unit units.out_unit second other)
 
+-- an inverse that is read has its tree
 inverse-ok : (name : List ℕ) (text : Option (List ℕ)) (tree : Option Syntax) → inverse_in name text ≡ Ok tree
     → IsTreeOf (Some name) text tree
 inverse-ok name None tree e = cc
 inverse-ok name (Some text) tree e = some-tree (Some name) text tree e
 
+-- and an inverse with its tree is read
 ok-inverse : (name : List ℕ) (text : Option (List ℕ)) (tree : Option Syntax) → IsTreeOf (Some name) text tree
     → inverse_in name text ≡ Ok tree
 ok-inverse name None tree is = ap Ok (sym is)
@@ -213,14 +252,19 @@ function_def form units forward inverse = record {
   inverse = inverse;
 }
 
+-- a function that is read is what its form says
 function-ok : (name parameter : List ℕ) (form : Form) (what : What) → function_of name parameter form ≡ Ok what
     → Says name (FunctionForm parameter form) what
 function-ok name parameter form what e =
     let one = bind_ok (units_in form.options.units)
-    (λ units. tree_in (Some parameter) form.forward >>= (λ forward. inverse_in name form.inverse >>= (λ inverse. Ok (function form units forward inverse)))) what e in
-    let two = bind_ok (tree_in (Some parameter) form.forward) (λ forward. inverse_in name form.inverse >>= (λ inverse. Ok (function form one.0 forward inverse))) what one.2 in
+    (λ units. tree_in (Some parameter) form.forward
+    >>= (λ forward. inverse_in name form.inverse >>= (λ inverse. Ok (function form units forward inverse)))) what e in
+    let two = bind_ok (tree_in (Some parameter) form.forward)
+    (λ forward. inverse_in name form.inverse >>= (λ inverse. Ok (function form one.0 forward inverse))) what
+    one.2 in
     let three = bind_ok (inverse_in name form.inverse) (λ inverse. Ok (function form one.0 two.0 inverse)) what two.2 in
-    let units : IsTreeOf None (in_unit_text form.options.units) one.0.0 × IsTreeOf None (out_unit_text form.options.units) one.0.1 =
+    let units : IsTreeOf None (in_unit_text form.options.units) one.0.0
+    × IsTreeOf None (out_unit_text form.options.units) one.0.1 =
     units-ok form.options.units one.0.0 one.0.1 one.1 in
     let said : Says name (FunctionForm parameter form) (Function (function_def form one.0 two.0 three.0)) = record {
       in_unit = units.0;
@@ -230,19 +274,24 @@ function-ok name parameter form what e =
       forward = tree-ok (Some parameter) form.forward two.0 two.1;
       inverse = inverse-ok name form.inverse three.0 three.1;
     } in
-    subst (Says name (FunctionForm parameter form)) (same (Function (function_def form one.0 two.0 three.0)) what three.2) said
+    subst (Says name (FunctionForm parameter form))
+    (same (Function (function_def form one.0 two.0 three.0)) what three.2) said
   where
     same : (x y : What) → ◌≡◌ {A = Result What EntryFault} (Ok x) (Ok y) → x ≡ y
     same x y e = cc
 
+-- and what its form says is read
 ok-function : (name parameter : List ℕ) (form : Form) (f : FunctionDef) → IsSaidOf name parameter form f
     → function_of name parameter form ≡ Ok (Function f)
 ok-function name parameter form f is =
-    ap (λ r. r >>= (λ units. tree_in (Some parameter) form.forward >>= (λ forward. inverse_in name form.inverse >>= (λ inverse. Ok (function form units forward inverse)))))
+    ap (λ r. r >>= (λ units. tree_in (Some parameter) form.forward
+    >>= (λ forward. inverse_in name form.inverse >>= (λ inverse. Ok (function form units forward inverse)))))
     (ok-units form.options.units f.in_unit f.out_unit is.in_unit is.out_unit)
-    ∙ ap (λ r. r >>= (λ forward. inverse_in name form.inverse >>= (λ inverse. Ok (function form (f.in_unit, f.out_unit) forward inverse))))
+    ∙ ap (λ r. r >>= (λ forward. inverse_in name form.inverse
+    >>= (λ inverse. Ok (function form (f.in_unit, f.out_unit) forward inverse))))
     (ok-tree (Some parameter) form.forward f.forward is.forward)
-    ∙ ap (λ r. r >>= (λ inverse. Ok (function form (f.in_unit, f.out_unit) f.forward inverse))) (ok-inverse name form.inverse f.inverse is.inverse)
+    ∙ ap (λ r. r >>= (λ inverse. Ok (function form (f.in_unit, f.out_unit) f.forward inverse)))
+    (ok-inverse name form.inverse f.inverse is.inverse)
     ∙ (λ i. Ok (Function (record {
       in_unit = f.in_unit;
       out_unit = f.out_unit;
@@ -252,17 +301,20 @@ ok-function name parameter form f is =
       inverse = f.inverse;
     })))
 
+-- trees that are read are those of the parts
 list-ok : (parts : List (List ℕ)) (trees : List Syntax) → list_trees parts ≡ Ok trees → AreTreesOf parts trees
 list-ok [] [] e = tt
 list-ok [] (t ∷ trees) e = cc
 list-ok (part ∷ parts) trees e =
     let one = bind_ok (tree_in None part) (λ tree. list_trees parts >>= (λ trees. Ok (tree ∷ trees))) trees e in
     let two = bind_ok (list_trees parts) (λ trees. Ok (one.0 ∷ trees)) trees one.2 in
-    subst (AreTreesOf (part ∷ parts)) (same (one.0 ∷ two.0) trees two.2) (tree-ok None part one.0 one.1, list-ok parts two.0 two.1)
+    subst (AreTreesOf (part ∷ parts)) (same (one.0 ∷ two.0) trees two.2)
+    (tree-ok None part one.0 one.1, list-ok parts two.0 two.1)
   where
     same : (x y : List Syntax) → ◌≡◌ {A = Result (List Syntax) EntryFault} (Ok x) (Ok y) → x ≡ y
     same x y e = cc
 
+-- and the trees of the parts are read
 ok-list : (parts : List (List ℕ)) (trees : List Syntax) → AreTreesOf parts trees → list_trees parts ≡ Ok trees
 ok-list [] [] is = refl
 ok-list [] (t ∷ trees) is = absurd is
@@ -271,9 +323,11 @@ ok-list (part ∷ parts) (t ∷ trees) is =
     ap (λ r. r >>= (λ tree. list_trees parts >>= (λ trees. Ok (tree ∷ trees)))) (ok-tree None part t is.0)
     ∙ ap (λ r. r >>= (λ trees. Ok (t ∷ trees))) (ok-list parts trees is.1)
 
+-- equal answers say the same
 same_what : (x y : What) → ◌≡◌ {A = Result What EntryFault} (Ok x) (Ok y) → x ≡ y
 same_what x y e = cc
 
+-- what is read of a form is what it says
 pub says-ok : (name : List ℕ) (form : WrittenForm) (what : What) → meaning name form ≡ Ok what → Says name form what
 says-ok name PrimitiveForm what e = subst (Says name PrimitiveForm) (same_what Primitive what e) tt
 says-ok name DimensionlessForm what e = subst (Says name DimensionlessForm) (same_what Dimensionless what e) tt
@@ -285,15 +339,19 @@ says-ok name (AliasForm target) what e = subst (Says name (AliasForm target)) (s
 says-ok name (TableForm unit text) what e = go (points-of text)
   where
     go : PointsOf text → Says name (TableForm unit text) what
-    go (NoPoints never f) = let none : (Err BadTable >>= (λ ps. table_of unit ps)) ≡ Ok what = ap (λ p. p >>= (λ ps. table_of unit ps)) (sym f) ∙ e in cc
+    go (NoPoints never f) = let none : (Err BadTable >>= (λ ps. table_of unit ps)) ≡ Ok what =
+        ap (λ p. p >>= (λ ps. table_of unit ps)) (sym f) ∙ e in cc
     go (Points points is) =
         let step = bind_ok (tree_in None unit) (λ tree. Ok (Table (record { unit = tree; points = points }))) what
         (ap (λ p. p >>= (λ ps. table_of unit ps)) (sym (points-at text points is)) ∙ e) in
-        subst (Says name (TableForm unit text)) (same_what (Table (record { unit = step.0; points = points })) what step.2) (tree-ok None unit step.0 step.1, is)
+        subst (Says name (TableForm unit text))
+        (same_what (Table (record { unit = step.0; points = points })) what step.2)
+        (tree-ok None unit step.0 step.1, is)
 says-ok name (ListForm parts) what e =
     let step = bind_ok (list_trees parts) (λ trees. Ok (ListOf trees)) what e in
     subst (Says name (ListForm parts)) (same_what (ListOf step.0) what step.2) (list-ok parts step.0 step.1)
 
+-- and what it says is read
 pub ok-says : (name : List ℕ) (form : WrittenForm) (what : What) → Says name form what → meaning name form ≡ Ok what
 ok-says name PrimitiveForm Primitive is = refl
 ok-says name DimensionlessForm Dimensionless is = refl

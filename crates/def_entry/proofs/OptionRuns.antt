@@ -1,5 +1,7 @@
 -- Options one behind another are read as they are written.
-use Rattle.std.proofs.Common.{◌≡◌, ◌<◌, ◌≤◌, ◌+◌, ◌&&◌, ◌∷◌, [], ◌++◌, ℕ, zero, suc, List, Bool, true, false, not, length, Option, Some, None, if◌then◌else◌, refl, sym, ap, ◌∙◌, subst, arith, length-append}
+use Rattle.std.proofs.Common.{◌≡◌, ◌<◌, ◌≤◌, ◌+◌, ◌&&◌, ◌∷◌, [], ◌++◌, ℕ, zero, suc, List, Bool, true, false, not}
+use Rattle.std.proofs.Common.{length, Option, Some, None, if◌then◌else◌, refl, sym, ap, ◌∙◌, subst, arith}
+use Rattle.std.proofs.Common.{length-append}
 use Rattle.std.specs.List.{cons_option, filter_map, list_all}
 use Rattle.std.specs.Option.{is_some}
 use Rattle.std.proofs.lemmas.Bool.{and_parts}
@@ -10,12 +12,17 @@ use Rattle.def_lines.specs.Blanks.{after_blanks}
 use Rattle.def_lines.specs.Parts.{is_begun}
 use Rattle.def_lines.proofs.Trimming.{is_begun-after_blanks}
 use Rattle.def_entry.specs.declared.options.Choice.{Choice}
-use Rattle.def_entry.specs.OptionGrammar.{WrittenInterval, WrittenOption, UnitsOption, DomainOption, RangeOption, NoErrorOption, WrittenOptions, NoOption, NextOption}
-use Rattle.def_entry.specs.OptionGrammar.{AnyOrderLaw, AreOptions, OptionsLaw, are_whole, at_most, domain_of, has_ended, in_order, is_interval, is_whole, no_error_of, option, options, range_of, span_of, units_of}
-use Rattle.def_entry.specs.Options.{Options, behind, choice_at, most_options, no_options, options_at, options_from, with_choice, with_next}
+use Rattle.def_entry.specs.OptionGrammar.{WrittenInterval, WrittenOption, UnitsOption, DomainOption, RangeOption}
+use Rattle.def_entry.specs.OptionGrammar.{NoErrorOption, WrittenOptions, NoOption, NextOption}
+use Rattle.def_entry.specs.OptionGrammar.{AnyOrderLaw, AreOptions, OptionsLaw, are_whole, at_most, domain_of, has_ended}
+use Rattle.def_entry.specs.OptionGrammar.{in_order, is_interval, is_whole, no_error_of, option, options, range_of}
+use Rattle.def_entry.specs.OptionGrammar.{span_of, units_of}
+use Rattle.def_entry.specs.Options.{Options, behind, choice_at, most_options, no_options, options_at, options_from}
+use Rattle.def_entry.specs.Options.{with_choice, with_next}
 use Rattle.def_entry.specs.Steps.{◌>>=◌}
 use Rattle.def_entry.proofs.WrittenIntervals.{bind_some, one_pair}
-use Rattle.def_entry.proofs.WrittenOptions.{Added, Fronted, added, after_blanks-front, begun-option, choice-at, fronted, has-ended, is_free, no-choice, value-at, value-is}
+use Rattle.def_entry.proofs.WrittenOptions.{Added, Fronted, added, after_blanks-front, begun-option, choice-at, fronted}
+use Rattle.def_entry.proofs.WrittenOptions.{has-ended, is_free, no-choice, value-at, value-is}
 
 -- `noerror`, as a value that may stand
 abbrev flag : Bool → Option Bool
@@ -29,13 +36,16 @@ record Behind (o : Options) (os : List WrittenOption) (new : Options) : Type 0 w
   no_error : at_most (flag o.no_error) ++ filter_map no_error_of os ≡ at_most (flag new.no_error)
 
 -- one more value, where none stood before
-more : {A : Type 0} (had v made : Option A) (rest : List A) → not (is_some had) ≡ true → at_most v ++ rest ≡ at_most made
+more : {A : Type 0} (had v made : Option A) (rest : List A) → not (is_some had) ≡ true
+    → at_most v ++ rest ≡ at_most made
     → at_most had ++ cons_option v rest ≡ at_most made
 more None None made rest free e = e
 more None (Some x) made rest free e = e
 more (Some y) v made rest free e = cc
 
-less : {A : Type 0} (had v made : Option A) (rest : List A) → is_some v ≡ true → at_most had ++ cons_option v rest ≡ at_most made
+-- an option that stands once is free before it, and no more behind
+less : {A : Type 0} (had v made : Option A) (rest : List A) → is_some v ≡ true
+    → at_most had ++ cons_option v rest ≡ at_most made
     → (not (is_some had) ≡ true) × (at_most v ++ rest ≡ at_most made)
 less None None made rest some e = cc
 less None (Some x) made rest some e = (refl, e)
@@ -43,15 +53,19 @@ less (Some y) None made rest some e = cc
 less (Some y) (Some x) None rest some e = cc
 less (Some y) (Some x) (Some z) rest some e = cc
 
+-- a flag that is down is free
 free_flag : (b : Bool) → not b ≡ true → not (is_some (flag b)) ≡ true
 free_flag true e = cc
 free_flag false e = refl
 
+-- and a free one is down
 flag_free : (b : Bool) → not (is_some (flag b)) ≡ true → not b ≡ true
 flag_free true e = cc
 flag_free false e = refl
 
-behind-more : (w : WrittenOption) (o : Options) (os : List WrittenOption) (new : Options) → is_free w o ≡ true → Behind (added w o) os new
+-- an option that is free goes before those behind it
+behind-more : (w : WrittenOption) (o : Options) (os : List WrittenOption) (new : Options) → is_free w o ≡ true
+    → Behind (added w o) os new
     → Behind o (w ∷ os) new
 behind-more (UnitsOption a b) o os new free is = record {
   units = more o.units (units_of (UnitsOption a b)) new.units (filter_map units_of os) free is.units;
@@ -72,21 +86,26 @@ behind-more (RangeOption i) o os new free is = record {
   no_error = is.no_error;
 }
 behind-more NoErrorOption o os new free is = record {
-  no_error = more (flag o.no_error) (Some true) (flag new.no_error) (filter_map no_error_of os) (free_flag o.no_error free) is.no_error;
+  no_error = more (flag o.no_error) (Some true) (flag new.no_error) (filter_map no_error_of os)
+      (free_flag o.no_error free) is.no_error;
   units = is.units;
   domain = is.domain;
   range = is.range;
 }
 
-behind-less : (w : WrittenOption) (o : Options) (os : List WrittenOption) (new : Options) (rest : List ℕ) → is_whole w rest ≡ true
+-- and the first of some options is free
+behind-less : (w : WrittenOption) (o : Options) (os : List WrittenOption) (new : Options) (rest : List ℕ)
+    → is_whole w rest ≡ true
     → Behind o (w ∷ os) new
     → (is_free w o ≡ true) × Behind (added w o) os new
 behind-less (UnitsOption a b) o os new rest whole is =
-    let parts : (not (is_some o.units) ≡ true) × (at_most (units_of (UnitsOption a b)) ++ filter_map units_of os ≡ at_most new.units) =
+    let parts : (not (is_some o.units) ≡ true)
+    × (at_most (units_of (UnitsOption a b)) ++ filter_map units_of os ≡ at_most new.units) =
     less o.units (units_of (UnitsOption a b)) new.units (filter_map units_of os) refl is.units in
     (parts.0, record { units = parts.1; domain = is.domain; range = is.range; no_error = is.no_error })
 behind-less (DomainOption i) o os new rest whole is =
-    let parts : (not (is_some o.domain) ≡ true) × (at_most (span_of i) ++ filter_map domain_of os ≡ at_most new.domain) =
+    let parts : (not (is_some o.domain) ≡ true)
+    × (at_most (span_of i) ++ filter_map domain_of os ≡ at_most new.domain) =
     less o.domain (span_of i) new.domain (filter_map domain_of os) (and_parts _ _ whole).1 is.domain in
     (parts.0, record { domain = parts.1; units = is.units; range = is.range; no_error = is.no_error })
 behind-less (RangeOption i) o os new rest whole is =
@@ -94,24 +113,30 @@ behind-less (RangeOption i) o os new rest whole is =
     less o.range (span_of i) new.range (filter_map range_of os) (and_parts _ _ whole).1 is.range in
     (parts.0, record { range = parts.1; units = is.units; domain = is.domain; no_error = is.no_error })
 behind-less NoErrorOption o os new rest whole is =
-    let parts : (not (is_some (flag o.no_error)) ≡ true) × (at_most (Some true) ++ filter_map no_error_of os ≡ at_most (flag new.no_error)) =
-    less (flag o.no_error) (Some true) (flag new.no_error) (filter_map no_error_of os) refl is.no_error in
-    (flag_free o.no_error parts.0, record { no_error = parts.1; units = is.units; domain = is.domain; range = is.range })
+    let parts : (not (is_some (flag o.no_error)) ≡ true)
+    × (at_most (Some true) ++ filter_map no_error_of os ≡ at_most (flag new.no_error)) =
+    less (flag o.no_error) (Some true) (flag new.no_error) (filter_map no_error_of os) refl is.no_error in (
+      flag_free o.no_error parts.0,
+      record { no_error = parts.1; units = is.units; domain = is.domain; range = is.range },
+    )
 
 -- nothing behind them
 
+-- where nothing is added, a value is the same
 same_value : {A : Type 0} (x y : Option A) → at_most x ++ [] ≡ at_most y → x ≡ y
 same_value None None e = refl
 same_value None (Some y) e = cc
 same_value (Some x) None e = cc
 same_value (Some x) (Some y) e = cc
 
+-- so is a flag
 same_flag : (x y : Bool) → at_most (flag x) ++ [] ≡ at_most (flag y) → x ≡ y
 same_flag true true e = refl
 same_flag true false e = cc
 same_flag false true e = cc
 same_flag false false e = refl
 
+-- so are options behind none
 behind-none : (o new : Options) → Behind o [] new → o ≡ new
 behind-none o new is =
     let u : o.units ≡ new.units = same_value o.units new.units is.units in
@@ -120,6 +145,7 @@ behind-none o new is =
     let n : o.no_error ≡ new.no_error = same_flag o.no_error new.no_error is.no_error in
     λ i. record { units = u i; domain = d i; range = r i; no_error = n i }
 
+-- and the other way round
 none-behind : (o new : Options) → o ≡ new → Behind o [] new
 none-behind o new e = record {
   units = append-nil (at_most o.units) ∙ ap (λ (x : Options). at_most x.units) e;
@@ -136,17 +162,21 @@ record ReadFrom (o : Options) (text rest : List ℕ) (new : Options) : Type 0 wh
   ended : has_ended rest ≡ true
   said : Behind o (in_order written) new
 
+-- equal options have the same behind them
 with_same : (x y : Options) (os : List WrittenOption) (new : Options) → x ≡ y → Behind x os new → Behind y os new
 with_same x y os new e is = subst (λ (z : Options). Behind z os new) e is
 
-read-is : (n : ℕ) (o : Options) (text rest : List ℕ) (new : Options) → options_from n o text ≡ Some (new, rest) → ReadFrom o text rest new
+-- options that are read are written so
+read-is : (n : ℕ) (o : Options) (text rest : List ℕ) (new : Options) → options_from n o text ≡ Some (new, rest)
+    → ReadFrom o text rest new
 unfolding options_from
 read-is zero o text rest new e = cc
 read-is (suc n) o text rest new e = go (choice_at (after_blanks text)) refl e (fronted text) (read-is n)
   where
     go : (found : Option Choice) → choice_at (after_blanks text) ≡ found
         → with_next (options_from n) found o (after_blanks text) ≡ Some (new, rest) → Fronted text
-        → ((o : Options) (text rest : List ℕ) (new : Options) → options_from n o text ≡ Some (new, rest) → ReadFrom o text rest new)
+        → ((o : Options) (text rest : List ℕ) (new : Options) → options_from n o text ≡ Some (new, rest)
+        → ReadFrom o text rest new)
         → ReadFrom o text rest new
     go None none e front next =
         let pair : (o ≡ new) × (after_blanks text ≡ rest) = one_pair o new (after_blanks text) rest e in
@@ -158,23 +188,28 @@ read-is (suc n) o text rest new e = go (choice_at (after_blanks text)) refl e (f
           said = none-behind o new pair.0;
         }
     go (Some c) some e front next =
-        let step = bind_some (with_choice c o (behind c (after_blanks text))) (λ found. options_from n found.0 found.1) (new, rest) e in
+        let step = bind_some (with_choice c o (behind c (after_blanks text))) (λ found. options_from n found.0 found.1)
+        (new, rest) e in
         done step.0.0 step.0.1 step.1 (next step.0.0 step.0.1 rest new step.2)
       where
-        done : (o' : Options) (left : List ℕ) → with_choice c o (behind c (after_blanks text)) ≡ Some (o', left) → ReadFrom o' left rest new
+        done : (o' : Options) (left : List ℕ) → with_choice c o (behind c (after_blanks text)) ≡ Some (o', left)
+            → ReadFrom o' left rest new
             → ReadFrom o text rest new
         done o' left taken rests =
             let one : Added (after_blanks text) o o' left = value-is c (after_blanks text) o o' left some taken in
             record {
               written = NextOption front.blanks one.written rests.written;
               spelled = front.whole ∙ ap (λ t. front.blanks ++ t) (one.spelled ∙ ap (option one.written) rests.spelled);
-              whole = (λ i. front.clear i && (ap (is_whole one.written) (sym rests.spelled) ∙ one.whole) i && rests.whole i);
+              whole = (λ i. front.clear i && (ap (is_whole one.written) (sym rests.spelled) ∙ one.whole) i
+                  && rests.whole i);
               ended = rests.ended;
-              said = behind-more one.written o (in_order rests.written) new one.free (with_same o' (added one.written o) (in_order rests.written) new one.made rests.said);
+              said = behind-more one.written o (in_order rests.written) new one.free
+                  (with_same o' (added one.written o) (in_order rests.written) new one.made rests.said);
             }
 
 -- what is written is read so
-written-read : (w : WrittenOptions) (n : ℕ) (o new : Options) (rest : List ℕ) → are_whole w rest ≡ true → has_ended rest ≡ true
+written-read : (w : WrittenOptions) (n : ℕ) (o new : Options) (rest : List ℕ) → are_whole w rest ≡ true
+    → has_ended rest ≡ true
     → Behind o (in_order w) new → length (in_order w) < n
     → options_from n o (options w rest) ≡ Some (new, rest)
 unfolding options_from
@@ -189,13 +224,16 @@ written-read (NextOption blanks x xs) zero o new rest whole ended said room = ab
 written-read (NextOption blanks x xs) (suc n) o new rest whole ended said room =
     go (written-read xs n (added x o) new rest)
   where
-    go : (are_whole xs rest ≡ true → has_ended rest ≡ true → Behind (added x o) (in_order xs) new → length (in_order xs) < n → options_from n (added x o) (options xs rest) ≡ Some (new, rest))
+    go : (are_whole xs rest ≡ true → has_ended rest ≡ true → Behind (added x o) (in_order xs) new
+        → length (in_order xs) < n → options_from n (added x o) (options xs rest) ≡ Some (new, rest))
         → options_from (suc n) o (options (NextOption blanks x xs) rest) ≡ Some (new, rest)
     go next =
         let left : List ℕ = options xs rest in
-        let parts : ((list_all is_blank blanks && is_whole x (options xs rest)) ≡ true) × (are_whole xs rest ≡ true) = and_parts _ _ whole in
+        let parts : ((list_all is_blank blanks && is_whole x (options xs rest)) ≡ true) × (are_whole xs rest ≡ true) =
+        and_parts _ _ whole in
         let front : (list_all is_blank blanks ≡ true) × (is_whole x (options xs rest) ≡ true) = and_parts _ _ parts.0 in
-        let free : (is_free x o ≡ true) × Behind (added x o) (in_order xs) new = behind-less x o (in_order xs) new (options xs rest) front.1 said in
+        let free : (is_free x o ≡ true) × Behind (added x o) (in_order xs) new =
+        behind-less x o (in_order xs) new (options xs rest) front.1 said in
         let begun : after_blanks (blanks ++ option x (options xs rest)) ≡ option x (options xs rest) =
         after_blanks-front blanks (option x (options xs rest)) front.0 (begun-option x (options xs rest)) in
         ap (λ t. with_next (options_from n) (choice_at t) o t) begun
@@ -210,33 +248,41 @@ whole_span i whole = (and_parts _ (is_some (span_of i)) whole).1
 -- each option is one of four
 counted : (w : WrittenOptions) (rest : List ℕ) → are_whole w rest ≡ true
     → length (in_order w)
-    ≤ length (filter_map units_of (in_order w)) + length (filter_map domain_of (in_order w)) + length (filter_map range_of (in_order w)) + length (filter_map no_error_of (in_order w))
+    ≤ length (filter_map units_of (in_order w)) + length (filter_map domain_of (in_order w))
+    + length (filter_map range_of (in_order w)) + length (filter_map no_error_of (in_order w))
 counted (NoOption blanks) rest whole = omega arith
 counted (NextOption blanks x xs) rest whole =
-    let parts : ((list_all is_blank blanks && is_whole x (options xs rest)) ≡ true) × (are_whole xs rest ≡ true) = and_parts _ _ whole in
+    let parts : ((list_all is_blank blanks && is_whole x (options xs rest)) ≡ true) × (are_whole xs rest ≡ true) =
+    and_parts _ _ whole in
     go x (and_parts _ _ parts.0).1 (counted xs rest parts.1)
   where
-    one_more : {A : Type 0} (v : Option A) (values : List A) → is_some v ≡ true → length (cons_option v values) ≡ suc (length values)
+    one_more : {A : Type 0} (v : Option A) (values : List A) → is_some v ≡ true
+        → length (cons_option v values) ≡ suc (length values)
     one_more None values e = cc
     one_more (Some y) values e = refl
 
     go : (y : WrittenOption) → is_whole y (options xs rest) ≡ true
         → length (in_order xs)
-        ≤ length (filter_map units_of (in_order xs)) + length (filter_map domain_of (in_order xs)) + length (filter_map range_of (in_order xs)) + length (filter_map no_error_of (in_order xs))
+        ≤ length (filter_map units_of (in_order xs)) + length (filter_map domain_of (in_order xs))
+        + length (filter_map range_of (in_order xs)) + length (filter_map no_error_of (in_order xs))
         → length (y ∷ in_order xs)
-        ≤ length (filter_map units_of (y ∷ in_order xs)) + length (filter_map domain_of (y ∷ in_order xs)) + length (filter_map range_of (y ∷ in_order xs))
+        ≤ length (filter_map units_of (y ∷ in_order xs)) + length (filter_map domain_of (y ∷ in_order xs))
+        + length (filter_map range_of (y ∷ in_order xs))
         + length (filter_map no_error_of (y ∷ in_order xs))
     go (UnitsOption a b) here count = omega arith
     go (DomainOption i) here count =
-        let m : length (cons_option (span_of i) (filter_map domain_of (in_order xs))) ≡ suc (length (filter_map domain_of (in_order xs))) =
+        let m : length (cons_option (span_of i) (filter_map domain_of (in_order xs)))
+        ≡ suc (length (filter_map domain_of (in_order xs))) =
         one_more (span_of i) (filter_map domain_of (in_order xs)) (whole_span i here) in
         omega arith
     go (RangeOption i) here count =
-        let m : length (cons_option (span_of i) (filter_map range_of (in_order xs))) ≡ suc (length (filter_map range_of (in_order xs))) =
+        let m : length (cons_option (span_of i) (filter_map range_of (in_order xs)))
+        ≡ suc (length (filter_map range_of (in_order xs))) =
         one_more (span_of i) (filter_map range_of (in_order xs)) (whole_span i here) in
         omega arith
     go NoErrorOption here count = omega arith
 
+-- at most one value is few
 few : {A : Type 0} (o : Option A) (xs : List A) → xs ≡ at_most o → length xs ≤ 1
 few None xs e = let n : length xs ≡ 0 = ap length e in omega arith
 few (Some x) xs e = let n : length xs ≡ 1 = ap length e in omega arith
@@ -253,29 +299,51 @@ options_read text rest o = (to, from)
           spelled = is.spelled;
           whole = is.whole;
           ended = is.ended;
-          stated = record { units = is.said.units; domain = is.said.domain; range = is.said.range; no_error = is.said.no_error };
+          stated = record {
+            units = is.said.units;
+            domain = is.said.domain;
+            range = is.said.range;
+            no_error =
+                is.said.no_error;
+          };
         }
 
     from : AreOptions text rest o → options_at text ≡ Some (o, rest)
     from is =
-        let u : length (filter_map units_of (in_order is.written)) ≤ 1 = few o.units (filter_map units_of (in_order is.written)) is.stated.units in
-        let d : length (filter_map domain_of (in_order is.written)) ≤ 1 = few o.domain (filter_map domain_of (in_order is.written)) is.stated.domain in
-        let r : length (filter_map range_of (in_order is.written)) ≤ 1 = few o.range (filter_map range_of (in_order is.written)) is.stated.range in
-        let n : length (filter_map no_error_of (in_order is.written)) ≤ 1 = few (flag o.no_error) (filter_map no_error_of (in_order is.written)) is.stated.no_error in
+        let u : length (filter_map units_of (in_order is.written)) ≤ 1 =
+        few o.units (filter_map units_of (in_order is.written)) is.stated.units in
+        let d : length (filter_map domain_of (in_order is.written)) ≤ 1 =
+        few o.domain (filter_map domain_of (in_order is.written)) is.stated.domain in
+        let r : length (filter_map range_of (in_order is.written)) ≤ 1 =
+        few o.range (filter_map range_of (in_order is.written)) is.stated.range in
+        let n : length (filter_map no_error_of (in_order is.written)) ≤ 1 =
+        few (flag o.no_error) (filter_map no_error_of (in_order is.written)) is.stated.no_error in
         let all = counted is.written rest is.whole in
         let room : length (in_order is.written) < suc most_options = omega arith in
-        let said : Behind no_options (in_order is.written) o = record { units = is.stated.units; domain = is.stated.domain; range = is.stated.range; no_error = is.stated.no_error } in
-        ap options_at is.spelled ∙ written-read is.written (suc most_options) no_options o rest is.whole is.ended said room
+        let said : Behind no_options (in_order is.written) o =
+        record {
+          units = is.stated.units;
+          domain = is.stated.domain;
+          range = is.stated.range;
+          no_error =
+              is.stated.no_error;
+        } in
+        ap options_at is.spelled
+        ∙ written-read is.written (suc most_options) no_options o rest is.whole is.ended said room
 
 -- options that change places say the same
 
-exchanged : {A : Type 0} (h : WrittenOption → Option A) (front : List WrittenOption) (x y : WrittenOption) (back : List WrittenOption) (v : Option A)
+-- two options that change places give the same value of each kind
+exchanged : {A : Type 0} (h : WrittenOption → Option A) (front : List WrittenOption) (x y : WrittenOption)
+    (back : List WrittenOption) (v : Option A)
     → filter_map h (front ++ (x ∷ y ∷ back)) ≡ at_most v → filter_map h (front ++ (y ∷ x ∷ back)) ≡ at_most v
-exchanged {A = A} h front x y back v e = filter_map-append h front (y ∷ x ∷ back) ∙ go (h x) (h y) (filter_map h front) (filter_map h back) (sym (filter_map-append h front (x ∷ y ∷ back)) ∙ e)
+exchanged {A = A} h front x y back v e = filter_map-append h front (y ∷ x ∷ back)
+    ∙ go (h x) (h y) (filter_map h front) (filter_map h back) (sym (filter_map-append h front (x ∷ y ∷ back)) ∙ e)
   where
     long : (before : List A) (a b : A) (behind : List A) → before ++ (a ∷ b ∷ behind) ≡ at_most v → ⊥
     long before a b behind e =
-        let n : length (before ++ (a ∷ b ∷ behind)) ≤ 1 = few v (before ++ (a ∷ b ∷ behind)) e in omega (arith, length-append before (a ∷ b ∷ behind))
+        let n : length (before ++ (a ∷ b ∷ behind)) ≤ 1 =
+        few v (before ++ (a ∷ b ∷ behind)) e in omega (arith, length-append before (a ∷ b ∷ behind))
 
     go : (p q : Option A) (before behind : List A) → before ++ cons_option p (cons_option q behind) ≡ at_most v
         → before ++ cons_option q (cons_option p behind) ≡ at_most v
@@ -283,6 +351,7 @@ exchanged {A = A} h front x y back v e = filter_map-append h front (y ∷ x ∷ 
     go (Some a) None before behind e = e
     go (Some a) (Some b) before behind e = absurd (long before a b behind e)
 
+-- the law of any order
 pub any_order : AnyOrderLaw
 any_order front x y back o is = record {
   units = exchanged units_of front x y back o.units is.units;

@@ -1,5 +1,6 @@
 -- The points of a list, taken from what stands between its commas.
-use Rattle.std.proofs.Common.{◌≡◌, ◌<◌, ◌++◌, ℕ, List, [], ◌∷◌, Bool, true, false, cond, length, Option, Some, None, Err, refl, sym, ap, ◌∙◌, arith, append_assoc, length-append}
+use Rattle.std.proofs.Common.{◌≡◌, ◌<◌, ◌++◌, ℕ, List, [], ◌∷◌, Bool, true, false, cond, length, Option, Some, None}
+use Rattle.std.proofs.Common.{Err, refl, sym, ap, ◌∙◌, arith, append_assoc, length-append}
 use Rattle.std.specs.Prelude.{nat_le}
 use Rattle.std.proofs.lemmas.Bool.{leb-false}
 use Rattle.std.specs.List.{slice_split}
@@ -10,7 +11,8 @@ use Rattle.def_entry.specs.declared.fault.EntryFault.{EntryFault}
 use Rattle.def_entry.specs.declared.fault.EntryFault.TheVariants.{BadTable}
 use Rattle.def_entry.specs.Cuts.{cut_at}
 use Rattle.def_entry.specs.Outcomes.{or_fault}
-use Rattle.def_entry.specs.PointLists.{behind_no_error, few, is_comma, most_points, pairs_of, points_between, points_of, some_pairs}
+use Rattle.def_entry.specs.PointLists.{behind_no_error, few, is_comma, most_points, pairs_of, points_between, points_of}
+use Rattle.def_entry.specs.PointLists.{some_pairs}
 use Rattle.def_entry.specs.Steps.{◌>>=◌}
 use Rattle.def_entry.proofs.CutParts.{parts-some, parts-none}
 use Rattle.def_entry.proofs.PointWords.{few-none, onto}
@@ -23,16 +25,19 @@ points_in_runs text = points_between (slice_split is_comma text)
 abbrev pub both : Option (List Point) → Option (List Point) → Option (List Point)
 both front points = front >>= (λ f. points >>= (λ ps. Some (f ++ ps)))
 
+-- no points in front leave a run
 onto-nil : (given : Option (List Point)) → onto [] given ≡ given
 onto-nil None = refl
 onto-nil (Some points) = refl
 
 -- before the first point
-pub points-init : (items : List Point) (text front rest : List ℕ) → items ≡ [] → front ≡ after_blanks text → rest ≡ behind_no_error front
+pub points-init : (items : List Point) (text front rest : List ℕ) → items ≡ [] → front ≡ after_blanks text
+    → rest ≡ behind_no_error front
     → onto items (points_in_runs rest) ≡ points_of text
 unfolding points_of
 points-init items text front rest none is from =
-    ap (λ t. onto t (points_in_runs rest)) none ∙ onto-nil (points_in_runs rest) ∙ ap points_in_runs from ∙ ap (λ t. points_in_runs (behind_no_error t)) is
+    ap (λ t. onto t (points_in_runs rest)) none ∙ onto-nil (points_in_runs rest) ∙ ap points_in_runs from
+    ∙ ap (λ t. points_in_runs (behind_no_error t)) is
 
 -- what stands behind a comma goes on
 behind-comma : (run : List ℕ) (runs : List (List ℕ)) (next : List ℕ) (more : List (List ℕ)) → runs ≡ next ∷ more
@@ -48,8 +53,11 @@ points-cut text run behind cut = ap points_between (parts-some 44 text run behin
     go : (found : Option (List ℕ × List ℕ)) → cut_at 44 behind ≡ found
         → points_between (run ∷ slice_split is_comma behind) ≡ both (some_pairs (words_of run)) (points_in_runs behind)
     go None e = behind-comma run (slice_split is_comma behind) behind [] (parts-none 44 behind e)
-    go (Some parts) e = behind-comma run (slice_split is_comma behind) parts.0 (slice_split is_comma parts.1) (parts-some 44 behind parts.0 parts.1 e)
+    go (Some parts) e =
+        behind-comma run (slice_split is_comma behind) parts.0 (slice_split is_comma parts.1)
+        (parts-some 44 behind parts.0 parts.1 e)
 
+-- the points of one run go in front of the next
 join-run : (front new : List Point) (found given : Option (List Point)) → onto front found ≡ Some new
     → onto new given ≡ onto front (both found given)
 join-run front new None given made = cc
@@ -63,30 +71,37 @@ pub points-more : (front new : List Point) (text run behind : List ℕ) → cut_
     → onto front (some_pairs (words_of run)) ≡ Some new
     → onto new (points_in_runs behind) ≡ onto front (points_in_runs text)
 points-more front new text run behind cut made =
-    join-run front new (some_pairs (words_of run)) (points_in_runs behind) made ∙ ap (onto front) (sym (points-cut text run behind cut))
+    join-run front new (some_pairs (words_of run)) (points_in_runs behind) made
+    ∙ ap (onto front) (sym (points-cut text run behind cut))
 
 -- a front that is too long makes no few points, whatever follows
-long_front : (front points : List Point) (given : Option (List Point)) (t : Bool) → nat_le (length (front ++ points)) most_points ≡ t
+long_front : (front points : List Point) (given : Option (List Point)) (t : Bool)
+    → nat_le (length (front ++ points)) most_points ≡ t
     → (fault : EntryFault) → or_fault BadTable (cond t (Some (front ++ points)) None) ≡ Err fault
     → or_fault BadTable (few (onto front (both (Some points) given))) ≡ Err fault
 long_front front points given true e fault said = cc
 long_front front points None false e fault said = said
 long_front front points (Some more) false e fault said =
     let long : most_points < length (front ++ points) = above (length (front ++ points)) e in
-    let longer : most_points < length (front ++ (points ++ more)) = omega (arith, long, length-append front points, length-append front (points ++ more), length-append points more) in
+    let longer : most_points < length (front ++ (points ++ more)) =
+    omega (arith, long, length-append front points, length-append front (points ++ more), length-append points more)
+    in
     ap (or_fault BadTable) (few-none (front ++ (points ++ more)) longer) ∙ said
   where
     above : (n : ℕ) → nat_le n most_points ≡ false → most_points < n
     above n e = leb-false n most_points e
 
+-- a run that is no table makes none of all
 lost-run : (front : List Point) (found given : Option (List Point)) (fault : EntryFault)
     → or_fault BadTable (few (onto front found)) ≡ Err fault
     → or_fault BadTable (few (onto front (both found given))) ≡ Err fault
 lost-run front None given fault said = said
-lost-run front (Some points) given fault said = long_front front points given (nat_le (length (front ++ points)) most_points) refl fault said
+lost-run front (Some points) given fault said =
+    long_front front points given (nat_le (length (front ++ points)) most_points) refl fault said
 
 -- a run that has no points, or too many
-pub points-fault : (front : List Point) (text run behind : List ℕ) (fault : EntryFault) → cut_at 44 text ≡ Some (run, behind)
+pub points-fault : (front : List Point) (text run behind : List ℕ) (fault : EntryFault)
+    → cut_at 44 text ≡ Some (run, behind)
     → or_fault BadTable (few (onto front (some_pairs (words_of run)))) ≡ Err fault
     → or_fault BadTable (few (onto front (points_in_runs text))) ≡ Err fault
 points-fault front text run behind fault cut said =
@@ -95,5 +110,7 @@ points-fault front text run behind fault cut said =
 
 -- the last run
 pub points-last : (front : List Point) (text : List ℕ) → cut_at 44 text ≡ None
-    → or_fault BadTable (few (onto front (points_in_runs text))) ≡ or_fault BadTable (few (onto front (pairs_of (words_of text))))
-points-last front text cut = ap (λ runs. or_fault BadTable (few (onto front (points_between runs)))) (parts-none 44 text cut)
+    → or_fault BadTable (few (onto front (points_in_runs text)))
+    ≡ or_fault BadTable (few (onto front (pairs_of (words_of text))))
+points-last front text cut =
+    ap (λ runs. or_fault BadTable (few (onto front (points_between runs)))) (parts-none 44 text cut)

@@ -1,12 +1,14 @@
 -- The words of a text taken two and two, as the pairs of numbers that they are.
-use Rattle.std.proofs.Common.{◌≡◌, ◌<◌, ◌≤◌, ◌++◌, ◌==◌, ℕ, List, [], ◌∷◌, Bool, true, false, cond, length, Option, Some, None, Ok, option_map, refl, sym, ap, ◌∙◌, subst, arith, append_assoc, length-append}
+use Rattle.std.proofs.Common.{◌≡◌, ◌<◌, ◌≤◌, ◌++◌, ◌==◌, ℕ, List, [], ◌∷◌, Bool, true, false, cond, length, Option}
+use Rattle.std.proofs.Common.{Some, None, Ok, option_map, refl, sym, ap, ◌∙◌, subst, arith, append_assoc, length-append}
 use Rattle.std.specs.Prelude.{nat_le}
 use Rattle.std.proofs.lemmas.Bool.{leb-true, le-leb}
 use Rattle.std.proofs.lemmas.List.{append-nil}
 use Rattle.def_lines.specs.Blanks.{after_blanks}
 use Rattle.def_lines.specs.Parts.{is_begun}
 use Rattle.def_lines.specs.Words.{after_word, first_word, words_of}
-use Rattle.def_lines.proofs.Listing.{is_begun-after_word, length-after_word, shorter-after_word, words_of-after_blanks, words_of-first}
+use Rattle.def_lines.proofs.Listing.{is_begun-after_word, length-after_word, shorter-after_word, words_of-after_blanks}
+use Rattle.def_lines.proofs.Listing.{words_of-first}
 use Rattle.def_lines.proofs.Trimming.{empty-nil, is_begun-after_blanks}
 use Rattle.frac128.specs.Fraction.{Fraction}
 use Rattle.piecewise.specs.Lines.{Point}
@@ -40,42 +42,50 @@ number_of-nil = refl
 
 -- one step of reading pairs
 pub pairs-step : (b : ℕ) (text : List ℕ) → is_begun (b ∷ text) ≡ true
-    → pairs_of (words_of (b ∷ text)) ≡ paired (front_pair (b ∷ text)) (pairs_of (words_of (after_word (after_word (b ∷ text)))))
+    → pairs_of (words_of (b ∷ text))
+    ≡ paired (front_pair (b ∷ text)) (pairs_of (words_of (after_word (after_word (b ∷ text)))))
 pairs-step b text begun =
     ap pairs_of (words_of-first b text begun) ∙ behind (after_word (b ∷ text)) (is_begun-after_word (b ∷ text))
   where
-    none : (x y : Option Fraction) (points : Option (List Point)) → y ≡ None → None ≡ paired (x >>= (λ v. y >>= (λ w. Some (v, w)))) points
+    none : (x y : Option Fraction) (points : Option (List Point)) → y ≡ None
+        → None ≡ paired (x >>= (λ v. y >>= (λ w. Some (v, w)))) points
     none None y points e = refl
     none (Some v) None points e = refl
     none (Some v) (Some w) points e = cc
 
     some : (x y : Option Fraction) (points : Option (List Point))
-        → (x >>= (λ v. y >>= (λ w. points >>= (λ ps. Some ((v, w) ∷ ps))))) ≡ paired (x >>= (λ v. y >>= (λ w. Some (v, w)))) points
+        → (x >>= (λ v. y >>= (λ w. points >>= (λ ps. Some ((v, w) ∷ ps)))))
+        ≡ paired (x >>= (λ v. y >>= (λ w. Some (v, w)))) points
     some None y points = refl
     some (Some v) None points = refl
     some (Some v) (Some w) points = refl
 
     behind : (rest : List ℕ) → is_begun rest ≡ true
         → pairs_of (first_word (b ∷ text) ∷ words_of rest)
-        ≡ paired (number_of (first_word (b ∷ text)) >>= (λ v. number_of (first_word rest) >>= (λ w. Some (v, w)))) (pairs_of (words_of (after_word rest)))
+        ≡ paired (number_of (first_word (b ∷ text)) >>= (λ v. number_of (first_word rest) >>= (λ w. Some (v, w))))
+        (pairs_of (words_of (after_word rest)))
     behind [] begun =
         ap (λ ws. pairs_of (first_word (b ∷ text) ∷ ws)) words_of-nil
-        ∙ none (number_of (first_word (b ∷ text))) (number_of (first_word [])) (pairs_of (words_of (after_word []))) number_of-nil
+        ∙ none (number_of (first_word (b ∷ text))) (number_of (first_word []))
+        (pairs_of (words_of (after_word []))) number_of-nil
     behind (d ∷ rest) begun =
         ap (λ ws. pairs_of (first_word (b ∷ text) ∷ ws)) (words_of-first d rest begun)
-        ∙ some (number_of (first_word (b ∷ text))) (number_of (first_word (d ∷ rest))) (pairs_of (words_of (after_word (d ∷ rest))))
+        ∙ some (number_of (first_word (b ∷ text))) (number_of (first_word (d ∷ rest)))
+        (pairs_of (words_of (after_word (d ∷ rest))))
 
 -- pairs behind some points
 abbrev pub onto : List Point → Option (List Point) → Option (List Point)
 onto front given = option_map (λ pairs. front ++ pairs) given
 
+-- a pair goes behind the points in front of it
 join-pair : (front new : List Point) (pair : Point) (given : Option (List Point)) → new ≡ front ++ pair ∷ []
     → onto new given ≡ onto front (paired (Some pair) given)
 join-pair front new pair None made = refl
 join-pair front new pair (Some pairs) made = ap Some (ap (λ t. t ++ pairs) made ∙ append_assoc front (pair ∷ []) pairs)
 
 -- one more pair
-pub pairs-more : (front new : List Point) (text word behind word' behind' : List ℕ) (x y : Fraction) → is_begun text ≡ true
+pub pairs-more : (front new : List Point) (text word behind word' behind' : List ℕ) (x y : Fraction)
+    → is_begun text ≡ true
     → (length text == 0) ≡ false
     → word ≡ first_word text → behind ≡ after_word text → number_of word ≡ Some x
     → word' ≡ first_word behind → behind' ≡ after_word behind → number_of word' ≡ Some y
@@ -92,46 +102,57 @@ pairs-more front new (b ∷ text) word behind word' behind' x y begun some is fr
     ∙ ap (onto front) (sym (pairs-step b text begun))
 
 -- no number at the front
-pub pairs-no_first : (front : List Point) (text word : List ℕ) → is_begun text ≡ true → (length text == 0) ≡ false → word ≡ first_word text
+pub pairs-no_first : (front : List Point) (text word : List ℕ) → is_begun text ≡ true → (length text == 0) ≡ false
+    → word ≡ first_word text
     → number_of word ≡ None
     → onto front (pairs_of (words_of text)) ≡ None
 pairs-no_first front [] word begun some is none = cc
 pairs-no_first front (b ∷ text) word begun some is none =
     ap (onto front) (pairs-step b text begun)
-    ∙ ap (λ x. onto front (paired (x >>= (λ v. number_of (first_word (after_word (b ∷ text))) >>= (λ w. Some (v, w)))) (pairs_of (words_of (after_word (after_word (b ∷ text)))))))
+    ∙ ap (λ x. onto front
+    (paired (x >>= (λ v. number_of (first_word (after_word (b ∷ text))) >>= (λ w. Some (v, w))))
+    (pairs_of (words_of (after_word (after_word (b ∷ text)))))))
     (ap number_of (sym is) ∙ none)
 
 -- no number behind the first
-pub pairs-no_second : (front : List Point) (text behind word' : List ℕ) → is_begun text ≡ true → (length text == 0) ≡ false
+pub pairs-no_second : (front : List Point) (text behind word' : List ℕ) → is_begun text ≡ true
+    → (length text == 0) ≡ false
     → behind ≡ after_word text → word' ≡ first_word behind
     → number_of word' ≡ None → onto front (pairs_of (words_of text)) ≡ None
 pairs-no_second front [] behind word' begun some from is' none = cc
 pairs-no_second front (b ∷ text) behind word' begun some from is' none =
     ap (onto front) (pairs-step b text begun)
-    ∙ ap (λ y. onto front (paired (number_of (first_word (b ∷ text)) >>= (λ v. y >>= (λ w. Some (v, w)))) (pairs_of (words_of (after_word (after_word (b ∷ text)))))))
+    ∙ ap (λ y. onto front
+    (paired (number_of (first_word (b ∷ text)) >>= (λ v. y >>= (λ w. Some (v, w))))
+    (pairs_of (words_of (after_word (after_word (b ∷ text)))))))
     (ap (λ t. number_of (first_word t)) (sym from) ∙ ap number_of (sym is') ∙ none)
     ∙ lost (number_of (first_word (b ∷ text)))
   where
     lost : (x : Option Fraction)
-        → onto front (paired (x >>= (λ v. nothing >>= (λ w. Some (v, w)))) (pairs_of (words_of (after_word (after_word (b ∷ text)))))) ≡ None
+        → onto front (paired (x >>= (λ v. nothing >>= (λ w. Some (v, w))))
+        (pairs_of (words_of (after_word (after_word (b ∷ text)))))) ≡ None
     lost None = refl
     lost (Some v) = refl
 
 -- what is left gets shorter
-pub shorter-pair : (text behind behind' : List ℕ) → is_begun text ≡ true → (length text == 0) ≡ false → behind ≡ after_word text
+pub shorter-pair : (text behind behind' : List ℕ) → is_begun text ≡ true → (length text == 0) ≡ false
+    → behind ≡ after_word text
     → behind' ≡ after_word behind → length behind' < length text
 shorter-pair [] behind behind' begun some from from' = cc
 shorter-pair (b ∷ text) behind behind' begun some from from' =
     omega (arith, ap length from, ap length from', length-after_word behind, shorter-after_word b text begun)
 
 -- no text has no pairs
-pub pairs-nil : (front : List Point) (text : List ℕ) → (length text == 0) ≡ true → onto front (pairs_of (words_of text)) ≡ Some front
+pub pairs-nil : (front : List Point) (text : List ℕ) → (length text == 0) ≡ true
+    → onto front (pairs_of (words_of text)) ≡ Some front
 pairs-nil front text none =
-    ap (λ t. onto front (pairs_of (words_of t))) (empty-nil text none) ∙ ap (λ ws. onto front (pairs_of ws)) words_of-nil ∙ ap Some (append-nil front)
+    ap (λ t. onto front (pairs_of (words_of t))) (empty-nil text none)
+    ∙ ap (λ ws. onto front (pairs_of ws)) words_of-nil ∙ ap Some (append-nil front)
 
 -- blanks have no words
 words_of-blanks : (text rest : List ℕ) → rest ≡ after_blanks text → (length rest == 0) ≡ true → words_of text ≡ []
-words_of-blanks text rest is none = sym (words_of-after_blanks text) ∙ ap words_of (sym is ∙ empty-nil rest none) ∙ words_of-nil
+words_of-blanks text rest is none = sym (words_of-after_blanks text) ∙ ap words_of (sym is ∙ empty-nil rest none)
+    ∙ words_of-nil
 
 -- blanks have no pair
 pub some_pairs-none : (front : List Point) (text rest : List ℕ) → rest ≡ after_blanks text → (length rest == 0) ≡ true
@@ -144,14 +165,17 @@ pub some_pairs-some : (text rest : List ℕ) → rest ≡ after_blanks text → 
 some_pairs-some text [] is some = cc
 some_pairs-some text (b ∷ rest) is some =
     let words : words_of text ≡ first_word (b ∷ rest) ∷ words_of (after_word (b ∷ rest)) =
-    sym (words_of-after_blanks text) ∙ ap words_of (sym is) ∙ words_of-first b rest (ap is_begun is ∙ is_begun-after_blanks text) in
+    sym (words_of-after_blanks text) ∙ ap words_of (sym is)
+    ∙ words_of-first b rest (ap is_begun is ∙ is_begun-after_blanks text) in
     ap some_pairs words ∙ sym (ap pairs_of words)
 
 -- points that are few, and those that are not
 
+-- points within the most are taken
 pub few-at : (points : List Point) → length points ≤ most_points → few (Some points) ≡ Some points
 few-at points less = ap (λ t. cond t (Some points) None) (le-leb (length points) most_points less)
 
+-- more are not
 pub few-none : (points : List Point) → most_points < length points → few (Some points) ≡ None
 few-none points more = go (nat_le (length points) most_points) refl
   where
@@ -164,7 +188,9 @@ pub record Few (found : Option (List Point)) (points : List Point) : Type 0 wher
   pub is : found ≡ Some points
   pub within : length points ≤ most_points
 
-pub few-is : (found : Option (List Point)) (points : List Point) → or_fault BadTable (few found) ≡ Ok points → Few found points
+-- points that are taken were found and are few
+pub few-is : (found : Option (List Point)) (points : List Point) → or_fault BadTable (few found) ≡ Ok points
+    → Few found points
 few-is None points e = cc
 few-is (Some some) points e = go (nat_le (length some) most_points) refl e
   where
@@ -172,15 +198,21 @@ few-is (Some some) points e = go (nat_le (length some) most_points) refl e
         → Few (Some some) points
     go true f e =
         let same : some ≡ points = cc in
-        record { is = ap Some same; within = subst (λ ps. length ps ≤ most_points) same (leb-true (length some) most_points f) }
+        record {
+          is = ap Some same;
+          within =
+              subst (λ ps. length ps ≤ most_points) same (leb-true (length some) most_points f);
+        }
     go false f e = cc
 
 -- a further pair is one too many
-pub pairs-many : (front : List Point) (text : List ℕ) → is_begun text ≡ true → (length text == 0) ≡ false → most_points ≤ length front
+pub pairs-many : (front : List Point) (text : List ℕ) → is_begun text ≡ true → (length text == 0) ≡ false
+    → most_points ≤ length front
     → few (onto front (pairs_of (words_of text))) ≡ None
 pairs-many front [] begun some more = cc
 pairs-many front (b ∷ text) begun some more =
-    ap (λ found. few (onto front found)) (pairs-step b text begun) ∙ go (front_pair (b ∷ text)) (pairs_of (words_of (after_word (after_word (b ∷ text)))))
+    ap (λ found. few (onto front found)) (pairs-step b text begun)
+    ∙ go (front_pair (b ∷ text)) (pairs_of (words_of (after_word (after_word (b ∷ text)))))
   where
     go : (pair : Option Point) (points : Option (List Point)) → few (onto front (paired pair points)) ≡ None
     go None points = refl

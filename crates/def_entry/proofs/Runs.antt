@@ -30,46 +30,61 @@ pub record Runs {A : Type 0} (given : Result A EntryFault) (es : List Expression
   pub ok : (x : A) → given ≡ Ok x → AllParse es
   pub err : (fault : EntryFault) → given ≡ Err fault → Faulty es fault
 
+-- where all of two lists parse, all of both do
 both_parse : (es fs : List Expression) → AllParse es → AllParse fs → AllParse (es ++ fs)
 both_parse [] fs first second = second
 both_parse (e ∷ es) fs first second = (first.0, both_parse es fs first.1 second)
 
+-- the first fault of a front is that of all
 fault_front : (es fs : List Expression) (x : ParseFault) → IsFirstFault es x → IsFirstFault (es ++ fs) x
 fault_front [] fs x is = absurd is
 fault_front (e ∷ es) fs x (inl is) = inl is
 fault_front (e ∷ es) fs x (inr is) = inr (is.0, fault_front es fs x is.1)
 
+-- where the front parses, it is that of the others
 fault_behind : (es fs : List Expression) (x : ParseFault) → AllParse es → IsFirstFault fs x → IsFirstFault (es ++ fs) x
 fault_behind [] fs x first is = is
 fault_behind (e ∷ es) fs x first is = inr (first.0, fault_behind es fs x first.1 is)
 
 -- a first fault is one, and none where each expression has a tree
 
+-- where all parse there is none
 pub no-fault : (es : List Expression) (x : ParseFault) → AllParse es → IsFirstFault es x → ⊥
 no-fault [] x all is = is
-no-fault (e ∷ es) x all (inl is) = let tree : parsed e.0 e.1 ≡ Ok all.0.0 = all.0.1 in absurd (apart (all.0.0) (sym tree ∙ is))
+no-fault (e ∷ es) x all (inl is) = let tree : parsed e.0 e.1 ≡ Ok all.0.0 =
+    all.0.1 in absurd (apart (all.0.0) (sym tree ∙ is))
   where
     apart : (t : Syntax) → ◌≡◌ {A = Result Syntax ParseFault} (Ok t) (Err x) → ⊥
     apart t e = cc
 no-fault (e ∷ es) x all (inr is) = no-fault es x all.1 is.1
 
+-- there is one first fault
 pub one-fault : (es : List Expression) (x y : ParseFault) → IsFirstFault es x → IsFirstFault es y → x ≡ y
 one-fault [] x y is other = absurd is
-one-fault (e ∷ es) x y (inl is) (inl other) = let same : ◌≡◌ {A = Result Syntax ParseFault} (Err x) (Err y) = sym is ∙ other in cc
-one-fault (e ∷ es) x y (inl is) (inr other) = let no_way : ◌≡◌ {A = Result Syntax ParseFault} (Err x) (Ok other.0.0) = sym is ∙ other.0.1 in cc
-one-fault (e ∷ es) x y (inr is) (inl other) = let no_way : ◌≡◌ {A = Result Syntax ParseFault} (Ok is.0.0) (Err y) = sym is.0.1 ∙ other in cc
+one-fault (e ∷ es) x y (inl is) (inl other) = let same : ◌≡◌ {A = Result Syntax ParseFault} (Err x) (Err y) =
+    sym is ∙ other in cc
+one-fault (e ∷ es) x y (inl is) (inr other) = let no_way : ◌≡◌ {A = Result Syntax ParseFault} (Err x) (Ok other.0.0) =
+    sym is ∙ other.0.1 in cc
+one-fault (e ∷ es) x y (inr is) (inl other) = let no_way : ◌≡◌ {A = Result Syntax ParseFault} (Ok is.0.0) (Err y) =
+    sym is.0.1 ∙ other in cc
 one-fault (e ∷ es) x y (inr is) (inr other) = one-fault es x y is.1 other.1
 
 -- one expression
 pub runs-tree : (binder : Option (List ℕ)) (text : List ℕ) → Runs (tree_in binder text) ((binder, text) ∷ [])
 runs-tree binder text = go (parsed binder text) refl
   where
-    go : (given : Result Syntax ParseFault) → parsed binder text ≡ given → Runs (parsed_entry given) ((binder, text) ∷ [])
+    go : (given : Result Syntax ParseFault) → parsed binder text ≡ given
+        → Runs (parsed_entry given) ((binder, text) ∷ [])
     go (Ok tree) e = record { ok = λ x f. ((tree, e), tt); err = λ fault f. cc }
-    go (Err x) e = record { ok = λ y f. cc; err = λ fault f. let same : fault ≡ Parse x = cc in record { of = x; is = same; first = inl e } }
+    go (Err x) e = record {
+      ok = λ y f. cc;
+      err = λ fault f. let same : fault ≡ Parse x =
+          cc in record { of = x; is = same; first = inl e };
+    }
 
 -- one step behind another
-pub runs-then : {A B : Type 0} (given : Result A EntryFault) (step : A → Result B EntryFault) (es fs : List Expression) → Runs given es
+pub runs-then : {A B : Type 0} (given : Result A EntryFault) (step : A → Result B EntryFault) (es fs : List Expression)
+    → Runs given es
     → ((x : A) → Runs (step x) fs)
     → Runs (given >>= step) (es ++ fs)
 runs-then (Ok x) step es fs first next = record {
@@ -100,22 +115,29 @@ runs-done x = record { ok = λ y e. tt; err = λ fault e. cc }
 pub runs-map : {A B : Type 0} (given : Result A EntryFault) (make : A → B) (es : List Expression) → Runs given es
     → Runs (given >>= (λ x. Ok (make x))) es
 runs-map {A = A} {B = B} given make es first =
-    subst (Runs (given >>= (λ x. Ok (make x)))) (append-nil es) (runs-then given (λ x. Ok (make x)) es [] first (λ x. runs-done (make x)))
+    subst (Runs (given >>= (λ x. Ok (make x)))) (append-nil es)
+    (runs-then given (λ x. Ok (make x)) es [] first (λ x. runs-done (make x)))
 
 -- a step that gives something
-pub bind_ok : {A B : Type 0} (given : Result A EntryFault) (step : A → Result B EntryFault) (y : B) → (given >>= step) ≡ Ok y
+pub bind_ok : {A B : Type 0} (given : Result A EntryFault) (step : A → Result B EntryFault) (y : B)
+    → (given >>= step) ≡ Ok y
     → (x : A) × (given ≡ Ok x) × (step x ≡ Ok y)
 bind_ok (Ok x) step y e = (x, refl, e)
 bind_ok (Err fault) step y e = cc
 
 -- the tree of an expression
 
-pub tree-ok : (binder : Option (List ℕ)) (text : List ℕ) (tree : Syntax) → tree_in binder text ≡ Ok tree → parsed binder text ≡ Ok tree
+-- a tree that is read was parsed
+pub tree-ok : (binder : Option (List ℕ)) (text : List ℕ) (tree : Syntax) → tree_in binder text ≡ Ok tree
+    → parsed binder text ≡ Ok tree
 tree-ok binder text tree e = go (parsed binder text) refl e
   where
-    go : (given : Result Syntax ParseFault) → parsed binder text ≡ given → parsed_entry given ≡ Ok tree → parsed binder text ≡ Ok tree
+    go : (given : Result Syntax ParseFault) → parsed binder text ≡ given → parsed_entry given ≡ Ok tree
+        → parsed binder text ≡ Ok tree
     go (Ok other) f e = let same : other ≡ tree = cc in f ∙ ap Ok same
     go (Err x) f e = cc
 
-pub ok-tree : (binder : Option (List ℕ)) (text : List ℕ) (tree : Syntax) → parsed binder text ≡ Ok tree → tree_in binder text ≡ Ok tree
+-- and one that was parsed is read
+pub ok-tree : (binder : Option (List ℕ)) (text : List ℕ) (tree : Syntax) → parsed binder text ≡ Ok tree
+    → tree_in binder text ≡ Ok tree
 ok-tree binder text tree e = ap parsed_entry e

@@ -15,6 +15,7 @@ use Rattle.def_entry.specs.declared.key.Kind.TheVariants as kind
 use Rattle.def_entry.specs.KeyOrder.{KeyOrderLaw, key_cmp, kind_at, kind_back, kind_number}
 use Rattle.def_entry.specs.SameKeys.{SameKeysLaw, is_same, is_same_kind}
 
+-- kinds that are found to be the same are one
 same_kinds : (a b : Kind) → is_same_kind a b ≡ true → a ≡ b
 same_kinds kind.Unit kind.Unit e = refl
 same_kinds kind.Unit kind.Prefix e = cc
@@ -33,12 +34,14 @@ same_kinds kind.List kind.Prefix e = cc
 same_kinds kind.List kind.Func e = cc
 same_kinds kind.List kind.List e = refl
 
+-- a kind is the same as itself
 kind_itself : (a : Kind) → is_same_kind a a ≡ true
 kind_itself kind.Unit = refl
 kind_itself kind.Prefix = refl
 kind_itself kind.Func = refl
 kind_itself kind.List = refl
 
+-- keys that are found to be the same are one
 same_is : (a b : Key) → is_same a b ≡ true → a ≡ b
 same_is a b e =
     let parts : (is_same_kind a.kind b.kind ≡ true) × (bytes_eq a.name b.name ≡ true) = and_parts _ _ e in
@@ -46,17 +49,21 @@ same_is a b e =
     let n : a.name ≡ b.name = (bytes_eq-Decides a.name b.name).0 parts.1 in
     λ i. record { kind = k i; name = n i }
 
+-- a key is the same as itself
 itself : (a : Key) → is_same a a ≡ true
 itself a = and_from _ _ (kind_itself a.kind) ((bytes_eq-Decides a.name a.name).1 refl)
 
+-- the law of the same keys
 pub same_keys : SameKeysLaw
 same_keys a b = (same_is a b, λ e. subst (λ (x : Key). is_same a x ≡ true) e (itself a))
 
+-- where two orders in turn tie, the first does
 first_equal : (r s : Ordering) → ordering_then r s ≡ Equal → r ≡ Equal
 first_equal Less s e = cc
 first_equal Equal s e = refl
 first_equal Greater s e = cc
 
+-- and the second
 second_equal : (r s : Ordering) → ordering_then r s ≡ Equal → s ≡ Equal
 second_equal Less s e = cc
 second_equal Equal s e = e
@@ -67,14 +74,17 @@ tied : (k l : Key) → key_cmp k l ≡ Equal → k ≡ l
 tied k l e =
     let names = slice_cmp nat_cmp k.name l.name in
     let kinds = nat_cmp (kind_number k.kind) (kind_number l.kind) in
-    let n : k.name ≡ l.name = map_of.slice_cmp-IsAntisymmetric map_of.nat_cmp-IsAntisymmetric k.name l.name (first_equal names kinds e) in
+    let n : k.name ≡ l.name =
+    map_of.slice_cmp-IsAntisymmetric map_of.nat_cmp-IsAntisymmetric k.name l.name (first_equal names kinds e) in
     let i : kind_number k.kind ≡ kind_number l.kind =
     map_of.nat_cmp-IsAntisymmetric (kind_number k.kind) (kind_number l.kind) (second_equal names kinds e) in
     let j : k.kind ≡ l.kind = sym (kind_back k.kind) ∙ (ap kind_at i ∙ kind_back l.kind) in
     λ t. record { kind = j t; name = n t }
 
+-- the law of the order of keys
 pub key_order : KeyOrderLaw
 key_order = record {
-  total = then_total (on_total (λ (k : Key). k.name) nat_list_cmp_total) (on_total (λ (k : Key). kind_number k.kind) nat_cmp_total);
+  total = then_total (on_total (λ (k : Key). k.name) nat_list_cmp_total)
+      (on_total (λ (k : Key). kind_number k.kind) nat_cmp_total);
   exact = tied;
 }

@@ -8,6 +8,7 @@ use Rattle.def_entry.specs.Headings.{Heading, heading}
 use Rattle.def_entry.specs.Keys.{key}
 use Rattle.def_entry.specs.Reading.{EntryTextLaw, SameTextLaw, entry_by, what_of}
 
+-- the value of an answer, or another
 abbrev value_or : {A : Type 0} → A → Result A EntryFault → A
 value_or x (Ok y) = y
 value_or x (Err fault) = x
@@ -16,9 +17,11 @@ value_or x (Err fault) = x
 abbrev heading_by : Key → List ℕ → Heading
 heading_by k text = record { kind = k.kind; name = k.name; text = text }
 
+-- the key and the entry of a heading that says this
 abbrev entry_with : Heading → What → Result (Key × Entry) EntryFault
 entry_with h what = Ok (key h.kind h.name, record { text = h.text; what = what })
 
+-- what a line says of its key is what its text says
 told : (h : Heading) (k : Key) (e : Entry) → entry_by h ≡ Ok (k, e) → what_of (heading_by k e.text) ≡ Ok e.what
 told h k e is = go (what_of h) refl is
   where
@@ -27,9 +30,11 @@ told h k e is = go (what_of h) refl is
     go (Ok what) said is =
         let made : Key × Entry = (key h.kind h.name, record { text = h.text; what = what }) in
         let same : made ≡ (k, e) = ap (value_or made) is in
-        ap (λ (p : Key × Entry). what_of (heading_by p.0 p.1.text)) (sym same) ∙ said ∙ ap (λ (p : Key × Entry). Ok p.1.what) same
+        ap (λ (p : Key × Entry). what_of (heading_by p.0 p.1.text)) (sym same) ∙ said
+        ∙ ap (λ (p : Key × Entry). Ok p.1.what) same
     go (Err fault) said is = cc
 
+-- the law of the text of an entry
 pub entry_text_is : EntryTextLaw
 entry_text_is line k e is = go (what_of (heading line)) is
   where
@@ -37,11 +42,14 @@ entry_text_is line k e is = go (what_of (heading line)) is
     go (Ok what) said = ap (λ (r : Result (Key × Entry) EntryFault). (value_or (k, e) r).1.text) (sym said)
     go (Err fault) said = cc
 
+-- the law of equal texts
 pub same_text : SameTextLaw
 same_text k line other e f first second = (
   (λ same. ap (λ (x : Entry). x.text) same),
   (λ same.
       let what : e.what ≡ f.what =
-      ap (value_or e.what) (sym (told (heading line) k e first) ∙ ap (λ t. what_of (heading_by k t)) same ∙ told (heading other) k f second) in
+      ap (value_or e.what)
+      (sym (told (heading line) k e first) ∙ ap (λ t. what_of (heading_by k t)) same
+      ∙ told (heading other) k f second) in
       (λ i. record { text = same i; what = what i })),
 )

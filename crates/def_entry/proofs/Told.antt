@@ -1,5 +1,6 @@
 -- The faults of lines are never want of memory.
-use Rattle.std.proofs.Common.{◌≡◌, ◌==◌, ℕ, List, [], ◌∷◌, Bool, true, false, if◌then◌else◌, Option, Some, None, Result, Ok, Err, codes, refl, sym, ap, ◌∙◌}
+use Rattle.std.proofs.Common.{◌≡◌, ◌==◌, ℕ, List, [], ◌∷◌, Bool, true, false, if◌then◌else◌, Option, Some, None, Result}
+use Rattle.std.proofs.Common.{Ok, Err, codes, refl, sym, ap, ◌∙◌}
 use Rattle.std.specs.List.{slice_split}
 use Rattle.units_io.specs.Outcomes.{◌>>=◌}
 use Rattle.def_lines.specs.Blanks.{trimmed}
@@ -23,29 +24,39 @@ use Rattle.def_entry.specs.Keys.{key}
 use Rattle.def_entry.specs.Options.{Units}
 use Rattle.def_entry.specs.Outcomes.{named, or_fault, parsed_entry, tree_in}
 use Rattle.def_entry.specs.PointLists.{points_of, table_points}
-use Rattle.def_entry.specs.Reading.{alias_in, body_in, call_in, entry_of, func_in, function, function_of, inverse_in, is_semicolon, list_in, name_in, parted_call, parted_table, points_in, table_in, trees_in, unit_in, unit_tree, units_in, wanted, what_in, what_of, without_call}
+use Rattle.def_entry.specs.Reading.{alias_in, body_in, call_in, entry_of, func_in, function, function_of, inverse_in}
+use Rattle.def_entry.specs.Reading.{is_semicolon, list_in, name_in, parted_call, parted_table, points_in, table_in}
+use Rattle.def_entry.specs.Reading.{trees_in, unit_in, unit_tree, units_in, wanted, what_in, what_of, without_call}
 
 -- what is given, or a fault that is told
 abbrev tells : {A : Type 0} → Result A EntryFault → Bool
 tells (Ok x) = true
 tells (Err fault) = is_told fault
 
-step : {A B : Type 0} (given : Result A EntryFault) (go : A → Result B EntryFault) → tells given ≡ true → ((x : A) → tells (go x) ≡ true)
+-- where a step and what follows are told, both together are
+step : {A B : Type 0} (given : Result A EntryFault) (go : A → Result B EntryFault) → tells given ≡ true
+    → ((x : A) → tells (go x) ≡ true)
     → tells (given >>= go) ≡ true
 step (Ok x) go first next = next x
 step (Err fault) go first next = first
 
-either : {A : Type 0} (t : Bool) (one other : Result A EntryFault) → tells one ≡ true → tells other ≡ true → tells (if t then one else other) ≡ true
+-- so is the one of two that is taken
+either : {A : Type 0} (t : Bool) (one other : Result A EntryFault) → tells one ≡ true → tells other ≡ true
+    → tells (if t then one else other) ≡ true
 either true one other e f = e
 either false one other e f = f
 
-some_or : {A : Type 0} (fault : EntryFault) (given : Option A) → is_told fault ≡ true → tells (or_fault fault given) ≡ true
+-- so is a fault where nothing is
+some_or : {A : Type 0} (fault : EntryFault) (given : Option A) → is_told fault ≡ true
+    → tells (or_fault fault given) ≡ true
 some_or fault None e = e
 some_or fault (Some x) e = refl
 
+-- a name is told
 of_name : (w : List ℕ) → tells (named w) ≡ true
 of_name w = either (is_name w) (Ok w) (Err (BadName w)) refl refl
 
+-- so is a tree
 of_tree : (binder : Option (List ℕ)) (text : List ℕ) → tells (tree_in binder text) ≡ true
 of_tree binder text = go (parsed binder text) refl
   where
@@ -56,96 +67,133 @@ of_tree binder text = go (parsed binder text) refl
     go (Err parse.NestedTooDeep) e = refl
     go (Err parse.OutOfMemory) e = absurd (texts.told binder text e)
 
+-- so is a text that is wanted
 of_wanted : (text : List ℕ) → tells (wanted text) ≡ true
 of_wanted text = some_or BadForm (some_text text) refl
 
+-- so is a body
 of_body : (text : List ℕ) → tells (body_in text) ≡ true
 of_body text =
     step (wanted text) (λ body. tree_in None body >>= (λ tree. Ok (Body tree))) (of_wanted text)
     (λ body. step (tree_in None body) (λ tree. Ok (Body tree)) (of_tree None body) (λ tree. refl))
 
+-- so is a unit
 of_unit : (text : List ℕ) → tells (unit_in text) ≡ true
 of_unit text =
-    either (bytes_eq text (codes "!")) (Ok Primitive) (if bytes_eq text (codes "!dimensionless") then Ok Dimensionless else body_in text) refl
+    either (bytes_eq text (codes "!")) (Ok Primitive)
+    (if bytes_eq text (codes "!dimensionless") then Ok Dimensionless else body_in text) refl
     (either (bytes_eq text (codes "!dimensionless")) (Ok Dimensionless) (body_in text) refl (of_body text))
 
+-- so is an alias
 of_alias : (text : List ℕ) → tells (alias_in text) ≡ true
 of_alias text =
-    step (wanted (without_call (trimmed text))) (λ target. named target >>= (λ name. Ok (Alias name))) (of_wanted (without_call (trimmed text)))
+    step (wanted (without_call (trimmed text))) (λ target. named target >>= (λ name. Ok (Alias name)))
+    (of_wanted (without_call (trimmed text)))
     (λ target. step (named target) (λ name. Ok (Alias name)) (of_name target) (λ name. refl))
 
+-- so is the tree of a unit
 of_unit_tree : (text : List ℕ) → tells (unit_tree text) ≡ true
 of_unit_tree [] = refl
 of_unit_tree (b ∷ text) =
     step (tree_in None (b ∷ text)) (λ tree. Ok (Some tree)) (of_tree None (b ∷ text)) (λ tree. refl)
 
+-- so are both
 of_units : (units : Option Units) → tells (units_in units) ≡ true
 of_units None = refl
 of_units (Some units) =
-    step (unit_tree units.in_unit) (λ first. unit_tree units.out_unit >>= (λ second. Ok (first, second))) (of_unit_tree units.in_unit)
-    (λ first. step (unit_tree units.out_unit) (λ second. Ok (first, second)) (of_unit_tree units.out_unit) (λ second. refl))
+    step (unit_tree units.in_unit) (λ first. unit_tree units.out_unit >>= (λ second. Ok (first, second)))
+    (of_unit_tree units.in_unit)
+    (λ first. step (unit_tree units.out_unit) (λ second. Ok (first, second)) (of_unit_tree units.out_unit)
+    (λ second. refl))
 
+-- so is an inverse
 of_inverse : (name : List ℕ) (text : Option (List ℕ)) → tells (inverse_in name text) ≡ true
 of_inverse name None = refl
-of_inverse name (Some text) = step (tree_in (Some name) text) (λ tree. Ok (Some tree)) (of_tree (Some name) text) (λ tree. refl)
+of_inverse name (Some text) =
+    step (tree_in (Some name) text) (λ tree. Ok (Some tree)) (of_tree (Some name) text) (λ tree. refl)
 
+-- so is a function
 of_function : (name parameter : List ℕ) (form : Form) → tells (function_of name parameter form) ≡ true
 of_function name parameter form =
     step (units_in form.options.units)
-    (λ units. tree_in (Some parameter) form.forward >>= (λ forward. inverse_in name form.inverse >>= (λ inverse. Ok (function form units forward inverse))))
+    (λ units. tree_in (Some parameter) form.forward
+    >>= (λ forward. inverse_in name form.inverse >>= (λ inverse. Ok (function form units forward inverse))))
     (of_units form.options.units)
     (λ units. step (tree_in (Some parameter) form.forward)
     (λ forward. inverse_in name form.inverse >>= (λ inverse. Ok (function form units forward inverse)))
     (of_tree (Some parameter) form.forward)
-    (λ forward. step (inverse_in name form.inverse) (λ inverse. Ok (function form units forward inverse)) (of_inverse name form.inverse) (λ inverse. refl)))
+    (λ forward. step (inverse_in name form.inverse) (λ inverse. Ok (function form units forward inverse))
+    (of_inverse name form.inverse) (λ inverse. refl)))
 
+-- so is what stands behind a parameter
 of_call : (name parameter behind : List ℕ) → tells (call_in name parameter behind) ≡ true
 of_call name [] behind = of_alias behind
 of_call name (b ∷ bytes) behind =
-    step (named (b ∷ bytes)) (λ parameter. or_fault BadForm (form_of behind) >>= (λ form. function_of name parameter form)) (of_name (b ∷ bytes))
-    (λ parameter. step (or_fault BadForm (form_of behind)) (λ form. function_of name parameter form) (some_or BadForm (form_of behind) refl)
+    step (named (b ∷ bytes))
+    (λ parameter. or_fault BadForm (form_of behind) >>= (λ form. function_of name parameter form))
+    (of_name (b ∷ bytes))
+    (λ parameter. step (or_fault BadForm (form_of behind)) (λ form. function_of name parameter form)
+    (some_or BadForm (form_of behind) refl)
     (λ form. of_function name parameter form))
 
+-- so are points
 of_points : (text : List ℕ) → tells (points_in text) ≡ true
 of_points text =
-    step (or_fault BadTable (points_of text)) (λ points. or_fault BadTable (table_points points)) (some_or BadTable (points_of text) refl)
+    step (or_fault BadTable (points_of text)) (λ points. or_fault BadTable (table_points points))
+    (some_or BadTable (points_of text) refl)
     (λ points. some_or BadTable (table_points points) refl)
 
+-- so is a table
 of_table : (text behind : List ℕ) → tells (table_in text behind) ≡ true
 of_table text behind =
-    step (wanted text) (λ unit. points_in behind >>= (λ points. tree_in None unit >>= (λ tree. Ok (Table (record { unit = tree; points = points }))))) (of_wanted text)
-    (λ unit. step (points_in behind) (λ points. tree_in None unit >>= (λ tree. Ok (Table (record { unit = tree; points = points })))) (of_points behind)
-    (λ points. step (tree_in None unit) (λ tree. Ok (Table (record { unit = tree; points = points }))) (of_tree None unit) (λ tree. refl)))
+    step (wanted text)
+    (λ unit. points_in behind
+    >>= (λ points. tree_in None unit >>= (λ tree. Ok (Table (record { unit = tree; points = points })))))
+    (of_wanted text)
+    (λ unit. step (points_in behind)
+    (λ points. tree_in None unit >>= (λ tree. Ok (Table (record { unit = tree; points = points })))) (of_points behind)
+    (λ points. step (tree_in None unit) (λ tree. Ok (Table (record { unit = tree; points = points })))
+    (of_tree None unit) (λ tree. refl)))
 
+-- so is any function
 of_func : (name text : List ℕ) → tells (func_in name text) ≡ true
 of_func name [] = refl
 of_func name (b ∷ text) =
     either (b == 40) (parted_call name (cut_at 41 text)) (parted_table (cut_at 93 text))
-    (step (or_fault BadForm (cut_at 41 text)) (λ (parts : List ℕ × List ℕ). call_in name (trimmed parts.0) parts.1) (some_or BadForm (cut_at 41 text) refl)
+    (step (or_fault BadForm (cut_at 41 text)) (λ (parts : List ℕ × List ℕ). call_in name (trimmed parts.0) parts.1)
+    (some_or BadForm (cut_at 41 text) refl)
     (λ parts. of_call name (trimmed parts.0) parts.1))
-    (step (or_fault BadForm (cut_at 93 text)) (λ (parts : List ℕ × List ℕ). table_in (trimmed parts.0) parts.1) (some_or BadForm (cut_at 93 text) refl)
+    (step (or_fault BadForm (cut_at 93 text)) (λ (parts : List ℕ × List ℕ). table_in (trimmed parts.0) parts.1)
+    (some_or BadForm (cut_at 93 text) refl)
     (λ parts. of_table (trimmed parts.0) parts.1))
 
+-- so are trees
 of_trees : (parts : List (List ℕ)) → tells (trees_in parts) ≡ true
 of_trees [] = refl
 of_trees (part ∷ parts) = go (of_trees parts)
   where
     go : tells (trees_in parts) ≡ true → tells (trees_in (part ∷ parts)) ≡ true
     go rest =
-        step (tree_in None (trimmed part)) (λ tree. trees_in parts >>= (λ trees. Ok (tree ∷ trees))) (of_tree None (trimmed part))
+        step (tree_in None (trimmed part)) (λ tree. trees_in parts >>= (λ trees. Ok (tree ∷ trees)))
+        (of_tree None (trimmed part))
         (λ tree. step (trees_in parts) (λ trees. Ok (tree ∷ trees)) rest (λ trees. refl))
 
+-- so is a list
 of_list : (text : List ℕ) → tells (list_in text) ≡ true
 of_list text =
-    step (wanted text) (λ parts. trees_in (slice_split is_semicolon parts) >>= (λ trees. Ok (ListOf trees))) (of_wanted text)
-    (λ parts. step (trees_in (slice_split is_semicolon parts)) (λ trees. Ok (ListOf trees)) (of_trees (slice_split is_semicolon parts)) (λ trees. refl))
+    step (wanted text) (λ parts. trees_in (slice_split is_semicolon parts) >>= (λ trees. Ok (ListOf trees)))
+    (of_wanted text)
+    (λ parts. step (trees_in (slice_split is_semicolon parts)) (λ trees. Ok (ListOf trees))
+    (of_trees (slice_split is_semicolon parts)) (λ trees. refl))
 
+-- so is what a text of each kind says
 of_what : (k : Kind) (name text : List ℕ) → tells (what_in k name text) ≡ true
 of_what kind.Unit name text = of_unit text
 of_what kind.Prefix name text = of_body text
 of_what kind.Func name text = of_func name text
 of_what kind.List name text = of_list text
 
+-- so is the name of a heading
 of_name_in : (k : Kind) (name : List ℕ) → tells (name_in k name) ≡ true
 of_name_in kind.Unit name = of_name name
 of_name_in kind.Prefix name = of_name name
@@ -153,15 +201,20 @@ of_name_in kind.Func name = of_name name
 of_name_in kind.List [] = refl
 of_name_in kind.List (b ∷ name) = of_name (b ∷ name)
 
+-- so is what a heading says
 of_heading : (h : Heading) → tells (what_of h) ≡ true
 unfolding what_of
 of_heading h =
-    step (name_in h.kind h.name) (λ name. what_in h.kind name h.text) (of_name_in h.kind h.name) (λ name. of_what h.kind name h.text)
+    step (name_in h.kind h.name) (λ name. what_in h.kind name h.text) (of_name_in h.kind h.name)
+    (λ name. of_what h.kind name h.text)
 
+-- so is each line
 of_line : (line : List ℕ) → tells (entry_of line) ≡ true
 of_line line =
     let h = heading line in
-    step (what_of h) (λ what. Ok (key h.kind h.name, record { text = h.text; what = what })) (of_heading h) (λ what. refl)
+    step (what_of h) (λ what. Ok (key h.kind h.name, record { text = h.text; what = what })) (of_heading h)
+    (λ what. refl)
 
+-- the law that a fault of a line is told
 pub told : ToldLaw
 told line fault said = sym (ap tells said) ∙ of_line line

@@ -1,5 +1,7 @@
 -- Headings are read as they are written.
-use Rattle.std.proofs.Common.{◌≡◌, ◌<◌, ◌≤◌, ◌-◌, ◌==◌, ◌&&◌, ◌||◌, ◌∷◌, [], ◌++◌, ℕ, suc, List, Bool, true, false, not, cond, length, drop, codes, Option, Some, None, if◌then◌else◌, refl, sym, ap, ◌∙◌, arith, append_assoc, length-append, true≢false}
+use Rattle.std.proofs.Common.{◌≡◌, ◌<◌, ◌≤◌, ◌-◌, ◌==◌, ◌&&◌, ◌||◌, ◌∷◌, [], ◌++◌, ℕ, suc, List, Bool, true, false, not}
+use Rattle.std.proofs.Common.{cond, length, drop, codes, Option, Some, None, if◌then◌else◌, refl, sym, ap, ◌∙◌, arith}
+use Rattle.std.proofs.Common.{append_assoc, length-append, true≢false}
 use Rattle.std.specs.Str.{bytes_eq}
 use Rattle.std.specs.List.{list_all}
 use Rattle.std.specs.Prelude.{nat_lt}
@@ -14,35 +16,44 @@ use Rattle.units_io.specs.Blanks.{is_blank}
 use Rattle.def_lines.specs.declared.directive.Directive.{Directive}
 use Rattle.def_lines.specs.declared.directive.Directive.TheVariants as directive
 use Rattle.def_lines.specs.Blanks.{after_blanks, trimmed}
-use Rattle.def_lines.specs.Kinds.{Kind as LineKind, beside, directive_kind, directives, kind_of, marked_kind, with_arguments}
+use Rattle.def_lines.specs.Kinds.{Kind as LineKind, beside, directive_kind, directives, kind_of, marked_kind}
+use Rattle.def_lines.specs.Kinds.{with_arguments}
 use Rattle.def_lines.specs.Kinds as line
 use Rattle.def_lines.specs.Parts.{is_begun}
 use Rattle.def_lines.specs.Words.{behind_word, first_word, is_empty, is_word}
 use Rattle.def_lines.proofs.Trimming.{is_begun-after_blanks}
 use Rattle.expr_tree.specs.Names.{base, last_byte}
 use Rattle.def_entry.specs.declared.key.Kind.TheVariants.{Unit as UnitKind, Prefix, Func, List as ListKind}
-use Rattle.def_entry.specs.HeadingGrammar.{HeadingLaw, IsHeaded, Lead, NoLead, PlusLead, WrittenHeading, UnitHeading, PrefixHeading, FuncHeading, ListHeading, bytes, heading_of, is_head, is_heading, is_lead, is_list_name, lead}
-use Rattle.def_entry.specs.Headings.{Heading, definition_heading, ends_head, ends_in_minus, heading, heading_of as heading_by, is_opened, is_opening, list_heading, stands_apart}
+use Rattle.def_entry.specs.HeadingGrammar.{HeadingLaw, IsHeaded, Lead, NoLead, PlusLead, WrittenHeading, UnitHeading}
+use Rattle.def_entry.specs.HeadingGrammar.{PrefixHeading, FuncHeading, ListHeading, bytes, heading_of, is_head}
+use Rattle.def_entry.specs.HeadingGrammar.{is_heading, is_lead, is_list_name, lead}
+use Rattle.def_entry.specs.Headings.{Heading, definition_heading, ends_head, ends_in_minus, heading}
+use Rattle.def_entry.specs.Headings.{heading_of as heading_by, is_opened, is_opening, list_heading, stands_apart}
 use Rattle.def_entry.specs.Reading.{has_entry}
 use Rattle.def_entry.proofs.CutTexts.{not_true}
 use Rattle.def_entry.proofs.Fronts.{FirstWord, Parted, before-at, first-word, parted, stops, stops-apart}
 use Rattle.def_entry.proofs.KeyTexts.{last_behind, written_names}
 use Rattle.def_entry.proofs.WrittenOptions.{Fronted, after_blanks-front, fronted}
 
+-- where none of two holds, both are false
 neither_true : (a b : Bool) → not (a || b) ≡ true → (a ≡ false) × (b ≡ false)
 neither_true true b e = cc
 neither_true false true e = cc
 neither_true false false e = (refl, refl)
 
+-- the heading of a prefix
 abbrev prefix : List ℕ → List ℕ → Heading
 prefix head behind = record { kind = Prefix; name = base head; text = trimmed behind }
 
+-- the heading of a function or of a unit
 abbrev other : List ℕ → List ℕ → Bool → Heading
 other head behind opened = record { kind = if opened then Func else UnitKind; name = head; text = trimmed behind }
 
+-- the heading of a list
 abbrev list_by : List ℕ → List ℕ → Heading
 list_by name text = record { kind = ListKind; name = name; text = text }
 
+-- nothing holds together with what does not
 and_no : (t : Bool) → (t && false) ≡ false
 and_no true = refl
 and_no false = refl
@@ -53,7 +64,8 @@ unfolding heading
 led NoLead [] plain = refl
 led NoLead (b ∷ rest) plain =
     let none : ((b == 33) ≡ false) × ((b == 43) ≡ false) = neither_true (b == 33) (b == 43) plain in
-    ap (λ t. cond t (list_heading rest) (cond (b == 43) (definition_heading (after_blanks rest)) (definition_heading (b ∷ rest)))) none.0
+    ap (λ t. cond t (list_heading rest)
+    (cond (b == 43) (definition_heading (after_blanks rest)) (definition_heading (b ∷ rest)))) none.0
     ∙ ap (λ t. cond t (definition_heading (after_blanks rest)) (definition_heading (b ∷ rest))) none.1
 led (PlusLead blanks) rest plain =
     let parts : (list_all is_blank blanks ≡ true) × (is_begun rest ≡ true) = and_parts _ _ plain in
@@ -76,9 +88,12 @@ apart_not_opened (b ∷ text) apart = (go (b == 32) (b == 9) refl refl apart, ap
     go false true e f apart = ap is_opening (eqb-true b 9 f)
     go false false e f apart = cc
 
-pub opened_not_apart : (text : List ℕ) → is_opened text ≡ true → (stands_apart text ≡ false) × (stops ends_head text ≡ true)
+-- a text with a bracket in front does not stand apart, and ends a head
+pub opened_not_apart : (text : List ℕ) → is_opened text ≡ true
+    → (stands_apart text ≡ false) × (stops ends_head text ≡ true)
 opened_not_apart [] opened = cc
-opened_not_apart (b ∷ text) opened = (go (b == 40) (b == 91) refl refl opened, or_second (is_blank b) (is_opening b) opened)
+opened_not_apart (b ∷ text) opened =
+    (go (b == 40) (b == 91) refl refl opened, or_second (is_blank b) (is_opening b) opened)
   where
     or_second : (s t : Bool) → t ≡ true → (s || t) ≡ true
     or_second true t e = refl
@@ -92,12 +107,14 @@ opened_not_apart (b ∷ text) opened = (go (b == 40) (b == 91) refl refl opened,
 -- a head and a minus
 minus_ends : (name : List ℕ) → ends_in_minus (name ++ (45 ∷ [])) ≡ true
 minus_ends name =
-    and_from (nat_lt 0 (length (name ++ (45 ∷ [])))) (last_byte (name ++ (45 ∷ [])) == 45) (some (length (name ++ (45 ∷ []))) (omega (arith, length-append name (45 ∷ []))))
+    and_from (nat_lt 0 (length (name ++ (45 ∷ [])))) (last_byte (name ++ (45 ∷ [])) == 45)
+    (some (length (name ++ (45 ∷ []))) (omega (arith, length-append name (45 ∷ []))))
     (ap (λ b. b == 45) (last_behind name (45 ∷ []) (omega arith)))
   where
     some : (n : ℕ) → 0 < n → nat_lt 0 n ≡ true
     some n more = (Decides-ltb 0 n).1 more
 
+-- a head that ends in a minus is its base and that
 minus_is : (head : List ℕ) → ends_in_minus head ≡ true → head ≡ base head ++ (45 ∷ [])
 minus_is head ends =
     let parts : (nat_lt 0 (length head) ≡ true) × ((last_byte head == 45) ≡ true) = and_parts _ _ ends in
@@ -113,19 +130,23 @@ minus_is head ends =
 pub heading-written : (w : WrittenHeading) → is_heading w ≡ true → heading (bytes w) ≡ heading_of w
 unfolding heading
 heading-written (UnitHeading l name behind) whole =
-    let a : ((is_lead l (name ++ behind) && is_head name && stands_apart behind) ≡ true) × (not (ends_in_minus name) ≡ true) = and_parts _ _ whole in
+    let a : ((is_lead l (name ++ behind) && is_head name && stands_apart behind) ≡ true)
+    × (not (ends_in_minus name) ≡ true) = and_parts _ _ whole in
     let b : ((is_lead l (name ++ behind) && is_head name) ≡ true) × (stands_apart behind ≡ true) = and_parts _ _ a.0 in
     let c : (is_lead l (name ++ behind) ≡ true) × (is_head name ≡ true) = and_parts _ _ b.0 in
     let apart : (is_opened behind ≡ false) × (stops ends_head behind ≡ true) = apart_not_opened behind b.1 in
     led l (name ++ behind) c.0
     ∙ headed name behind c.1 apart.1
-    ∙ ap (λ t. cond (t && stands_apart behind) (prefix name behind) (other name behind (is_opened behind))) (not_true (ends_in_minus name) a.1)
+    ∙ ap (λ t. cond (t && stands_apart behind) (prefix name behind) (other name behind (is_opened behind)))
+    (not_true (ends_in_minus name) a.1)
     ∙ ap (other name behind) apart.0
 heading-written (PrefixHeading l name behind) whole =
-    let a : ((is_lead l (name ++ (45 ∷ behind)) && is_head name) ≡ true) × (stands_apart behind ≡ true) = and_parts _ _ whole in
+    let a : ((is_lead l (name ++ (45 ∷ behind)) && is_head name) ≡ true) × (stands_apart behind ≡ true) =
+    and_parts _ _ whole in
     let c : (is_lead l (name ++ (45 ∷ behind)) ≡ true) × (is_head name ≡ true) = and_parts _ _ a.0 in
     let apart : (is_opened behind ≡ false) × (stops ends_head behind ≡ true) = apart_not_opened behind a.1 in
-    let head : is_head (name ++ (45 ∷ [])) ≡ true = list_all-append (λ b. not (ends_head b)) name (45 ∷ []) ∙ ap (λ t. t && true) c.1 in
+    let head : is_head (name ++ (45 ∷ [])) ≡ true = list_all-append (λ b. not (ends_head b)) name (45 ∷ [])
+    ∙ ap (λ t. t && true) c.1 in
     let parts : definition_heading (name ++ (45 ∷ behind)) ≡ heading_by (name ++ (45 ∷ [])) behind =
     ap definition_heading (sym (append_assoc name (45 ∷ []) behind)) ∙ headed (name ++ (45 ∷ [])) behind head apart.1 in
     led l (name ++ (45 ∷ behind)) c.0
@@ -144,15 +165,21 @@ heading-written (FuncHeading l name behind) whole =
     ∙ ap (other name behind) a.1
 heading-written (ListHeading before between name behind) whole =
     let y : List ℕ = between ++ (name ++ behind) in
-    let a : ((list_all is_blank before && list_all is_blank between && stands_apart (between ++ (name ++ behind)) && is_begun (name ++ behind) && is_list_name name) ≡ true) × (stands_apart behind ≡ true) =
+    let a : ((list_all is_blank before && list_all is_blank between && stands_apart (between ++ (name ++ behind))
+    && is_begun (name ++ behind) && is_list_name name) ≡ true) × (stands_apart behind ≡ true) =
     and_parts _ _ whole in
-    let b : ((list_all is_blank before && list_all is_blank between && stands_apart (between ++ (name ++ behind)) && is_begun (name ++ behind)) ≡ true) × (is_list_name name ≡ true) =
+    let b : ((list_all is_blank before && list_all is_blank between && stands_apart (between ++ (name ++ behind))
+    && is_begun (name ++ behind)) ≡ true) × (is_list_name name ≡ true) =
     and_parts _ _ a.0 in
-    let c : ((list_all is_blank before && list_all is_blank between && stands_apart (between ++ (name ++ behind))) ≡ true) × (is_begun (name ++ behind) ≡ true) = and_parts _ _ b.0 in
-    let d : ((list_all is_blank before && list_all is_blank between) ≡ true) × (stands_apart (between ++ (name ++ behind)) ≡ true) = and_parts _ _ c.0 in
+    let c : ((list_all is_blank before && list_all is_blank between && stands_apart (between ++ (name ++ behind)))
+    ≡ true) × (is_begun (name ++ behind) ≡ true) = and_parts _ _ b.0 in
+    let d : ((list_all is_blank before && list_all is_blank between) ≡ true)
+    × (stands_apart (between ++ (name ++ behind)) ≡ true) = and_parts _ _ c.0 in
     let e : (list_all is_blank before ≡ true) × (list_all is_blank between ≡ true) = and_parts _ _ d.0 in
-    let front : after_blanks (before ++ (codes "unitlist" ++ y)) ≡ codes "unitlist" ++ y = after_blanks-front before (codes "unitlist" ++ y) e.0 refl in
-    let word : first_word (codes "unitlist" ++ y) ≡ codes "unitlist" = before-at is_blank (codes "unitlist") y refl (stops-apart y d.1) in
+    let front : after_blanks (before ++ (codes "unitlist" ++ y)) ≡ codes "unitlist" ++ y =
+    after_blanks-front before (codes "unitlist" ++ y) e.0 refl in
+    let word : first_word (codes "unitlist" ++ y) ≡ codes "unitlist" =
+    before-at is_blank (codes "unitlist") y refl (stops-apart y d.1) in
     let rest : behind_word (after_blanks (before ++ (codes "unitlist" ++ y))) ≡ trimmed y =
     ap behind_word front ∙ ap (λ w. trimmed (drop (length w) (codes "unitlist" ++ y))) word in
     let first : FirstWord y name behind = first-word between name behind e.1 c.1 b.1 a.1 in
@@ -164,6 +191,7 @@ pub record Written (line : List ℕ) : Type 0 where
   pub spelled : line ≡ bytes written
   pub whole : is_heading written ≡ true
 
+-- what ends a head and is no bracket stands apart
 apart_else : (text : List ℕ) → stops ends_head text ≡ true → is_opened text ≡ false → stands_apart text ≡ true
 apart_else [] stop closed = refl
 apart_else (b ∷ text) stop closed = go (is_blank b) (is_opening b) stop closed
@@ -191,32 +219,41 @@ defined l rest line plain is = go (parted ends_head rest)
             let whole : rest ≡ base part.front ++ (45 ∷ part.behind) =
             part.whole ∙ ap (λ t. t ++ part.behind) minus ∙ append_assoc (base part.front) (45 ∷ []) part.behind in
             let head : (is_head (base part.front) && is_head (45 ∷ [])) ≡ true =
-            sym (list_all-append (λ b. not (ends_head b)) (base part.front) (45 ∷ [])) ∙ ap is_head (sym minus) ∙ part.clear in
+            sym (list_all-append (λ b. not (ends_head b)) (base part.front) (45 ∷ [])) ∙ ap is_head (sym minus)
+            ∙ part.clear in
             record {
               written = PrefixHeading l (base part.front) part.behind;
               spelled = is ∙ ap (lead l) whole;
-              whole = (λ i. (ap (is_lead l) (sym whole) ∙ plain) i && (and_parts (is_head (base part.front)) (is_head (45 ∷ [])) head).0 i && apart_else part.behind part.stop f i);
+              whole = (λ i. (ap (is_lead l) (sym whole) ∙ plain) i
+                  && (and_parts (is_head (base part.front)) (is_head (45 ∷ [])) head).0 i
+                  && apart_else part.behind part.stop f i);
             }
         by false f false g = record {
           written = UnitHeading l part.front part.behind;
           spelled = is ∙ ap (lead l) part.whole;
-          whole = (λ i. (ap (is_lead l) (sym part.whole) ∙ plain) i && part.clear i && apart_else part.behind part.stop f i && not (g i));
+          whole = (λ i. (ap (is_lead l) (sym part.whole) ∙ plain) i && part.clear i
+              && apart_else part.behind part.stop f i && not (g i));
         }
 
 -- no directive but one has an entry
 
+-- where no kind has an entry, none is chosen
 never : {A : Type 0} (t : Bool) (one other : LineKind) → has_entry one ≡ false → has_entry other ≡ false
     → has_entry (if t then one else other) ≡ true → A
 never true one other f g e = absurd (true≢false (sym e ∙ f))
 never false one other f g e = absurd (true≢false (sym e ∙ g))
 
+-- of the directives only a list has one
 one_directive : (d : Directive) (rest : List ℕ) → has_entry (with_arguments d rest) ≡ true → d ≡ directive.UnitList
 one_directive directive.Include rest e = never (is_word rest) (line.Include rest) line.BadDirective refl refl e
 one_directive directive.Locale rest e = never (is_word rest) (line.Locale rest) line.BadDirective refl refl e
 one_directive directive.EndLocale rest e = never (is_empty rest) line.EndLocale line.BadDirective refl refl e
-one_directive directive.Set rest e = never (is_empty (behind_word rest)) line.BadDirective (line.Set (first_word rest) (behind_word rest)) refl refl e
-one_directive directive.Var rest e = never (is_empty (behind_word rest)) line.BadDirective (line.Var (first_word rest) (behind_word rest)) refl refl e
-one_directive directive.VarNot rest e = never (is_empty (behind_word rest)) line.BadDirective (line.VarNot (first_word rest) (behind_word rest)) refl refl e
+one_directive directive.Set rest e =
+    never (is_empty (behind_word rest)) line.BadDirective (line.Set (first_word rest) (behind_word rest)) refl refl e
+one_directive directive.Var rest e =
+    never (is_empty (behind_word rest)) line.BadDirective (line.Var (first_word rest) (behind_word rest)) refl refl e
+one_directive directive.VarNot rest e =
+    never (is_empty (behind_word rest)) line.BadDirective (line.VarNot (first_word rest) (behind_word rest)) refl refl e
 one_directive directive.EndVar rest e = never (is_empty rest) line.EndVar line.BadDirective refl refl e
 one_directive directive.Utf8 rest e = never (is_empty rest) line.Utf8 line.BadDirective refl refl e
 one_directive directive.EndUtf8 rest e = never (is_empty rest) line.EndUtf8 line.BadDirective refl refl e
@@ -230,11 +267,13 @@ other_word : (word : List ℕ) (t : Bool) (d : Directive) (found : Option Direct
 other_word word true d found f e = let same : d ≡ directive.UnitList = cc in absurd (f same)
 other_word word false d found f e = e
 
+-- which has this word
 last_word : (word : List ℕ) (t : Bool) → bytes_eq word (codes "unitlist") ≡ t
     → (if t then Some directive.UnitList else None) ≡ Some directive.UnitList → word ≡ codes "unitlist"
 last_word word true same e = (bytes_eq-Decides word (codes "unitlist")).0 same
 last_word word false same e = cc
 
+-- and no other word has it
 list_word : (word : List ℕ) → beside word directives ≡ Some directive.UnitList → word ≡ codes "unitlist"
 list_word word e0 =
     let e1 = other_word word (bytes_eq word (codes "include")) directive.Include _ (λ e. cc) e0 in
@@ -250,6 +289,7 @@ list_word word e0 =
     let e11 = other_word word (bytes_eq word (codes "prompt")) directive.Prompt _ (λ e. cc) e10 in
     last_word word (bytes_eq word (codes "unitlist")) refl e11
 
+-- so a directive with an entry begins with this word
 listed : (text : List ℕ) → has_entry (marked_kind text) ≡ true → first_word text ≡ codes "unitlist"
 listed text e = go (beside (first_word text) directives) refl e
   where
@@ -264,11 +304,14 @@ list_line text line is entry =
     let front : Fronted text = fronted text in
     let part : Parted is_blank (after_blanks text) = parted is_blank (after_blanks text) in
     let word : part.front ≡ codes "unitlist" =
-    sym (ap first_word part.whole ∙ before-at is_blank part.front part.behind part.clear part.stop) ∙ listed (after_blanks text) entry in
+    sym (ap first_word part.whole ∙ before-at is_blank part.front part.behind part.clear part.stop)
+    ∙ listed (after_blanks text) entry in
     let gap : Fronted part.behind = fronted part.behind in
     let inner : Parted is_blank (after_blanks part.behind) = parted is_blank (after_blanks part.behind) in
-    let whole : part.behind ≡ gap.blanks ++ (inner.front ++ inner.behind) = gap.whole ∙ ap (λ t. gap.blanks ++ t) inner.whole in
-    let spelled : after_blanks text ≡ codes "unitlist" ++ (gap.blanks ++ (inner.front ++ inner.behind)) = part.whole ∙ (λ i. word i ++ whole i) in
+    let whole : part.behind ≡ gap.blanks ++ (inner.front ++ inner.behind) =
+    gap.whole ∙ ap (λ t. gap.blanks ++ t) inner.whole in
+    let spelled : after_blanks text ≡ codes "unitlist" ++ (gap.blanks ++ (inner.front ++ inner.behind)) =
+    part.whole ∙ (λ i. word i ++ whole i) in
     record {
       written = ListHeading front.blanks gap.blanks inner.front inner.behind;
       spelled = is ∙ ap (λ t. 33 ∷ t) (front.whole ∙ ap (λ t. front.blanks ++ t) spelled);
@@ -285,19 +328,23 @@ list_line text line is entry =
     apart_so [] stop = refl
     apart_so (b ∷ t) stop = stop
 
+-- a line that has an entry is written with a heading
 pub written-as : (line : List ℕ) → has_entry (kind_of line) ≡ true → Written line
 unfolding kind_of
 written-as [] entry = defined NoLead [] [] refl refl
 written-as (b ∷ text) entry = go (b == 33) refl (b == 43) refl entry (fronted text)
   where
     go : (s : Bool) → (b == 33) ≡ s → (t : Bool) → (b == 43) ≡ t
-        → has_entry (if s then marked_kind (after_blanks text) else line.Definition) ≡ true → Fronted text → Written (b ∷ text)
+        → has_entry (if s then marked_kind (after_blanks text) else line.Definition) ≡ true → Fronted text
+        → Written (b ∷ text)
     go true e t f entry front = list_line text (b ∷ text) (ap (λ c. c ∷ text) (eqb-true b 33 e)) entry
     go false e true f entry front =
-        defined (PlusLead front.blanks) (after_blanks text) (b ∷ text) (λ i. front.clear i && is_begun-after_blanks text i)
+        defined (PlusLead front.blanks) (after_blanks text) (b ∷ text)
+        (λ i. front.clear i && is_begun-after_blanks text i)
         ((λ i. eqb-true b 43 f i ∷ front.whole i))
     go false e false f entry front = defined NoLead (b ∷ text) (b ∷ text) (λ i. not (e i || f i)) refl
 
+-- the law of headings
 pub headings : HeadingLaw
 headings text h entry = (to, from)
   where

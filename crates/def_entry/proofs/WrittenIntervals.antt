@@ -1,5 +1,6 @@
 -- Intervals are read as they are written.
-use Rattle.std.proofs.Common.{◌≡◌, ◌+◌, ◌==◌, ◌&&◌, ◌||◌, ◌∷◌, [], ◌++◌, ℕ, List, Bool, true, false, not, cond, length, take, drop, Option, Some, None, option_map, unwrap_or, refl, sym, ap, ◌∙◌}
+use Rattle.std.proofs.Common.{◌≡◌, ◌+◌, ◌==◌, ◌&&◌, ◌||◌, ◌∷◌, [], ◌++◌, ℕ, List, Bool, true, false, not, cond, length}
+use Rattle.std.proofs.Common.{take, drop, Option, Some, None, option_map, unwrap_or, refl, sym, ap, ◌∙◌}
 use Rattle.std.specs.List.{list_all, position}
 use Rattle.std.specs.Option.{is_some}
 use Rattle.std.specs.Prelude.{slice_index}
@@ -20,25 +21,32 @@ pub bind_some : {A B : Type 0} (given : Option A) (step : A → Option B) (y : B
 bind_some None step y e = cc
 bind_some (Some x) step y e = (x, refl, e)
 
+-- an image that is there is that of something
 pub mapped_some : {A B : Type 0} (f : A → B) (given : Option A) (y : B) → option_map f given ≡ Some y
     → (x : A) × (given ≡ Some x) × (f x ≡ y)
 mapped_some f None y e = cc
 mapped_some f (Some x) y e = let same : f x ≡ y = cc in (x, refl, same)
 
-pub one_pair : {A B : Type 0} (a x : A) (b y : B) → ◌≡◌ {A = Option (A × B)} (Some (a, b)) (Some (x, y)) → (a ≡ x) × (b ≡ y)
-one_pair {A = A} {B = B} a x b y e = let p : (◌≡◌ {A = A × B} (a, b) (x, y)) = ap (λ o. unwrap_or {T = A × B} o (a, b)) e in (ap (λ (q : A × B). q.0) p, ap (λ (q : A × B). q.1) p)
+-- equal pairs have equal parts
+pub one_pair : {A B : Type 0} (a x : A) (b y : B) → ◌≡◌ {A = Option (A × B)} (Some (a, b)) (Some (x, y))
+    → (a ≡ x) × (b ≡ y)
+one_pair {A = A} {B = B} a x b y e = let p : (◌≡◌ {A = A × B} (a, b) (x, y)) =
+    ap (λ o. unwrap_or {T = A × B} o (a, b)) e in (ap (λ (q : A × B). q.0) p, ap (λ (q : A × B). q.1) p)
 
+-- an opening bracket is read
 opened-at : (is_closed : Bool) (text : List ℕ) → opened (opening is_closed ∷ text) ≡ Some (is_closed, text)
 opened-at true text = refl
 opened-at false text = refl
 
+-- and one that is read stands there
 opened-is : (text : List ℕ) (is_closed : Bool) (behind : List ℕ) → opened text ≡ Some (is_closed, behind)
     → text ≡ opening is_closed ∷ behind
 opened-is [] is_closed behind e = cc
 opened-is (b ∷ text) is_closed behind e = go (b == 91) (b == 40) refl refl e
   where
     go : (s t : Bool) → (b == 91) ≡ s → (b == 40) ≡ t
-        → cond {A = Option (Bool × List ℕ)} s (Some (true, text)) (cond t (Some (false, text)) None) ≡ Some (is_closed, behind)
+        → cond {A = Option (Bool × List ℕ)} s (Some (true, text)) (cond t (Some (false, text)) None)
+        ≡ Some (is_closed, behind)
         → b ∷ text ≡ opening is_closed ∷ behind
     go true t f g e =
         let parts : (true ≡ is_closed) × (text ≡ behind) = one_pair true is_closed text behind e in
@@ -50,22 +58,30 @@ opened-is (b ∷ text) is_closed behind e = go (b == 91) (b == 40) refl refl e
         (λ i. byte i ∷ text) ∙ (λ i. opening (parts.0 i) ∷ parts.1 i)
     go false false f g e = cc
 
+-- a closing bracket closes
 closes : (is_closed : Bool) → is_closing (closing is_closed) ≡ true
 closes true = refl
 closes false = refl
 
+-- and tells whether the end is in
 closes_so : (is_closed : Bool) → (closing is_closed == 93) ≡ is_closed
 closes_so true = refl
 closes_so false = refl
 
+-- what stands before the first closing bracket is read
 closed-at : (is_closed : Bool) (front behind : List ℕ) → list_all (λ b. not (is_closing b)) front ≡ true
     → closed (front ++ (closing is_closed ∷ behind)) ≡ Some (front, is_closed, behind)
 closed-at is_closed front behind clear =
     let text : List ℕ = front ++ (closing is_closed ∷ behind) in
     let so : (slice_index (front ++ (closing is_closed ∷ behind)) (length front) == 93) ≡ is_closed =
     ap (λ b. b == 93) (index-at front (closing is_closed) behind) ∙ closes_so is_closed in
-    ap (option_map {U = List ℕ × Bool × List ℕ} (λ n. (take n text, slice_index text n == 93, drop (n + 1) text))) (position-at is_closing front (closing is_closed) behind clear (closes is_closed))
-    ∙ (λ i. Some (take-append_seam front (closing is_closed ∷ behind) i, so i, drop-append-add front (closing is_closed ∷ behind) 1 i))
+    ap (option_map {U = List ℕ × Bool × List ℕ} (λ n. (take n text, slice_index text n == 93, drop (n + 1) text)))
+    (position-at is_closing front (closing is_closed) behind clear (closes is_closed))
+    ∙ (λ i. Some (
+      take-append_seam front (closing is_closed ∷ behind) i,
+      so i,
+      drop-append-add front (closing is_closed ∷ behind) 1 i,
+    ))
 
 -- the bracket by its test
 bracket : (b : ℕ) → is_closing b ≡ true → b ≡ closing (b == 93)
@@ -81,19 +97,24 @@ pub record Closed (text front : List ℕ) (is_closed : Bool) (behind : List ℕ)
   pub whole : text ≡ front ++ (closing is_closed ∷ behind)
   pub clear : list_all (λ b. not (is_closing b)) front ≡ true
 
+-- and what is read stands so
 closed-is : (text front : List ℕ) (is_closed : Bool) (behind : List ℕ) → closed text ≡ Some (front, is_closed, behind)
     → Closed text front is_closed behind
 closed-is text front is_closed behind e = go (position is_closing text) refl e
   where
     go : (found : Option ℕ) → position is_closing text ≡ found
-        → option_map {U = List ℕ × Bool × List ℕ} (λ n. (take n text, slice_index text n == 93, drop (n + 1) text)) found ≡ Some (front, is_closed, behind) → Closed text front is_closed behind
+        → option_map {U = List ℕ × Bool × List ℕ} (λ n. (take n text, slice_index text n == 93, drop (n + 1) text))
+        found ≡ Some (front, is_closed, behind) → Closed text front is_closed behind
     go None f e = cc
     go (Some n) f e =
         let at : Around is_closing text n = around is_closing text n f in
         let first : take n text ≡ front = ap (λ o. (unwrap_or {T = List ℕ × Bool × List ℕ} o ([], true, [])).0) e in
-        let second : (slice_index text n == 93) ≡ is_closed = ap (λ o. (unwrap_or {T = List ℕ × Bool × List ℕ} o ([], true, [])).1) e in
-        let third : drop (n + 1) text ≡ behind = ap (λ o. (unwrap_or {T = List ℕ × Bool × List ℕ} o ([], true, [])).2) e in
-        let byte : slice_index text n ≡ closing is_closed = bracket (slice_index text n) at.passes ∙ ap closing second in
+        let second : (slice_index text n == 93) ≡ is_closed =
+        ap (λ o. (unwrap_or {T = List ℕ × Bool × List ℕ} o ([], true, [])).1) e in
+        let third : drop (n + 1) text ≡ behind =
+        ap (λ o. (unwrap_or {T = List ℕ × Bool × List ℕ} o ([], true, [])).2) e in
+        let byte : slice_index text n ≡ closing is_closed = bracket (slice_index text n) at.passes
+        ∙ ap closing second in
         record {
           whole = at.whole ∙ (λ i. first i ++ (byte i ∷ third i));
           clear = ap (list_all (λ b. not (is_closing b))) (sym first) ∙ at.clear;
@@ -103,20 +124,26 @@ closed-is text front is_closed behind e = go (position is_closing text) refl e
 abbrev both : Option (Option Bound) → Option (Option Bound) → List ℕ → Option (Span × List ℕ)
 both low high rest = low >>= (λ l. high >>= (λ h. Some (record { low = l; high = h }, rest)))
 
+-- a span of two bounds, where both are read
 abbrev span : Option (Option Bound) → Option (Option Bound) → Option Span
 span low high = low >>= (λ l. high >>= (λ h. Some (record { low = l; high = h })))
 
-both-some : (low high : Option (Option Bound)) (s : Span) (rest : List ℕ) → span low high ≡ Some s → both low high rest ≡ Some (s, rest)
+-- two bounds that make a span are read
+both-some : (low high : Option (Option Bound)) (s : Span) (rest : List ℕ) → span low high ≡ Some s
+    → both low high rest ≡ Some (s, rest)
 both-some None high s rest e = cc
 both-some (Some l) None s rest e = cc
-both-some (Some l) (Some h) s rest e = let same : ◌≡◌ {A = Span} (record { low = l; high = h }) s = cc in ap (λ (x : Span). Some (x, rest)) same
+both-some (Some l) (Some h) s rest e = let same : ◌≡◌ {A = Span} (record { low = l; high = h }) s =
+    cc in ap (λ (x : Span). Some (x, rest)) same
 
+-- and those that are read make one
 some-both : (low high : Option (Option Bound)) (s : Span) (rest behind : List ℕ) → both low high behind ≡ Some (s, rest)
     → (span low high ≡ Some s) × (behind ≡ rest)
 some-both None high s rest behind e = cc
 some-both (Some l) None s rest behind e = cc
 some-both (Some l) (Some h) s rest behind e =
-    let parts : (◌≡◌ {A = Span} (record { low = l; high = h }) s) × (behind ≡ rest) = one_pair (record { low = l; high = h }) s behind rest e in
+    let parts : (◌≡◌ {A = Span} (record { low = l; high = h }) s) × (behind ≡ rest) =
+    one_pair (record { low = l; high = h }) s behind rest e in
     (ap Some parts.0, parts.1)
 
 -- what is written so is read so
@@ -124,14 +151,23 @@ pub interval-at : (i : WrittenInterval) (rest : List ℕ) (s : Span) → is_inte
     → interval_at (interval i rest) ≡ Some (s, rest)
 unfolding interval_at
 interval-at i rest s whole value =
-    let most : ((lacks 44 i.low && list_all (λ b. not (is_closing b)) i.high) ≡ true) × (is_some (span_of i) ≡ true) = and_parts _ _ whole in
+    let most : ((lacks 44 i.low && list_all (λ b. not (is_closing b)) i.high) ≡ true) × (is_some (span_of i) ≡ true) =
+    and_parts _ _ whole in
     let parts : (lacks 44 i.low ≡ true) × (list_all (λ b. not (is_closing b)) i.high ≡ true) = and_parts _ _ most.0 in
-    let first : opened (interval i rest) ≡ Some (i.low_closed, i.low ++ (44 ∷ (i.high ++ (closing i.high_closed ∷ rest)))) = opened-at i.low_closed _ in
-    let second : cut_at 44 (i.low ++ (44 ∷ (i.high ++ (closing i.high_closed ∷ rest)))) ≡ Some (i.low, i.high ++ (closing i.high_closed ∷ rest)) = cut-at 44 i.low _ parts.0 in
-    let third : closed (i.high ++ (closing i.high_closed ∷ rest)) ≡ Some (i.high, i.high_closed, rest) = closed-at i.high_closed i.high rest parts.1 in
-    (λ j. first j >>= (λ front. cut_at 44 front.1 >>= (λ parts. closed parts.1 >>= (λ back. both (bound_in front.0 (trimmed parts.0)) (bound_in back.1 (trimmed back.0)) back.2))))
-    ∙ (λ j. second j >>= (λ parts. closed parts.1 >>= (λ back. both (bound_in i.low_closed (trimmed parts.0)) (bound_in back.1 (trimmed back.0)) back.2)))
-    ∙ (λ j. third j >>= (λ back. both (bound_in i.low_closed (trimmed i.low)) (bound_in back.1 (trimmed back.0)) back.2))
+    let first : opened (interval i rest)
+    ≡ Some (i.low_closed, i.low ++ (44 ∷ (i.high ++ (closing i.high_closed ∷ rest)))) = opened-at i.low_closed _ in
+    let second : cut_at 44 (i.low ++ (44 ∷ (i.high ++ (closing i.high_closed ∷ rest))))
+    ≡ Some (i.low, i.high ++ (closing i.high_closed ∷ rest)) = cut-at 44 i.low _ parts.0 in
+    let third : closed (i.high ++ (closing i.high_closed ∷ rest)) ≡ Some (i.high, i.high_closed, rest) =
+    closed-at i.high_closed i.high rest parts.1 in
+    (λ j. first j >>= (λ front. cut_at 44 front.1
+    >>= (λ parts. closed parts.1
+    >>= (λ back. both (bound_in front.0 (trimmed parts.0)) (bound_in back.1 (trimmed back.0)) back.2))))
+    ∙ (λ j. second j
+    >>= (λ parts. closed parts.1
+    >>= (λ back. both (bound_in i.low_closed (trimmed parts.0)) (bound_in back.1 (trimmed back.0)) back.2)))
+    ∙ (λ j. third j >>= (λ back. both (bound_in i.low_closed (trimmed i.low))
+    (bound_in back.1 (trimmed back.0)) back.2))
     ∙ both-some (bound_in i.low_closed (trimmed i.low)) (bound_in i.high_closed (trimmed i.high)) s rest value
 
 -- an interval that is read, as it is written
@@ -141,18 +177,29 @@ pub record Interval (text rest : List ℕ) (s : Span) : Type 0 where
   pub whole : is_interval written ≡ true
   pub value : span_of written ≡ Some s
 
+-- an interval that is read is written so
 pub interval-is : (text rest : List ℕ) (s : Span) → interval_at text ≡ Some (s, rest) → Interval text rest s
 unfolding interval_at
 interval-is text rest s e =
-    let one = bind_some (opened text) (λ front. cut_at 44 front.1 >>= (λ parts. closed parts.1 >>= (λ back. both (bound_in front.0 (trimmed parts.0)) (bound_in back.1 (trimmed back.0)) back.2))) (s, rest) e in
-    let two = bind_some (cut_at 44 one.0.1) (λ parts. closed parts.1 >>= (λ back. both (bound_in one.0.0 (trimmed parts.0)) (bound_in back.1 (trimmed back.0)) back.2)) (s, rest) one.2 in
-    let three = bind_some (closed two.0.1) (λ back. both (bound_in one.0.0 (trimmed two.0.0)) (bound_in back.1 (trimmed back.0)) back.2) (s, rest) two.2 in
+    let one = bind_some (opened text)
+    (λ front. cut_at 44 front.1
+    >>= (λ parts. closed parts.1
+    >>= (λ back. both (bound_in front.0 (trimmed parts.0)) (bound_in back.1 (trimmed back.0)) back.2)))
+    (s, rest) e in
+    let two = bind_some (cut_at 44 one.0.1)
+    (λ parts. closed parts.1
+    >>= (λ back. both (bound_in one.0.0 (trimmed parts.0)) (bound_in back.1 (trimmed back.0)) back.2))
+    (s, rest) one.2 in
+    let three = bind_some (closed two.0.1)
+    (λ back. both (bound_in one.0.0 (trimmed two.0.0)) (bound_in back.1 (trimmed back.0)) back.2) (s, rest) two.2 in
     done one.0.0 one.0.1 two.0.0 two.0.1 three.0.0 three.0.1 three.0.2 one.1 two.1 three.1 three.2
   where
-    done : (is_low : Bool) (inside low behind high : List ℕ) (is_high : Bool) (left : List ℕ) → opened text ≡ Some (is_low, inside)
+    done : (is_low : Bool) (inside low behind high : List ℕ) (is_high : Bool) (left : List ℕ)
+        → opened text ≡ Some (is_low, inside)
         → cut_at 44 inside ≡ Some (low, behind)
         → closed behind ≡ Some (high, is_high, left)
-        → both (bound_in is_low (trimmed low)) (bound_in is_high (trimmed high)) left ≡ Some (s, rest) → Interval text rest s
+        → both (bound_in is_low (trimmed low)) (bound_in is_high (trimmed high)) left ≡ Some (s, rest)
+        → Interval text rest s
     done is_low inside low behind high is_high left first second third last =
         let a : text ≡ opening is_low ∷ inside = opened-is text is_low inside first in
         let b : (inside ≡ low ++ (44 ∷ behind)) × (lacks 44 low ≡ true) = cut-is 44 inside low behind second in

@@ -1,5 +1,6 @@
 -- The names of lines, and the first of them that is none.
-use Rattle.std.proofs.Common.{◌≡◌, ◌≢◌, ◌==◌, ◌∷◌, [], ℕ, List, Bool, true, false, cond, Option, Some, None, Result, Ok, Err, refl, sym, ap, ◌∙◌, subst, true≢false}
+use Rattle.std.proofs.Common.{◌≡◌, ◌≢◌, ◌==◌, ◌∷◌, [], ℕ, List, Bool, true, false, cond, Option, Some, None, Result, Ok}
+use Rattle.std.proofs.Common.{Err, refl, sym, ap, ◌∙◌, subst, true≢false}
 use Rattle.std.proofs.lemmas.Bool.{eqb-true}
 use Rattle.units_io.specs.Outcomes.{◌>>=◌}
 use Rattle.def_lines.specs.Blanks.{trimmed}
@@ -10,29 +11,35 @@ use Rattle.def_entry.specs.declared.key.Kind.{Kind}
 use Rattle.def_entry.specs.declared.key.Kind.TheVariants as kind
 use Rattle.def_entry.specs.Cuts.{cut_at}
 use Rattle.def_entry.specs.Entries.{What, Alias}
-use Rattle.def_entry.specs.EntryGrammar.{HasBadName, OwnName, FurtherName, HasFurtherName, HasInnerName, Parameter, Target, HasNames, LacksName}
+use Rattle.def_entry.specs.EntryGrammar.{HasBadName, OwnName, FurtherName, HasFurtherName, HasInnerName, Parameter}
+use Rattle.def_entry.specs.EntryGrammar.{Target, HasNames, LacksName}
 use Rattle.def_entry.specs.FormGrammar.{IsBracketed, IsTarget}
 use Rattle.def_entry.specs.Forms.{form_of, some_text}
 use Rattle.def_entry.specs.Headings.{Heading}
 use Rattle.def_entry.specs.Outcomes.{named, or_fault}
-use Rattle.def_entry.specs.Reading.{call_in, func_in, function_of, name_in, parted_call, parted_table, what_in, what_of, without_call}
+use Rattle.def_entry.specs.Reading.{call_in, func_in, function_of, name_in, parted_call, parted_table, what_in, what_of}
+use Rattle.def_entry.specs.Reading.{without_call}
 use Rattle.def_entry.proofs.CutTexts.{cut-at}
 use Rattle.def_entry.proofs.WrittenForms.{brackets, some-text, target-at, target-is, text-some}
 
 -- the name in the text of a function, as it is read
 
+-- the name in the parentheses of a function, or that of an alias behind them
 abbrev call_name : List ℕ → List ℕ → Option (List ℕ)
 call_name [] behind = some_text (without_call (trimmed behind))
 call_name (b ∷ parameter) behind = Some (b ∷ parameter)
 
+-- the further name of a text, by what its parentheses cut
 abbrev inner_of : Option (List ℕ × List ℕ) → Option (List ℕ)
 inner_of None = None
 inner_of (Some parts) = call_name (trimmed parts.0) parts.1
 
+-- the further name of a text
 abbrev inner_name : List ℕ → Option (List ℕ)
 inner_name [] = None
 inner_name (b ∷ text) = cond (b == 40) (inner_of (cut_at 41 text)) None
 
+-- a further name that is written is read
 name-at : (text w : List ℕ) → HasInnerName text w → inner_name text ≡ Some w
 name-at text w (Parameter inside behind is bare) =
     ap inner_name is.spelled ∙ ap inner_of (cut-at 41 inside behind is.clear) ∙ go (trimmed inside) bare.0
@@ -46,6 +53,7 @@ name-at text w (Target is) =
     ∙ ap (λ p. call_name p is.behind) is.blank
     ∙ some-text (without_call (trimmed is.behind)) w (target-at (trimmed is.behind) w is.target_is) is.some
 
+-- and one that is read is written
 name-is : (text w : List ℕ) → inner_name text ≡ Some w → HasInnerName text w
 name-is [] w e = cc
 name-is (b ∷ text) w e = go (b == 40) refl (cut_at 41 text) refl e
@@ -67,7 +75,8 @@ name-is (b ∷ text) w e = go (b == 40) refl (cut_at 41 text) refl e
         let some : (c ∷ parameter ≡ w) × (w ≢ []) = text-some (c ∷ parameter) w e in
         Parameter inside behind is (bare ∙ some.0, some.1)
 
-    go : (s : Bool) → (b == 40) ≡ s → (found : Option (List ℕ × List ℕ)) → cut_at 41 text ≡ found → cond s (inner_of found) None ≡ Some w
+    go : (s : Bool) → (b == 40) ≡ s → (found : Option (List ℕ × List ℕ)) → cut_at 41 text ≡ found
+        → cond s (inner_of found) None ≡ Some w
         → HasInnerName (b ∷ text) w
     go false f found cut e = cc
     go true f None cut e = cc
@@ -76,6 +85,7 @@ name-is (b ∷ text) w e = go (b == 40) refl (cut_at 41 text) refl e
 
 -- a name that is none is the fault
 
+-- what is no name is refused before all that follows
 refused : (w : List ℕ) (go : List ℕ → Result What EntryFault) → is_name w ≡ false → (named w >>= go) ≡ Err (BadName w)
 refused w go not_one = ap (λ t. cond t (Ok w) (Err (BadName w)) >>= go) not_one
 
@@ -83,13 +93,16 @@ refused w go not_one = ap (λ t. cond t (Ok w) (Err (BadName w)) >>= go) not_one
 pub taken : (w : List ℕ) (go : List ℕ → Result What EntryFault) → is_name w ≡ true → (named w >>= go) ≡ go w
 taken w go is_one = ap (λ t. cond t (Ok w) (Err (BadName w)) >>= go) is_one
 
+-- so is a further name of a function
 func-bad : (name text w : List ℕ) → inner_name text ≡ Some w → is_name w ≡ false → func_in name text ≡ Err (BadName w)
 func-bad name [] w e not_one = cc
 func-bad name (b ∷ text) w e not_one = go (b == 40) (cut_at 41 text) e
   where
-    inner : (parameter behind : List ℕ) → call_name parameter behind ≡ Some w → call_in name parameter behind ≡ Err (BadName w)
+    inner : (parameter behind : List ℕ) → call_name parameter behind ≡ Some w
+        → call_in name parameter behind ≡ Err (BadName w)
     inner [] behind e =
-        ap (λ o. or_fault BadForm o >>= (λ target. named target >>= (λ other. Ok (Alias other)))) e ∙ refused w (λ other. Ok (Alias other)) not_one
+        ap (λ o. or_fault BadForm o >>= (λ target. named target >>= (λ other. Ok (Alias other)))) e
+        ∙ refused w (λ other. Ok (Alias other)) not_one
     inner (c ∷ parameter) behind e =
         let same : c ∷ parameter ≡ w = (text-some (c ∷ parameter) w e).0 in
         ap (λ p. named p >>= (λ q. or_fault BadForm (form_of behind) >>= (λ form. function_of name q form))) same
@@ -101,38 +114,52 @@ func-bad name (b ∷ text) w e not_one = go (b == 40) (cut_at 41 text) e
     go true None e = cc
     go true (Some parts) e = inner (trimmed parts.0) parts.1 e
 
+-- so is the key's own
 own_bad : (k : Kind) (name w text : List ℕ) → ((k ≡ kind.List) × (name ≡ []) → ⊥) → name ≡ w → is_name w ≡ false
     → (name_in k name >>= (λ n. what_in k n text)) ≡ Err (BadName w)
-own_bad kind.Unit name w text some e not_one = ap (λ n. named n >>= (λ n. what_in kind.Unit n text)) e ∙ refused w (λ n. what_in kind.Unit n text) not_one
-own_bad kind.Prefix name w text some e not_one = ap (λ n. named n >>= (λ n. what_in kind.Prefix n text)) e ∙ refused w (λ n. what_in kind.Prefix n text) not_one
-own_bad kind.Func name w text some e not_one = ap (λ n. named n >>= (λ n. what_in kind.Func n text)) e ∙ refused w (λ n. what_in kind.Func n text) not_one
+own_bad kind.Unit name w text some e not_one = ap (λ n. named n >>= (λ n. what_in kind.Unit n text)) e
+    ∙ refused w (λ n. what_in kind.Unit n text) not_one
+own_bad kind.Prefix name w text some e not_one = ap (λ n. named n >>= (λ n. what_in kind.Prefix n text)) e
+    ∙ refused w (λ n. what_in kind.Prefix n text) not_one
+own_bad kind.Func name w text some e not_one = ap (λ n. named n >>= (λ n. what_in kind.Func n text)) e
+    ∙ refused w (λ n. what_in kind.Func n text) not_one
 own_bad kind.List [] w text some e not_one = absurd (some (refl, refl))
-own_bad kind.List (b ∷ name) w text some e not_one = ap (λ n. named n >>= (λ n. what_in kind.List n text)) e ∙ refused w (λ n. what_in kind.List n text) not_one
+own_bad kind.List (b ∷ name) w text some e not_one = ap (λ n. named n >>= (λ n. what_in kind.List n text)) e
+    ∙ refused w (λ n. what_in kind.List n text) not_one
 
 -- a heading whose name is one says what stands behind it
-named_so : (k : Kind) (name text : List ℕ) → is_name name ≡ true → (name_in k name >>= (λ n. what_in k n text)) ≡ what_in k name text
+named_so : (k : Kind) (name text : List ℕ) → is_name name ≡ true
+    → (name_in k name >>= (λ n. what_in k n text)) ≡ what_in k name text
 named_so kind.Unit name text is_one = taken name (λ n. what_in kind.Unit n text) is_one
 named_so kind.Prefix name text is_one = taken name (λ n. what_in kind.Prefix n text) is_one
 named_so kind.Func name text is_one = taken name (λ n. what_in kind.Func n text) is_one
 named_so kind.List [] text is_one = absurd (true≢false (sym is_one))
 named_so kind.List (b ∷ name) text is_one = taken (b ∷ name) (λ n. what_in kind.List n text) is_one
 
+-- where the key has a name, what the line says is what its text says
 pub what-named : (h : Heading) → is_name h.name ≡ true → what_of h ≡ what_in h.kind h.name h.text
 unfolding what_of
 what-named h is_one = named_so h.kind h.name h.text is_one
 
-further_bad : (k : Kind) (name text w : List ℕ) → HasFurtherName k text w → is_name w ≡ false → what_in k name text ≡ Err (BadName w)
+-- a further name that is none is refused
+further_bad : (k : Kind) (name text w : List ℕ) → HasFurtherName k text w → is_name w ≡ false
+    → what_in k name text ≡ Err (BadName w)
 further_bad kind.Func name text w is not_one = func-bad name text w (name-at text w is) not_one
 further_bad _ name text w is not_one = absurd is
 
+-- the first name that is none is the fault of the heading
 pub bad-name : (h : Heading) (w : List ℕ) → HasBadName h w → what_of h ≡ Err (BadName w)
 unfolding what_of
 bad-name h w (OwnName some e not_one) = own_bad h.kind h.name w h.text some e not_one
-bad-name h w (FurtherName own is not_one) = named_so h.kind h.name h.text own ∙ further_bad h.kind h.name h.text w is not_one
+bad-name h w (FurtherName own is not_one) = named_so h.kind h.name h.text own
+    ∙ further_bad h.kind h.name h.text w is not_one
 
-lacks : (k : Kind) (name text : List ℕ) → k ≡ kind.List → name ≡ [] → (name_in k name >>= (λ n. what_in k n text)) ≡ Err BadForm
+-- a list without a name has no form
+lacks : (k : Kind) (name text : List ℕ) → k ≡ kind.List → name ≡ []
+    → (name_in k name >>= (λ n. what_in k n text)) ≡ Err BadForm
 lacks k name text e f = (λ i. name_in (e i) (f i) >>= (λ n. what_in (e i) n text))
 
+-- so a heading that lacks one has none
 pub lacks-name : (h : Heading) → LacksName h → what_of h ≡ Err BadForm
 unfolding what_of
 lacks-name h is = lacks h.kind h.name h.text is.0 is.1
@@ -143,27 +170,37 @@ pub data NamesOf (h : Heading) : Type 0 where
   NoName : LacksName h → NamesOf h
   BadNameOf : (w : List ℕ) → HasBadName h w → NamesOf h
 
-further : (k : Kind) (name text : List ℕ) → is_name name ≡ true → NamesOf (record { kind = k; name = name; text = text })
+-- which names a heading has, where its own is one
+further : (k : Kind) (name text : List ℕ) → is_name name ≡ true
+    → NamesOf (record { kind = k; name = name; text = text })
 further kind.Func name text is_one = go (inner_name text) refl
   where
     by : (w : List ℕ) → inner_name text ≡ Some w → (t : Bool) → is_name w ≡ t
         → NamesOf (record { kind = kind.Func; name = name; text = text })
     by w e true f = Names (record {
       own = is_one;
-      further = λ v is. let same : Some w ≡ Some v = sym e ∙ name-at text v is in ap is_name (sym (some_is w v same)) ∙ f;
+      further = λ v is. let same : Some w ≡ Some v = sym e ∙ name-at text v is in ap is_name (sym (some_is w v same))
+          ∙ f;
     })
       where
         some_is : (x y : List ℕ) → Some x ≡ Some y → x ≡ y
         some_is x y e = cc
     by w e false f = BadNameOf w (FurtherName is_one (name-is text w e) f)
 
-    go : (found : Option (List ℕ)) → inner_name text ≡ found → NamesOf (record { kind = kind.Func; name = name; text = text })
-    go None e = Names (record { own = is_one; further = λ v is. let none : None ≡ Some v = sym e ∙ name-at text v is in absurd (cc none) })
+    go : (found : Option (List ℕ)) → inner_name text ≡ found
+        → NamesOf (record { kind = kind.Func; name = name; text = text })
+    go None e = Names
+        (record {
+          own = is_one;
+          further = λ v is. let none : None ≡ Some v =
+              sym e ∙ name-at text v is in absurd (cc none);
+        })
     go (Some w) e = by w e (is_name w) refl
 further kind.Unit name text is_one = Names (record { own = is_one; further = λ w is. absurd is })
 further kind.Prefix name text is_one = Names (record { own = is_one; further = λ w is. absurd is })
 further kind.List name text is_one = Names (record { own = is_one; further = λ w is. absurd is })
 
+-- and where it is none
 own : (k : Kind) (name text : List ℕ) → is_name name ≡ false → NamesOf (record { kind = k; name = name; text = text })
 own kind.List [] text not_one = NoName (refl, refl)
 own kind.List (b ∷ name) text not_one = BadNameOf (b ∷ name) (OwnName (λ is. cons_none b name is.1) refl not_one)
@@ -183,6 +220,7 @@ own kind.Func name text not_one = BadNameOf name (OwnName (λ is. not_list is.0)
     not_list : kind.Func ≡ kind.List → ⊥
     not_list e = cc
 
+-- so it is of each heading
 pub names-of : (h : Heading) → NamesOf h
 names-of h = go (is_name h.name) refl
   where

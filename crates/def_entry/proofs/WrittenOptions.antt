@@ -1,5 +1,6 @@
 -- Options are read as they are written.
-use Rattle.std.proofs.Common.{◌≡◌, ◌==◌, ◌&&◌, ◌||◌, ◌∷◌, [], ◌++◌, ℕ, List, Bool, true, false, not, cond, length, take, drop, codes, Option, Some, None, option_map, refl, sym, ap, ◌∙◌}
+use Rattle.std.proofs.Common.{◌≡◌, ◌==◌, ◌&&◌, ◌||◌, ◌∷◌, [], ◌++◌, ℕ, List, Bool, true, false, not, cond, length, take}
+use Rattle.std.proofs.Common.{drop, codes, Option, Some, None, option_map, refl, sym, ap, ◌∙◌}
 use Rattle.std.specs.List.{list_all, starts_with}
 use Rattle.std.specs.Option.{is_some}
 use Rattle.std.specs.Prelude.{nat_eq}
@@ -16,9 +17,11 @@ use Rattle.def_entry.specs.declared.options.Choice.TheVariants.{Units as UnitsCh
 use Rattle.def_entry.specs.Cuts.{behind_byte, cut_at, lacks}
 use Rattle.def_entry.specs.Headings.{stands_apart}
 use Rattle.def_entry.specs.Intervals.{interval_at}
-use Rattle.def_entry.specs.OptionGrammar.{WrittenInterval, WrittenOption, UnitsOption, DomainOption, RangeOption, NoErrorOption}
+use Rattle.def_entry.specs.OptionGrammar.{WrittenInterval, WrittenOption, UnitsOption, DomainOption, RangeOption}
+use Rattle.def_entry.specs.OptionGrammar.{NoErrorOption}
 use Rattle.def_entry.specs.OptionGrammar.{has_ended, interval, is_interval, is_whole, option, span_of}
-use Rattle.def_entry.specs.Options.{Options, Units, begins_with, begins_with_no_error, behind, choice_at, units_at, with_choice}
+use Rattle.def_entry.specs.Options.{Options, Units, begins_with, begins_with_no_error, behind, choice_at, units_at}
+use Rattle.def_entry.specs.Options.{with_choice}
 use Rattle.def_entry.specs.Steps.{◌>>=◌}
 use Rattle.def_entry.proofs.Choices.{begins-choice_at}
 use Rattle.def_entry.proofs.CutTexts.{cut-at, cut-is, not_true}
@@ -26,11 +29,13 @@ use Rattle.def_entry.proofs.WrittenIntervals.{Interval, bind_some, interval-at, 
 
 -- blanks
 
+-- blanks before what has begun are passed over
 pub after_blanks-front : (blanks text : List ℕ) → list_all is_blank blanks ≡ true → is_begun text ≡ true
     → after_blanks (blanks ++ text) ≡ text
 after_blanks-front [] [] clear begun = refl
 after_blanks-front [] (b ∷ text) clear begun = after_blanks-word b text (not_true (is_blank b) begun)
-after_blanks-front (b ∷ blanks) text clear begun = go (and_parts (is_blank b) (list_all is_blank blanks) clear) (after_blanks-front blanks text)
+after_blanks-front (b ∷ blanks) text clear begun =
+    go (and_parts (is_blank b) (list_all is_blank blanks) clear) (after_blanks-front blanks text)
   where
     go : (is_blank b ≡ true) × (list_all is_blank blanks ≡ true)
         → (list_all is_blank blanks ≡ true → is_begun text ≡ true → after_blanks (blanks ++ text) ≡ text)
@@ -43,6 +48,7 @@ pub record Fronted (text : List ℕ) : Type 0 where
   pub whole : text ≡ blanks ++ after_blanks text
   pub clear : list_all is_blank blanks ≡ true
 
+-- each text is blanks and then what has begun, or blanks alone
 pub fronted : (text : List ℕ) → Fronted text
 fronted [] = record { blanks = []; whole = refl; clear = refl }
 fronted (b ∷ text) = go (is_blank b) refl (fronted text)
@@ -69,12 +75,14 @@ choice_of (RangeOption i) = Range
 choice_of NoErrorOption = NoError
 
 -- it begins as such
-pub choice-at : (w : WrittenOption) (rest : List ℕ) → is_whole w rest ≡ true → choice_at (option w rest) ≡ Some (choice_of w)
+pub choice-at : (w : WrittenOption) (rest : List ℕ) → is_whole w rest ≡ true
+    → choice_at (option w rest) ≡ Some (choice_of w)
 choice-at (UnitsOption a b) rest whole = refl
 choice-at (DomainOption i) rest whole = refl
 choice-at (RangeOption i) rest whole = refl
 choice-at NoErrorOption rest whole = ap (λ t. cond t (Some NoError) None) whole
 
+-- an option has begun
 pub begun-option : (w : WrittenOption) (rest : List ℕ) → is_begun (option w rest) ≡ true
 begun-option (UnitsOption a b) rest = refl
 begun-option (DomainOption i) rest = refl
@@ -83,7 +91,8 @@ begun-option NoErrorOption rest = refl
 
 -- the end of the options, by the tests of their words
 ended-cases : (u d r n b : Bool) → (not (u || d || r || n) && b) ≡ true
-    → (cond u (Some UnitsChoice) (cond d (Some Domain) (cond r (Some Range) (cond n (Some NoError) None))) ≡ None) × (b ≡ true)
+    → (cond u (Some UnitsChoice) (cond d (Some Domain) (cond r (Some Range) (cond n (Some NoError) None))) ≡ None)
+    × (b ≡ true)
 ended-cases false false false false true e = (refl, refl)
 ended-cases false false false false false e = cc
 ended-cases true d r n b e = cc
@@ -91,12 +100,16 @@ ended-cases false true d r b e = cc
 ended-cases false false true n b e = cc
 ended-cases false false false true b e = cc
 
+-- where options have ended none begins
 pub no-choice : (rest : List ℕ) → has_ended rest ≡ true → (choice_at rest ≡ None) × (is_begun rest ≡ true)
 no-choice rest e =
-    ended-cases (begins_with UnitsChoice rest) (begins_with Domain rest) (begins_with Range rest) (begins_with_no_error rest) (is_begun rest) e
+    ended-cases (begins_with UnitsChoice rest) (begins_with Domain rest) (begins_with Range rest)
+    (begins_with_no_error rest) (is_begun rest) e
 
+-- where none is chosen, no test holds
 cases-ended : (u d r n b : Bool)
-    → cond u (Some UnitsChoice) (cond d (Some Domain) (cond r (Some Range) (cond n (Some NoError) None))) ≡ None → b ≡ true
+    → cond u (Some UnitsChoice) (cond d (Some Domain) (cond r (Some Range) (cond n (Some NoError) None))) ≡ None
+    → b ≡ true
     → (not (u || d || r || n) && b) ≡ true
 cases-ended false false false false b e f = f
 cases-ended true d r n b e f = cc
@@ -104,9 +117,11 @@ cases-ended false true r n b e f = cc
 cases-ended false false true n b e f = cc
 cases-ended false false false true b e f = cc
 
+-- so options have ended
 pub has-ended : (rest : List ℕ) → choice_at rest ≡ None → is_begun rest ≡ true → has_ended rest ≡ true
 has-ended rest none begun =
-    cases-ended (begins_with UnitsChoice rest) (begins_with Domain rest) (begins_with Range rest) (begins_with_no_error rest) (is_begun rest) none begun
+    cases-ended (begins_with UnitsChoice rest) (begins_with Domain rest) (begins_with Range rest)
+    (begins_with_no_error rest) (is_begun rest) none begun
 
 -- one option
 
@@ -114,15 +129,19 @@ has-ended rest none begun =
 abbrev units_by : List ℕ → List ℕ → Units
 units_by a b = record { in_unit = trimmed a; out_unit = trimmed b }
 
+-- options with these units
 abbrev with_units : Options → Units × List ℕ → Options × List ℕ
 with_units o found = (record o { units = Some found.0 }, found.1)
 
+-- options with this domain
 abbrev with_domain : Options → Span × List ℕ → Options × List ℕ
 with_domain o found = (record o { domain = Some found.0 }, found.1)
 
+-- options with this range
 abbrev with_range : Options → Span × List ℕ → Options × List ℕ
 with_range o found = (record o { range = Some found.0 }, found.1)
 
+-- options with `noerror`
 abbrev with_no_error : Options → Options
 with_no_error o = record o { no_error = true }
 
@@ -140,14 +159,17 @@ is_free (DomainOption i) o = not (is_some o.domain)
 is_free (RangeOption i) o = not (is_some o.range)
 is_free NoErrorOption o = not o.no_error
 
+-- what is found to be there is there
 pub some_value : {A : Type 0} (v : Option A) → is_some v ≡ true → (x : A) × (v ≡ Some x)
 some_value None e = cc
 some_value (Some x) e = (x, refl)
 
+-- units are read as they are written
 units-at : (a b rest : List ℕ) → lacks 59 a ≡ true → lacks 93 b ≡ true
     → units_at (91 ∷ (a ++ (59 ∷ (b ++ (93 ∷ rest))))) ≡ Some (units_by a b, rest)
 units-at a b rest clear clear' =
-    (λ i. cut-at 59 a (b ++ (93 ∷ rest)) clear i >>= (λ first. cut_at 93 first.1 >>= (λ second. Some (units_by first.0 second.0, second.1))))
+    (λ i. cut-at 59 a (b ++ (93 ∷ rest)) clear i
+    >>= (λ first. cut_at 93 first.1 >>= (λ second. Some (units_by first.0 second.0, second.1))))
     ∙ (λ i. cut-at 93 b rest clear' i >>= (λ second. Some (units_by a second.0, second.1)))
 
 -- its value is read
@@ -160,7 +182,8 @@ value-at (UnitsOption a b) o rest whole free =
     ∙ ap (option_map (with_units o)) (units-at a b rest clear.0 clear.1)
 value-at (DomainOption i) o rest whole free =
     let value : (s : Span) × (span_of i ≡ Some s) = some_value (span_of i) (and_parts _ _ whole).1 in
-    ap (λ t. cond t None (option_map (with_domain o) (interval_at (interval i rest)))) (not_true (is_some o.domain) free)
+    ap (λ t. cond t None (option_map (with_domain o) (interval_at (interval i rest))))
+    (not_true (is_some o.domain) free)
     ∙ ap (option_map (with_domain o)) (interval-at i rest value.0 whole value.1)
     ∙ ap (λ v. domain_set v) (sym value.1)
   where
@@ -174,7 +197,8 @@ value-at (RangeOption i) o rest whole free =
   where
     range_set : Option Span → Option (Options × List ℕ)
     range_set v = Some (record o { range = v }, rest)
-value-at NoErrorOption o rest whole free = ap (λ t. cond t None (Some (with_no_error o, rest))) (not_true o.no_error free)
+value-at NoErrorOption o rest whole free =
+    ap (λ t. cond t None (Some (with_no_error o, rest))) (not_true o.no_error free)
 
 -- an option that is read, as it is written
 pub record Added (text : List ℕ) (o new : Options) (rest : List ℕ) : Type 0 where
@@ -184,6 +208,7 @@ pub record Added (text : List ℕ) (o new : Options) (rest : List ℕ) : Type 0 
   pub free : is_free written o ≡ true
   pub made : new ≡ added written o
 
+-- a text behind a byte begins with it
 byte-is : (mark : ℕ) (text inside : List ℕ) → behind_byte mark text ≡ Some inside → text ≡ mark ∷ inside
 byte-is mark [] inside e = cc
 byte-is mark (b ∷ text) inside e = go (b == mark) refl e
@@ -200,10 +225,14 @@ record UnitsWritten (text rest : List ℕ) (u : Units) : Type 0 where
   clear : (lacks 59 in_unit && lacks 93 out_unit) ≡ true
   value : u ≡ units_by in_unit out_unit
 
+-- units that are read are written so
 units-is : (text rest : List ℕ) (u : Units) → units_at text ≡ Some (u, rest) → UnitsWritten text rest u
 units-is text rest u e =
-    let one = bind_some (behind_byte 91 text) (λ inside. cut_at 59 inside >>= (λ first. cut_at 93 first.1 >>= (λ second. Some (units_by first.0 second.0, second.1)))) (u, rest) e in
-    let two = bind_some (cut_at 59 one.0) (λ first. cut_at 93 first.1 >>= (λ second. Some (units_by first.0 second.0, second.1))) (u, rest) one.2 in
+    let one = bind_some (behind_byte 91 text)
+    (λ inside. cut_at 59 inside
+    >>= (λ first. cut_at 93 first.1 >>= (λ second. Some (units_by first.0 second.0, second.1)))) (u, rest) e in
+    let two = bind_some (cut_at 59 one.0)
+    (λ first. cut_at 93 first.1 >>= (λ second. Some (units_by first.0 second.0, second.1))) (u, rest) one.2 in
     let three = bind_some (cut_at 93 two.0.1) (λ second. Some (units_by two.0.0 second.0, second.1)) (u, rest) two.2 in
     done one.0 two.0.0 two.0.1 three.0.0 three.0.1 one.1 two.1 three.1 three.2
   where
@@ -229,16 +258,19 @@ units-is text rest u e =
 
 -- where an option with a value is taken, it is free, and the value is read
 taken : {A : Type 0} (had : Bool) (put : A → Options × List ℕ) (given : Option A) (made : Options × List ℕ)
-    → cond had None (option_map put given) ≡ Some made → (not had ≡ true) × ((x : A) × (given ≡ Some x) × (put x ≡ made))
+    → cond had None (option_map put given) ≡ Some made
+    → (not had ≡ true) × ((x : A) × (given ≡ Some x) × (put x ≡ made))
 taken true put given made e = cc
 taken false put given made e = (refl, mapped_some put given made e)
 
 -- `noerror` stands apart
 apart : (text : List ℕ) → choice_at text ≡ Some NoError → stands_apart (behind NoError text) ≡ true
-apart text e = go (begins_with UnitsChoice text) (begins_with Domain text) (begins_with Range text) (begins_with NoError text) (stands_apart (behind NoError text)) e
+apart text e = go (begins_with UnitsChoice text) (begins_with Domain text) (begins_with Range text)
+    (begins_with NoError text) (stands_apart (behind NoError text)) e
   where
     go : (u d r n s : Bool)
-        → cond u (Some UnitsChoice) (cond d (Some Domain) (cond r (Some Range) (cond (n && s) (Some NoError) None))) ≡ Some NoError
+        → cond u (Some UnitsChoice) (cond d (Some Domain) (cond r (Some Range) (cond (n && s) (Some NoError) None)))
+        ≡ Some NoError
         → s ≡ true
     go true d r n s e = cc
     go false true r n s e = cc
@@ -254,8 +286,10 @@ record Spanned (text rest : List ℕ) (put : Option Span → Options) (new : Opt
   whole : is_interval written ≡ true
   made : new ≡ put (span_of written)
 
+-- so is a span
 spanned : (text rest : List ℕ) (put : Option Span → Options) (new : Options) (s : Span) (left : List ℕ)
-    → interval_at text ≡ Some (s, left) → ◌≡◌ {A = Options × List ℕ} (put (Some s), left) (new, rest) → Spanned text rest put new
+    → interval_at text ≡ Some (s, left) → ◌≡◌ {A = Options × List ℕ} (put (Some s), left) (new, rest)
+    → Spanned text rest put new
 spanned text rest put new s left value made =
     let is : Interval text left s = interval-is text left s value in
     record {
@@ -265,10 +299,12 @@ spanned text rest put new s left value made =
       made = sym (ap (λ (p : Options × List ℕ). p.0) made) ∙ ap put (sym is.value);
     }
 
+-- so is the value of each option
 pub value-is : (c : Choice) (text : List ℕ) (o new : Options) (rest : List ℕ) → choice_at text ≡ Some c
     → with_choice c o (behind c text) ≡ Some (new, rest) → Added text o new rest
 value-is UnitsChoice text o new rest begins e =
-    let front : text ≡ codes "units=" ++ behind UnitsChoice text = starts-is text (codes "units=") (begins-choice_at text (choice_at text) UnitsChoice refl begins) in
+    let front : text ≡ codes "units=" ++ behind UnitsChoice text =
+    starts-is text (codes "units=") (begins-choice_at text (choice_at text) UnitsChoice refl begins) in
     let read = taken (is_some o.units) (with_units o) (units_at (behind UnitsChoice text)) (new, rest) e in
     done front read.0 read.1.0.0 read.1.0.1 read.1.1 read.1.2
   where
@@ -281,7 +317,8 @@ value-is UnitsChoice text o new rest begins e =
         let new_is : ◌≡◌ {A = Options} (record o { units = Some u }) new = ap (λ (p : Options × List ℕ). p.0) made in
         record {
           written = UnitsOption is.in_unit is.out_unit;
-          spelled = front ∙ ap (λ t. codes "units=" ++ t) is.spelled ∙ ap (λ t. option (UnitsOption is.in_unit is.out_unit) t) left_is;
+          spelled = front ∙ ap (λ t. codes "units=" ++ t) is.spelled
+              ∙ ap (λ t. option (UnitsOption is.in_unit is.out_unit) t) left_is;
           whole = is.clear;
           free = free;
           made = sym new_is ∙ ap (λ (v : Units). record o { units = Some v }) is.value;
@@ -313,7 +350,8 @@ value-is Range text o new rest begins e =
       made = is.made;
     }
 value-is NoError text o new rest begins e =
-    let front : text ≡ codes "noerror" ++ behind NoError text = starts-is text (codes "noerror") (begins-choice_at text (choice_at text) NoError refl begins) in
+    let front : text ≡ codes "noerror" ++ behind NoError text =
+    starts-is text (codes "noerror") (begins-choice_at text (choice_at text) NoError refl begins) in
     go o.no_error refl e front
   where
     go : (t : Bool) → o.no_error ≡ t
@@ -322,7 +360,8 @@ value-is NoError text o new rest begins e =
         → Added text o new rest
     go true f e front = cc
     go false f e front =
-        let pair : (with_no_error o ≡ new) × (behind NoError text ≡ rest) = one_pair (with_no_error o) new (behind NoError text) rest e in
+        let pair : (with_no_error o ≡ new) × (behind NoError text ≡ rest) =
+        one_pair (with_no_error o) new (behind NoError text) rest e in
         record {
           written = NoErrorOption;
           spelled = front ∙ ap (λ t. codes "noerror" ++ t) pair.1;

@@ -12,13 +12,16 @@ use Rattle.def_entry.specs.declared.fault.EntryFault.TheVariants as fault
 use Rattle.def_entry.specs.declared.key.Key.{Key}
 use Rattle.def_entry.specs.declared.key.Kind.{Kind}
 use Rattle.def_entry.specs.declared.key.Kind.TheVariants as kind
-use Rattle.def_entry.specs.Entries.{Entry, FunctionDef, What, Primitive, Dimensionless, Body, Function, Alias, Table, ListOf}
+use Rattle.def_entry.specs.Entries.{Entry, FunctionDef, What, Primitive, Dimensionless, Body, Function, Alias, Table}
+use Rattle.def_entry.specs.Entries.{ListOf}
 use Rattle.def_entry.specs.FormGrammar.{IsAlias, IsBracketed, IsTrimmed, IsWritten}
-use Rattle.def_entry.specs.FormGrammar.{WrittenForm, PrimitiveForm, DimensionlessForm, BodyForm, FunctionForm, AliasForm, TableForm, ListForm}
+use Rattle.def_entry.specs.FormGrammar.{WrittenForm, PrimitiveForm, DimensionlessForm, BodyForm, FunctionForm}
+use Rattle.def_entry.specs.FormGrammar.{AliasForm, TableForm, ListForm}
 use Rattle.def_entry.specs.Forms.{Form, some_text}
 use Rattle.def_entry.specs.HeadingGrammar.{IsHeaded}
 use Rattle.def_entry.specs.Headings.{Heading}
 use Rattle.def_entry.specs.Keys.{key}
+use Rattle.def_entry.specs.Marks.{close_paren, open_paren}
 use Rattle.def_entry.specs.Options.{Units}
 use Rattle.def_entry.specs.PointGrammar.{AreWrittenPoints}
 use Rattle.def_entry.specs.Reading.{entry_of, has_entry}
@@ -27,7 +30,7 @@ use Rattle.def_entry.specs.Reading.{entry_of, has_entry}
 
 -- the text of a function has this name: its parameter, or the target of an alias
 pub data HasInnerName (text w : List ℕ) : Type 0 where
-  Parameter : (inside behind : List ℕ) → IsBracketed 40 41 text inside behind → IsTrimmed inside w
+  Parameter : (inside behind : List ℕ) → IsBracketed open_paren close_paren text inside behind → IsTrimmed inside w
       → HasInnerName text w
   Target : IsAlias text w → HasInnerName text w
 

@@ -1,11 +1,13 @@
 -- How what a line says of its key is written. Expressions are left aside: a form has their texts.
-use Rattle.std.specs.Prelude.{◌≡◌, ◌≢◌, ◌⊎◌, ◌++◌, ℕ, List, [], ◌∷◌, true, false, codes, nat_eq, map, Option, Some, None}
+use Rattle.std.specs.Prelude.{◌≡◌, ◌≢◌, ◌⊎◌, ◌++◌, ℕ, List, [], ◌∷◌, true, false, codes, nat_eq, map, Option, Some}
+use Rattle.std.specs.Prelude.{None}
 use Rattle.std.specs.List.{ends_with, join_with_byte, list_all}
 use Rattle.def_lines.specs.Blanks.{trimmed}
 use Rattle.def_entry.specs.declared.key.Kind.{Kind}
 use Rattle.def_entry.specs.declared.key.Kind.TheVariants as kind
 use Rattle.def_entry.specs.Cuts.{lacks}
 use Rattle.def_entry.specs.Forms.{Form}
+use Rattle.def_entry.specs.Marks.{close_bracket, close_paren, open_bracket, open_paren, semicolon}
 use Rattle.def_entry.specs.OptionGrammar.{AreOptions}
 
 pub data WrittenForm : Type 0 where
@@ -35,9 +37,9 @@ IsTrimmed text bare = (trimmed text ≡ bare) × (bare ≢ [])
 
 -- forward, or forward ";" inverse
 abbrev pub AreBodies : List ℕ → List ℕ → Option (List ℕ) → Type 0
-AreBodies text forward None = IsTrimmed text forward × (lacks 59 text ≡ true)
+AreBodies text forward None = IsTrimmed text forward × (lacks semicolon text ≡ true)
 AreBodies text forward (Some inverse) =
-    (front : List ℕ) × (behind : List ℕ) × (text ≡ front ++ (59 ∷ behind)) × (lacks 59 front ≡ true)
+    (front : List ℕ) × (behind : List ℕ) × (text ≡ front ++ (semicolon ∷ behind)) × (lacks semicolon front ≡ true)
     × IsTrimmed front forward × IsTrimmed behind inverse
 
 -- "(" parameter ")" options bodies
@@ -45,7 +47,7 @@ pub record IsFunction (text parameter : List ℕ) (form : Form) : Type 0 where
   pub inside : List ℕ
   pub behind : List ℕ
   pub bodies : List ℕ
-  pub bracketed : IsBracketed 40 41 text inside behind
+  pub bracketed : IsBracketed open_paren close_paren text inside behind
   pub parameter_is : IsTrimmed inside parameter
   pub options_are : AreOptions behind bodies form.options
   pub bodies_are : AreBodies bodies form.forward form.inverse
@@ -59,7 +61,7 @@ IsTarget text target =
 pub record IsAlias (text target : List ℕ) : Type 0 where
   pub inside : List ℕ
   pub behind : List ℕ
-  pub bracketed : IsBracketed 40 41 text inside behind
+  pub bracketed : IsBracketed open_paren close_paren text inside behind
   pub blank : trimmed inside ≡ []
   pub target_is : IsTarget (trimmed behind) target
   pub some : target ≢ []
@@ -67,14 +69,14 @@ pub record IsAlias (text target : List ℕ) : Type 0 where
 -- "[" unit "]" points
 pub record IsTable (text unit points : List ℕ) : Type 0 where
   pub inside : List ℕ
-  pub bracketed : IsBracketed 91 93 text inside points
+  pub bracketed : IsBracketed open_bracket close_bracket text inside points
   pub unit_is : IsTrimmed inside unit
 
 -- part { ";" part }
 pub record AreParts (text : List ℕ) (parts : List (List ℕ)) : Type 0 where
   pub pieces : List (List ℕ)
-  pub joined : text ≡ join_with_byte 59 pieces
-  pub clear : list_all (lacks 59) pieces ≡ true
+  pub joined : text ≡ join_with_byte semicolon pieces
+  pub clear : list_all (lacks semicolon) pieces ≡ true
   pub parts_are : parts ≡ map trimmed pieces
   pub some : text ≢ []
 

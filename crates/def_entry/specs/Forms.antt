@@ -2,6 +2,7 @@
 use Rattle.std.specs.Prelude.{ℕ, List, [], ◌∷◌, Option, Some, None}
 use Rattle.def_lines.specs.Blanks.{trimmed}
 use Rattle.def_entry.specs.Cuts.{cut_at}
+use Rattle.def_entry.specs.Marks.{semicolon}
 use Rattle.def_entry.specs.Options.{Options, options_at}
 use Rattle.def_entry.specs.Steps.{◌>>=◌}
 
@@ -30,4 +31,4 @@ form_parted options (Some parts) text = do
 unfoldable pub form_of : List ℕ → Option Form
 form_of text = do
   found ← options_at text
-  form_parted found.0 (cut_at 59 found.1) found.1
+  form_parted found.0 (cut_at semicolon found.1) found.1

@@ -7,6 +7,7 @@ use Rattle.def_lines.specs.Kinds.{kind_of}
 use Rattle.def_lines.specs.Parts.{is_begun}
 use Rattle.def_entry.specs.declared.key.Kind.TheVariants.{Unit as UnitKind, Prefix, Func, List as ListKind}
 use Rattle.def_entry.specs.Headings.{Heading, ends_head, ends_in_minus, heading, is_opened, stands_apart}
+use Rattle.def_entry.specs.Marks.{exclamation, minus_mark, plus_mark}
 use Rattle.def_entry.specs.Reading.{has_entry}
 
 -- what is before the name of a definition
@@ -31,19 +32,19 @@ pub data WrittenHeading : Type 0 where
 
 abbrev pub lead : Lead → List ℕ → List ℕ
 lead NoLead rest = rest
-lead (PlusLead blanks) rest = 43 ∷ (blanks ++ rest)
+lead (PlusLead blanks) rest = plus_mark ∷ (blanks ++ rest)
 
 abbrev pub bytes : WrittenHeading → List ℕ
 bytes (UnitHeading l name behind) = lead l (name ++ behind)
-bytes (PrefixHeading l name behind) = lead l (name ++ (45 ∷ behind))
+bytes (PrefixHeading l name behind) = lead l (name ++ (minus_mark ∷ behind))
 bytes (FuncHeading l name behind) = lead l (name ++ behind)
 bytes (ListHeading before between name behind) =
-    33 ∷ (before ++ (codes "unitlist" ++ (between ++ (name ++ behind))))
+    exclamation ∷ (before ++ (codes "unitlist" ++ (between ++ (name ++ behind))))
 
 -- a `!` or a `+` is at the front
 abbrev pub is_marked : List ℕ → Bool
 is_marked [] = false
-is_marked (b ∷ text) = b == 33 || b == 43
+is_marked (b ∷ text) = b == exclamation || b == plus_mark
 
 -- blanks are behind a leading `+`, all that are there; and none begins with a mark of its own
 abbrev pub is_lead : Lead → List ℕ → Bool
@@ -63,7 +64,7 @@ abbrev pub is_heading : WrittenHeading → Bool
 is_heading (UnitHeading l name behind) =
     is_lead l (name ++ behind) && is_head name && stands_apart behind && not (ends_in_minus name)
 is_heading (PrefixHeading l name behind) =
-    is_lead l (name ++ (45 ∷ behind)) && is_head name && stands_apart behind
+    is_lead l (name ++ (minus_mark ∷ behind)) && is_head name && stands_apart behind
 is_heading (FuncHeading l name behind) = is_lead l (name ++ behind) && is_head name && is_opened behind
 is_heading (ListHeading before between name behind) =
     list_all is_blank before

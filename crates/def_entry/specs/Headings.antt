@@ -1,6 +1,7 @@
 -- The head of a line: the kind of its key, its name, and what stands behind that, as they are computed.
 -- HeadingGrammar says how they are written.
-use Rattle.std.specs.Prelude.{◌==◌, ◌||◌, ◌&&◌, ℕ, List, [], ◌∷◌, Bool, true, false, length, drop, nat_lt, if◌then◌else◌}
+use Rattle.std.specs.Prelude.{◌==◌, ◌||◌, ◌&&◌, ℕ, List, [], ◌∷◌, Bool, true, false, length, drop, nat_lt}
+use Rattle.std.specs.Prelude.{if◌then◌else◌}
 use Rattle.std.specs.List.{before_first}
 use Rattle.units_io.specs.Blanks.{is_blank}
 use Rattle.def_lines.specs.Blanks.{after_blanks, trimmed}
@@ -8,6 +9,7 @@ use Rattle.def_lines.specs.Words.{behind_word, first_word}
 use Rattle.expr_tree.specs.Names.{base, last_byte}
 use Rattle.def_entry.specs.declared.key.Kind.{Kind}
 use Rattle.def_entry.specs.declared.key.Kind.TheVariants.{Unit as UnitKind, Prefix, Func, List as ListKind}
+use Rattle.def_entry.specs.Marks.{exclamation, minus_mark, open_bracket, open_paren, plus_mark}
 
 -- the kind of a line's key, its name, and the text of its entry
 pub record Heading : Type 0 where
@@ -17,7 +19,7 @@ pub record Heading : Type 0 where
 
 -- the byte `(` or `[`
 abbrev pub is_opening : ℕ → Bool
-is_opening b = b == 40 || b == 91
+is_opening b = b == open_paren || b == open_bracket
 
 -- a blank, `(` or `[`
 abbrev pub ends_head : ℕ → Bool
@@ -35,7 +37,7 @@ is_opened (b ∷ text) = is_opening b
 
 -- the last byte is `-`
 abbrev pub ends_in_minus : List ℕ → Bool
-ends_in_minus head = nat_lt 0 (length head) && last_byte head == 45
+ends_in_minus head = nat_lt 0 (length head) && last_byte head == minus_mark
 
 -- a head, and what stands behind it
 abbrev pub heading_of : List ℕ → List ℕ → Heading
@@ -63,9 +65,9 @@ list_heading directive =
 unfoldable pub heading : List ℕ → Heading
 heading [] = definition_heading []
 heading (b ∷ line) =
-    if b == 33
+    if b == exclamation
     then list_heading line
-    else (if b == 43 then definition_heading (after_blanks line) else definition_heading (b ∷ line))
+    else (if b == plus_mark then definition_heading (after_blanks line) else definition_heading (b ∷ line))
 
 -- the text of the entry that a line gives
 abbrev pub entry_text : List ℕ → List ℕ

@@ -1,11 +1,13 @@
 -- Intervals: `[` or `(`, an optional bound, `,`, an optional bound, and `]` or `)`.
-use Rattle.std.specs.Prelude.{◌==◌, ◌||◌, ◌+◌, ℕ, List, [], ◌∷◌, Bool, true, false, take, drop, if◌then◌else◌, Option, Some, None, option_map}
+use Rattle.std.specs.Prelude.{◌==◌, ◌||◌, ◌+◌, ℕ, List, [], ◌∷◌, Bool, true, false, take, drop, if◌then◌else◌, Option}
+use Rattle.std.specs.Prelude.{Some, None, option_map}
 use Rattle.std.specs.List.{position, slice_index}
 use Rattle.def_lines.specs.Blanks.{trimmed}
 use Rattle.frac128.specs.Fraction.{Fraction}
 use Rattle.def_entry.specs.declared.entry.Bound.{Bound}
 use Rattle.def_entry.specs.declared.entry.Span.{Span}
 use Rattle.def_entry.specs.Cuts.{cut_at}
+use Rattle.def_entry.specs.Marks.{close_bracket, close_paren, comma, open_bracket, open_paren}
 use Rattle.def_entry.specs.Numbers.{number_of}
 use Rattle.def_entry.specs.Steps.{◌>>=◌}
 
@@ -13,17 +15,17 @@ use Rattle.def_entry.specs.Steps.{◌>>=◌}
 abbrev pub opened : List ℕ → Option (Bool × List ℕ)
 opened [] = None
 opened (b ∷ text) =
-    if b == 91 then Some (true, text) else (if b == 40 then Some (false, text) else None)
+    if b == open_bracket then Some (true, text) else (if b == open_paren then Some (false, text) else None)
 
 -- the byte `]` or `)`
 abbrev pub is_closing : ℕ → Bool
-is_closing b = b == 93 || b == 41
+is_closing b = b == close_bracket || b == close_paren
 
 -- what stands before the first `]` or `)`, whether that is `]`, and what stands behind it
 abbrev pub closed : List ℕ → Option (List ℕ × Bool × List ℕ)
 closed text =
     option_map
-    (λ n. (take n text, slice_index text n == 93, drop (n + 1) text))
+    (λ n. (take n text, slice_index text n == close_bracket, drop (n + 1) text))
     (position is_closing text)
 
 -- a bound at this number
@@ -39,7 +41,7 @@ bound_in is_in (b ∷ text) = option_map (λ x. Some (bound is_in x)) (number_of
 unfoldable pub interval_at : List ℕ → Option (Span × List ℕ)
 interval_at text = do
   front ← opened text
-  parts ← cut_at 44 front.1
+  parts ← cut_at comma front.1
   back ← closed parts.1
   low ← bound_in front.0 (trimmed parts.0)
   high ← bound_in back.1 (trimmed back.0)

@@ -6,6 +6,7 @@ use Rattle.expr_tree.specs.Names.{is_name, last_byte}
 use Rattle.def_entry.specs.declared.key.Key.{Key}
 use Rattle.def_entry.specs.declared.key.Kind.{Kind}
 use Rattle.def_entry.specs.declared.key.Kind.TheVariants as kind
+use Rattle.def_entry.specs.Marks.{close_paren, exclamation, minus_mark}
 
 -- the key of this kind and this name
 abbrev pub key : Kind → List ℕ → Key
@@ -33,9 +34,9 @@ IsNoKey bytes = (k : Key) → IsNamed k → key_text k ≢ bytes
 -- the kind of key that the last and the first byte of a text tell
 abbrev pub kind_shown : List ℕ → Kind
 kind_shown bytes =
-    if last_byte bytes == 41 then kind.Func
-    else (if last_byte bytes == 45 then kind.Prefix
-    else (if slice_index bytes 0 == 33 then kind.List
+    if last_byte bytes == close_paren then kind.Func
+    else (if last_byte bytes == minus_mark then kind.Prefix
+    else (if slice_index bytes 0 == exclamation then kind.List
     else kind.Unit))
 
 -- what stands in the place of the name in the text of a key of this kind

@@ -10,6 +10,7 @@ pub mod Headings
 pub mod Intervals
 pub mod KeyOrder
 pub mod Keys
+pub mod Marks
 pub mod Numbers
 pub mod OptionGrammar
 pub mod Options

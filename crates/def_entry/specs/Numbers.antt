@@ -6,6 +6,7 @@ use Rattle.frac128.specs.Decimals.{Decimal, read, value_of}
 use Rattle.frac128.specs.Fraction.{Fraction, negated}
 use Rattle.frac128.specs.Steps.{over}
 use Rattle.def_entry.specs.Cuts.{cut_at}
+use Rattle.def_entry.specs.Marks.{bar_mark, minus_mark, plus_mark}
 use Rattle.def_entry.specs.Steps.{◌>>=◌}
 
 -- the value of what was read, if it has one
@@ -31,12 +32,12 @@ parted_value (Some parts) text = quotient_value parts.0 parts.1
 
 -- the value of a number without a sign
 abbrev pub unsigned_value : List ℕ → Option Fraction
-unsigned_value text = parted_value (cut_at 124 text) text
+unsigned_value text = parted_value (cut_at bar_mark text) text
 
 -- the value of a number
 unfoldable pub number_of : List ℕ → Option Fraction
 number_of [] = None
 number_of (b ∷ text) =
-    if b == 45
+    if b == minus_mark
     then option_map negated (unsigned_value text)
-    else (if b == 43 then unsigned_value text else unsigned_value (b ∷ text))
+    else (if b == plus_mark then unsigned_value text else unsigned_value (b ∷ text))

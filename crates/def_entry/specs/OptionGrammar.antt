@@ -10,6 +10,7 @@ use Rattle.def_entry.specs.declared.entry.Span.{Span}
 use Rattle.def_entry.specs.Cuts.{lacks}
 use Rattle.def_entry.specs.Headings.{stands_apart}
 use Rattle.def_entry.specs.Intervals.{bound_in, is_closing}
+use Rattle.def_entry.specs.Marks.{close_bracket, close_paren, comma, open_bracket, open_paren, semicolon}
 use Rattle.def_entry.specs.Options.{Options, Units, options_at}
 use Rattle.def_entry.specs.Steps.{◌>>=◌}
 
@@ -38,19 +39,19 @@ pub data WrittenOptions : Type 0 where
 -- the bytes `[` and `(`, and `]` and `)`
 
 abbrev pub opening : Bool → ℕ
-opening is_closed = if is_closed then 91 else 40
+opening is_closed = if is_closed then open_bracket else open_paren
 
 abbrev pub closing : Bool → ℕ
-closing is_closed = if is_closed then 93 else 41
+closing is_closed = if is_closed then close_bracket else close_paren
 
 -- the bytes of each, before others
 
 abbrev pub interval : WrittenInterval → List ℕ → List ℕ
-interval i rest = opening i.low_closed ∷ (i.low ++ (44 ∷ (i.high ++ (closing i.high_closed ∷ rest))))
+interval i rest = opening i.low_closed ∷ (i.low ++ (comma ∷ (i.high ++ (closing i.high_closed ∷ rest))))
 
 abbrev pub option : WrittenOption → List ℕ → List ℕ
 option (UnitsOption in_unit out_unit) rest =
-    codes "units=[" ++ (in_unit ++ (59 ∷ (out_unit ++ (93 ∷ rest))))
+    codes "units=[" ++ (in_unit ++ (semicolon ∷ (out_unit ++ (close_bracket ∷ rest))))
 option (DomainOption i) rest = codes "domain=" ++ interval i rest
 option (RangeOption i) rest = codes "range=" ++ interval i rest
 option NoErrorOption rest = codes "noerror" ++ rest
@@ -69,12 +70,12 @@ span_of i = do
 
 -- the low bound runs to the first `,`, the high one to the first bracket behind that
 abbrev pub is_interval : WrittenInterval → Bool
-is_interval i = lacks 44 i.low && list_all (λ b. not (is_closing b)) i.high && is_some (span_of i)
+is_interval i = lacks comma i.low && list_all (λ b. not (is_closing b)) i.high && is_some (span_of i)
 
 -- the option is whole, before these bytes: the in unit runs to the first `;`, the out unit to the
 -- first `]` behind that, and a blank or the end is behind `noerror`
 abbrev pub is_whole : WrittenOption → List ℕ → Bool
-is_whole (UnitsOption in_unit out_unit) rest = lacks 59 in_unit && lacks 93 out_unit
+is_whole (UnitsOption in_unit out_unit) rest = lacks semicolon in_unit && lacks close_bracket out_unit
 is_whole (DomainOption i) rest = is_interval i
 is_whole (RangeOption i) rest = is_interval i
 is_whole NoErrorOption rest = stands_apart rest

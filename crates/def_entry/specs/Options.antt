@@ -1,5 +1,6 @@
 -- The options of a function, as they are computed. OptionGrammar says how they are written.
-use Rattle.std.specs.Prelude.{◌&&◌, ℕ, zero, suc, List, Bool, true, false, length, drop, codes, nat_eq, if◌then◌else◌, Option, Some, None, option_map}
+use Rattle.std.specs.Prelude.{◌&&◌, ℕ, zero, suc, List, Bool, true, false, length, drop, codes, nat_eq, if◌then◌else◌}
+use Rattle.std.specs.Prelude.{Option, Some, None, option_map}
 use Rattle.std.specs.List.{starts_with}
 use Rattle.std.specs.Option.{is_some}
 use Rattle.def_lines.specs.Blanks.{after_blanks, trimmed}
@@ -9,6 +10,7 @@ use Rattle.def_entry.specs.declared.options.Choice.TheVariants.{Units as UnitsCh
 use Rattle.def_entry.specs.Cuts.{behind_byte, cut_at}
 use Rattle.def_entry.specs.Headings.{stands_apart}
 use Rattle.def_entry.specs.Intervals.{interval_at}
+use Rattle.def_entry.specs.Marks.{close_bracket, open_bracket, semicolon}
 use Rattle.def_entry.specs.Steps.{◌>>=◌}
 
 -- the texts of the in unit and of the out unit, each of which may be empty
@@ -59,9 +61,9 @@ choice_at text =
 -- `[A;B]`: A runs to the next `;`, and B from there to the next `]`
 abbrev pub units_at : List ℕ → Option (Units × List ℕ)
 units_at text = do
-  inside ← behind_byte 91 text
-  first ← cut_at 59 inside
-  second ← cut_at 93 first.1
+  inside ← behind_byte open_bracket text
+  first ← cut_at semicolon inside
+  second ← cut_at close_bracket first.1
   Some (record { in_unit = trimmed first.0; out_unit = trimmed second.0 }, second.1)
 
 -- the options with one more, whose value stands at the front, and what stands behind it; none where

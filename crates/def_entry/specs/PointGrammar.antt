@@ -1,11 +1,13 @@
 -- How the points of a table are written: pairs of numbers, with an optional comma behind each pair.
-use Rattle.std.specs.Prelude.{◌≡◌, ◌↔◌, ◌⊎◌, ◌==◌, ◌||◌, ◌&&◌, ◌++◌, ℕ, List, [], ◌∷◌, Bool, true, not, codes, Option, Some}
+use Rattle.std.specs.Prelude.{◌≡◌, ◌↔◌, ◌⊎◌, ◌==◌, ◌||◌, ◌&&◌, ◌++◌, ℕ, List, [], ◌∷◌, Bool, true, not, codes, Option}
+use Rattle.std.specs.Prelude.{Some}
 use Rattle.std.specs.List.{list_all}
 use Rattle.std.specs.Option.{is_some}
 use Rattle.units_io.specs.Blanks.{is_blank}
 use Rattle.def_lines.specs.Words.{is_empty}
 use Rattle.piecewise.specs.Lines.{Point}
 use Rattle.def_entry.specs.Headings.{stands_apart}
+use Rattle.def_entry.specs.Marks.{comma}
 use Rattle.def_entry.specs.Numbers.{number_of}
 use Rattle.def_entry.specs.PointLists.{points_of}
 use Rattle.def_entry.specs.Steps.{◌>>=◌}
@@ -26,7 +28,7 @@ pub data WrittenPoints : Type 0 where
 
 abbrev pub pair_end : PairEnd → List ℕ → List ℕ
 pair_end Apart rest = rest
-pair_end (Comma blanks) rest = blanks ++ (44 ∷ rest)
+pair_end (Comma blanks) rest = blanks ++ (comma ∷ rest)
 
 abbrev pub points : WrittenPoints → List ℕ
 points (NoPair blanks) = blanks
@@ -34,7 +36,7 @@ points (NextPair before x gap y end rest) = before ++ (x ++ (gap ++ (y ++ pair_e
 
 -- a blank or a comma
 abbrev pub ends_number : ℕ → Bool
-ends_number b = is_blank b || b == 44
+ends_number b = is_blank b || b == comma
 
 -- a number runs to the first blank or comma
 abbrev pub is_number : List ℕ → Bool

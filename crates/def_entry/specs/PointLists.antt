@@ -6,6 +6,7 @@ use Rattle.def_lines.specs.Words.{words_of}
 use Rattle.piecewise.specs.Lines.{Point}
 use Rattle.piecewise.specs.Points.{is_table}
 use Rattle.def_entry.specs.declared.options.Choice.TheVariants.{NoError}
+use Rattle.def_entry.specs.Marks.{comma}
 use Rattle.def_entry.specs.Numbers.{number_of}
 use Rattle.def_entry.specs.Options.{begins_with_no_error, behind}
 use Rattle.def_entry.specs.Steps.{◌>>=◌}
@@ -37,7 +38,7 @@ points_between (run ∷ next ∷ runs) = do
 
 -- the byte `,`
 abbrev pub is_comma : ℕ → Bool
-is_comma b = b == 44
+is_comma b = b == comma
 
 -- a text without a leading `noerror`
 abbrev pub behind_no_error : List ℕ → List ℕ

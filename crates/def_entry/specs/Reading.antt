@@ -1,5 +1,6 @@
 -- The key and the entry of a line, as they are computed. EntryGrammar says how a line is written that has them.
-use Rattle.std.specs.Prelude.{◌≡◌, ◌↔◌, ◌==◌, ◌-◌, ℕ, List, [], ◌∷◌, Bool, true, false, length, take, codes, nat_eq, if◌then◌else◌, Option, Some, None, Result, Ok, Err}
+use Rattle.std.specs.Prelude.{◌≡◌, ◌↔◌, ◌==◌, ◌-◌, ℕ, List, [], ◌∷◌, Bool, true, false, length, take, codes, nat_eq}
+use Rattle.std.specs.Prelude.{if◌then◌else◌, Option, Some, None, Result, Ok, Err}
 use Rattle.std.specs.List.{ends_with, slice_split}
 use Rattle.units_io.specs.Outcomes.{◌>>=◌}
 use Rattle.def_lines.specs.Blanks.{trimmed}
@@ -14,6 +15,7 @@ use Rattle.def_entry.specs.declared.fault.EntryFault.{EntryFault}
 use Rattle.def_entry.specs.declared.fault.EntryFault.TheVariants.{BadForm, BadTable}
 use Rattle.def_entry.specs.Cuts.{cut_at}
 use Rattle.def_entry.specs.Entries.{Entry, What, Primitive, Dimensionless, Body, Function, Alias, Table, ListOf}
+use Rattle.def_entry.specs.Marks.{close_bracket, close_paren, open_paren, semicolon}
 use Rattle.def_entry.specs.Outcomes.{named, or_fault, tree_in}
 use Rattle.def_entry.specs.Forms.{Form, form_of, some_text}
 use Rattle.def_entry.specs.Headings.{Heading, entry_text, heading}
@@ -130,11 +132,11 @@ parted_table found = do
 abbrev pub func_in : List ℕ → List ℕ → Result What EntryFault
 func_in name [] = Err BadForm
 func_in name (b ∷ text) =
-    if b == 40 then parted_call name (cut_at 41 text) else parted_table (cut_at 93 text)
+    if b == open_paren then parted_call name (cut_at close_paren text) else parted_table (cut_at close_bracket text)
 
 -- the byte `;`
 abbrev pub is_semicolon : ℕ → Bool
-is_semicolon b = b == 59
+is_semicolon b = b == semicolon
 
 -- the trees of some parts, from left to right
 abbrev pub trees_in : List (List ℕ) → Result (List Syntax) EntryFault

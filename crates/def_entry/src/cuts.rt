@@ -3,12 +3,12 @@
 ghost use Rattle.std.specs.Prelude.{◌≡◌, ◌==◌, ◌<◌, length, option_map, IfSome};
 ghost use Rattle.std.specs.List.{position};
 ghost use Rattle.std.specs.Option.{option_copied};
-ghost use Rattle.def_entry.specs.Cuts.{behind_byte as behind_first_byte, cut_at as cut_at_byte};
+ghost use Rattle.def_entry.specs.Cuts as spec;
 ghost use Rattle.def_entry.specs.Seen.{seen_pair};
 
 // What stands behind the byte that the text begins with.
 pub(crate) fn behind_byte(text: &[u8], mark: u8) -> Option<&[u8]>
-    ensures { option_copied result ≡ behind_first_byte mark text.now }
+    ensures { option_copied result ≡ spec.behind_byte mark text.now }
 {
     let (first, behind) = text.split_first()?;
     if *first == mark { Some(behind) } else { None }
@@ -16,7 +16,7 @@ pub(crate) fn behind_byte(text: &[u8], mark: u8) -> Option<&[u8]>
 
 /// What stands before the first such byte, and what stands behind it, or `None` where there is none.
 pub fn cut_at(text: &[u8], mark: u8) -> Option<(&[u8], &[u8])>
-    ensures { option_map seen_pair result ≡ cut_at_byte mark text.now }
+    ensures { option_map seen_pair result ≡ spec.cut_at mark text.now }
 {
     match place_of(text, mark) {
         Some(place) => Some((&text[..place], &text[place + 1..])),

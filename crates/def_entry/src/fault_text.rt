@@ -2,7 +2,7 @@
 
 ghost use Rattle.std.specs.Prelude.{◌≡◌, ◌≢◌, true, IfOk};
 ghost use Rattle.expr_tree.specs.declared.fault.ParseFault.TheVariants as parse;
-ghost use Rattle.def_entry.specs.Faults.{entry_fault_text as fault_text, is_told, parse_fault_text as parse_text};
+ghost use Rattle.def_entry.specs.Faults as spec;
 
 use crate::fault::EntryFault;
 use crate::joined::joined;
@@ -14,8 +14,8 @@ use units_io::Text;
 /// `syntax error at ` and the place, `numeral too long`, or `nested too deep`. The only error is
 /// want of memory.
 pub fn entry_fault_text(alloc: Global, fault: &EntryFault) -> Result<Text, AllocError>
-    requires { is_told fault.now ≡ true }
-    ensures { IfOk result (λ text. text ≡ fault_text fault.now) }
+    requires { spec.is_told fault.now ≡ true }
+    ensures { IfOk result (λ text. text ≡ spec.entry_fault_text fault.now) }
 {
     match fault {
         EntryFault::BadName(name) => joined(alloc, b"bad name: ", name.as_bytes()),
@@ -30,7 +30,7 @@ pub fn entry_fault_text(alloc: Global, fault: &EntryFault) -> Result<Text, Alloc
 /// `nested too deep`. The only error is want of memory.
 pub fn parse_fault_text(alloc: Global, fault: ParseFault) -> Result<Text, AllocError>
     requires { fault ≢ parse.OutOfMemory }
-    ensures { IfOk result (λ text. text ≡ parse_text fault) }
+    ensures { IfOk result (λ text. text ≡ spec.parse_fault_text fault) }
 {
     match fault {
         ParseFault::Syntax(place) => {

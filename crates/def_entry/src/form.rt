@@ -2,7 +2,7 @@
 
 ghost use Rattle.std.specs.Prelude.{◌≡◌, option_map};
 ghost use Rattle.std.specs.Option.{option_copied};
-ghost use Rattle.def_entry.specs.Forms.{form_of as form_of_text, form_parted as form_parted_by, some_text as some_text_of};
+ghost use Rattle.def_entry.specs.Forms as spec;
 ghost use Rattle.def_entry.specs.Seen.{seen_form, seen_options, seen_pair};
 
 use crate::cuts::cut_at;
@@ -21,7 +21,7 @@ pub(crate) struct Form<'a> {
 // whole or stands twice, or a body is empty.
 #[tactic(auto, unfolding(crate::specs::Forms::form_of))]
 pub(crate) fn form_of(text: &[u8]) -> Option<Form<'_>>
-    ensures { option_map seen_form result ≡ form_of_text text.now }
+    ensures { option_map seen_form result ≡ spec.form_of text.now }
 {
     let Some((options, bodies)) = options_at(text) else {
         return None;
@@ -49,7 +49,7 @@ pub(crate) fn form_of(text: &[u8]) -> Option<Form<'_>>
 
 // The text, but none where it is empty.
 pub(crate) fn some_text(text: &[u8]) -> Option<&[u8]>
-    ensures { option_copied result ≡ some_text_of text.now }
+    ensures { option_copied result ≡ spec.some_text text.now }
 {
     if text.is_empty() { None } else { Some(text) }
 }

@@ -2,7 +2,7 @@
 
 ghost use Rattle.std.specs.Prelude.{◌≡◌, ◌<◌, length, option_map, IfSome};
 ghost use Rattle.std.specs.List.{position};
-ghost use Rattle.def_entry.specs.Intervals.{bound_in as bound_of, closed as closed_part, interval_at as interval_of, is_closing as is_closing_byte, opened as opened_part};
+ghost use Rattle.def_entry.specs.Intervals as spec;
 ghost use Rattle.def_entry.specs.Seen.{seen_behind, seen_closed};
 
 use crate::cuts::cut_at;
@@ -13,7 +13,7 @@ use def_lines::trim;
 // The interval at the front, and what stands behind it.
 #[tactic(auto, unfolding(crate::specs::Intervals::interval_at))]
 pub(crate) fn interval_at(text: &[u8]) -> Option<(Span, &[u8])>
-    ensures { option_map seen_behind result ≡ interval_of text.now }
+    ensures { option_map seen_behind result ≡ spec.interval_at text.now }
 {
     let (low_closed, inside) = opened(text)?;
     let (low, behind) = cut_at(inside, b',')?;
@@ -25,7 +25,7 @@ pub(crate) fn interval_at(text: &[u8]) -> Option<(Span, &[u8])>
 
 // Whether the bracket at the front is `[`, and what stands behind it.
 fn opened(text: &[u8]) -> Option<(bool, &[u8])>
-    ensures { option_map seen_behind result ≡ opened_part text.now }
+    ensures { option_map seen_behind result ≡ spec.opened text.now }
 {
     match text.split_first()? {
         (b'[', behind) => Some((true, behind)),
@@ -36,7 +36,7 @@ fn opened(text: &[u8]) -> Option<(bool, &[u8])>
 
 // What stands before the first `]` or `)`, whether that is `]`, and what stands behind it.
 fn closed(text: &[u8]) -> Option<(&[u8], bool, &[u8])>
-    ensures { option_map seen_closed result ≡ closed_part text.now }
+    ensures { option_map seen_closed result ≡ spec.closed text.now }
 {
     match closing_place(text) {
         Some(place) => Some((&text[..place], text[place] == b']', &text[place + 1..])),
@@ -46,7 +46,7 @@ fn closed(text: &[u8]) -> Option<(&[u8], bool, &[u8])>
 
 // The place of the first `]` or `)`.
 fn closing_place(text: &[u8]) -> Option<usize>
-    ensures is { result ≡ position is_closing_byte text.now }
+    ensures is { result ≡ position spec.is_closing text.now }
     ensures within { IfSome result (λ place. place < length text.now) }
 {
     text.iter().position(|byte| is_closing(*byte))
@@ -54,14 +54,14 @@ fn closing_place(text: &[u8]) -> Option<usize>
 
 // Whether the byte is `]` or `)`.
 fn is_closing(byte: u8) -> bool
-    ensures { result ≡ is_closing_byte byte }
+    ensures { result ≡ spec.is_closing byte }
 {
     byte == b']' || byte == b')'
 }
 
 // A bound, if one stands there; none at all where what stands there is no number.
 fn bound_in(closed: bool, text: &[u8]) -> Option<Option<Bound>>
-    ensures { result ≡ bound_of closed text.now }
+    ensures { result ≡ spec.bound_in closed text.now }
 {
     if text.is_empty() {
         return Some(None);

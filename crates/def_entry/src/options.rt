@@ -1,8 +1,7 @@
 //! The options of a function.
 
 ghost use Rattle.std.specs.Prelude.{◌≡◌, option_map, true};
-ghost use Rattle.def_entry.specs.Options.{begins_with as begins_with_word, begins_with_no_error as begins_with_no_error_word, behind as behind_word_of, choice_at as choice_of};
-ghost use Rattle.def_entry.specs.Options.{no_options, options_at as options_of, units_at as units_of, with_choice, word as word_of_choice};
+ghost use Rattle.def_entry.specs.Options as spec;
 ghost use Rattle.def_entry.specs.Seen.{seen_found, seen_options, seen_units_found};
 
 use crate::cuts::{behind_byte, cut_at};
@@ -42,7 +41,7 @@ pub(crate) struct Options<'a> {
 // The options at the front, blanks passed over, and what stands behind them. None where one has no
 // value, or stands twice.
 pub(crate) fn options_at(text: &[u8]) -> Option<(Options<'_>, &[u8])>
-    ensures { option_map seen_found result ≡ options_of text.now }
+    ensures { option_map seen_found result ≡ spec.options_at text.now }
 {
     let mut options = Options::new();
     let mut rest = text;
@@ -59,7 +58,7 @@ pub(crate) fn options_at(text: &[u8]) -> Option<(Options<'_>, &[u8])>
 impl<'a> Options<'a> {
     // None of them.
     fn new() -> Options<'a>
-        ensures { seen_options result ≡ no_options }
+        ensures { seen_options result ≡ spec.no_options }
     {
         Options {
             units: None,
@@ -72,7 +71,8 @@ impl<'a> Options<'a> {
     // Adds one more, whose value stands at the front, and gives what stands behind that. None where
     // it has no value, or the same option stood before.
     fn add(&mut self, choice: Choice, text: &'a [u8]) -> Option<&'a [u8]>
-        ensures { option_map (λ behind. (seen_options self.new, behind.now)) result ≡ with_choice choice (seen_options self.old) text.now }
+        ensures { option_map (λ behind. (seen_options self.new, behind.now)) result
+            ≡ spec.with_choice choice (seen_options self.old) text.now }
     {
         match choice {
             Choice::Units if self.units.is_none() => {
@@ -106,7 +106,7 @@ impl<'a> Options<'a> {
 impl Choice {
     // What the option begins with.
     fn word(self) -> &'static [u8]
-        ensures { result.now ≡ word_of_choice self }
+        ensures { result.now ≡ spec.word self }
     {
         match self {
             Choice::Units => b"units=",
@@ -118,15 +118,15 @@ impl Choice {
 
     // Whether the text begins with the word of the option.
     fn begins(self, text: &[u8]) -> bool
-        ensures { result ≡ begins_with_word self text.now }
+        ensures { result ≡ spec.begins_with self text.now }
     {
         text.starts_with(self.word())
     }
 
     // What stands behind the word of the option.
     pub(crate) fn behind(self, text: &[u8]) -> &[u8]
-        requires { begins_with_word self text.now ≡ true }
-        ensures { result.now ≡ behind_word_of self text.now }
+        requires { spec.begins_with self text.now ≡ true }
+        ensures { result.now ≡ spec.behind self text.now }
     {
         &text[self.word().len()..]
     }
@@ -134,7 +134,7 @@ impl Choice {
 
 // The option that begins at the front.
 fn choice_at(text: &[u8]) -> Option<Choice>
-    ensures { result ≡ choice_of text.now }
+    ensures { result ≡ spec.choice_at text.now }
 {
     if Choice::Units.begins(text) {
         Some(Choice::Units)
@@ -151,14 +151,14 @@ fn choice_at(text: &[u8]) -> Option<Choice>
 
 // Whether `noerror` is at the front, with a blank or the end behind it.
 pub(crate) fn begins_with_no_error(text: &[u8]) -> bool
-    ensures { result ≡ begins_with_no_error_word text.now }
+    ensures { result ≡ spec.begins_with_no_error text.now }
 {
     Choice::NoError.begins(text) && stands_apart(Choice::NoError.behind(text))
 }
 
 // `[A;B]`: A runs to the next `;`, and B from there to the next `]`.
 fn units_at(text: &[u8]) -> Option<(Units<'_>, &[u8])>
-    ensures { option_map seen_units_found result ≡ units_of text.now }
+    ensures { option_map seen_units_found result ≡ spec.units_at text.now }
 {
     let inside = behind_byte(text, b'[')?;
     let (in_unit, behind) = cut_at(inside, b';')?;

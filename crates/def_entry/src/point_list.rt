@@ -3,7 +3,7 @@
 ghost use Rattle.std.specs.Prelude.{◌≡◌, ◌≤◌, ◌++◌, length, option_map};
 ghost use Rattle.def_lines.specs.Words.{words_of};
 ghost use Rattle.def_entry.specs.Outcomes.{Gives, or_fault};
-ghost use Rattle.def_entry.specs.PointLists.{behind_no_error as behind_no_error_word, few, most_points, pairs_of, points_of as points_of_list, some_pairs};
+ghost use Rattle.def_entry.specs.PointLists as spec;
 ghost use Rattle.def_entry.specs.Reading.{points_in};
 
 use crate::cuts::cut_at;
@@ -33,7 +33,8 @@ pub(crate) fn table_points(alloc: Global, text: &[u8]) -> Result<Points, EntryFa
 // The points of a list, whose pairs commas may part. `BadTable` where they are more than those of
 // any table: no more is read or kept than decides that.
 fn points_of(alloc: Global, text: &[u8]) -> Result<Vec<(Frac, Frac)>, EntryFault>
-    ensures { Gives (λ points. points.items) result (or_fault EntryFault.BadTable (few (points_of_list text.now))) }
+    ensures { Gives (λ points. points.items) result
+        (or_fault EntryFault.BadTable (spec.few (spec.points_of text.now))) }
 {
     let mut points = Vec::new(alloc);
     let mut rest = behind_no_error(trim_front(text));
@@ -47,7 +48,7 @@ fn points_of(alloc: Global, text: &[u8]) -> Result<Vec<(Frac, Frac)>, EntryFault
 
 // The text without a leading `noerror`.
 fn behind_no_error(text: &[u8]) -> &[u8]
-    ensures { result.now ≡ behind_no_error_word text.now }
+    ensures { result.now ≡ spec.behind_no_error text.now }
 {
     if begins_with_no_error(text) {
         Choice::NoError.behind(text)
@@ -58,9 +59,10 @@ fn behind_no_error(text: &[u8]) -> &[u8]
 
 // Puts the pairs of numbers in a text, at least one, behind the points.
 fn push_some_pairs(points: &mut Vec<(Frac, Frac)>, text: &[u8]) -> Result<(), EntryFault>
-    requires { length points.old.items ≤ most_points }
+    requires { length points.old.items ≤ spec.most_points }
     ensures { Gives (λ done. points.new.items) result
-        (or_fault EntryFault.BadTable (few (option_map (λ pairs. points.old.items ++ pairs) (some_pairs (words_of text.now))))) }
+        (or_fault EntryFault.BadTable
+        (spec.few (option_map (λ pairs. points.old.items ++ pairs) (spec.some_pairs (words_of text.now))))) }
 {
     if trim_front(text).is_empty() {
         return Err(EntryFault::BadTable);
@@ -70,9 +72,10 @@ fn push_some_pairs(points: &mut Vec<(Frac, Frac)>, text: &[u8]) -> Result<(), En
 
 // Puts the pairs of numbers in a text behind the points, as long as a table has so many.
 fn push_pairs(points: &mut Vec<(Frac, Frac)>, text: &[u8]) -> Result<(), EntryFault>
-    requires { length points.old.items ≤ most_points }
+    requires { length points.old.items ≤ spec.most_points }
     ensures { Gives (λ done. points.new.items) result
-        (or_fault EntryFault.BadTable (few (option_map (λ pairs. points.old.items ++ pairs) (pairs_of (words_of text.now))))) }
+        (or_fault EntryFault.BadTable
+        (spec.few (option_map (λ pairs. points.old.items ++ pairs) (spec.pairs_of (words_of text.now))))) }
 {
     let mut rest = trim_front(text);
     while !rest.is_empty() {

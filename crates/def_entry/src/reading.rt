@@ -16,7 +16,8 @@ use crate::what::what_of;
 use std::alloc::Global;
 use units_io::Text;
 
-/// The key of a line, and what the line says of it, where it is one that `classify` takes for a definition or a unit list.
+/// The key of a line, and what the line says of it, where it is one that `classify` takes for a
+/// definition or a unit list.
 ///
 /// The first fault in this order: `BadName` with the name, the parameter or the alias target that
 /// is no name; `BadForm` where the line has no form of a definition; `BadTable` where the points

@@ -1,7 +1,7 @@
 //! The texts of keys, written and read.
 
 ghost use Rattle.std.specs.Prelude.{◌≡◌, ◌≢◌, ◌⊎◌, ℕ, List, IfOk, MatchOption, MatchResult, Some, None};
-ghost use Rattle.def_entry.specs.Keys.{IsNamed, IsNoKey, key_of, key_text as text_of_key, kind_shown, written};
+ghost use Rattle.def_entry.specs.Keys as spec;
 ghost use Rattle.def_entry.specs.declared.spelling.KeyFault.TheVariants as key_fault;
 
 use crate::joined::joined;
@@ -34,7 +34,7 @@ impl From<AllocError> for KeyFault {
 /// behind it for a function or a table, and with `!unitlist ` before it for a list. The only error
 /// is want of memory.
 pub fn key_text(alloc: Global, key: &Key) -> Result<Text, AllocError>
-    ensures { IfOk result (λ text. text ≡ text_of_key key.now) }
+    ensures { IfOk result (λ text. text ≡ spec.key_text key.now) }
 {
     let name = key.name.as_bytes();
     match key.kind {
@@ -48,11 +48,11 @@ pub fn key_text(alloc: Global, key: &Key) -> Result<Text, AllocError>
 /// The key that has a name and is written so. `NotKey` where there is none.
 pub fn read_key(alloc: Global, bytes: &[u8]) -> Result<Key, KeyFault>
     ensures exact { MatchResult result
-        (λ key. IsNamed key × (text_of_key key ≡ bytes.now))
-        (λ fault. (fault ≡ key_fault.OutOfMemory) ⊎ ((fault ≡ key_fault.NotKey) × IsNoKey bytes.now)) }
+        (λ key. spec.IsNamed key × (spec.key_text key ≡ bytes.now))
+        (λ fault. (fault ≡ key_fault.OutOfMemory) ⊎ ((fault ≡ key_fault.NotKey) × spec.IsNoKey bytes.now)) }
     ensures computed { MatchResult result
-        (λ key. key_of bytes.now ≡ Some key)
-        (λ fault. (fault ≡ key_fault.OutOfMemory) ⊎ ((fault ≡ key_fault.NotKey) × (key_of bytes.now ≡ None))) }
+        (λ key. spec.key_of bytes.now ≡ Some key)
+        (λ fault. (fault ≡ key_fault.OutOfMemory) ⊎ ((fault ≡ key_fault.NotKey) × (spec.key_of bytes.now ≡ None))) }
 {
     let kind = shown_kind(bytes);
     let Some(shown) = shown_name(kind, bytes) else {
@@ -67,7 +67,7 @@ pub fn read_key(alloc: Global, bytes: &[u8]) -> Result<Key, KeyFault>
 
 // The kind of key that the ends of a text tell.
 fn shown_kind(bytes: &[u8]) -> Kind
-    ensures { result ≡ kind_shown bytes.now }
+    ensures { result ≡ spec.kind_shown bytes.now }
 {
     if bytes.is_empty() {
         return Kind::Unit;
@@ -83,8 +83,8 @@ fn shown_kind(bytes: &[u8]) -> Kind
 // The name in the text of a key of this kind.
 fn shown_name(kind: Kind, bytes: &[u8]) -> Option<&[u8]>
     ensures { MatchOption result
-        ((w : List ℕ) → written kind w ≢ bytes.now)
-        (λ name. written kind name.now ≡ bytes.now) }
+        ((w : List ℕ) → spec.written kind w ≢ bytes.now)
+        (λ name. spec.written kind name.now ≡ bytes.now) }
 {
     match kind {
         Kind::Unit => Some(bytes),

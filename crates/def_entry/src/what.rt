@@ -2,8 +2,8 @@
 
 ghost use Rattle.std.specs.Prelude.{◌≡◌};
 ghost use Rattle.std.specs.Option.{option_copied};
-ghost use Rattle.def_entry.specs.Outcomes.{Gives, named as named_text};
-ghost use Rattle.def_entry.specs.Reading.{alias_in, body_in, call_in, func_in, list_in, name_in, table_in, unit_in, wanted as wanted_text, what_in, what_of as what_of_heading, without_call as without_final_call};
+ghost use Rattle.def_entry.specs.Outcomes as outcomes;
+ghost use Rattle.def_entry.specs.Reading as spec;
 ghost use Rattle.def_entry.specs.Seen.{seen_heading, seen_text};
 ghost use Rattle.def_entry.specs.Views.{what_view};
 
@@ -25,7 +25,7 @@ use units_io::Text;
 // What a line says of its key, by its heading.
 #[tactic(auto, unfolding(crate::specs::Reading::what_of))]
 pub(crate) fn what_of(alloc: Global, heading: &Heading) -> Result<What, EntryFault>
-    ensures { Gives what_view result (what_of_heading (seen_heading heading.now)) }
+    ensures { outcomes.Gives what_view result (spec.what_of (seen_heading heading.now)) }
 {
     check_heading(alloc, heading)?;
     let (name, text) = (heading.name, heading.text);
@@ -39,7 +39,8 @@ pub(crate) fn what_of(alloc: Global, heading: &Heading) -> Result<What, EntryFau
 
 // That the name of a heading is one. A list without a name has no form.
 fn check_heading(alloc: Global, heading: &Heading) -> Result<(), EntryFault>
-    ensures { Gives (λ done. heading.now.name.now) result (name_in heading.now.kind heading.now.name.now) }
+    ensures { outcomes.Gives (λ done. heading.now.name.now) result
+        (spec.name_in heading.now.kind heading.now.name.now) }
 {
     match heading.kind {
         Kind::List if heading.name.is_empty() => Err(EntryFault::BadForm),
@@ -49,7 +50,7 @@ fn check_heading(alloc: Global, heading: &Heading) -> Result<(), EntryFault>
 
 // That a word is a name.
 pub(crate) fn check_name(alloc: Global, word: &[u8]) -> Result<(), EntryFault>
-    ensures { Gives (λ done. word.now) result (named_text word.now) }
+    ensures { outcomes.Gives (λ done. word.now) result (outcomes.named word.now) }
 {
     if is_name(word) {
         return Ok(());
@@ -59,14 +60,14 @@ pub(crate) fn check_name(alloc: Global, word: &[u8]) -> Result<(), EntryFault>
 
 // The text, which the form wants: an empty one does not fit it.
 fn wanted(text: &[u8]) -> Result<&[u8], EntryFault>
-    ensures { Gives seen_text result (wanted_text text.now) }
+    ensures { outcomes.Gives seen_text result (spec.wanted text.now) }
 {
     some_text(text).ok_or(EntryFault::BadForm)
 }
 
 // A unit.
 fn unit_of(alloc: Global, text: &[u8]) -> Result<What, EntryFault>
-    ensures { Gives what_view result (unit_in text.now) }
+    ensures { outcomes.Gives what_view result (spec.unit_in text.now) }
 {
     if text == b"!".as_slice() {
         return Ok(What::Primitive);
@@ -79,7 +80,7 @@ fn unit_of(alloc: Global, text: &[u8]) -> Result<What, EntryFault>
 
 // A unit or a prefix by an expression.
 fn body_of(alloc: Global, text: &[u8]) -> Result<What, EntryFault>
-    ensures { Gives what_view result (body_in text.now) }
+    ensures { outcomes.Gives what_view result (spec.body_in text.now) }
 {
     let body = wanted(text)?;
     Ok(What::Body(tree_of(alloc, body, None)?))
@@ -87,7 +88,7 @@ fn body_of(alloc: Global, text: &[u8]) -> Result<What, EntryFault>
 
 // A function, whose text begins with `(`, or a table, whose text begins with `[`.
 fn func_of(alloc: Global, name: &[u8], text: &[u8]) -> Result<What, EntryFault>
-    ensures { Gives what_view result (func_in name.now text.now) }
+    ensures { outcomes.Gives what_view result (spec.func_in name.now text.now) }
 {
     let Some((bracket, inside)) = text.split_first() else {
         return Err(EntryFault::BadForm);
@@ -103,7 +104,7 @@ fn func_of(alloc: Global, name: &[u8], text: &[u8]) -> Result<What, EntryFault>
 
 // A function by its parameter, which is empty for an alias, and what stands behind it.
 fn call_of(alloc: Global, name: &[u8], parameter: &[u8], behind: &[u8]) -> Result<What, EntryFault>
-    ensures { Gives what_view result (call_in name.now parameter.now behind.now) }
+    ensures { outcomes.Gives what_view result (spec.call_in name.now parameter.now behind.now) }
 {
     if parameter.is_empty() {
         return alias_of(alloc, behind);
@@ -117,7 +118,7 @@ fn call_of(alloc: Global, name: &[u8], parameter: &[u8], behind: &[u8]) -> Resul
 
 // The function of another name.
 fn alias_of(alloc: Global, text: &[u8]) -> Result<What, EntryFault>
-    ensures { Gives what_view result (alias_in text.now) }
+    ensures { outcomes.Gives what_view result (spec.alias_in text.now) }
 {
     let target = wanted(without_call(trim(text)))?;
     check_name(alloc, target)?;
@@ -126,7 +127,7 @@ fn alias_of(alloc: Global, text: &[u8]) -> Result<What, EntryFault>
 
 // The text without a final `()`.
 fn without_call(text: &[u8]) -> &[u8]
-    ensures { result.now ≡ without_final_call text.now }
+    ensures { result.now ≡ spec.without_call text.now }
 {
     if text.ends_with(b"()") {
         &text[..text.len() - 2]
@@ -137,7 +138,7 @@ fn without_call(text: &[u8]) -> &[u8]
 
 // A table by its unit and what stands behind it.
 fn table_of(alloc: Global, text: &[u8], behind: &[u8]) -> Result<What, EntryFault>
-    ensures { Gives what_view result (table_in text.now behind.now) }
+    ensures { outcomes.Gives what_view result (spec.table_in text.now behind.now) }
 {
     let unit = wanted(text)?;
     let points = table_points(alloc, behind)?;
@@ -147,7 +148,7 @@ fn table_of(alloc: Global, text: &[u8], behind: &[u8]) -> Result<What, EntryFaul
 
 // A list, whose parts `;` parts.
 fn list_of(alloc: Global, text: &[u8]) -> Result<What, EntryFault>
-    ensures { Gives what_view result (list_in text.now) }
+    ensures { outcomes.Gives what_view result (spec.list_in text.now) }
 {
     let parts = wanted(text)?;
     Ok(What::ListOf(part_trees(alloc, parts)?))

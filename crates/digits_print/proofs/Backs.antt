@@ -1,5 +1,6 @@
 -- Digits of std are digits of numerals.
-use Rattle.std.proofs.Common.{◌≡◌, ◌<◌, ◌≤◌, ◌+◌, ◌-◌, ◌*◌, ◌^◌, ℕ, pos, List, [], ◌∷◌, true, arith, refl, ap, ◌∙◌, lit<}
+use Rattle.std.proofs.Common.{◌≡◌, ◌<◌, ◌≤◌, ◌+◌, ◌-◌, ◌*◌, ◌^◌, ℕ, pos, List, [], ◌∷◌, true, arith, refl, ap, ◌∙◌}
+use Rattle.std.proofs.Common.{lit<}
 use Rattle.std.specs.Prelude.{fold, Ok}
 use Rattle.std.specs.Char.{digit_value}
 use Rattle.std.specs.Fmt.{decimal}
@@ -22,15 +23,18 @@ all_is [] h = refl
 all_is (c ∷ cs) h = rw ((digit_is c h.0).0) (all_is cs h.1)
 
 -- and they write the same number
-number_is : (n : ℕ) (ds : List ℕ) → AllDigits 10 ds → fold (λ n d. n * 10 + d) n (digits_of ds) ≡ digits_value_after 10 n ds
+number_is : (n : ℕ) (ds : List ℕ) → AllDigits 10 ds
+    → fold (λ n d. n * 10 + d) n (digits_of ds) ≡ digits_value_after 10 n ds
 number_is n [] h = refl
 number_is n (c ∷ cs) h =
     let d = digit_is c h.0 in
     rw (d.0, d.1) (number_is (n * 10 + (c - 48)) cs h.1)
 
+-- a number that fits has at most 64 digits
 wide : (n : ℕ) → n ≤ most → n < 10 ^ 64
 wide n h = let big : 2 ^ 127 < 10 ^ 64 = lit< tt in omega arith
 
+-- the law that digits are read back
 pub back_law : DigitsLaw → BackLaw
 back_law law n fits =
     let is = decimal_is_IsNumeral_wide n (wide n fits) in

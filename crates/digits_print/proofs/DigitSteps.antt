@@ -1,5 +1,6 @@
 -- What the two loops of rounding keep, and that they end with the rounded number.
-use Rattle.std.proofs.Common.{◌≡◌, ◌<◌, ◌≤◌, ◌+◌, ◌-◌, ◌*◌, ◌/◌, ◌%◌, ◌^◌, ◌-ℤ◌, ℕ, ℤ, pos, neg_ℤ, suc, zero, arith, refl, sym, ap, subst}
+use Rattle.std.proofs.Common.{◌≡◌, ◌<◌, ◌≤◌, ◌+◌, ◌-◌, ◌*◌, ◌/◌, ◌%◌, ◌^◌, ◌-ℤ◌, ℕ, ℤ, pos, neg_ℤ, suc, zero, arith}
+use Rattle.std.proofs.Common.{refl, sym, ap, subst}
 use Rattle.std.proofs.Common.{◌∙◌, lit<, inl, inr}
 use Rattle.std.specs.Ordering.{nat_cmp}
 use Rattle.std.proofs.lemmas.Bool.{cases_lt}
@@ -11,14 +12,17 @@ use Rattle.digits_print.specs.Rounding.{carried, first_power, rounded, rounded_a
 use Rattle.digits_print.proofs.Scales.{IsScaled, scale_unique, scaled, ten_before, ten_some, ten_suc, ten_up}
 
 -- at a scale where the ratio has n digits before the point, rounding is by the quotient and the remainder there
-rounded_by : (n a b q r : ℕ) (s : ℤ) → 0 < n → 0 < a → 0 < b → q * (b * up s) + r ≡ a * down s → r < b * up s → 10 ^ (n - 1) ≤ q
+rounded_by : (n a b q r : ℕ) (s : ℤ) → 0 < n → 0 < a → 0 < b → q * (b * up s) + r ≡ a * down s → r < b * up s
+    → 10 ^ (n - 1) ≤ q
     → q < 10 ^ n
     → carried n (by_half q (nat_cmp (2 * r) (b * up s))) s ≡ rounded n a b
 unfolding rounded rounded_at
 rounded_by n a b q r s some some_a some_b whole part low high =
-    let quotient : a * down s / (b * up s) ≡ q = ap (λ v. v / (b * up s)) (sym whole) ∙ div-mul-add q (b * up s) r part in
+    let quotient : a * down s / (b * up s) ≡ q = ap (λ v. v / (b * up s)) (sym whole)
+    ∙ div-mul-add q (b * up s) r part in
     let rest : a * down s % (b * up s) ≡ r = ap (λ v. v % (b * up s)) (sym whole) ∙ mod-mul-add q (b * up s) r part in
-    let same : s ≡ first_power a b -ℤ pos (n - 1) = scale_unique n a b s _ some_b at (scaled n a b some some_a some_b) in
+    let same : s ≡ first_power a b -ℤ pos (n - 1) =
+    scale_unique n a b s _ some_b at (scaled n a b some some_a some_b) in
     sym (ap (λ v. carried n (by_half v (nat_cmp (2 * (a * down s % (b * up s))) (b * up s))) s) quotient
     ∙ ap (λ v. carried n (by_half q (nat_cmp (2 * v) (b * up s))) s) rest)
     ∙ ap (rounded_at n a b) same
@@ -27,7 +31,9 @@ rounded_by n a b q r s some some_a some_b whole part low high =
     low_of l q b r a e h = let times : l * b ≤ q * b = mul-le l b q b h (omega arith) in omega arith
 
     high_of : (l q b r a : ℕ) → q * b + r ≡ a → r < b → q < l → a < l * b
-    high_of l q b r a e k h = let times : (q + 1) * b ≤ l * b = mul-le (q + 1) b l b (omega arith) (omega arith) in let one : (q + 1) * b ≡ q * b + b = omega arith in omega arith
+    high_of l q b r a e k h = let times : (q + 1) * b ≤ l * b =
+        mul-le (q + 1) b l b (omega arith) (omega arith) in let one : (q + 1) * b ≡ q * b + b =
+        omega arith in omega arith
 
     at : IsScaled n a b s
     at = record {
@@ -41,7 +47,9 @@ pub record IsLengthened (n top bottom number rest places : ℕ) : Type 0 where
   pub part : rest < bottom
   pub below : number < 10 ^ n
 
-pub lengthened_start : (n top bottom : ℕ) → 0 < bottom → top / bottom < 10 ^ n → IsLengthened n top bottom (top / bottom) (top % bottom) 0
+-- the quotient and its rest are at the start of the digits of a ratio
+pub lengthened_start : (n top bottom : ℕ) → 0 < bottom → top / bottom < 10 ^ n
+    → IsLengthened n top bottom (top / bottom) (top % bottom) 0
 lengthened_start n top bottom some low =
     let whole : bottom * (top / bottom) + top % bottom ≡ top = div-add-mod top bottom in
     record { value = start bottom (top / bottom) (top % bottom) top whole; part = omega arith; below = low }
@@ -49,9 +57,12 @@ lengthened_start n top bottom some low =
     start : (b q r t : ℕ) → b * q + r ≡ t → q * b + r ≡ t * 10 ^ 0
     start b q r t e = omega arith
 
-pub lengthened_more : (n top bottom number rest places digit next : ℕ) → 0 < n → IsLengthened n top bottom number rest places
+-- one more digit of the rest makes the number one place longer
+pub lengthened_more : (n top bottom number rest places digit next : ℕ) → 0 < n
+    → IsLengthened n top bottom number rest places
     → number < 10 ^ (n - 1)
-    → digit * bottom + next ≡ 10 * rest → next < bottom → digit < 10 → IsLengthened n top bottom (number * 10 + digit) next (places + 1)
+    → digit * bottom + next ≡ 10 * rest → next < bottom → digit < 10
+    → IsLengthened n top bottom (number * 10 + digit) next (places + 1)
 lengthened_more n top bottom number rest places digit next some is few e part small = record {
   value = value number bottom rest top digit next (10 ^ places) (10 ^ (places + 1)) is.value e (power places);
   part = part;
@@ -62,7 +73,8 @@ lengthened_more n top bottom number rest places digit next some is few e part sm
     power p = let more : p + 1 ≡ suc p = omega arith in ap (λ v. 10 ^ v) more ∙ ten_suc p
 
     value : (q b r t d s p u : ℕ) → q * b + r ≡ t * p → d * b + s ≡ 10 * r → u ≡ 10 * p → (q * 10 + d) * b + s ≡ t * u
-    value q b r t d s p u whole step e = let left : (q * 10 + d) * b + s ≡ 10 * (q * b + r) = omega arith in left ∙ ap (λ v. 10 * v) whole ∙ turn t p ∙ ap (λ v. t * v) (sym e)
+    value q b r t d s p u whole step e = let left : (q * 10 + d) * b + s ≡ 10 * (q * b + r) = omega arith in left
+        ∙ ap (λ v. 10 * v) whole ∙ turn t p ∙ ap (λ v. t * v) (sym e)
       where
         turn : (t p : ℕ) → 10 * (t * p) ≡ t * (10 * p)
         turn t p = omega arith
@@ -70,11 +82,15 @@ lengthened_more n top bottom number rest places digit next some is few e part sm
 -- the number stays below its limit, so the places do
 pub lengthened_low : (n top bottom number rest places : ℕ) → IsLengthened n top bottom number rest places
     → top * 10 ^ places < 10 ^ n * bottom
-lengthened_low n top bottom number rest places is = low number bottom rest (top * 10 ^ places) (10 ^ n) is.value is.part is.below
+lengthened_low n top bottom number rest places is =
+    low number bottom rest (top * 10 ^ places) (10 ^ n) is.value is.part is.below
   where
     low : (q b r t l : ℕ) → q * b + r ≡ t → r < b → q < l → t < l * b
-    low q b r t l e k h = let times : (q + 1) * b ≤ l * b = mul-le (q + 1) b l b (omega arith) (omega arith) in let one : (q + 1) * b ≡ q * b + b = omega arith in omega arith
+    low q b r t l e k h = let times : (q + 1) * b ≤ l * b =
+        mul-le (q + 1) b l b (omega arith) (omega arith) in let one : (q + 1) * b ≡ q * b + b =
+        omega arith in omega arith
 
+-- at most 74 places are gone through
 pub few_places : (n top bottom number rest places : ℕ) → 0 < top → bottom ≤ 2 ^ 127 → n ≤ 36
     → IsLengthened n top bottom number rest places → places < 75
 few_places n top bottom number rest places some fits most is = elim (cases_lt places 75) [
@@ -98,7 +114,8 @@ pub lengthened_less : (n top bottom number rest places : ℕ) → 0 < top → Is
 lengthened_less n top bottom number rest places some is =
     let low = lengthened_low n top bottom number rest places is in
     let some_top = mul-pos some (ten_some places) in
-    let next : top * 10 ^ (places + 1) ≡ 10 * (top * 10 ^ places) = ap (λ v. top * v) (power places) ∙ turn top (10 ^ places) in
+    let next : top * 10 ^ (places + 1) ≡ 10 * (top * 10 ^ places) = ap (λ v. top * v) (power places)
+    ∙ turn top (10 ^ places) in
     omega arith
   where
     power : (p : ℕ) → 10 ^ (p + 1) ≡ 10 * 10 ^ p
@@ -108,14 +125,16 @@ lengthened_less n top bottom number rest places some is =
     turn t p = omega arith
 
 -- with n digits it is rounded by its rest
-pub lengthened_end : (n top bottom number rest places : ℕ) → 0 < n → 0 < top → IsLengthened n top bottom number rest places
+pub lengthened_end : (n top bottom number rest places : ℕ) → 0 < n → 0 < top
+    → IsLengthened n top bottom number rest places
     → 10 ^ (n - 1) ≤ number
     → carried n (by_half number (nat_cmp (rest * 2) bottom)) (neg_ℤ (pos places)) ≡ rounded n top bottom
 lengthened_end n top bottom number rest places some some_top is least =
     ap (λ v. carried n (by_half number (nat_cmp v bottom)) (neg_ℤ (pos places))) twice
     ∙ ap (λ v. carried n (by_half number (nat_cmp (2 * rest) v)) (neg_ℤ (pos places))) (sym step)
     ∙ rounded_by n top bottom number rest (neg_ℤ (pos places)) some some_top (omega (arith, is.part))
-    (ap (λ v. number * v + rest) step ∙ is.value ∙ ap (λ v. top * v) (sym (down_is places))) (rw step is.part) least is.below
+    (ap (λ v. number * v + rest) step ∙ is.value ∙ ap (λ v. top * v) (sym (down_is places)))
+    (rw step is.part) least is.below
   where
     twice : rest * 2 ≡ 2 * rest
     twice = omega arith
@@ -140,6 +159,7 @@ pub record IsShortened (n whole unit places : ℕ) : Type 0 where
   pub some : 0 < places
   pub least : 10 ^ (n - 1) ≤ whole / unit
 
+-- ten is the first unit by which a number that is too long is cut
 pub shortened_start : (n whole : ℕ) → 0 < n → 10 ^ n ≤ whole → IsShortened n whole 10 1
 shortened_start n whole some high = record {
   power = refl;
@@ -151,7 +171,8 @@ shortened_start n whole some high = record {
 pub shortened_wide : (n whole unit : ℕ) → 0 < n → 0 < unit → 10 ^ n ≤ whole / unit → 10 ^ (n - 1) * (unit * 10) ≤ whole
 shortened_wide n whole unit some some_unit high =
     let times : 10 ^ n * unit ≤ whole / unit * unit = mul-le (10 ^ n) unit (whole / unit) unit high (omega arith) in
-    let turned : 10 ^ n * unit ≡ 10 ^ (n - 1) * (unit * 10) = ap (λ v. v * unit) (ten_before n some) ∙ turn (10 ^ (n - 1)) unit in
+    let turned : 10 ^ n * unit ≡ 10 ^ (n - 1) * (unit * 10) = ap (λ v. v * unit) (ten_before n some)
+    ∙ turn (10 ^ (n - 1)) unit in
     let below : unit * (whole / unit) + whole % unit ≡ whole = div-add-mod whole unit in
     let swap : whole / unit * unit ≡ unit * (whole / unit) = omega arith in
     omega arith
@@ -159,15 +180,20 @@ shortened_wide n whole unit some some_unit high =
     turn : (p u : ℕ) → 10 * p * u ≡ p * (u * 10)
     turn p u = omega arith
 
+-- the unit of a cut is above 0
 pub unit_some : (n whole unit places : ℕ) → IsShortened n whole unit places → 0 < unit
 unit_some n whole unit places is = rw is.power (ten_some places)
 
-pub shortened_room : (n whole unit places : ℕ) → 0 < n → IsShortened n whole unit places → 10 ^ n ≤ whole / unit → unit * 10 ≤ whole
+-- where what is left is still too long, ten times the unit is within the number
+pub shortened_room : (n whole unit places : ℕ) → 0 < n → IsShortened n whole unit places → 10 ^ n ≤ whole / unit
+    → unit * 10 ≤ whole
 shortened_room n whole unit places some is high =
     let wide = shortened_wide n whole unit some (unit_some n whole unit places is) high in
-    let times : 1 * (unit * 10) ≤ 10 ^ (n - 1) * (unit * 10) = mul-le 1 (unit * 10) (10 ^ (n - 1)) (unit * 10) (ten_some (n - 1)) (omega arith) in
+    let times : 1 * (unit * 10) ≤ 10 ^ (n - 1) * (unit * 10) =
+    mul-le 1 (unit * 10) (10 ^ (n - 1)) (unit * 10) (ten_some (n - 1)) (omega arith) in
     omega arith
 
+-- and cuts it by one more place
 pub shortened_more : (n whole unit places : ℕ) → 0 < n → IsShortened n whole unit places → 10 ^ n ≤ whole / unit
     → IsShortened n whole (unit * 10) (places + 1)
 shortened_more n whole unit places some is high =
@@ -179,8 +205,10 @@ shortened_more n whole unit places some is high =
     }
   where
     power : (p : ℕ) → 10 ^ p * 10 ≡ 10 ^ (p + 1)
-    power p = let more : p + 1 ≡ suc p = omega arith in let ten = ten_suc p in let same = ap (λ v. 10 ^ v) more in omega arith
+    power p = let more : p + 1 ≡ suc p = omega arith in let ten = ten_suc p in let same =
+        ap (λ v. 10 ^ v) more in omega arith
 
+-- at most 38 places are cut
 pub few_cut : (n whole unit places : ℕ) → whole < 2 ^ 128 → IsShortened n whole unit places → places < 39
 few_cut n whole unit places fits is = elim (cases_lt places 39) [
   | inl h ↦ h
@@ -192,7 +220,8 @@ few_cut n whole unit places fits is = elim (cases_lt places 39) [
         let power : 10 ^ 39 ≤ 10 ^ places = ten_up 39 places h in
         let big : 2 ^ 128 < 10 ^ 39 = lit< tt in
         let some = ten_some (n - 1) in
-        let times : 1 * unit ≤ whole / unit * unit = mul-le 1 unit (whole / unit) unit (omega (arith, is.least)) (omega arith) in
+        let times : 1 * unit ≤ whole / unit * unit =
+        mul-le 1 unit (whole / unit) unit (omega (arith, is.least)) (omega arith) in
         let below : unit * (whole / unit) + whole % unit ≡ whole = div-add-mod whole unit in
         let swap : whole / unit * unit ≡ unit * (whole / unit) = omega arith in
         omega (arith, is.power)
@@ -204,18 +233,24 @@ unit_even n whole unit places is = let ten = ten_before places is.some in let po
 -- with n digits it is rounded by what is cut off
 pub shortened_end : (n top bottom unit places : ℕ) → 0 < n → 0 < bottom → IsShortened n (top / bottom) unit places
     → top / bottom / unit < 10 ^ n
-    → carried n (by_half (top / bottom / unit) (nat_cmp (2 * (top / bottom % unit * bottom + top % bottom)) (bottom * unit))) (pos places) ≡ rounded n top bottom
+    → carried n (by_half (top / bottom / unit)
+    (nat_cmp (2 * (top / bottom % unit * bottom + top % bottom)) (bottom * unit))) (pos places) ≡ rounded n top bottom
 shortened_end n top bottom unit places some some_bottom is below =
     let some_unit = unit_some n (top / bottom) unit places is in
     let whole : bottom * (top / bottom) + top % bottom ≡ top = div-add-mod top bottom in
     let digits : unit * (top / bottom / unit) + top / bottom % unit ≡ top / bottom = div-add-mod (top / bottom) unit in
     let q = top / bottom / unit in
     let r = top / bottom % unit * bottom + top % bottom in
-    let value : q * (bottom * unit) + r ≡ top = value_of q unit (top / bottom % unit) bottom (top % bottom) top (top / bottom) whole digits in
-    let less : r < bottom * unit = less_of unit (top / bottom % unit) bottom (top % bottom) (mod_below (top / bottom) unit some_unit) (mod_below top bottom some_bottom) in
+    let value : q * (bottom * unit) + r ≡ top =
+    value_of q unit (top / bottom % unit) bottom (top % bottom) top (top / bottom) whole digits in
+    let less : r < bottom * unit =
+    less_of unit (top / bottom % unit) bottom (top % bottom) (mod_below (top / bottom) unit some_unit)
+    (mod_below top bottom some_bottom) in
     ap (λ v. carried n (by_half q (nat_cmp (2 * r) (bottom * v))) (pos places)) is.power
-    ∙ rounded_by n top bottom q r (pos places) some (some_top (top / bottom) (some_whole n (top / bottom) unit places is) whole) some_bottom
-    (ap (λ v. q * (bottom * v) + r) (sym is.power) ∙ value ∙ one top) (subst (λ v. r < bottom * v) is.power less) is.least below
+    ∙ rounded_by n top bottom q r (pos places) some
+    (some_top (top / bottom) (some_whole n (top / bottom) unit places is) whole) some_bottom
+    (ap (λ v. q * (bottom * v) + r) (sym is.power) ∙ value ∙ one top)
+    (subst (λ v. r < bottom * v) is.power less) is.least below
   where
     one : (t : ℕ) → t ≡ t * 1
     one t = omega arith
@@ -227,13 +262,18 @@ shortened_end n top bottom unit places some some_bottom is below =
         spread q u w b p = omega arith
 
     less_of : (u w b p : ℕ) → w < u → p < b → w * b + p < b * u
-    less_of u w b p h k = let times : (w + 1) * b ≤ u * b = mul-le (w + 1) b u b (omega arith) (omega arith) in let one : (w + 1) * b ≡ w * b + b = omega arith in let turn : u * b ≡ b * u = omega arith in omega arith
+    less_of u w b p h k = let times : (w + 1) * b ≤ u * b =
+        mul-le (w + 1) b u b (omega arith) (omega arith) in let one : (w + 1) * b ≡ w * b + b =
+        omega arith in let turn : u * b ≡ b * u = omega arith in omega arith
 
     positive : (w u : ℕ) → 0 < w / u → 0 < u → 0 < w
-    positive w u h some = let times : 1 * u ≤ w / u * u = mul-le 1 u (w / u) u h (omega arith) in let below : u * (w / u) + w % u ≡ w = div-add-mod w u in let turn : w / u * u ≡ u * (w / u) = omega arith in omega arith
+    positive w u h some = let times : 1 * u ≤ w / u * u =
+        mul-le 1 u (w / u) u h (omega arith) in let below : u * (w / u) + w % u ≡ w =
+        div-add-mod w u in let turn : w / u * u ≡ u * (w / u) = omega arith in omega arith
 
     some_whole : (n whole unit places : ℕ) → IsShortened n whole unit places → 0 < whole
-    some_whole n whole unit places is = positive whole unit (omega (arith, is.least, ten_some (n - 1))) (unit_some n whole unit places is)
+    some_whole n whole unit places is =
+        positive whole unit (omega (arith, is.least, ten_some (n - 1))) (unit_some n whole unit places is)
 
     some_top : (w : ℕ) → 0 < w → bottom * w + top % bottom ≡ top → 0 < top
     some_top w some_w e = let product = mul-pos some_bottom some_w in omega arith

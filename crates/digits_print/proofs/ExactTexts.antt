@@ -1,26 +1,28 @@
 -- The exact text of a fraction reads as that fraction.
-use Rattle.std.proofs.Common.{◌≡◌, ◌<◌, ◌≤◌, ◌^◌, ◌++◌, ℕ, ℤ, pos, negsuc, suc, zero, List, Bool, true, false, unsigned_abs, arith, refl}
+use Rattle.std.proofs.Common.{◌≡◌, ◌<◌, ◌≤◌, ◌^◌, ◌++◌, ℕ, ℤ, pos, negsuc, suc, zero, List, Bool, true, false}
+use Rattle.std.proofs.Common.{unsigned_abs, arith, refl}
 use Rattle.std.proofs.Common.{sym, ap, subst, ◌∙◌, lit<, inl, inr}
 use Rattle.std.specs.Prelude.{◌⊎◌, ◌==◌, ◌&&◌, Ok, nat_le, codes}
 use Rattle.std.specs.Fmt.{decimal, signed_decimal}
 use Rattle.std.specs.Str.Parse.{IsNumeral, digits_value}
 use Rattle.std.proofs.lemmas.Bool.Decides.{nat_tests}
 use Rattle.std.proofs.lemmas.Fmt.{decimal_is_IsNumeral_wide}
-use Rattle.frac128.specs.Fraction.{Fraction, IsKept, most}
+use Rattle.frac128.specs.Fraction.{Fraction, IsFrac, most}
 use Rattle.frac128.specs.Sign.{signed}
 use Rattle.frac128.specs.Steps.{ReducedLaw, fitting, ratio}
 use Rattle.digits_print.specs.Back.{BackLaw, IsReadAs}
 use Rattle.digits_print.specs.Exact.{ExactLaw, ReadsAsQuotient, ReadsAsWhole, exact_text, sign_text}
 
 -- a fraction that fits
-fitting_kept : (x : Fraction) → IsKept x → fitting x ≡ Ok x
+fitting_kept : (x : Fraction) → IsFrac x → fitting x ≡ Ok x
 fitting_kept x kept = rw (tests (unsigned_abs x.num) x.den kept.num_fits kept.den_fits) refl
   where
     tests : (m n : ℕ) → m ≤ most → n ≤ most → (nat_le m most && nat_le n most) ≡ true
     tests m n h k = grind (arith, nat_tests)
 
 -- the quotient of a fraction's numerator and denominator is that fraction
-ratio_kept : ReducedLaw → (n : ℤ) (d : ℕ) → IsKept (record { num = n; den = d }) → ratio n (pos d) ≡ Ok (record { num = n; den = d })
+ratio_kept : ReducedLaw → (n : ℤ) (d : ℕ) → IsFrac (record { num = n; den = d })
+    → ratio n (pos d) ≡ Ok (record { num = n; den = d })
 ratio_kept law n zero kept = absurd (omega (arith, kept.reduced.positive))
 ratio_kept law n (suc d) kept =
     let x : Fraction = record { num = n; den = suc d } in
@@ -36,6 +38,7 @@ record IsSpelled (z : ℤ) : Type 0 where
   text : signed_decimal z ≡ sign_text negative ++ digits
   value : signed negative (digits_value 10 digits) ≡ z
 
+-- a number that fits has at most 64 digits
 wide : (n : ℕ) → n ≤ most → n < 10 ^ 64
 wide n h = let big : 2 ^ 127 < 10 ^ 64 = lit< tt in omega arith
 
@@ -43,15 +46,32 @@ wide n h = let big : 2 ^ 127 < 10 ^ 64 = lit< tt in omega arith
 read_back : BackLaw → (n : ℕ) → n ≤ most → IsReadAs (decimal n) (digits_value 10 (decimal n))
 read_back back n h = subst (IsReadAs (decimal n)) (sym (decimal_is_IsNumeral_wide n (wide n h)).1) (back n h)
 
+-- a whole number that fits is spelled by its sign and digits
 spelled : BackLaw → (z : ℤ) → unsigned_abs z ≤ most → IsSpelled z
 spelled back (pos n) h =
     let is = decimal_is_IsNumeral_wide n (wide n h) in
-    record { negative = false; digits = decimal n; numeral = is.0; read = read_back back n h; text = refl; value = ap pos is.1 }
+    record {
+      negative = false;
+      digits = decimal n;
+      numeral = is.0;
+      read = read_back back n h;
+      text = refl;
+      value =
+          ap pos is.1;
+    }
 spelled back (negsuc n) h =
     let is = decimal_is_IsNumeral_wide (suc n) (wide (suc n) h) in
-    record { negative = true; digits = decimal (suc n); numeral = is.0; read = read_back back (suc n) h; text = refl; value = ap (signed true) is.1 }
+    record {
+      negative = true;
+      digits = decimal (suc n);
+      numeral = is.0;
+      read = read_back back (suc n) h;
+      text = refl;
+      value = ap (signed true) is.1;
+    }
 
-reads_as_whole : ReducedLaw → BackLaw → (n : ℤ) → IsKept (record { num = n; den = 1 })
+-- the text of a whole number is read as it
+reads_as_whole : ReducedLaw → BackLaw → (n : ℤ) → IsFrac (record { num = n; den = 1 })
     → ReadsAsWhole (signed_decimal n) (record { num = n; den = 1 })
 reads_as_whole law back n kept =
     let top = spelled back n kept.num_fits in
@@ -64,7 +84,8 @@ reads_as_whole law back n kept =
       value = ap (λ z. ratio z (pos 1)) top.value ∙ ratio_kept law n 1 kept;
     }
 
-reads_as_quotient : ReducedLaw → BackLaw → (n : ℤ) (d : ℕ) → IsKept (record { num = n; den = d })
+-- the text of a fraction is read as the quotient of its parts
+reads_as_quotient : ReducedLaw → BackLaw → (n : ℤ) (d : ℕ) → IsFrac (record { num = n; den = d })
     → ReadsAsQuotient (signed_decimal n ++ codes "|" ++ decimal d) (record { num = n; den = d })
 reads_as_quotient law back n d kept =
     let top = spelled back n kept.num_fits in
@@ -78,10 +99,12 @@ reads_as_quotient law back n d kept =
       bottom_digits = bottom.0;
       bottom_read = read_back back d kept.den_fits;
       spelled = ap (λ t. t ++ codes "|" ++ decimal d) top.text;
-      value = ap (λ z. ratio z (pos (digits_value 10 (decimal d)))) top.value ∙ ap (λ m. ratio n (pos m)) bottom.1 ∙ ratio_kept law n d kept;
+      value = ap (λ z. ratio z (pos (digits_value 10 (decimal d)))) top.value ∙ ap (λ m. ratio n (pos m)) bottom.1
+          ∙ ratio_kept law n d kept;
     }
 
-reads : ReducedLaw → BackLaw → (n : ℤ) (d : ℕ) → IsKept (record { num = n; den = d })
+-- an exact text is read in one of these two ways
+reads : ReducedLaw → BackLaw → (n : ℤ) (d : ℕ) → IsFrac (record { num = n; den = d })
     → ReadsAsWhole (exact_text (record { num = n; den = d })) (record { num = n; den = d })
     ⊎ ReadsAsQuotient (exact_text (record { num = n; den = d })) (record { num = n; den = d })
 reads law back n zero kept = inr (reads_as_quotient law back n zero kept)

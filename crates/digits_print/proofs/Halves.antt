@@ -11,18 +11,21 @@ use Rattle.std.proofs.lemmas.Nat.{mul-le}
 twice : (w b p : ℕ) → 2 * (w * b + p) ≡ 2 * (w * b) + 2 * p
 twice w b p = omega arith
 
+-- half of a product is that of its factor
 halves : (b h u : ℕ) → 2 * h ≡ u → b * u ≡ 2 * (h * b)
 halves b h u e = ap (λ v. b * v) (sym e) ∙ turn b h
   where
     turn : (b h : ℕ) → b * (2 * h) ≡ 2 * (h * b)
     turn b h = omega arith
 
+-- what is left below half of a unit is less than half of the whole
 below_half : (w p b h u : ℕ) → 2 * h ≡ u → p < b → w < h → 2 * (w * b + p) < b * u
 below_half w p b h u e part less =
     let times : (w + 1) * b ≤ h * b = mul-le (w + 1) b h b (omega arith) (omega arith) in
     let one : (w + 1) * b ≡ w * b + b = omega arith in
     omega (arith, twice w b p, halves b h u e)
 
+-- and above half of it is more
 above_half : (w p b h u : ℕ) → 2 * h ≡ u → 0 < b → h < w → b * u < 2 * (w * b + p)
 above_half w p b h u e some more =
     let times : (h + 1) * b ≤ w * b = mul-le (h + 1) b w b (omega arith) (omega arith) in
@@ -37,11 +40,14 @@ by_parts w p b h u order part e low order_is part_is = nat_cmp_is _ _ _ (by_orde
     by_part : (part : Ordering) → MatchOrdering part (p < 0) (p ≡ 0) (0 < p) → w ≡ h
         → MatchOrdering part (2 * (w * b + p) < b * u) (2 * (w * b + p) ≡ b * u) (b * u < 2 * (w * b + p))
     by_part Less none same = absurd (omega arith)
-    by_part Equal none same = let at : w * b ≡ h * b = ap (λ v. v * b) same in omega (arith, twice w b p, halves b h u e)
-    by_part Greater some same = let at : w * b ≡ h * b = ap (λ v. v * b) same in omega (arith, twice w b p, halves b h u e)
+    by_part Equal none same = let at : w * b ≡ h * b =
+        ap (λ v. v * b) same in omega (arith, twice w b p, halves b h u e)
+    by_part Greater some same = let at : w * b ≡ h * b =
+        ap (λ v. v * b) same in omega (arith, twice w b p, halves b h u e)
 
     by_order : (order : Ordering) → MatchOrdering order (w < h) (w ≡ h) (h < w)
-        → MatchOrdering (ordering_then order part) (2 * (w * b + p) < b * u) (2 * (w * b + p) ≡ b * u) (b * u < 2 * (w * b + p))
+        → MatchOrdering (ordering_then order part) (2 * (w * b + p) < b * u) (2 * (w * b + p) ≡ b * u)
+        (b * u < 2 * (w * b + p))
     by_order Less less = below_half w p b h u e low less
     by_order Equal same = by_part part (ranked p 0 part part_is) same
     by_order Greater more = above_half w p b h u e (omega arith) more

@@ -1,5 +1,6 @@
 -- Which layout a decimal has, by the power of ten of its first digit.
-use Rattle.std.proofs.Common.{◌≡◌, ◌<◌, ◌≤◌, ◌+◌, ◌-◌, ◌^◌, ℕ, ℤ, pos, negsuc, List, true, false, length, unsigned_abs, nat_lt, arith}
+use Rattle.std.proofs.Common.{◌≡◌, ◌<◌, ◌≤◌, ◌+◌, ◌-◌, ◌^◌, ℕ, ℤ, pos, negsuc, List, true, false, length, unsigned_abs}
+use Rattle.std.proofs.Common.{nat_lt, arith}
 use Rattle.std.proofs.Common.{lit<, refl, sym, ap, subst, inl, inr}
 use Rattle.std.specs.Int.Signed.{lt_z}
 use Rattle.std.specs.Fmt.{decimal}
@@ -12,36 +13,47 @@ use Rattle.digits_print.specs.Layout.{below_one, layout, plain, scientific}
 use Rattle.digits_print.specs.Nearest.{HasDigits}
 use Rattle.digits_print.proofs.Scales.{ten_up}
 
+-- a number is not found to be less than one that is no greater
 at_least : (k n : ℕ) → n ≤ k → nat_lt k n ≡ false
 at_least k n h = grind (arith, nat_tests)
 
+-- and is found to be less than a greater one
 less : (k n : ℕ) → k < n → nat_lt k n ≡ true
 less k n h = grind (arith, nat_tests)
 
-pub layout_tiny : (n : ℕ) (ds : List ℕ) (power : ℤ) → lt_z power (negsuc 3) ≡ true → layout n ds power ≡ scientific ds power
+-- below the power -4 the layout is scientific
+pub layout_tiny : (n : ℕ) (ds : List ℕ) (power : ℤ) → lt_z power (negsuc 3) ≡ true
+    → layout n ds power ≡ scientific ds power
 layout_tiny n ds (pos k) low = absurd (cc)
 layout_tiny n ds (negsuc k) low = rw (at_least k 4 (high k low)) refl
   where
     high : (k : ℕ) → lt_z (negsuc k) (negsuc 3) ≡ true → 4 ≤ k
     high k h = grind (arith, ints)
 
-pub layout_small : (n : ℕ) (ds : List ℕ) (power : ℤ) (size : ℕ) → size ≡ unsigned_abs power → lt_z power (negsuc 3) ≡ false
+-- from there on below 0 it has zeros behind the point
+pub layout_small : (n : ℕ) (ds : List ℕ) (power : ℤ) (size : ℕ) → size ≡ unsigned_abs power
+    → lt_z power (negsuc 3) ≡ false
     → lt_z power (pos 0) ≡ true → layout n ds power ≡ below_one ds (size - 1)
 layout_small n ds (pos k) size is high low = absurd (no k low)
   where
     no : (k : ℕ) → lt_z (pos k) (pos 0) ≡ true → ⊥
     no k h = grind (arith, ints)
-layout_small n ds (negsuc k) size is high low = let zeros : k ≡ size - 1 = omega arith in rw (less k 4 (small k high)) (ap (below_one ds) zeros)
+layout_small n ds (negsuc k) size is high low = let zeros : k ≡ size - 1 =
+    omega arith in rw (less k 4 (small k high)) (ap (below_one ds) zeros)
   where
     small : (k : ℕ) → lt_z (negsuc k) (negsuc 3) ≡ false → k < 4
     small k h = grind (arith, ints)
 
-pub layout_plain : (n : ℕ) (ds : List ℕ) (power : ℤ) (size : ℕ) → size ≡ unsigned_abs power → lt_z power (pos 0) ≡ false → size < n
+-- from 0 on, below the number of digits, it is plain
+pub layout_plain : (n : ℕ) (ds : List ℕ) (power : ℤ) (size : ℕ) → size ≡ unsigned_abs power → lt_z power (pos 0) ≡ false
+    → size < n
     → layout n ds power ≡ plain ds (size + 1)
 layout_plain n ds (pos k) size is low high = rw (less k n (omega arith)) (ap (λ v. plain ds (v + 1)) (sym is))
 layout_plain n ds (negsuc k) size is low high = absurd (cc)
 
-pub layout_large : (n : ℕ) (ds : List ℕ) (power : ℤ) (size : ℕ) → size ≡ unsigned_abs power → lt_z power (pos 0) ≡ false → n ≤ size
+-- and from there on scientific
+pub layout_large : (n : ℕ) (ds : List ℕ) (power : ℤ) (size : ℕ) → size ≡ unsigned_abs power → lt_z power (pos 0) ≡ false
+    → n ≤ size
     → layout n ds power ≡ scientific ds power
 layout_large n ds (pos k) size is low high = rw (at_least k n (omega arith)) refl
 layout_large n ds (negsuc k) size is low high = absurd (cc)
@@ -59,6 +71,7 @@ enough_digits n m some most digits = elim (cases_lt (length (decimal m)) n) [
     fewer : length (decimal m) < n → ⊥
     fewer h =
         let read = decimal_is_IsNumeral_wide m wide in
-        let low : m < 10 ^ length (decimal m) = subst (λ v. v < 10 ^ length (decimal m)) read.1 (digits_value-lt 10 (decimal m) read.0.1) in
+        let low : m < 10 ^ length (decimal m) =
+        subst (λ v. v < 10 ^ length (decimal m)) read.1 (digits_value-lt 10 (decimal m) read.0.1) in
         let high = ten_up (length (decimal m)) (n - 1) (omega arith) in
         omega (arith, digits.least)

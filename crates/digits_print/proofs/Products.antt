@@ -3,15 +3,19 @@ use Rattle.std.proofs.Common.{◌≡◌, ◌<◌, ◌≤◌, ◌+◌, ◌-◌, �
 use Rattle.std.specs.Int.{abs_diff}
 use Rattle.std.proofs.lemmas.Bool.{cases_lt}
 
+-- less stays less by a factor above 0
 pub scaled_lt : (m n d : ℕ) → m < n → 0 < d → m * d < n * d
 scaled_lt m n d h some = grind arith
 
+-- at most stays so without one
 pub cancelled_le : (m n d : ℕ) → 0 < d → m * d ≤ n * d → m ≤ n
 cancelled_le m n d some h = grind arith
 
+-- less stays so without a factor
 pub cancelled_lt : (m n d : ℕ) → m * d < n * d → m < n
 cancelled_lt m n d h = grind arith
 
+-- products by one factor above 0 are equal only where the others are
 pub cancelled : (m n d : ℕ) → 0 < d → m * d ≡ n * d → m ≡ n
 cancelled m n d some h = grind arith
 
@@ -19,12 +23,15 @@ cancelled m n d some h = grind arith
 pub turned : (m n d : ℕ) → m * n * d ≡ m * d * n
 turned m n d = omega arith
 
+-- a product of three may be grouped otherwise
 pub grouped : (m n d : ℕ) → m * n * d ≡ m * (n * d)
 grouped m n d = omega arith
 
+-- the distance to a number with z more is z
 abs_diff_up : (x z : ℕ) → abs_diff x (x + z) ≡ z
 abs_diff_up x z = omega arith
 
+-- and so it is the other way round
 abs_diff_down : (x z : ℕ) → abs_diff (x + z) x ≡ z
 abs_diff_down x z = omega arith
 

@@ -1,5 +1,6 @@
 -- Powers of ten, and the scale at which a ratio has so many digits before the point.
-use Rattle.std.proofs.Common.{◌≡◌, ◌<◌, ◌≤◌, ◌+◌, ◌-◌, ◌*◌, ◌/◌, ◌%◌, ◌^◌, ◌+ℤ◌, ◌-ℤ◌, ℕ, ℤ, pos, negsuc, neg_ℤ, suc, zero, true, false}
+use Rattle.std.proofs.Common.{◌≡◌, ◌<◌, ◌≤◌, ◌+◌, ◌-◌, ◌*◌, ◌/◌, ◌%◌, ◌^◌, ◌+ℤ◌, ◌-ℤ◌, ℕ, ℤ, pos, negsuc, neg_ℤ, suc}
+use Rattle.std.proofs.Common.{zero, true, false}
 use Rattle.std.proofs.Common.{length, arith, refl, sym, ap, subst, ◌∙◌, lit<, inl, inr}
 use Rattle.std.specs.Prelude.{◌⊎◌, nat_le}
 use Rattle.std.specs.Int.Digits.{digits_of}
@@ -13,23 +14,29 @@ use Rattle.digits_print.specs.Nearest.{down, up}
 use Rattle.digits_print.specs.Rounding.{digit_count, first_power}
 use Rattle.digits_print.proofs.Products.{cancelled_le, cancelled_lt, scaled_lt}
 
+-- a power of ten is above 0
 pub ten_some : (k : ℕ) → 0 < 10 ^ k
 ten_some k = one-le-pow k 10 (lit< tt)
 
+-- the next one is ten times as great
 pub ten_suc : (k : ℕ) → 10 ^ suc k ≡ 10 * 10 ^ k
 ten_suc k = pow-suc 10 k ∙ omega arith
 
+-- so it is by the one before
 pub ten_before : (n : ℕ) → 0 < n → 10 ^ n ≡ 10 * 10 ^ (n - 1)
 ten_before zero h = absurd (omega arith)
 ten_before (suc m) h = let less : suc m - 1 ≡ m = omega arith in ten_suc m ∙ ap (λ v. 10 * 10 ^ v) (sym less)
 
+-- a higher power is no less
 pub ten_up : (i k : ℕ) → i ≤ k → 10 ^ i ≤ 10 ^ k
 ten_up i k h = pow-le-pow_right {n = 10} (lit< tt) h
 
+-- what a scale puts above the bar is above 0
 pub up_some : (s : ℤ) → 0 < up s
 up_some (pos k) = ten_some k
 up_some (negsuc k) = lit< tt
 
+-- and what it puts below
 pub down_some : (s : ℤ) → 0 < down s
 down_some (pos k) = lit< tt
 down_some (negsuc k) = ten_some (suc k)
@@ -47,14 +54,16 @@ shifted (pos i) (negsuc j) k e = absurd (apart i j k e)
   where
     apart : (i j k : ℕ) → negsuc j ≡ pos i +ℤ pos k → ⊥
     apart i j k e = omega (arith, ints)
-shifted (negsuc i) (pos j) k e = powers (10 ^ j) (10 ^ suc i) (10 ^ k) (ap (λ m. 10 ^ m) (sum i j k e) ∙ pow-add 10 j (suc i))
+shifted (negsuc i) (pos j) k e =
+    powers (10 ^ j) (10 ^ suc i) (10 ^ k) (ap (λ m. 10 ^ m) (sum i j k e) ∙ pow-add 10 j (suc i))
   where
     sum : (i j k : ℕ) → pos j ≡ negsuc i +ℤ pos k → k ≡ j + suc i
     sum i j k e = omega (arith, ints)
 
     powers : (x y z : ℕ) → z ≡ x * y → x * y ≡ z * (1 * 1)
     powers x y z e = omega arith
-shifted (negsuc i) (negsuc j) k e = powers (10 ^ suc j) (10 ^ suc i) (10 ^ k) (ap (λ m. 10 ^ m) (sum i j k e) ∙ pow-add 10 k (suc j))
+shifted (negsuc i) (negsuc j) k e =
+    powers (10 ^ suc j) (10 ^ suc i) (10 ^ k) (ap (λ m. 10 ^ m) (sum i j k e) ∙ pow-add 10 k (suc j))
   where
     sum : (i j k : ℕ) → negsuc j ≡ negsuc i +ℤ pos k → suc i ≡ k + suc j
     sum i j k e = omega (arith, ints)
@@ -105,7 +114,8 @@ apart n a b s t k some e at_s at_t =
     at_t.low at_s.high (shifted s t (suc k) e) powers (down_some t) (down_some s)
   where
     powers : 10 ^ n ≤ 10 ^ (n - 1) * 10 ^ suc k
-    powers = let more : n ≤ n - 1 + suc k = omega arith in subst (λ m. 10 ^ n ≤ m) (pow-add 10 (n - 1) (suc k)) (ten_up n (n - 1 + suc k) more)
+    powers = let more : n ≤ n - 1 + suc k =
+        omega arith in subst (λ m. 10 ^ n ≤ m) (pow-add 10 (n - 1) (suc k)) (ten_up n (n - 1 + suc k) more)
 
     turned : (p b u d : ℕ) → p * (b * u) * d ≡ p * b * (u * d)
     turned p b u d = omega arith
@@ -113,13 +123,16 @@ apart n a b s t k some e at_s at_t =
     turned' : (p b r u d : ℕ) → p * b * (r * (u * d)) ≡ p * r * (b * u * d)
     turned' p b r u d = omega arith
 
-    products : (p q r a b us ds ut dt : ℕ) → p * (b * ut) ≤ a * dt → a * ds < q * (b * us) → ut * ds ≡ r * (us * dt) → q ≤ p * r → 0 < dt
+    products : (p q r a b us ds ut dt : ℕ) → p * (b * ut) ≤ a * dt → a * ds < q * (b * us) → ut * ds ≡ r * (us * dt)
+        → q ≤ p * r → 0 < dt
         → 0 < ds → ⊥
     products p q r a b us ds ut dt low high step wide some_dt some_ds =
         let first : a * ds * dt < q * (b * us) * dt = scaled_lt (a * ds) (q * (b * us)) dt high some_dt in
         let second : p * (b * ut) * ds ≤ a * dt * ds = mul-le (p * (b * ut)) ds (a * dt) ds low (omega arith) in
-        let third : p * (b * ut) * ds ≡ p * r * (b * us * dt) = turned p b ut ds ∙ ap (λ m. p * b * m) step ∙ turned' p b r us dt in
-        let fourth : q * (b * us * dt) ≤ p * r * (b * us * dt) = mul-le q (b * us * dt) (p * r) (b * us * dt) wide (omega arith) in
+        let third : p * (b * ut) * ds ≡ p * r * (b * us * dt) = turned p b ut ds ∙ ap (λ m. p * b * m) step
+        ∙ turned' p b r us dt in
+        let fourth : q * (b * us * dt) ≤ p * r * (b * us * dt) =
+        mul-le q (b * us * dt) (p * r) (b * us * dt) wide (omega arith) in
         let fifth : q * (b * us) * dt ≡ q * (b * us * dt) = omega arith in
         let sixth : a * ds * dt ≡ a * dt * ds = omega arith in
         omega arith
@@ -138,8 +151,10 @@ scale_unique n a b s t some at_s at_t = elim (ordered s t) [
 -- a number is below ten to the number of its digits, and has a digit where it is not 0
 pub count_below : (m : ℕ) → m < 10 ^ digit_count m
 unfolding digit_count
-count_below m = subst (λ v. v < 10 ^ length (digits_of 10 m)) (number_digits_of 10 m (omega arith)) (number_lt 10 (digits_of 10 m) (all_below_base_digits_of 10 m (omega arith)))
+count_below m = subst (λ v. v < 10 ^ length (digits_of 10 m)) (number_digits_of 10 m (omega arith))
+    (number_lt 10 (digits_of 10 m) (all_below_base_digits_of 10 m (omega arith)))
 
+-- a number above 0 has digits, and is at least the power of ten that has as many
 pub count_least : (m : ℕ) → 0 < m → (0 < digit_count m) × (10 ^ (digit_count m - 1) ≤ m)
 unfolding digit_count
 count_least m some =
@@ -176,16 +191,19 @@ first_scaled a b some_a some_b = elim (cases_lt a b) [
     low_of a b w r p e h = let times : b * p ≤ b * w = mul-le b p b w (omega arith) h in omega arith
 
     high_of : (a b w r p : ℕ) → b * w + r ≡ a → r < b → w < 10 * p → a * 1 < 10 ^ 1 * (b * p)
-    high_of a b w r p e k h = let times : b * (w + 1) ≤ b * (10 * p) = mul-le b (w + 1) b (10 * p) (omega arith) (omega arith) in omega arith
+    high_of a b w r p e k h = let times : b * (w + 1) ≤ b * (10 * p) =
+        mul-le b (w + 1) b (10 * p) (omega arith) (omega arith) in omega arith
 
-    at_count : (c w r : ℕ) → a * w + r ≡ b - 1 → r < a → 0 < c → 10 ^ (c - 1) ≤ w → w < 10 ^ c → IsScaled 1 a b (neg_ℤ (pos c))
+    at_count : (c w r : ℕ) → a * w + r ≡ b - 1 → r < a → 0 < c → 10 ^ (c - 1) ≤ w → w < 10 ^ c
+        → IsScaled 1 a b (neg_ℤ (pos c))
     at_count zero w r e k some low high = absurd (omega arith)
     at_count (suc c) w r e k some low high =
         let less : suc c - 1 ≡ c = omega arith in
         let least : a * 10 ^ c ≤ a * w = mul-le a (10 ^ c) a w (omega arith) (subst (λ v. 10 ^ v ≤ w) less low) in
         let most : a * (w + 1) ≤ a * 10 ^ suc c = mul-le a (w + 1) a (10 ^ suc c) (omega arith) (omega arith) in
         let low' : 10 ^ 0 * (b * 1) ≤ a * 10 ^ suc c = omega arith in
-        let high' : a * 10 ^ suc c < 10 ^ 1 * (b * 1) = let ten : a * 10 ^ suc c ≡ a * (10 * 10 ^ c) = ap (λ v. a * v) (ten_suc c) in omega arith in
+        let high' : a * 10 ^ suc c < 10 ^ 1 * (b * 1) = let ten : a * 10 ^ suc c ≡ a * (10 * 10 ^ c) =
+        ap (λ v. a * v) (ten_suc c) in omega arith in
         let is : IsScaled 1 a b (negsuc c) = record { low = low'; high = high' } in
         is
 
@@ -193,13 +211,15 @@ first_scaled a b some_a some_b = elim (cases_lt a b) [
     large h =
         let some : 0 < a / b = le-div 1 a b some_b (omega arith) in
         let counted = count_least (a / b) some in
-        let power : 10 ^ digit_count (a / b) ≡ 10 * 10 ^ (digit_count (a / b) - 1) = ten_before (digit_count (a / b)) counted.0 in
+        let power : 10 ^ digit_count (a / b) ≡ 10 * 10 ^ (digit_count (a / b) - 1) =
+        ten_before (digit_count (a / b)) counted.0 in
         let whole : b * (a / b) + a % b ≡ a = div-add-mod a b in
         let part : a % b < b = omega arith in
         let bound = count_below (a / b) in
         record {
           low = low_of a b (a / b) (a % b) (10 ^ (digit_count (a / b) - 1)) whole counted.1;
-          high = high_of a b (a / b) (a % b) (10 ^ (digit_count (a / b) - 1)) whole part (subst (λ m. a / b < m) power bound);
+          high = high_of a b (a / b) (a % b) (10 ^ (digit_count (a / b) - 1)) whole part
+              (subst (λ m. a / b < m) power bound);
         }
 
     small : a < b → IsScaled 1 a b (neg_ℤ (pos (digit_count ((b - 1) / a))))
@@ -208,7 +228,8 @@ first_scaled a b some_a some_b = elim (cases_lt a b) [
         let counted = count_least ((b - 1) / a) some in
         let whole : a * ((b - 1) / a) + (b - 1) % a ≡ b - 1 = div-add-mod (b - 1) a in
         let part : (b - 1) % a < a = omega arith in
-        at_count (digit_count ((b - 1) / a)) ((b - 1) / a) ((b - 1) % a) whole part counted.0 counted.1 (count_below ((b - 1) / a))
+        at_count (digit_count ((b - 1) / a)) ((b - 1) / a) ((b - 1) % a) whole part counted.0 counted.1
+        (count_below ((b - 1) / a))
 
 -- n - 1 places below the first digit there are n digits before the point
 lowered : (n a b : ℕ) (x s : ℤ) → 0 < n → x ≡ s +ℤ pos (n - 1) → IsScaled 1 a b x → IsScaled n a b s
@@ -216,20 +237,23 @@ lowered n a b x s some e first =
     let step = shifted s x (n - 1) e in
     record {
       low = low_of (10 ^ (n - 1)) a b (up s) (down s) (up x) (down x) first.low step (down_some x);
-      high = high_of (10 ^ (n - 1)) (10 ^ n) a b (up s) (down s) (up x) (down x) first.high step (ten_before n some) (down_some x) (down_some s);
+      high = high_of (10 ^ (n - 1)) (10 ^ n) a b (up s) (down s) (up x) (down x) first.high step (ten_before n some)
+          (down_some x) (down_some s);
     }
   where
     turned : (b u d : ℕ) → b * u * d ≡ b * (u * d)
     turned b u d = omega arith
 
-    low_of : (p a b us ds ux dx : ℕ) → 10 ^ 0 * (b * ux) ≤ a * dx → ux * ds ≡ p * (us * dx) → 0 < dx → p * (b * us) ≤ a * ds
+    low_of : (p a b us ds ux dx : ℕ) → 10 ^ 0 * (b * ux) ≤ a * dx → ux * ds ≡ p * (us * dx) → 0 < dx
+        → p * (b * us) ≤ a * ds
     low_of p a b us ds ux dx h step some =
         let times : b * ux * ds ≤ a * dx * ds = mul-le (b * ux) ds (a * dx) ds (omega arith) (omega arith) in
         let left : b * ux * ds ≡ p * (b * us) * dx = turned b ux ds ∙ ap (λ m. b * m) step ∙ omega arith in
         let right : a * dx * ds ≡ a * ds * dx = omega arith in
         cancelled_le (p * (b * us)) (a * ds) dx some (omega arith)
 
-    high_of : (p q a b us ds ux dx : ℕ) → a * dx < 10 ^ 1 * (b * ux) → ux * ds ≡ p * (us * dx) → q ≡ 10 * p → 0 < dx → 0 < ds
+    high_of : (p q a b us ds ux dx : ℕ) → a * dx < 10 ^ 1 * (b * ux) → ux * ds ≡ p * (us * dx) → q ≡ 10 * p → 0 < dx
+        → 0 < ds
         → a * ds < q * (b * us)
     high_of p q a b us ds ux dx h step e some some_ds =
         let times : a * dx * ds < 10 * (b * ux) * ds = scaled_lt (a * dx) (10 * (b * ux)) ds (omega arith) some_ds in
@@ -241,7 +265,9 @@ lowered n a b x s some e first =
 
 -- the scale that rounding takes
 pub scaled : (n a b : ℕ) → 0 < n → 0 < a → 0 < b → IsScaled n a b (first_power a b -ℤ pos (n - 1))
-scaled n a b some some_a some_b = lowered n a b (first_power a b) (first_power a b -ℤ pos (n - 1)) some (back (first_power a b) (n - 1)) (first_scaled a b some_a some_b)
+scaled n a b some some_a some_b =
+    lowered n a b (first_power a b) (first_power a b -ℤ pos (n - 1)) some (back (first_power a b) (n - 1))
+    (first_scaled a b some_a some_b)
   where
     back : (x : ℤ) (k : ℕ) → x ≡ (x -ℤ pos k) +ℤ pos k
     back x k = omega (arith, ints)

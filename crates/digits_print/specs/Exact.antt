@@ -2,7 +2,7 @@
 use Rattle.std.specs.Prelude.{◌≡◌, ◌++◌, ◌==◌, [], ℕ, List, Bool, true, false, pos, if◌then◌else◌, ◌⊎◌, Ok, codes}
 use Rattle.std.specs.Fmt.{decimal, signed_decimal}
 use Rattle.std.specs.Str.Parse.{IsNumeral, digits_value}
-use Rattle.frac128.specs.Fraction.{Fraction, IsKept}
+use Rattle.frac128.specs.Fraction.{Fraction, IsFrac}
 use Rattle.frac128.specs.Sign.{signed}
 use Rattle.frac128.specs.Steps.{ratio}
 use Rattle.digits_print.specs.Back.{IsReadAs}
@@ -39,4 +39,4 @@ pub record ReadsAsQuotient (text : List ℕ) (x : Fraction) : Type 0 where
 
 -- law: the exact text of each fraction of the program reads as that fraction
 abbrev pub ExactLaw : Type 0
-ExactLaw = (x : Fraction) → IsKept x → ReadsAsWhole (exact_text x) x ⊎ ReadsAsQuotient (exact_text x) x
+ExactLaw = (x : Fraction) → IsFrac x → ReadsAsWhole (exact_text x) x ⊎ ReadsAsQuotient (exact_text x) x

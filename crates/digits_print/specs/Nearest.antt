@@ -32,7 +32,8 @@ IsLess d e = d.coefficient * up d.scale * down e.scale < e.coefficient * up e.sc
 
 -- which of two equally near decimals is taken: the one whose last digit is even, or, where both are odd, the greater
 abbrev pub IsPreferred : Decimal → Decimal → Type 0
-IsPreferred d e = ((d.coefficient % 2 ≡ 0) × (e.coefficient % 2 ≡ 1)) ⊎ ((d.coefficient % 2 ≡ 1) × (e.coefficient % 2 ≡ 1) × IsLess e d)
+IsPreferred d e = ((d.coefficient % 2 ≡ 0) × (e.coefficient % 2 ≡ 1))
+    ⊎ ((d.coefficient % 2 ≡ 1) × (e.coefficient % 2 ≡ 1) × IsLess e d)
 
 -- among all decimals with n significant digits, of any scale, d is nearest to a / b
 pub record IsNearest (n a b : ℕ) (d : Decimal) : Type 0 where

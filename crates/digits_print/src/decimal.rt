@@ -1,9 +1,9 @@
 //! Decimals with so many digits.
 
 ghost use Rattle.std.specs.Prelude.{◌≡◌, ◌<◌, ◌≤◌, ◌^◌, pos, negsuc, ◌<ℤ◌, ◌≤ℤ◌};
-ghost use Rattle.frac128.specs.Nearest.{by_half as by_half_of};
+ghost use Rattle.frac128.specs.Nearest as nearest_spec;
 ghost use Rattle.digits_print.specs.Nearest.{HasDigits};
-ghost use Rattle.digits_print.specs.Rounding.{carried as carried_of};
+ghost use Rattle.digits_print.specs.Rounding as spec;
 
 use std::cmp::Ordering;
 use std::marker::Model;
@@ -36,7 +36,7 @@ impl Decimal {
         requires fits { HasDigits digits number }
         requires low { negsuc 99 <ℤ scale }
         requires high { scale <ℤ pos 100 }
-        ensures value { result ≡ carried_of digits (by_half_of number cut) scale }
+        ensures value { result ≡ spec.carried digits (nearest_spec.by_half number cut) scale }
         ensures fits { HasDigits digits result.coefficient }
         ensures low { negsuc 99 <ℤ result.scale }
         ensures high { result.scale ≤ℤ pos 100 }
@@ -60,7 +60,7 @@ impl Decimal {
 // The number, or the next one. A half goes to the even number.
 fn by_half(number: u128, cut: Ordering) -> u128
     requires { number < 10 ^ MOST_DIGITS }
-    ensures { result ≡ by_half_of number cut }
+    ensures { result ≡ nearest_spec.by_half number cut }
 {
     match cut {
         Ordering::Less => number,

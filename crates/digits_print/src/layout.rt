@@ -2,7 +2,7 @@
 
 ghost use Rattle.std.specs.Prelude.{◌≡◌, ◌<◌, ◌≤◌, ◌++◌, pos, negsuc, ◌<ℤ◌, ◌≤ℤ◌, length, OnOk};
 ghost use Rattle.digits_print.specs.Nearest.{HasDigits};
-ghost use Rattle.digits_print.specs.Layout.{below_one, decimal_text, exponent_text, fraction_part, layout, plain, scientific, two_digits, without_end_zeros as without_end_zeros_of};
+ghost use Rattle.digits_print.specs.Layout as spec;
 
 use crate::decimal::{Decimal, MOST_DIGITS};
 use std::alloc::{AllocError, Global};
@@ -22,7 +22,7 @@ pub(crate) fn put_decimal(
     requires fits { HasDigits digits x.coefficient }
     requires low { negsuc 99 <ℤ x.scale }
     requires high { x.scale ≤ℤ pos 100 }
-    ensures { OnOk result (text.new.items ≡ text.old.items ++ decimal_text digits x) }
+    ensures { OnOk result (text.new.items ≡ text.old.items ++ spec.decimal_text digits x) }
 {
     let numeral = x.coefficient.to_string(alloc)?;
     let power = x.scale + (digits as i32 - 1);
@@ -40,7 +40,7 @@ fn put_layout(
 ) -> Result<(), AllocError>
     requires some { 0 < digits }
     requires enough { digits ≤ length numeral.now }
-    ensures { OnOk result (text.new.items ≡ text.old.items ++ layout digits numeral.now power) }
+    ensures { OnOk result (text.new.items ≡ text.old.items ++ spec.layout digits numeral.now power) }
 {
     let size = power.unsigned_abs();
     if power < LEAST_PLAIN_POWER {
@@ -57,7 +57,7 @@ fn put_layout(
 // Plain notation with so many digits before the point.
 fn put_plain(text: &mut Vec<u8>, digits: &[u8], before: usize) -> Result<(), AllocError>
     requires { before ≤ length digits.now }
-    ensures { OnOk result (text.new.items ≡ text.old.items ++ plain digits.now before) }
+    ensures { OnOk result (text.new.items ≡ text.old.items ++ spec.plain digits.now before) }
 {
     let (whole, rest) = digits.split_at(before);
     text.extend_from_slice(whole)?;
@@ -67,7 +67,7 @@ fn put_plain(text: &mut Vec<u8>, digits: &[u8], before: usize) -> Result<(), All
 // Plain notation of a number below 1, with so many zeros between the point and the first digit.
 fn put_below_one(text: &mut Vec<u8>, digits: &[u8], zeros: usize) -> Result<(), AllocError>
     requires { zeros < 4 }
-    ensures { OnOk result (text.new.items ≡ text.old.items ++ below_one digits.now zeros) }
+    ensures { OnOk result (text.new.items ≡ text.old.items ++ spec.below_one digits.now zeros) }
 {
     text.extend_from_slice(b"0.".as_slice())?;
     text.resize(text.len() + zeros, b'0')?;
@@ -82,7 +82,7 @@ fn put_scientific(
     power: i32,
 ) -> Result<(), AllocError>
     requires { 1 ≤ length digits.now }
-    ensures { OnOk result (text.new.items ≡ text.old.items ++ scientific digits.now power) }
+    ensures { OnOk result (text.new.items ≡ text.old.items ++ spec.scientific digits.now power) }
 {
     put_plain(text, digits, 1)?;
     put_exponent(alloc, text, power)
@@ -90,7 +90,7 @@ fn put_scientific(
 
 // The digits behind the point with the point, or nothing where all are zeros.
 fn put_fraction(text: &mut Vec<u8>, digits: &[u8]) -> Result<(), AllocError>
-    ensures { OnOk result (text.new.items ≡ text.old.items ++ fraction_part digits.now) }
+    ensures { OnOk result (text.new.items ≡ text.old.items ++ spec.fraction_part digits.now) }
 {
     let kept = without_end_zeros(digits);
     if kept.is_empty() {
@@ -102,7 +102,7 @@ fn put_fraction(text: &mut Vec<u8>, digits: &[u8]) -> Result<(), AllocError>
 
 // The exponent with its mark and sign.
 fn put_exponent(alloc: Global, text: &mut Vec<u8>, power: i32) -> Result<(), AllocError>
-    ensures { OnOk result (text.new.items ≡ text.old.items ++ exponent_text power) }
+    ensures { OnOk result (text.new.items ≡ text.old.items ++ spec.exponent_text power) }
 {
     if power < 0 {
         text.extend_from_slice(b"e-".as_slice())?;
@@ -114,7 +114,7 @@ fn put_exponent(alloc: Global, text: &mut Vec<u8>, power: i32) -> Result<(), All
 
 // A number in at least two digits.
 fn put_two_digits(alloc: Global, text: &mut Vec<u8>, n: u32) -> Result<(), AllocError>
-    ensures { OnOk result (text.new.items ≡ text.old.items ++ two_digits n) }
+    ensures { OnOk result (text.new.items ≡ text.old.items ++ spec.two_digits n) }
 {
     if n < 10 {
         text.push(b'0')?;
@@ -125,7 +125,7 @@ fn put_two_digits(alloc: Global, text: &mut Vec<u8>, n: u32) -> Result<(), Alloc
 
 // The digits without the zeros at their end.
 fn without_end_zeros(digits: &[u8]) -> &[u8]
-    ensures { result.now ≡ without_end_zeros_of digits.now }
+    ensures { result.now ≡ spec.without_end_zeros digits.now }
 {
     let mut end = digits.len();
     while end > 0 && digits[end - 1] == b'0' {

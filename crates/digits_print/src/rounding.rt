@@ -3,7 +3,7 @@
 ghost use Rattle.std.specs.Prelude.{◌≡◌, ◌<◌, ◌≤◌, ◌+◌, ◌*◌, ◌/◌, ◌^◌, pos, negsuc, ◌<ℤ◌, ◌≤ℤ◌};
 ghost use Rattle.std.specs.Ordering.{nat_cmp};
 ghost use Rattle.digits_print.specs.Nearest.{HasDigits};
-ghost use Rattle.digits_print.specs.Rounding.{rounded as rounded_of};
+ghost use Rattle.digits_print.specs.Rounding as spec;
 
 use crate::decimal::{Decimal, MOST_DIGITS, power_of_ten};
 use crate::tenfold::ten_times;
@@ -16,7 +16,7 @@ pub(crate) fn rounded(top: u128, bottom: u128, digits: u32) -> Decimal
     requires top { 0 < top }
     requires bottom { 0 < bottom }
     requires fits { bottom ≤ 2 ^ 127 }
-    ensures value { result ≡ rounded_of digits top bottom }
+    ensures value { result ≡ spec.rounded digits top bottom }
     ensures fits { HasDigits digits result.coefficient }
     ensures low { negsuc 99 <ℤ result.scale }
     ensures high { result.scale ≤ℤ pos 100 }
@@ -36,7 +36,7 @@ fn lengthened(top: u128, bottom: u128, digits: u32) -> Decimal
     requires bottom { 0 < bottom }
     requires fits { bottom ≤ 2 ^ 127 }
     requires low { top / bottom < 10 ^ digits }
-    ensures value { result ≡ rounded_of digits top bottom }
+    ensures value { result ≡ spec.rounded digits top bottom }
     ensures fits { HasDigits digits result.coefficient }
     ensures low { negsuc 99 <ℤ result.scale }
     ensures high { result.scale ≤ℤ pos 100 }
@@ -60,7 +60,7 @@ fn shortened(top: u128, bottom: u128, digits: u32) -> Decimal
     requires most { digits ≤ MOST_DIGITS }
     requires bottom { 0 < bottom }
     requires high { 10 ^ digits ≤ top / bottom }
-    ensures value { result ≡ rounded_of digits top bottom }
+    ensures value { result ≡ spec.rounded digits top bottom }
     ensures fits { HasDigits digits result.coefficient }
     ensures low { negsuc 99 <ℤ result.scale }
     ensures high { result.scale ≤ℤ pos 100 }

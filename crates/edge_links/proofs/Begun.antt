@@ -7,7 +7,7 @@ use Rattle.std.proofs.Math.Seq.{get_or-append_seam}
 use Rattle.edge_links.specs.Changes.{IsBegun, with_both}
 use Rattle.edge_links.specs.Edges.{Edge, Graph}
 use Rattle.edge_links.specs.Owners.{Owners, AreEdges, IsHead, owned, with_head}
-use Rattle.edge_links.specs.Shown.{edge_at, edges_below, shown, AreLinks}
+use Rattle.edge_links.specs.Shown.{edge_at, edges_below, graph_of, AreLinks}
 use Rattle.edge_links.specs.Times.{times}
 use Rattle.edge_links.proofs.Counting.{owned_more, owned_zero}
 use Rattle.edge_links.proofs.Growing.{at_end}
@@ -15,10 +15,12 @@ use Rattle.edge_links.proofs.Listed.{user, key_of, at_head, at_free, at_same, sa
 use Rattle.edge_links.proofs.Placing.{spare_grown}
 use Rattle.edge_links.proofs.WaitingPlaces.{down_at_end}
 
+-- graphs with equal parts are equal
 graph_is : (n m : ℕ) (es ds : List Edge) (s r : ℕ) → n ≡ m → es ≡ ds → s ≡ r
     → ◌≡◌ {A = Graph} (record { nodes = n; edges = es; spare = s }) (record { nodes = m; edges = ds; spare = r })
 graph_is n m es ds s r e f g = λ i. record { nodes = e i; edges = f i; spare = g i }
 
+-- a list of length 0 is empty
 no_list : (xs : List ℕ) → length xs ≡ 0 → xs ≡ []
 no_list [] e = refl
 no_list (x ∷ xs) e = cc
@@ -29,30 +31,34 @@ module _ (s t : Owners) (nodes : List ℕ) (links : AreLinks s nodes) (begun : I
   begun_links = elim begun [
     | inl h ↦ subst (λ (x : Owners). AreLinks x nodes) (sym h) links
     | inr h ↦
-        let one : length t.users ≡ 1 = let a = ap (λ (x : Owners). length x.users) h.1 ∙ length-append s.users (0 ∷ []) in let b = h.0 in
+        let one : length t.users ≡ 1 = let a = ap (λ (x : Owners). length x.users) h.1
+        ∙ length-append s.users (0 ∷ []) in let b = h.0 in
         omega arith in
         record {
-          size = let a = ap (λ (x : Owners). length x.names) h.1 ∙ length-append s.names (0 ∷ []) in let b = links.size in let d = h.0 in omega arith;
+          size = let a = ap (λ (x : Owners). length x.names) h.1 ∙ length-append s.names (0 ∷ []) in let b =
+              links.size in let d = h.0 in omega arith;
           places = λ i l. absurd (let a = (links.places i l).0.0 in let b = h.0 in omega arith);
           named = λ x w. absurd (let a = w.0 in w.2 (omega arith));
           idle = λ x. ap (λ (o : Owners). get_or o.waits x false) h.1 ∙ (down_at_end s.waits x ∙ links.idle x);
         }
   ]
 
-  pub begun_shown : shown t nodes ≡ shown s nodes
+  pub begun_shown : graph_of t nodes ≡ graph_of s nodes
   begun_shown = elim begun [
-    | inl h ↦ ap (λ (x : Owners). shown x nodes) h
+    | inl h ↦ ap (λ (x : Owners). graph_of x nodes) h
     | inr h ↦
         let none : s.users ≡ [] = no_list s.users h.0 in
         let first : t.users ≡ 0 ∷ [] = ap (λ (x : Owners). x.users) h.1 ∙ ap (λ xs. xs ++ 0 ∷ []) none in
         graph_is _ _ _ _ _ _ refl
-        (ap (λ m. edges_below t m) (ap length first) ∙ (ap (λ es. es ++ []) (at_free t 0 (ap (λ xs. get_or xs 0 0) first)) ∙ ap
+        (ap (λ m. edges_below t m) (ap length first)
+        ∙ (ap (λ es. es ++ []) (at_free t 0 (ap (λ xs. get_or xs 0 0) first)) ∙ ap
         (λ m. edges_below s m) (sym h.0)))
         (ap (λ xs. times 0 xs - 1) first ∙ sym (ap (λ xs. times 0 xs - 1) none))
   ]
 
 -- one more head
-module _ (s t : Owners) (nodes : List ℕ) (n v : ℕ) (e : AreEdges s.users s.keys) (links : AreLinks s nodes) (some : 0 < length s.users)
+module _ (s t : Owners) (nodes : List ℕ) (n v : ℕ) (e : AreEdges s.users s.keys) (links : AreLinks s nodes)
+    (some : 0 < length s.users)
     (is : n ≡ length s.users) (more_is : t ≡ with_head s n v) where
   us : t.users ≡ s.users ++ n ∷ []
   us = ap (λ (x : Owners). x.users) more_is
@@ -79,7 +85,8 @@ module _ (s t : Owners) (nodes : List ℕ) (n v : ℕ) (e : AreEdges s.users s.k
   k_old p l = ap (λ xs. get_or xs p 0) ks ∙ get_or_append_left s.keys (n ∷ []) 0 p (let a = e.keys_size in omega arith)
 
   name_old : (p : ℕ) → p < n → get_or t.names p 0 ≡ get_or s.names p 0
-  name_old p l = ap (λ xs. get_or xs p 0) ns ∙ get_or_append_left s.names (v ∷ []) 0 p (let a = links.size in omega arith)
+  name_old p l = ap (λ xs. get_or xs p 0) ns
+      ∙ get_or_append_left s.names (v ∷ []) 0 p (let a = links.size in omega arith)
 
   u_new : user t n ≡ n
   u_new = ap (λ xs. get_or xs n 0) us ∙ at_end s.users n (sym is)
@@ -98,7 +105,8 @@ module _ (s t : Owners) (nodes : List ℕ) (n v : ℕ) (e : AreEdges s.users s.k
       plus k = omega arith
 
   name_new : get_or t.names n 0 ≡ v
-  name_new = ap (λ xs. get_or xs n 0) ns ∙ (ap (λ k. get_or (s.names ++ v ∷ []) k 0) (is ∙ sym links.size) ∙ get_or-append_seam s.names v [] 0)
+  name_new = ap (λ xs. get_or xs n 0) ns
+      ∙ (ap (λ k. get_or (s.names ++ v ∷ []) k 0) (is ∙ sym links.size) ∙ get_or-append_seam s.names v [] 0)
 
   -- the new head owns itself alone
   pub grown_alone : (p : ℕ) → p < length t.users → (user t p ≡ n → p ≡ n) × (key_of t p ≡ n → p ≡ n)
@@ -127,7 +135,8 @@ module _ (s t : Owners) (nodes : List ℕ) (n v : ℕ) (e : AreEdges s.users s.k
     node_old i l = ap (λ xs. get_or xs i 0) more ∙ get_or_append_left nodes (n ∷ []) 0 i l
 
     node_new : get_or nodes2 v 0 ≡ n
-    node_new = ap (λ xs. get_or xs v 0) more ∙ (ap (λ k. get_or (nodes ++ n ∷ []) k 0) named ∙ get_or-append_seam nodes n [] 0)
+    node_new = ap (λ xs. get_or xs v 0) more
+        ∙ (ap (λ k. get_or (nodes ++ n ∷ []) k 0) named ∙ get_or-append_seam nodes n [] 0)
 
     nodes_size : length nodes2 ≡ length nodes + 1
     nodes_size = ap length more ∙ length-append nodes (n ∷ [])
@@ -137,7 +146,8 @@ module _ (s t : Owners) (nodes : List ℕ) (n v : ℕ) (e : AreEdges s.users s.k
       size = names_size ∙ sym grown_size;
       places = λ i l. elim (cases_eq i v) [
         | inl q ↦ subst (λ k. IsHead t (get_or nodes2 k 0) × (get_or t.names (get_or nodes2 k 0) 0 ≡ k)) (sym q)
-            (subst (λ x. IsHead t x × (get_or t.names x 0 ≡ v)) (sym node_new) ((let a = grown_size in omega arith, u_new, grown_zero), name_new))
+            (subst (λ x. IsHead t x × (get_or t.names x 0 ≡ v)) (sym node_new)
+            ((let a = grown_size in omega arith, u_new, grown_zero), name_new))
         | inr ne ↦
             let low : i < length nodes = let a = nodes_size in omega arith in
             let o = links.places i low in
@@ -150,13 +160,17 @@ module _ (s t : Owners) (nodes : List ℕ) (n v : ℕ) (e : AreEdges s.users s.k
         | inr ne ↦
             let low : x < n = let a = h.0 in let b = grown_size in omega arith in
             let o = links.named x (head_old x low h) in
-            let same : get_or t.names x 0 ≡ get_or s.names x 0 = name_old x low in
-            (let a = o.0 in let b = nodes_size in omega arith, ap (λ k. get_or nodes2 k 0) same ∙ (node_old (get_or s.names x 0) o.0 ∙ o.1))
+            let same : get_or t.names x 0 ≡ get_or s.names x 0 = name_old x low in (
+              let a = o.0 in let b = nodes_size in omega arith,
+              ap (λ k. get_or nodes2 k 0) same
+                  ∙ (node_old (get_or s.names x 0) o.0 ∙ o.1),
+            )
       ];
       idle = λ x. waits x ∙ links.idle x;
     }
 
-    pub node_shown : shown t nodes2 ≡ record { nodes = length nodes + 1; edges = edges_below s (length s.users); spare = owned 0 s.users - 1 }
+    pub node_shown : graph_of t nodes2
+        ≡ record { nodes = length nodes + 1; edges = edges_below s (length s.users); spare = owned 0 s.users - 1 }
     node_shown = graph_is _ _ _ _ _ _ nodes_size grown_edges_shown
         (ap (λ xs. times 0 xs - 1) us ∙ sym (spare_grown s.users n (times 0 s.users - 1) is refl))
 
@@ -191,8 +205,10 @@ module _ (s t : Owners) (nodes : List ℕ) (n v : ℕ) (e : AreEdges s.users s.k
       size = ap length wn ∙ (names_size ∙ sym free_size);
       places = λ i l.
           let o = links.places i l in
-          let low : get_or nodes i 0 < n = let a = o.0.0 in omega arith in
-          ((let a = free_size in omega arith, uf_old (get_or nodes i 0) low ∙ o.0.1, o.0.2), wname_old (get_or nodes i 0) low ∙ o.1);
+          let low : get_or nodes i 0 < n = let a = o.0.0 in omega arith in (
+            (let a = free_size in omega arith, uf_old (get_or nodes i 0) low ∙ o.0.1, o.0.2),
+            wname_old (get_or nodes i 0) low ∙ o.1,
+          );
       named = λ x h. elim (cases_eq x n) [
         | inl q ↦ absurd (h.2 (sym h.1 ∙ (ap (user w) q ∙ uf_new)))
         | inr ne ↦
@@ -209,7 +225,8 @@ module _ (s t : Owners) (nodes : List ℕ) (n v : ℕ) (e : AreEdges s.users s.k
         at_same s w p (uf_old p l) (kf_old p l) (wname_old (user s p) (let a = e.within p (omega arith) in omega arith))
         (wname_old (key_of s p) (let a = e.key_within p (omega arith) in omega arith))
 
-    pub free_shown : shown w nodes ≡ record { nodes = length nodes; edges = edges_below s (length s.users); spare = (owned 0 s.users - 1) + 1 }
+    pub free_shown : graph_of w nodes
+        ≡ record { nodes = length nodes; edges = edges_below s (length s.users); spare = (owned 0 s.users - 1) + 1 }
     free_shown = graph_is _ _ _ _ _ _ refl
         (ap (λ m. edges_below w m) (free_size ∙ plus n) ∙ (ap (λ es. es ++ edges_below w n) (at_free w n uf_new)
         ∙ (same_below s w n free_at ∙ ap (λ m. edges_below s m) is)))
@@ -224,4 +241,5 @@ module _ (s t : Owners) (nodes : List ℕ) (n v : ℕ) (e : AreEdges s.users s.k
             let b : times 0 t.users - 1 ≡ times 0 s.users - 1 =
             ap (λ xs. times 0 xs - 1) us ∙ sym (spare_grown s.users n (times 0 s.users - 1) is refl) in
             let d = owned_zero s.users some e.zero in
-            let f = owned_zero t.users (let z = grown_size in omega arith) (u_old 0 (omega arith) ∙ e.zero) in omega arith
+            let f = owned_zero t.users (let z = grown_size in omega arith) (u_old 0 (omega arith) ∙ e.zero)
+            in omega arith

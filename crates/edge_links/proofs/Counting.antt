@@ -1,31 +1,40 @@
 -- How many places a head owns.
-use Rattle.std.proofs.Common.{◌≡◌, ℕ, zero, suc, ◌+◌, ◌<◌, ◌≤◌, cond, List, [], ◌∷◌, ◌++◌, length, set, get_or, nat_eq, refl, sym, arith, inl, inr}
+use Rattle.std.proofs.Common.{◌≡◌, ℕ, zero, suc, ◌+◌, ◌<◌, ◌≤◌, cond, List, [], ◌∷◌, ◌++◌, length, set, get_or, nat_eq}
+use Rattle.std.proofs.Common.{refl, sym, arith, inl, inr}
 use Rattle.std.proofs.lemmas.Bool.{cond-true, cond-false, eq-eqb, ne_eqb, cases_eq}
 use Rattle.edge_links.specs.Owners.{owned}
 use Rattle.edge_links.specs.Times.{times}
 
+-- one less here is one more there
 ones : (a b c : ℕ) → a ≡ 1 → b ≡ 0 → b + c + 1 ≡ a + c
 ones a b c e f = omega arith
 
-pub owned_less : (x y : ℕ) (xs : List ℕ) (p : ℕ) → p < length xs → get_or xs p 0 ≡ x → (y ≡ x → ⊥) → owned x (set xs p y) + 1 ≡ owned x xs
+-- a place that gets another owner is one less of the old one
+pub owned_less : (x y : ℕ) (xs : List ℕ) (p : ℕ) → p < length xs → get_or xs p 0 ≡ x → (y ≡ x → ⊥)
+    → owned x (set xs p y) + 1 ≡ owned x xs
 owned_less x y [] p l e ne = absurd (omega arith)
 owned_less x y (z ∷ xs) zero l e ne =
     let a : cond (nat_eq z x) 1 0 ≡ 1 = cond-true (nat_eq z x) 1 0 (eq-eqb z x e) in
     let b : cond (nat_eq y x) 1 0 ≡ 0 = cond-false (nat_eq y x) 1 0 (ne_eqb y x ne) in ones _ _ _ a b
 owned_less x y (z ∷ xs) (suc p) l e ne = omega (arith, owned_less x y xs p (omega arith) e ne)
 
-pub owned_more : (x : ℕ) (xs : List ℕ) (p : ℕ) → p < length xs → (get_or xs p 0 ≡ x → ⊥) → owned x (set xs p x) ≡ owned x xs + 1
+-- and one more of the new one
+pub owned_more : (x : ℕ) (xs : List ℕ) (p : ℕ) → p < length xs → (get_or xs p 0 ≡ x → ⊥)
+    → owned x (set xs p x) ≡ owned x xs + 1
 owned_more x [] p l ne = absurd (omega arith)
 owned_more x (z ∷ xs) zero l ne =
     let a : cond (nat_eq x x) 1 0 ≡ 1 = cond-true (nat_eq x x) 1 0 (eq-eqb x x refl) in
     let b : cond (nat_eq z x) 1 0 ≡ 0 = cond-false (nat_eq z x) 1 0 (ne_eqb z x ne) in sym (ones _ _ _ a b)
 owned_more x (z ∷ xs) (suc p) l ne = omega (arith, owned_more x xs p (omega arith) ne)
 
+-- an owner has no more places than there are
 pub owned_le : (x : ℕ) (xs : List ℕ) → owned x xs ≤ length xs
 owned_le x [] = omega arith
 owned_le x (z ∷ xs) = elim (cases_eq z x) [
-  | inl e ↦ let a : cond (nat_eq z x) 1 0 ≡ 1 = cond-true (nat_eq z x) 1 0 (eq-eqb z x e) in le_one _ _ _ a (owned_le x xs)
-  | inr ne ↦ let a : cond (nat_eq z x) 1 0 ≡ 0 = cond-false (nat_eq z x) 1 0 (ne_eqb z x ne) in le_none _ _ _ a (owned_le x xs)
+  | inl e ↦ let a : cond (nat_eq z x) 1 0 ≡ 1 =
+      cond-true (nat_eq z x) 1 0 (eq-eqb z x e) in le_one _ _ _ a (owned_le x xs)
+  | inr ne ↦ let a : cond (nat_eq z x) 1 0 ≡ 0 =
+      cond-false (nat_eq z x) 1 0 (ne_eqb z x ne) in le_none _ _ _ a (owned_le x xs)
 ]
   where
     le_one : (a b c : ℕ) → a ≡ 1 → b ≤ c → a + b ≤ suc c
@@ -52,7 +61,8 @@ pub some_place : (x : ℕ) (xs : List ℕ) → 0 < times x xs → (p : ℕ) × (
 some_place x [] l = absurd (omega (arith, l))
 some_place x (z ∷ xs) l = elim (cases_eq z x) [
   | inl e ↦ (0, omega arith, e)
-  | inr ne ↦ let r = some_place x xs (rest _ _ (cond-false (nat_eq z x) 1 0 (ne_eqb z x ne)) l) in (suc r.0, let a = r.1 in omega arith, r.2)
+  | inr ne ↦ let r = some_place x xs (rest _ _ (cond-false (nat_eq z x) 1 0 (ne_eqb z x ne)) l)
+      in (suc r.0, let a = r.1 in omega arith, r.2)
 ]
   where
     rest : (a c : ℕ) → a ≡ 0 → 0 < a + c → 0 < c

@@ -5,6 +5,7 @@ use Rattle.std.proofs.lemmas.Bool.{cases_eq}
 use Rattle.edge_links.specs.Changes.{IsCut}
 use Rattle.edge_links.specs.Owners.{Owners}
 
+-- of the old places whose test holds some are free by now, and all others are as before
 pub record IsCutting (Test : ℕ → Type 0) (old new : Owners) : Type 0 where
   pub size : length new.users ≡ length old.users
   pub names : new.names ≡ old.names
@@ -12,15 +13,20 @@ pub record IsCutting (Test : ℕ → Type 0) (old new : Owners) : Type 0 where
       → (Test p × (get_or new.users p 0 ≡ 0) × (get_or new.keys p 0 ≡ 0)) ⊎
       ((get_or new.users p 0 ≡ get_or old.users p 0) × (get_or new.keys p 0 ≡ get_or old.keys p 0))
 
+-- a place without user and key
 abbrev pub freed : Owners → ℕ → Owners
 freed s p = record s { users = set s.users p 0; keys = set s.keys p 0 }
 
+-- at the start no place is free
 pub cutting_start : (Test : ℕ → Type 0) (s : Owners) → IsCutting Test s s
 cutting_start Test s = record { size = refl; names = refl; each = λ p l. inr (refl, refl) }
 
+-- one more of these places becomes free
 pub cutting_next :
-    (Test : ℕ → Type 0) (old s : Owners) (place : ℕ) → IsCutting Test old s → length s.keys ≡ length s.users → place < length s.users
-    → ((get_or s.users place 0 ≡ get_or old.users place 0) × (get_or s.keys place 0 ≡ get_or old.keys place 0) → Test place)
+    (Test : ℕ → Type 0) (old s : Owners) (place : ℕ) → IsCutting Test old s → length s.keys ≡ length s.users
+    → place < length s.users
+    → ((get_or s.users place 0 ≡ get_or old.users place 0) × (get_or s.keys place 0 ≡ get_or old.keys place 0)
+    → Test place)
     → IsCutting Test old (freed s place)
 cutting_next Test old s place c ks l test = record {
   size = length-set s.users place 0 ∙ c.size;
@@ -28,8 +34,10 @@ cutting_next Test old s place c ks l test = record {
   each = λ p m. elim (cases_eq p place) [
     | inl e ↦
         let k : place < length s.keys = omega arith in
-        let u : get_or (set s.users place 0) p 0 ≡ 0 = ap (λ x. get_or (set s.users place 0) x 0) e ∙ get_or-set_same s.users place 0 0 l in
-        let v : get_or (set s.keys place 0) p 0 ≡ 0 = ap (λ x. get_or (set s.keys place 0) x 0) e ∙ get_or-set_same s.keys place 0 0 k in
+        let u : get_or (set s.users place 0) p 0 ≡ 0 = ap (λ x. get_or (set s.users place 0) x 0) e
+        ∙ get_or-set_same s.users place 0 0 l in
+        let v : get_or (set s.keys place 0) p 0 ≡ 0 = ap (λ x. get_or (set s.keys place 0) x 0) e
+        ∙ get_or-set_same s.keys place 0 0 k in
         inl (
           (elim (c.each p m) [
             | inl w ↦ w.0
@@ -48,7 +56,8 @@ cutting_next Test old s place c ks l test = record {
 
 -- a loop that has nothing left
 pub cutting_end : (Test : ℕ → Type 0) (old s : Owners) → IsCutting Test old s
-    → ((p : ℕ) → p < length old.users → Test p → (get_or s.users p 0 ≡ get_or old.users p 0) × (get_or s.keys p 0 ≡ get_or old.keys p 0) → ⊥)
+    → ((p : ℕ) → p < length old.users → Test p → (get_or s.users p 0 ≡ get_or old.users p 0)
+    × (get_or s.keys p 0 ≡ get_or old.keys p 0) → ⊥)
     → IsCut Test old s
 cutting_end Test old s c none p l = (
   λ t. elim (c.each p l) [ inl w ↦ (w.1, w.2) | inr w ↦ absurd (none p l t w) ],

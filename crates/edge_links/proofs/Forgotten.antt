@@ -1,5 +1,6 @@
 -- What is shown after edges were cut off.
-use Rattle.std.proofs.Common.{◌≡◌, ◌⊎◌, ℕ, zero, suc, ◌+◌, ◌-◌, ◌<◌, ◌≤◌, Bool, false, cond, nat_eq, List, [], ◌∷◌, length}
+use Rattle.std.proofs.Common.{◌≡◌, ◌⊎◌, ℕ, zero, suc, ◌+◌, ◌-◌, ◌<◌, ◌≤◌, Bool, false, cond, nat_eq, List, [], ◌∷◌}
+use Rattle.std.proofs.Common.{length}
 use Rattle.std.proofs.Common.{get_or, refl, sym, ◌∙◌, ap, subst, arith, inl, inr}
 use Rattle.std.proofs.lemmas.Bool.{cond-true, cond-false, eq-eqb, ne_eqb}
 use Rattle.std.proofs.lemmas.List.{length-append}
@@ -13,7 +14,8 @@ use Rattle.edge_links.specs.PlaceReach as place
 use Rattle.edge_links.specs.Times.{times}
 use Rattle.edge_links.proofs.Counting.{owned_zero}
 use Rattle.edge_links.proofs.Linked.{same_heads}
-use Rattle.edge_links.proofs.Listed.{user, key_of, by_edge, at_none, at_free, at_edge, at_same, count_other, counts_same, counts_none}
+use Rattle.edge_links.proofs.Listed.{user, key_of, by_edge, at_none, at_free, at_edge, at_same, count_other}
+use Rattle.edge_links.proofs.Listed.{counts_same, counts_none}
 use Rattle.edge_links.proofs.Put.{read}
 use Rattle.edge_links.proofs.Reaching.{user_head, affected_down, affected_up, affected_there}
 
@@ -22,6 +24,7 @@ abbrev pub frees : (ℕ → ℕ) → ℕ → ℕ
 frees f zero = 0
 frees f (suc n) = cond (nat_eq (f n) 0) 1 0 + frees f n
 
+-- free places are counted from the front
 frees_front : (f : ℕ → ℕ) (n : ℕ) → frees f (suc n) ≡ cond (nat_eq (f 0) 0) 1 0 + frees (λ k. f (suc k)) n
 frees_front f zero = refl
 frees_front f (suc n) = swapped _ _ _ _ (frees_front f n)
@@ -29,13 +32,17 @@ frees_front f (suc n) = swapped _ _ _ _ (frees_front f n)
     swapped : (a b d e : ℕ) → b ≡ d + e → a + b ≡ d + (a + e)
     swapped a b d e h = omega arith
 
+-- they are as many as there are zeros
 frees_times : (xs : List ℕ) → frees (λ k. get_or xs k 0) (length xs) ≡ times 0 xs
 frees_times [] = refl
-frees_times (x ∷ xs) = frees_front (λ k. get_or (x ∷ xs) k 0) (length xs) ∙ ap (λ k. cond (nat_eq x 0) 1 0 + k) (frees_times xs)
+frees_times (x ∷ xs) = frees_front (λ k. get_or (x ∷ xs) k 0) (length xs)
+    ∙ ap (λ k. cond (nat_eq x 0) 1 0 + k) (frees_times xs)
 
-module _ (s : Owners) (e : AreEdges s.users s.keys) (nodes : List ℕ) (links : AreLinks s nodes) (key : ℕ) (there : key < length nodes)
+module _ (s : Owners) (e : AreEdges s.users s.keys) (nodes : List ℕ) (links : AreLinks s nodes) (key : ℕ)
+    (there : key < length nodes)
     (head : ℕ) (found : head ≡ get_or nodes key head)
-    (t : Owners) (size : length t.users ≡ length s.users) (same_names : t.names ≡ s.names) (parted : IsParted (IsCutOff s head) s t)
+    (t : Owners) (size : length t.users ≡ length s.users) (same_names : t.names ≡ s.names)
+    (parted : IsParted (IsCutOff s head) s t)
     (idle : (x : ℕ) → get_or t.waits x false ≡ false) where
   abbrev n : ℕ
   n = length s.users
@@ -56,7 +63,11 @@ module _ (s : Owners) (e : AreEdges s.users s.keys) (nodes : List ℕ) (links : 
   at_place : (p : ℕ) → p < n → (IsCutOff s (get_or nodes key 0) p × (edge_at t p ≡ [])) ⊎ Stays p
   at_place p l = elim (cut p l) [
     | inl c ↦ inl (c.0, at_free t p c.1)
-    | inr c ↦ inr (c.0, at_same s t p c.1 c.2 (ap (λ xs. get_or xs (user s p) 0) same_names) (ap (λ xs. get_or xs (key_of s p) 0) same_names))
+    | inr c ↦ inr (
+      c.0,
+      at_same s t p c.1 c.2 (ap (λ xs. get_or xs (user s p) 0) same_names)
+          (ap (λ xs. get_or xs (key_of s p) 0) same_names),
+    )
   ]
 
   heads_stay : (x : ℕ) → IsHead s x → IsHead t x
@@ -77,14 +88,20 @@ module _ (s : Owners) (e : AreEdges s.users s.keys) (nodes : List ℕ) (links : 
   links_after = same_heads s t nodes size same_names heads_stay heads_were idle links
 
   -- the edge of an affected user is cut off, and no other
-  cut_off_affected : (p : ℕ) → p < n → IsCutOff s (get_or nodes key 0) p → IsAffected old key (get_or s.names (user s p) 0)
+  cut_off_affected : (p : ℕ) → p < n → IsCutOff s (get_or nodes key 0) p
+      → IsAffected old key (get_or s.names (user s p) 0)
   cut_off_affected p l c = affected_up s e nodes links key (user s p) there c.2
 
-  affected_cut_off : (p : ℕ) → p < n → (user s p ≡ p → ⊥) → (user s p ≡ 0 → ⊥) → IsAffected old key (get_or s.names (user s p) 0)
+  affected_cut_off : (p : ℕ) → p < n → (user s p ≡ p → ⊥) → (user s p ≡ 0 → ⊥)
+      → IsAffected old key (get_or s.names (user s p) 0)
       → IsCutOff s (get_or nodes key 0) p
   affected_cut_off p l a b f =
-      let h = links.named (user s p) (user_head s e nodes links p l b) in
-      (a, b, subst (λ z. place.IsAffected s (get_or nodes key 0) z) h.1 (affected_down s e nodes links key (get_or s.names (user s p) 0) f))
+      let h = links.named (user s p) (user_head s e nodes links p l b) in (
+        a,
+        b,
+        subst (λ z. place.IsAffected s (get_or nodes key 0) z) h.1
+            (affected_down s e nodes links key (get_or s.names (user s p) 0) f),
+      )
 
   gone_at : (x y : ℕ) → IsAffected old key x → (p : ℕ) → p < n → edge_count (edge_at t p) x y ≡ 0
   gone_at x y f p l = elim (at_place p l) [
@@ -97,7 +114,8 @@ module _ (s : Owners) (e : AreEdges s.users s.keys) (nodes : List ℕ) (links : 
     ]
   ]
 
-  kept_at : (x y : ℕ) → (IsAffected old key x → ⊥) → (p : ℕ) → p < n → edge_count (edge_at t p) x y ≡ edge_count (edge_at s p) x y
+  kept_at : (x y : ℕ) → (IsAffected old key x → ⊥) → (p : ℕ) → p < n
+      → edge_count (edge_at t p) x y ≡ edge_count (edge_at s p) x y
   kept_at x y f p l = elim (at_place p l) [
     | inl c ↦ ap (λ es. edge_count es x y) c.1 ∙ sym (ap (λ es. edge_count es x y) (at_edge s p c.0.0 c.0.1)
         ∙ count_other (get_or s.names (user s p) 0) (get_or s.names (key_of s p) 0) x y
@@ -112,9 +130,11 @@ module _ (s : Owners) (e : AreEdges s.users s.keys) (nodes : List ℕ) (links : 
   }
 
   -- each place is as often free as it is not an edge
-  weight : (p : ℕ) → p < n → length (edge_at t p) + cond (nat_eq (user t p) 0) 1 0 ≡ length (edge_at s p) + cond (nat_eq (user s p) 0) 1 0
+  weight : (p : ℕ) → p < n
+      → length (edge_at t p) + cond (nat_eq (user t p) 0) 1 0 ≡ length (edge_at s p) + cond (nat_eq (user s p) 0) 1 0
   weight p l = elim (cut p l) [
-    | inl c ↦ cut_off _ _ _ _ (ap length (at_free t p c.1)) (cond-true (nat_eq (user t p) 0) 1 0 (eq-eqb (user t p) 0 c.1))
+    | inl c ↦ cut_off _ _ _ _ (ap length (at_free t p c.1))
+        (cond-true (nat_eq (user t p) 0) 1 0 (eq-eqb (user t p) 0 c.1))
         (ap length (at_edge s p c.0.0 c.0.1)) (cond-false (nat_eq (user s p) 0) 1 0 (ne_eqb (user s p) 0 c.0.1))
     | inr c ↦ stays _ _ _ _ (ap length (at_same s t p c.1 c.2 (ap (λ xs. get_or xs (user s p) 0) same_names)
         (ap (λ xs. get_or xs (key_of s p) 0) same_names))) (ap (λ z. cond (nat_eq z 0) 1 0) c.1)
@@ -131,7 +151,8 @@ module _ (s : Owners) (e : AreEdges s.users s.keys) (nodes : List ℕ) (links : 
   weights (suc m) l = sums _ _ _ _ _ _ _ _ _ _ (length-append (edge_at t m) (edges_below t m))
       (length-append (edge_at s m) (edges_below s m)) (weight m (omega arith)) (weights m (omega arith))
     where
-      sums : (a b d f g h i j k o : ℕ) → a ≡ b + d → f ≡ g + h → b + i ≡ g + j → d + k ≡ h + o → a + (i + k) ≡ f + (j + o)
+      sums : (a b d f g h i j k o : ℕ) → a ≡ b + d → f ≡ g + h → b + i ≡ g + j → d + k ≡ h + o
+          → a + (i + k) ≡ f + (j + o)
       sums a b d f g h i j k o p q r u = omega arith
 
   -- place 0 stays
@@ -141,18 +162,22 @@ module _ (s : Owners) (e : AreEdges s.users s.keys) (nodes : List ℕ) (links : 
   pub spare_after : (times 0 t.users - 1) + length (edges_below t (length t.users)) ≡ (times 0 s.users - 1) + length old
   spare_after =
       let some : 0 < n = let h = (links.places key there).0.0 in omega arith in
-      sums _ _ _ _ _ _ _ (weights n (omega arith)) (frees_times s.users) (ap (λ m. frees (user t) m) (sym size) ∙ frees_times t.users)
-      (owned_zero s.users some e.zero) (owned_zero t.users (omega arith) (zero_stays some)) (ap (λ m. length (edges_below t m)) size)
+      sums _ _ _ _ _ _ _ (weights n (omega arith)) (frees_times s.users)
+      (ap (λ m. frees (user t) m) (sym size) ∙ frees_times t.users)
+      (owned_zero s.users some e.zero) (owned_zero t.users (omega arith) (zero_stays some))
+      (ap (λ m. length (edges_below t m)) size)
     where
       sums : (a b d f g h i : ℕ) → a + b ≡ d + f → f ≡ g → b ≡ h → 1 ≤ g → 1 ≤ h → i ≡ a → (h - 1) + i ≡ (g - 1) + d
       sums a b d f g h i j k l m o p = omega arith
 
-  pub cleared : (now new : ℕ → Bool) → ((x : ℕ) → IsHead s x → place.IsAffected s head x → new (get_or s.names x 0) ≡ false)
+  pub cleared : (now new : ℕ → Bool)
+      → ((x : ℕ) → IsHead s x → place.IsAffected s head x → new (get_or s.names x 0) ≡ false)
       → ((m : ℕ) → ((x : ℕ) → IsHead s x → place.IsAffected s head x → get_or s.names x 0 ≡ m → ⊥) → new m ≡ now m)
       → IsCleared (IsAffected old key) now new
   cleared now new gone kept = record {
     gone = λ x f. let h = affected_there s e nodes links key x there f in
-        ap new (sym h.1) ∙ gone (get_or nodes x 0) h.0 (subst (λ z. place.IsAffected s z (get_or nodes x 0)) (sym is_head)
+        ap new (sym h.1)
+        ∙ gone (get_or nodes x 0) h.0 (subst (λ z. place.IsAffected s z (get_or nodes x 0)) (sym is_head)
         (affected_down s e nodes links key x f));
     kept = λ m f. kept m (λ x h a q. f (subst (λ z. IsAffected old key z) q
         (affected_up s e nodes links key x there (subst (λ z. place.IsAffected s z x) is_head a))));

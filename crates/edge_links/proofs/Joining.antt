@@ -1,11 +1,13 @@
 -- A head that owns itself alone goes into another ring.
-use Rattle.std.proofs.Common.{◌≡◌, ℕ, ◌+◌, ◌<◌, ◌≤◌, length, set, get_or, refl, sym, ◌∙◌, ap, subst, arith, inl, inr, length-set}
+use Rattle.std.proofs.Common.{◌≡◌, ℕ, ◌+◌, ◌<◌, ◌≤◌, length, set, get_or, refl, sym, ◌∙◌, ap, subst, arith, inl, inr}
+use Rattle.std.proofs.Common.{length-set}
 use Rattle.std.proofs.lemmas.Bool.{cases_eq}
 use Rattle.edge_links.specs.Columns.{Ring}
 use Rattle.edge_links.specs.Rings.{put, IsRing, AreRings}
 use Rattle.edge_links.proofs.Put.{put_same, put_other, set_put, as_lists}
 
-module _ (n : ℕ) (next prev owner : ℕ → ℕ) (r : IsRing n next prev owner) (e h : ℕ) (there : e < n) (head_there : h < n) (apart : e ≡ h → ⊥)
+module _ (n : ℕ) (next prev owner : ℕ → ℕ) (r : IsRing n next prev owner) (e h : ℕ) (there : e < n) (head_there : h < n)
+    (apart : e ≡ h → ⊥)
     (is_own : owner e ≡ e) (alone : (p : ℕ) → p < n → owner p ≡ e → p ≡ e) (is_head : owner h ≡ h) where
   abbrev pub first : ℕ
   first = next h
@@ -99,7 +101,8 @@ module _ (n : ℕ) (next prev owner : ℕ → ℕ) (r : IsRing n next prev owner
         | inr x-h ↦ elim (cases_eq x e) [ inl q ↦ subst P (sym q) b | inr x-e ↦ d x l x-h x-e ]
       ]
 
-  by_prev : (P : ℕ → Type 0) → P first → P e → ((x : ℕ) → x < n → (x ≡ first → ⊥) → (x ≡ e → ⊥) → P x) → (x : ℕ) → x < n → P x
+  by_prev : (P : ℕ → Type 0) → P first → P e → ((x : ℕ) → x < n → (x ≡ first → ⊥) → (x ≡ e → ⊥) → P x) → (x : ℕ) → x < n
+      → P x
   by_prev P a b d x l =
       elim (cases_eq x first) [
         | inl q ↦ subst P (sym q) a
@@ -113,22 +116,27 @@ module _ (n : ℕ) (next prev owner : ℕ → ℕ) (r : IsRing n next prev owner
   joined = record {
     next_in = by_next (λ x. next2 x < n) (subst (λ y. y < n) (sym at_h) there) (subst (λ y. y < n) (sym at_e) first_in)
         (λ x l a b. subst (λ y. y < n) (sym (at_other x a b)) (r.next_in x l));
-    prev_in = by_prev (λ x. prev2 x < n) (subst (λ y. y < n) (sym before_first) there) (subst (λ y. y < n) (sym before_e) head_there)
+    prev_in = by_prev (λ x. prev2 x < n) (subst (λ y. y < n) (sym before_first) there)
+        (subst (λ y. y < n) (sym before_e) head_there)
         (λ x l a b. subst (λ y. y < n) (sym (before_other x a b)) (r.prev_in x l));
     back = by_next (λ x. prev2 (next2 x) ≡ x) (ap prev2 at_h ∙ before_e) (ap prev2 at_e ∙ before_first)
-        (λ x l a b. ap prev2 (at_other x a b) ∙ (before_other (next x) (not_next_first x l a) (not_next_e x l b) ∙ r.back x l));
+        (λ x l a b. ap prev2 (at_other x a b)
+        ∙ (before_other (next x) (not_next_first x l a) (not_next_e x l b) ∙ r.back x l));
     forth = by_prev (λ x. next2 (prev2 x) ≡ x) (ap next2 before_first ∙ at_e) (ap next2 before_e ∙ at_h)
-        (λ x l a b. ap next2 (before_other x a b) ∙ (at_other (prev x) (not_prev_h x l a) (not_prev_e x l b) ∙ r.forth x l));
+        (λ x l a b. ap next2 (before_other x a b)
+        ∙ (at_other (prev x) (not_prev_h x l a) (not_prev_e x l b) ∙ r.forth x l));
     own_in = λ x l. elim (cases_eq x e) [
       | inl q ↦ subst (λ y. y < n) (sym (ap owner2 q ∙ own_e)) head_there
       | inr ne ↦ subst (λ y. y < n) (sym (own_other x ne)) (r.own_in x l)
     ];
     own = by_next (λ x. owner2 (next2 x) ≡ owner2 x) (ap owner2 at_h ∙ (own_e ∙ sym own_h))
         (ap owner2 at_e ∙ (own_other first first_e ∙ (own_first ∙ sym own_e)))
-        (λ x l a b. ap owner2 (at_other x a b) ∙ (own_other (next x) (not_next_e x l b) ∙ (r.own x l ∙ sym (own_other x b))));
+        (λ x l a b. ap owner2 (at_other x a b)
+        ∙ (own_other (next x) (not_next_e x l b) ∙ (r.own x l ∙ sym (own_other x b))));
     top = λ x l. elim (cases_eq x e) [
       | inl q ↦ let a : owner2 x ≡ h = ap owner2 q ∙ own_e in ap owner2 a ∙ (own_h ∙ sym a)
-      | inr ne ↦ ap owner2 (own_other x ne) ∙ (own_other (owner x) (λ q. ne (alone x l q)) ∙ (r.top x l ∙ sym (own_other x ne)))
+      | inr ne ↦ ap owner2 (own_other x ne)
+          ∙ (own_other (owner x) (λ q. ne (alone x l q)) ∙ (r.top x l ∙ sym (own_other x ne)))
     ];
     rank = rank2;
     falls = by_prev (λ x. (owner2 x ≡ x → ⊥) → rank2 (prev2 x) < rank2 x)
@@ -151,8 +159,11 @@ with_joined r e h = record {
   owner = set r.owner e h;
 }
 
-pub joined_ring : (r : Ring) (e h : ℕ) → AreRings r → e < length r.owner → h < length r.owner → (e ≡ h → ⊥) → get_or r.owner e 0 ≡ e
-    → ((p : ℕ) → p < length r.owner → get_or r.owner p 0 ≡ e → p ≡ e) → get_or r.owner h 0 ≡ h → AreRings (with_joined r e h)
+-- a place that stood alone joins the ring of another
+pub joined_ring : (r : Ring) (e h : ℕ) → AreRings r → e < length r.owner → h < length r.owner → (e ≡ h → ⊥)
+    → get_or r.owner e 0 ≡ e
+    → ((p : ℕ) → p < length r.owner → get_or r.owner p 0 ≡ e → p ≡ e) → get_or r.owner h 0 ≡ h
+    → AreRings (with_joined r e h)
 joined_ring r e h are there head_there apart is_own alone is_head =
     let n : ℕ = length r.owner in
     let next : ℕ → ℕ = λ k. get_or r.next k 0 in
@@ -175,5 +186,6 @@ joined_ring r e h are there head_there apart is_own alone is_head =
     let z : n ≡ length (set r.owner e h) = sym (length-set r.owner e h) in
     record {
       sizes = (length-set (set r.next e f) h e ∙ (l1 ∙ z), length-set (set r.prev e h) f e ∙ (m1 ∙ z));
-      ring = as_lists _ _ _ _ _ _ _ _ z n2 p2 o2 (joined n next prev owner are.ring e h there head_there apart is_own alone is_head);
+      ring = as_lists _ _ _ _ _ _ _ _ z n2 p2 o2
+          (joined n next prev owner are.ring e h there head_there apart is_own alone is_head);
     }

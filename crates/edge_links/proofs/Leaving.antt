@@ -1,5 +1,6 @@
 -- A place is taken out of its ring and stands alone.
-use Rattle.std.proofs.Common.{◌≡◌, ℕ, zero, suc, ◌<◌, length, set, get_or, refl, sym, ◌∙◌, ap, subst, arith, inl, inr, length-set}
+use Rattle.std.proofs.Common.{◌≡◌, ℕ, zero, suc, ◌<◌, length, set, get_or, refl, sym, ◌∙◌, ap, subst, arith, inl, inr}
+use Rattle.std.proofs.Common.{length-set}
 use Rattle.std.proofs.lemmas.Bool.{cases_eq}
 use Rattle.edge_links.specs.Columns.{Ring}
 use Rattle.edge_links.specs.Rings.{put, IsRing, AreRings}
@@ -94,14 +95,16 @@ module _ (n : ℕ) (next prev owner : ℕ → ℕ) (r : IsRing n next prev owner
     pub not_owner : (x : ℕ) → x < n → owner x ≡ e → ⊥
     not_owner x l q = no_head (ap owner (sym q) ∙ (r.top x l ∙ q))
 
-    by_next : (P : ℕ → Type 0) → P e → P before → ((x : ℕ) → x < n → (x ≡ before → ⊥) → (x ≡ e → ⊥) → P x) → (x : ℕ) → x < n → P x
+    by_next : (P : ℕ → Type 0) → P e → P before → ((x : ℕ) → x < n → (x ≡ before → ⊥) → (x ≡ e → ⊥) → P x) → (x : ℕ)
+        → x < n → P x
     by_next P a b d x l =
         elim (cases_eq x e) [
           | inl q ↦ subst P (sym q) a
           | inr x-e ↦ elim (cases_eq x before) [ inl q ↦ subst P (sym q) b | inr x-b ↦ d x l x-b x-e ]
         ]
 
-    by_prev : (P : ℕ → Type 0) → P e → P after → ((x : ℕ) → x < n → (x ≡ after → ⊥) → (x ≡ e → ⊥) → P x) → (x : ℕ) → x < n → P x
+    by_prev : (P : ℕ → Type 0) → P e → P after → ((x : ℕ) → x < n → (x ≡ after → ⊥) → (x ≡ e → ⊥) → P x) → (x : ℕ)
+        → x < n → P x
     by_prev P a b d x l =
         elim (cases_eq x e) [
           | inl q ↦ subst P (sym q) a
@@ -110,24 +113,31 @@ module _ (n : ℕ) (next prev owner : ℕ → ℕ) (r : IsRing n next prev owner
 
     pub left : IsRing n next2 prev2 owner2
     left = record {
-      next_in = by_next (λ x. next2 x < n) (subst (λ y. y < n) (sym at_e) there) (subst (λ y. y < n) (sym at_before) after_in)
+      next_in = by_next (λ x. next2 x < n) (subst (λ y. y < n) (sym at_e) there)
+          (subst (λ y. y < n) (sym at_before) after_in)
           (λ x l a b. subst (λ y. y < n) (sym (at_other x a b)) (r.next_in x l));
-      prev_in = by_prev (λ x. prev2 x < n) (subst (λ y. y < n) (sym back_e) there) (subst (λ y. y < n) (sym back_after) before_in)
+      prev_in = by_prev (λ x. prev2 x < n) (subst (λ y. y < n) (sym back_e) there)
+          (subst (λ y. y < n) (sym back_after) before_in)
           (λ x l a b. subst (λ y. y < n) (sym (back_other x a b)) (r.prev_in x l));
       back = by_next (λ x. prev2 (next2 x) ≡ x) (ap prev2 at_e ∙ back_e) (ap prev2 at_before ∙ back_after)
-          (λ x l a b. ap prev2 (at_other x a b) ∙ (back_other (next x) (not_next_after x l b) (not_next_e x l a) ∙ r.back x l));
+          (λ x l a b. ap prev2 (at_other x a b)
+          ∙ (back_other (next x) (not_next_after x l b) (not_next_e x l a) ∙ r.back x l));
       forth = by_prev (λ x. next2 (prev2 x) ≡ x) (ap next2 back_e ∙ at_e) (ap next2 back_after ∙ at_before)
-          (λ x l a b. ap next2 (back_other x a b) ∙ (at_other (prev x) (not_prev_before x l b) (not_prev_e x l a) ∙ r.forth x l));
+          (λ x l a b. ap next2 (back_other x a b)
+          ∙ (at_other (prev x) (not_prev_before x l b) (not_prev_e x l a) ∙ r.forth x l));
       own_in = λ x l. elim (cases_eq x e) [
         | inl q ↦ subst (λ y. y < n) (sym (ap owner2 q ∙ own_e)) there
         | inr ne ↦ subst (λ y. y < n) (sym (own_other x ne)) (r.own_in x l)
       ];
       own = by_next (λ x. owner2 (next2 x) ≡ owner2 x) (ap owner2 at_e)
-          (ap owner2 at_before ∙ (own_other after after_e ∙ (r.own e there ∙ (sym own_before ∙ sym (own_other before before_e)))))
-          (λ x l a b. ap owner2 (at_other x a b) ∙ (own_other (next x) (not_next_e x l a) ∙ (r.own x l ∙ sym (own_other x b))));
+          (ap owner2 at_before
+          ∙ (own_other after after_e ∙ (r.own e there ∙ (sym own_before ∙ sym (own_other before before_e)))))
+          (λ x l a b. ap owner2 (at_other x a b)
+          ∙ (own_other (next x) (not_next_e x l a) ∙ (r.own x l ∙ sym (own_other x b))));
       top = λ x l. elim (cases_eq x e) [
         | inl q ↦ ap owner2 (ap owner2 q ∙ own_e) ∙ (own_e ∙ sym (ap owner2 q ∙ own_e))
-        | inr ne ↦ ap owner2 (own_other x ne) ∙ (own_other (owner x) (not_owner x l) ∙ (r.top x l ∙ sym (own_other x ne)))
+        | inr ne ↦ ap owner2 (own_other x ne)
+            ∙ (own_other (owner x) (not_owner x l) ∙ (r.top x l ∙ sym (own_other x ne)))
       ];
       rank = r.rank;
       falls = by_prev (λ x. (owner2 x ≡ x → ⊥) → r.rank (prev2 x) < r.rank x)
@@ -149,7 +159,9 @@ without r e = record {
   owner = set r.owner e e;
 }
 
-pub left_ring : (r : Ring) (e : ℕ) → AreRings r → e < length r.owner → (get_or r.owner e 0 ≡ e → ⊥) → AreRings (without r e)
+-- a place that is no head leaves its ring
+pub left_ring : (r : Ring) (e : ℕ) → AreRings r → e < length r.owner → (get_or r.owner e 0 ≡ e → ⊥)
+    → AreRings (without r e)
 left_ring r e are there no_head =
     let n : ℕ = length r.owner in
     let next : ℕ → ℕ = λ k. get_or r.next k 0 in
@@ -163,11 +175,14 @@ left_ring r e are there no_head =
     let an : a < n = after_in n next prev owner are.ring e there no_head in
     let l1 : length (set r.next b a) ≡ n = length-set r.next b a ∙ ls in
     let m1 : length (set r.prev a b) ≡ n = length-set r.prev a b ∙ ms in
-    let n2 : ◌≡◌ {A = ℕ → ℕ} (λ k. get_or (set (set r.next b a) e e) k 0) (next2 n next prev owner are.ring e there no_head) =
+    let n2 : ◌≡◌ {A = ℕ → ℕ} (λ k. get_or (set (set r.next b a) e e) k 0)
+    (next2 n next prev owner are.ring e there no_head) =
     set_put (set r.next b a) e e (omega arith) ∙ ap (λ (f : ℕ → ℕ). put f e e) (set_put r.next b a (omega arith)) in
-    let p2 : ◌≡◌ {A = ℕ → ℕ} (λ k. get_or (set (set r.prev a b) e e) k 0) (prev2 n next prev owner are.ring e there no_head) =
+    let p2 : ◌≡◌ {A = ℕ → ℕ} (λ k. get_or (set (set r.prev a b) e e) k 0)
+    (prev2 n next prev owner are.ring e there no_head) =
     set_put (set r.prev a b) e e (omega arith) ∙ ap (λ (f : ℕ → ℕ). put f e e) (set_put r.prev a b (omega arith)) in
-    let o2 : ◌≡◌ {A = ℕ → ℕ} (λ k. get_or (set r.owner e e) k 0) (owner2 n next prev owner are.ring e there no_head) = set_put r.owner e e there in
+    let o2 : ◌≡◌ {A = ℕ → ℕ} (λ k. get_or (set r.owner e e) k 0) (owner2 n next prev owner are.ring e there no_head) =
+    set_put r.owner e e there in
     let z : n ≡ length (set r.owner e e) = sym (length-set r.owner e e) in
     record {
       sizes = (length-set (set r.next b a) e e ∙ (l1 ∙ z), length-set (set r.prev a b) e e ∙ (m1 ∙ z));

@@ -14,13 +14,16 @@ pub same_heads : (s t : Owners) (nodes : List ℕ) → length t.users ≡ length
     → ((x : ℕ) → get_or t.waits x false ≡ false) → AreLinks s nodes → AreLinks t nodes
 same_heads s t nodes size same to from idle links = record {
   size = ap length same ∙ (links.size ∙ sym size);
-  places = λ i l. let a = links.places i l in (to (get_or nodes i 0) a.0, ap (λ xs. get_or xs (get_or nodes i 0) 0) same ∙ a.1);
-  named = λ x h. subst (λ xs. (get_or xs x 0 < length nodes) × (get_or nodes (get_or xs x 0) 0 ≡ x)) (sym same) (links.named x (from x h));
+  places = λ i l. let a =
+      links.places i l in (to (get_or nodes i 0) a.0, ap (λ xs. get_or xs (get_or nodes i 0) 0) same ∙ a.1);
+  named = λ x h. subst (λ xs. (get_or xs x 0 < length nodes) × (get_or nodes (get_or xs x 0) 0 ≡ x)) (sym same)
+      (links.named x (from x h));
   idle = idle;
 }
 
 -- s with the place q filled
-module _ (s : Owners) (q u k : ℕ) (l : q < length s.users) (kl : q < length s.keys) (is_free : user s q ≡ 0) (nz : q ≡ 0 → ⊥)
+module _ (s : Owners) (q u k : ℕ) (l : q < length s.users) (kl : q < length s.keys) (is_free : user s q ≡ 0)
+    (nz : q ≡ 0 → ⊥)
     (uq : u ≡ q → ⊥) (unz : u ≡ 0 → ⊥) where
   abbrev pub filled : Owners
   filled = with_both s q u k
@@ -47,20 +50,25 @@ module _ (s : Owners) (q u k : ℕ) (l : q < length s.users) (kl : q < length s.
   ]
 
   pub filled_counts : (a b x y : ℕ) → get_or s.names u 0 ≡ a → get_or s.names k 0 ≡ b
-      → edge_count (edges_below filled (length filled.users)) x y ≡ edge_count (edge a b ∷ edges_below s (length s.users)) x y
+      → edge_count (edges_below filled (length filled.users)) x y
+      ≡ edge_count (edge a b ∷ edges_below s (length s.users)) x y
   filled_counts a b x y na nb =
       let at_s : edge_at s q ≡ [] = at_free s q is_free in
       let at_t : edge_at filled q ≡ edge a b ∷ [] =
       at_edge filled q (λ e. uq (sym here.0 ∙ e)) (λ e. unz (sym here.0 ∙ e))
-      ∙ (ap (λ z. edge z (get_or s.names (key_of filled q) 0) ∷ []) (ap (λ z. get_or s.names z 0) here.0 ∙ na) ∙ ap (λ z. edge a z ∷ [])
+      ∙ (ap (λ z. edge z (get_or s.names (key_of filled q) 0) ∷ []) (ap (λ z. get_or s.names z 0) here.0 ∙ na)
+      ∙ ap (λ z. edge a z ∷ [])
       (ap (λ z. get_or s.names z 0) here.1 ∙ nb)) in
-      sums _ _ _ _ _ (counts_one s filled x y q (length s.users) l (λ p ne. at_same s filled p (other p ne).0 (other p ne).1 refl refl))
-      (ap (λ es. edge_count es x y) at_s) (ap (λ es. edge_count es x y) at_t) (ap (λ n. edge_count (edges_below filled n) x y) filled_size)
+      sums _ _ _ _ _ (counts_one s filled x y q (length s.users) l
+      (λ p ne. at_same s filled p (other p ne).0 (other p ne).1 refl refl))
+      (ap (λ es. edge_count es x y) at_s) (ap (λ es. edge_count es x y) at_t)
+      (ap (λ n. edge_count (edges_below filled n) x y) filled_size)
     where
       sums : (f g e t o : ℕ) → f + e ≡ g + t → e ≡ 0 → t ≡ o + 0 → {m : ℕ} → m ≡ f → m ≡ o + g
       sums f g e t o h i j n = omega arith
 
-module _ (s t : Owners) (nodes : List ℕ) (e : AreEdges s.users s.keys) (links : AreLinks s nodes) (a b u k : ℕ) (al : a < length nodes)
+module _ (s t : Owners) (nodes : List ℕ) (e : AreEdges s.users s.keys) (links : AreLinks s nodes) (a b u k : ℕ)
+    (al : a < length nodes)
     (bl : b < length nodes)
     (ru : u ≡ get_or nodes a 0) (rk : k ≡ get_or nodes b 0) (f : IsFilled s u k t) where
   u_is : IsHead s u × (get_or s.names u 0 ≡ a)
@@ -76,9 +84,11 @@ module _ (s t : Owners) (nodes : List ℕ) (e : AreEdges s.users s.keys) (links 
   apart q = u_is.0.2 (sym u_is.0.1 ∙ (ap (user s) q ∙ f.free.1))
 
   -- the edge that was added, and no other
-  pub linked_counts : (x y : ℕ) → edge_count (edges_below t (length t.users)) x y ≡ edge_count (edge a b ∷ edges_below s (length s.users)) x y
+  pub linked_counts : (x y : ℕ)
+      → edge_count (edges_below t (length t.users)) x y ≡ edge_count (edge a b ∷ edges_below s (length s.users)) x y
   linked_counts x y =
-      subst (λ (z : Owners). edge_count (edges_below z (length z.users)) x y ≡ edge_count (edge a b ∷ edges_below s (length s.users)) x y)
+      subst (λ (z : Owners). edge_count (edges_below z (length z.users)) x y
+      ≡ edge_count (edge a b ∷ edges_below s (length s.users)) x y)
       (sym f.filled)
       (filled_counts s f.place u k f.there key_there f.free.1 f.free.0 apart u_is.0.2 a b x y u_is.1 k_is.1)
 

@@ -1,9 +1,11 @@
 -- Columns of whose rings one is another, or which have one more place.
-use Rattle.std.proofs.Common.{◌≡◌, ℕ, List, [], ◌∷◌, ◌++◌, Bool, false, Option, None, length, set, get_or, refl, sym, ◌∙◌, ap, arith}
+use Rattle.std.proofs.Common.{◌≡◌, ℕ, List, [], ◌∷◌, ◌++◌, Bool, false, Option, None, length, set, get_or, refl, sym}
+use Rattle.std.proofs.Common.{◌∙◌, ap, arith}
 use Rattle.std.proofs.lemmas.List.{length-append}
 use Rattle.edge_links.specs.declared.slots.Side.{Side}
 use Rattle.edge_links.specs.declared.slots.Side.TheVariants.{User, Key}
-use Rattle.edge_links.specs.Columns.{Ring, Columns, no_columns, ring_of, with_ring, with_next, with_prev, with_seat, with_slot}
+use Rattle.edge_links.specs.Columns.{Ring, Columns, no_columns, ring_of, with_ring, with_next, with_prev, with_seat}
+use Rattle.edge_links.specs.Columns.{with_slot}
 use Rattle.edge_links.specs.Linked.{AreLinked}
 use Rattle.edge_links.specs.Owners.{owners, owners_of, with_owner}
 use Rattle.edge_links.specs.Rings.{AreRings}
@@ -13,18 +15,23 @@ use Rattle.edge_links.proofs.Joining.{with_joined}
 use Rattle.edge_links.proofs.Leaving.{without}
 use Rattle.edge_links.proofs.WaitingPlaces.{none_waiting, grown}
 
+-- the owners on a side are those of its ring
 pub owners_at : (side : Side) (c : Columns) → owners_of side (owners c) ≡ (ring_of side c).owner
 owners_at User c = refl
 owners_at Key c = refl
 
+-- the rings of each side are such
 pub rings_at : (side : Side) (c : Columns) (top : Option ℕ) → AreLinked c top → AreRings (ring_of side c)
 rings_at User c top l = l.users
 rings_at Key c top l = l.keys
 
-pub size_at : (side : Side) (c : Columns) (top : Option ℕ) → AreLinked c top → length (ring_of side c).owner ≡ length c.names
+-- and as long as the names
+pub size_at : (side : Side) (c : Columns) (top : Option ℕ) → AreLinked c top
+    → length (ring_of side c).owner ≡ length c.names
 size_at User c top l = l.users_size
 size_at Key c top l = l.keys_size
 
+-- a ring that is put leaves the names
 pub names_kept : (side : Side) (c : Columns) (r : Ring) → (with_ring side c r).names ≡ c.names
 names_kept User c r = refl
 names_kept Key c r = refl
@@ -49,6 +56,7 @@ relinked Key c top r l are size = record {
   waits_size = l.waits_size;
 }
 
+-- and shows the owner that it puts
 pub shown_as : (side : Side) (c : Columns) (r : Ring) (p h : ℕ) → r.owner ≡ set (ring_of side c).owner p h
     → owners (with_ring side c r) ≡ with_owner side (owners c) p h
 shown_as User c r p h e = ap (λ xs. record (owners c) { users = xs }) e
@@ -69,20 +77,26 @@ rewaiting c top top2 waits behind l size w = record {
 
 -- the three writes that put a place behind a head
 pub joined_columns : (side : Side) (c : Columns) (p h f : ℕ) → f ≡ get_or (ring_of side c).next h 0
-    → with_next side (with_prev side (with_seat side c p (record { next = f; prev = h; owner = h })) f p) h p ≡ with_ring side c
+    → with_next side (with_prev side (with_seat side c p (record { next = f; prev = h; owner = h })) f p) h p
+    ≡ with_ring side c
     (with_joined (ring_of side c) p h)
-joined_columns User c p h f e = ap (λ x. with_next User (with_prev User (with_seat User c p (record { next = x; prev = h; owner = h })) x p) h p) e
-joined_columns Key c p h f e = ap (λ x. with_next Key (with_prev Key (with_seat Key c p (record { next = x; prev = h; owner = h })) x p) h p) e
+joined_columns User c p h f e =
+    ap (λ x. with_next User (with_prev User (with_seat User c p (record { next = x; prev = h; owner = h })) x p) h p) e
+joined_columns Key c p h f e =
+    ap (λ x. with_next Key (with_prev Key (with_seat Key c p (record { next = x; prev = h; owner = h })) x p) h p) e
 
 -- the three writes that take a place out
-pub left_columns : (side : Side) (c : Columns) (p b a : ℕ) → b ≡ get_or (ring_of side c).prev p 0 → a ≡ get_or (ring_of side c).next p 0
-    → with_seat side (with_prev side (with_next side c b a) a b) p (record { next = p; prev = p; owner = p }) ≡ with_ring side c
+pub left_columns : (side : Side) (c : Columns) (p b a : ℕ) → b ≡ get_or (ring_of side c).prev p 0
+    → a ≡ get_or (ring_of side c).next p 0
+    → with_seat side (with_prev side (with_next side c b a) a b) p (record { next = p; prev = p; owner = p })
+    ≡ with_ring side c
     (without (ring_of side c) p)
 left_columns User c p b a e f = λ i. with_seat User (with_prev User (with_next User c (e i) (f i)) (f i) (e i)) p
     (record { next = p; prev = p; owner = p })
 left_columns Key c p b a e f = λ i. with_seat Key (with_prev Key (with_next Key c (e i) (f i)) (f i) (e i)) p
     (record { next = p; prev = p; owner = p })
 
+-- no columns are linked
 pub none_linked : AreLinked no_columns None
 none_linked = record {
   users = no_rings;
@@ -93,7 +107,9 @@ none_linked = record {
   waits_size = refl;
 }
 
-pub grown_linked : (c : Columns) (top : Option ℕ) (p name : ℕ) → AreLinked c top → p ≡ length c.names → AreLinked (with_slot c p name) top
+-- so are columns with one more place
+pub grown_linked : (c : Columns) (top : Option ℕ) (p name : ℕ) → AreLinked c top → p ≡ length c.names
+    → AreLinked (with_slot c p name) top
 grown_linked c top p name l e = record {
   users = grown_ring c.users p l.users (e ∙ sym l.users_size);
   keys = grown_ring c.keys p l.keys (e ∙ sym l.keys_size);

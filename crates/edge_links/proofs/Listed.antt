@@ -7,20 +7,25 @@ use Rattle.edge_links.specs.Edges.{Edge, edge, edge_count}
 use Rattle.edge_links.specs.Owners.{Owners}
 use Rattle.edge_links.specs.Shown.{edge_at, edges_below}
 
+-- the head of the user of a place
 abbrev pub user : Owners → ℕ → ℕ
 user s p = get_or s.users p 0
 
+-- the head of the key of a place
 abbrev pub key_of : Owners → ℕ → ℕ
 key_of s p = get_or s.keys p 0
 
+-- one of two tests holds where the first does
 or_left : (a b : Bool) → a ≡ true → a || b ≡ true
 or_left true b e = refl
 or_left false b e = cc
 
+-- and where the second does
 or_right : (a b : Bool) → b ≡ true → a || b ≡ true
 or_right true b e = refl
 or_right false b e = e
 
+-- and not where neither does
 or_none : (a b : Bool) → a ≡ false → b ≡ false → a || b ≡ false
 or_none true b e f = cc
 or_none false b e f = f
@@ -29,12 +34,16 @@ or_none false b e f = f
 pub at_head : (s : Owners) (p : ℕ) → user s p ≡ p → edge_at s p ≡ []
 at_head s p e = cond-true (nat_eq (user s p) p || nat_eq (user s p) 0) _ _ (or_left _ _ (eq-eqb (user s p) p e))
 
+-- a free place has no edge
 pub at_free : (s : Owners) (p : ℕ) → user s p ≡ 0 → edge_at s p ≡ []
 at_free s p e = cond-true (nat_eq (user s p) p || nat_eq (user s p) 0) _ _ (or_right _ _ (eq-eqb (user s p) 0 e))
 
+-- a place with a user that is no head has one
 pub at_edge : (s : Owners) (p : ℕ) → (user s p ≡ p → ⊥) → (user s p ≡ 0 → ⊥)
     → edge_at s p ≡ edge (get_or s.names (user s p) 0) (get_or s.names (key_of s p) 0) ∷ []
-at_edge s p a b = cond-false (nat_eq (user s p) p || nat_eq (user s p) 0) _ _ (or_none _ _ (ne_eqb (user s p) p a) (ne_eqb (user s p) 0 b))
+at_edge s p a b =
+    cond-false (nat_eq (user s p) p || nat_eq (user s p) 0) _ _
+    (or_none _ _ (ne_eqb (user s p) p a) (ne_eqb (user s p) 0 b))
 
 -- each place is no edge or an edge
 pub by_edge : (s : Owners) (p : ℕ) → ((user s p ≡ p) ⊎ (user s p ≡ 0)) ⊎ ((user s p ≡ p → ⊥) × (user s p ≡ 0 → ⊥))
@@ -43,26 +52,33 @@ by_edge s p = elim (cases_eq (user s p) p) [
   | inr a ↦ elim (cases_eq (user s p) 0) [ inl e ↦ inl (inr e) | inr b ↦ inr (a, b) ]
 ]
 
+-- a head or a free place has none
 pub at_none : (s : Owners) (p : ℕ) → (user s p ≡ p) ⊎ (user s p ≡ 0) → edge_at s p ≡ []
 at_none s p h = elim h [ inl e ↦ at_head s p e | inr e ↦ at_free s p e ]
 
 -- equal owners and s.names give equal edges
 pub at_same : (s t : Owners) (p : ℕ) → user t p ≡ user s p → key_of t p ≡ key_of s p
-    → get_or t.names (user s p) 0 ≡ get_or s.names (user s p) 0 → get_or t.names (key_of s p) 0 ≡ get_or s.names (key_of s p) 0
+    → get_or t.names (user s p) 0 ≡ get_or s.names (user s p) 0
+    → get_or t.names (key_of s p) 0 ≡ get_or s.names (key_of s p) 0
     → edge_at t p ≡ edge_at s p
 at_same s t p u k nu nk = elim (by_edge s p) [
   | inl h ↦ at_none t p (elim h [ inl e ↦ inl (u ∙ e) | inr e ↦ inr (u ∙ e) ]) ∙ sym (at_none s p h)
   | inr h ↦
       at_edge t p (λ e. h.0 (sym u ∙ e)) (λ e. h.1 (sym u ∙ e))
       ∙ (ap (λ x. edge x (get_or t.names (key_of t p) 0) ∷ []) (ap (λ x. get_or t.names x 0) u ∙ nu)
-      ∙ (ap (λ x. edge (get_or s.names (user s p) 0) x ∷ []) (ap (λ x. get_or t.names x 0) k ∙ nk) ∙ sym (at_edge s p h.0 h.1)))
+      ∙ (ap (λ x. edge (get_or s.names (user s p) 0) x ∷ []) (ap (λ x. get_or t.names x 0) k ∙ nk)
+      ∙ sym (at_edge s p h.0 h.1)))
 ]
 
-pub same_below : (s t : Owners) (n : ℕ) → ((p : ℕ) → p < n → edge_at t p ≡ edge_at s p) → edges_below t n ≡ edges_below s n
+-- places with equal edges below n have the same ones
+pub same_below : (s t : Owners) (n : ℕ) → ((p : ℕ) → p < n → edge_at t p ≡ edge_at s p)
+    → edges_below t n ≡ edges_below s n
 same_below s t zero h = refl
 same_below s t (suc n) h =
-    ap (λ es. es ++ edges_below t n) (h n (omega arith)) ∙ ap (λ es. edge_at s n ++ es) (same_below s t n (λ p l. h p (omega arith)))
+    ap (λ es. es ++ edges_below t n) (h n (omega arith))
+    ∙ ap (λ es. edge_at s n ++ es) (same_below s t n (λ p l. h p (omega arith)))
 
+-- edges of two lists are counted together
 pub count_append : (es ds : List Edge) (x y : ℕ) → edge_count (es ++ ds) x y ≡ edge_count es x y + edge_count ds x y
 count_append [] ds x y = omega arith
 count_append (e ∷ es) ds x y = plus _ _ _ _ (count_append es ds x y)
@@ -71,33 +87,42 @@ count_append (e ∷ es) ds x y = plus _ _ _ _ (count_append es ds x y)
     plus a b d f h = omega arith
 
 -- what holds of the count at each place holds of the sum
-pub counts_same : (s t : Owners) (x y n : ℕ) → ((p : ℕ) → p < n → edge_count (edge_at t p) x y ≡ edge_count (edge_at s p) x y)
+pub counts_same : (s t : Owners) (x y n : ℕ)
+    → ((p : ℕ) → p < n → edge_count (edge_at t p) x y ≡ edge_count (edge_at s p) x y)
     → edge_count (edges_below t n) x y ≡ edge_count (edges_below s n) x y
 counts_same s t x y zero h = refl
 counts_same s t x y (suc n) h =
-    sums _ _ _ _ _ _ (count_append (edge_at t n) (edges_below t n) x y) (count_append (edge_at s n) (edges_below s n) x y) (h n (omega arith))
+    sums _ _ _ _ _ _ (count_append (edge_at t n) (edges_below t n) x y)
+    (count_append (edge_at s n) (edges_below s n) x y) (h n (omega arith))
     (counts_same s t x y n (λ p l. h p (omega arith)))
   where
     sums : (a b d e f g : ℕ) → a ≡ b + d → e ≡ f + g → b ≡ f → d ≡ g → a ≡ e
     sums a b d e f g h i j k = omega arith
 
-pub counts_none : (s : Owners) (x y n : ℕ) → ((p : ℕ) → p < n → edge_count (edge_at s p) x y ≡ 0) → edge_count (edges_below s n) x y ≡ 0
+-- where no place has an edge between two nodes, there is none
+pub counts_none : (s : Owners) (x y n : ℕ) → ((p : ℕ) → p < n → edge_count (edge_at s p) x y ≡ 0)
+    → edge_count (edges_below s n) x y ≡ 0
 counts_none s x y zero h = refl
 counts_none s x y (suc n) h =
-    sums _ _ _ (count_append (edge_at s n) (edges_below s n) x y) (h n (omega arith)) (counts_none s x y n (λ p l. h p (omega arith)))
+    sums _ _ _ (count_append (edge_at s n) (edges_below s n) x y) (h n (omega arith))
+    (counts_none s x y n (λ p l. h p (omega arith)))
   where
     sums : (a b d : ℕ) → a ≡ b + d → b ≡ 0 → d ≡ 0 → a ≡ 0
     sums a b d h i j = omega arith
 
 -- one place changes
 pub counts_one : (s t : Owners) (x y q n : ℕ) → q < n → ((p : ℕ) → (p ≡ q → ⊥) → edge_at t p ≡ edge_at s p)
-    → edge_count (edges_below t n) x y + edge_count (edge_at s q) x y ≡ edge_count (edges_below s n) x y + edge_count (edge_at t q) x y
+    → edge_count (edges_below t n) x y + edge_count (edge_at s q) x y
+    ≡ edge_count (edges_below s n) x y + edge_count (edge_at t q) x y
 counts_one s t x y q zero l h = absurd (omega arith)
 counts_one s t x y q (suc n) l h = elim (cases_eq n q) [
-  | inl e ↦ here _ _ _ _ _ _ _ _ (count_append (edge_at t n) (edges_below t n) x y) (count_append (edge_at s n) (edges_below s n) x y)
-      (ap (λ es. edge_count es x y) (same_below s t n (λ p m. h p (omega arith)))) (ap (λ p. edge_count (edge_at t p) x y) e)
+  | inl e ↦ here _ _ _ _ _ _ _ _ (count_append (edge_at t n) (edges_below t n) x y)
+      (count_append (edge_at s n) (edges_below s n) x y)
+      (ap (λ es. edge_count es x y) (same_below s t n (λ p m. h p (omega arith))))
+      (ap (λ p. edge_count (edge_at t p) x y) e)
       (ap (λ p. edge_count (edge_at s p) x y) e)
-  | inr ne ↦ below _ _ _ _ _ _ _ _ (count_append (edge_at t n) (edges_below t n) x y) (count_append (edge_at s n) (edges_below s n) x y)
+  | inr ne ↦ below _ _ _ _ _ _ _ _ (count_append (edge_at t n) (edges_below t n) x y)
+      (count_append (edge_at s n) (edges_below s n) x y)
       (ap (λ es. edge_count es x y) (h n ne)) (counts_one s t x y q n (omega arith) h)
 ]
   where
@@ -112,13 +137,17 @@ and_true : (x y : Bool) → x ≡ true → y ≡ true → x && y ≡ true
 and_true true y e f = f
 and_true false y e f = cc
 
+-- two tests do not hold together where the first does not
 and_false : (x y : Bool) → x ≡ false → x && y ≡ false
 and_false true y e = cc
 and_false false y e = refl
 
+-- an edge is counted once between its own nodes
 pub count_self : (a b : ℕ) → edge_count (edge a b ∷ []) a b ≡ 1
-count_self a b = ap (λ k. k + 0) (cond-true (nat_eq a a && nat_eq b b) 1 0 (and_true _ _ (eq-eqb a a refl) (eq-eqb b b refl)))
+count_self a b =
+    ap (λ k. k + 0) (cond-true (nat_eq a a && nat_eq b b) 1 0 (and_true _ _ (eq-eqb a a refl) (eq-eqb b b refl)))
 
+-- and never from another user
 pub count_other : (a b x y : ℕ) → (a ≡ x → ⊥) → edge_count (edge a b ∷ []) x y ≡ 0
 count_other a b x y ne = ap (λ k. k + 0) (cond-false (nat_eq a x && nat_eq b y) 1 0 (and_false _ _ (ne_eqb a x ne)))
 
@@ -128,7 +157,8 @@ count_found a b x y l = elim (cases_eq a x) [
   | inr ne ↦ absurd (none _ (count_other a b x y ne) l)
   | inl e ↦ elim (cases_eq b y) [
     | inl f ↦ (e, f)
-    | inr ne ↦ absurd (none _ (ap (λ k. k + 0) (cond-false (nat_eq a x && nat_eq b y) 1 0 (and_right _ _ (ne_eqb b y ne)))) l)
+    | inr ne ↦ absurd
+        (none _ (ap (λ k. k + 0) (cond-false (nat_eq a x && nat_eq b y) 1 0 (and_right _ _ (ne_eqb b y ne)))) l)
   ]
 ]
   where

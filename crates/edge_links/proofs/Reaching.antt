@@ -1,5 +1,6 @@
 -- What is reached by edges is what is reached by places.
-use Rattle.std.proofs.Common.{◌≡◌, ℕ, zero, suc, ◌+◌, ◌<◌, List, ◌++◌, length, get_or, sym, ◌∙◌, ap, subst, arith, inl, inr}
+use Rattle.std.proofs.Common.{◌≡◌, ℕ, zero, suc, ◌+◌, ◌<◌, List, ◌++◌, length, get_or, sym, ◌∙◌, ap, subst, arith, inl}
+use Rattle.std.proofs.Common.{inr}
 use Rattle.std.proofs.lemmas.Bool.{cases_eq}
 use Rattle.edge_links.specs.Edges.{Edge, edge_count}
 use Rattle.edge_links.specs.Owners.{Owners, AreEdges, IsHead}
@@ -16,6 +17,7 @@ pub record Stands (s : Owners) (n x y : ℕ) : Type 0 where
   pub edge : (user s place ≡ place → ⊥) × (user s place ≡ 0 → ⊥)
   pub names_it : (get_or s.names (user s place) 0 ≡ x) × (get_or s.names (key_of s place) 0 ≡ y)
 
+-- an edge that is counted stands at a place
 pub stands : (s : Owners) (x y n : ℕ) → 0 < edge_count (edges_below s n) x y → Stands s n x y
 stands s x y zero l = absurd (omega (arith, l))
 stands s x y (suc n) l = elim (by_edge s n) [
@@ -42,11 +44,14 @@ pub counted : (s : Owners) (p n : ℕ) → p < n → (user s p ≡ p → ⊥) �
     → 0 < edge_count (edges_below s n) (get_or s.names (user s p) 0) (get_or s.names (key_of s p) 0)
 counted s p zero l a b = absurd (omega arith)
 counted s p (suc n) l a b = elim (cases_eq p n) [
-  | inl e ↦ first _ _ _ (count_append (edge_at s n) (edges_below s n) (get_or s.names (user s p) 0) (get_or s.names (key_of s p) 0))
+  | inl e ↦ first _ _ _
+      (count_append (edge_at s n) (edges_below s n) (get_or s.names (user s p) 0) (get_or s.names (key_of s p) 0))
       (ap (λ q. edge_count (edge_at s q) (get_or s.names (user s p) 0) (get_or s.names (key_of s p) 0)) (sym e)
-      ∙ (ap (λ es. edge_count es (get_or s.names (user s p) 0) (get_or s.names (key_of s p) 0)) (at_edge s p a b) ∙ count_self
+      ∙ (ap (λ es. edge_count es (get_or s.names (user s p) 0) (get_or s.names (key_of s p) 0)) (at_edge s p a b)
+      ∙ count_self
       (get_or s.names (user s p) 0) (get_or s.names (key_of s p) 0)))
-  | inr ne ↦ later _ _ _ (count_append (edge_at s n) (edges_below s n) (get_or s.names (user s p) 0) (get_or s.names (key_of s p) 0))
+  | inr ne ↦ later _ _ _
+      (count_append (edge_at s n) (edges_below s n) (get_or s.names (user s p) 0) (get_or s.names (key_of s p) 0))
       (counted s p n (omega arith) a b)
 ]
   where
@@ -71,13 +76,23 @@ module _ (s : Owners) (e : AreEdges s.users s.keys) (nodes : List ℕ) (links : 
   edge_down x y h =
       let t = stands s x y (length s.users) h in
       let u = links.named (user s t.place) (user_head t.place t.there t.edge.1) in
-      let k = links.named (key_of s t.place) (key_head t.place t.there t.edge.1) in
-      (t.place, (t.there, t.edge.0, t.edge.1, sym u.1 ∙ ap (λ z. get_or nodes z 0) t.names_it.0, sym k.1 ∙ ap (λ z. get_or nodes z 0) t.names_it.1))
+      let k = links.named (key_of s t.place) (key_head t.place t.there t.edge.1) in (
+        t.place,
+        (
+          t.there,
+          t.edge.0,
+          t.edge.1,
+          sym u.1 ∙ ap (λ z. get_or nodes z 0) t.names_it.0,
+          sym k.1
+              ∙ ap (λ z. get_or nodes z 0) t.names_it.1,
+        ),
+      )
 
   edge_up : (p a b : ℕ) → IsEdge s p a b → HasEdge shown_edges (get_or s.names a 0) (get_or s.names b 0)
   edge_up p a b i =
       subst (λ z. HasEdge shown_edges (get_or s.names z 0) (get_or s.names b 0)) i.3
-      (subst (λ z. HasEdge shown_edges (get_or s.names (user s p) 0) (get_or s.names z 0)) i.4 (counted s p (length s.users) i.0 i.1 i.2))
+      (subst (λ z. HasEdge shown_edges (get_or s.names (user s p) 0) (get_or s.names z 0)) i.4
+      (counted s p (length s.users) i.0 i.1 i.2))
 
   down : {x y : ℕ} → Reaches shown_edges x y → place.Reaches s (get_or nodes x 0) (get_or nodes y 0)
   down (at_once h) = let i = edge_down _ _ h in place.at_once i.0 i.1
@@ -87,29 +102,34 @@ module _ (s : Owners) (e : AreEdges s.users s.keys) (nodes : List ℕ) (links : 
   up (place.at_once p i) = at_once (edge_up p _ _ i)
   up (place.further p i r) = further (edge_up p _ _ i) (up r)
 
-  pub affected_down : (key x : ℕ) → IsAffected shown_edges key x → place.IsAffected s (get_or nodes key 0) (get_or nodes x 0)
+  pub affected_down : (key x : ℕ) → IsAffected shown_edges key x
+      → place.IsAffected s (get_or nodes key 0) (get_or nodes x 0)
   affected_down key x (inl q) = inl (ap (λ z. get_or nodes z 0) q)
   affected_down key x (inr r) = inr (down r)
 
   pub affected_up : (key h : ℕ) → key < length nodes → place.IsAffected s (get_or nodes key 0) h
       → IsAffected shown_edges key (get_or s.names h 0)
   affected_up key h l (inl q) = inl (ap (λ z. get_or s.names z 0) q ∙ (links.places key l).1)
-  affected_up key h l (inr r) = inr (subst (λ z. Reaches shown_edges (get_or s.names h 0) z) (links.places key l).1 (up r))
+  affected_up key h l (inr r) =
+      inr (subst (λ z. Reaches shown_edges (get_or s.names h 0) z) (links.places key l).1 (up r))
 
   -- an affected node has a place
   pub affected_there : (key x : ℕ) → key < length nodes → IsAffected shown_edges key x
       → IsHead s (get_or nodes x 0) × (get_or s.names (get_or nodes x 0) 0 ≡ x)
-  affected_there key x l (inl q) = subst (λ z. IsHead s (get_or nodes z 0) × (get_or s.names (get_or nodes z 0) 0 ≡ z)) (sym q) (links.places key l)
+  affected_there key x l (inl q) =
+      subst (λ z. IsHead s (get_or nodes z 0) × (get_or s.names (get_or nodes z 0) 0 ≡ z)) (sym q) (links.places key l)
   affected_there key x l (inr (at_once h)) = has_place x _ h
     where
-      has_place : (x y : ℕ) → HasEdge shown_edges x y → IsHead s (get_or nodes x 0) × (get_or s.names (get_or nodes x 0) 0 ≡ x)
+      has_place : (x y : ℕ) → HasEdge shown_edges x y
+          → IsHead s (get_or nodes x 0) × (get_or s.names (get_or nodes x 0) 0 ≡ x)
       has_place x y h =
           let t = stands s x y (length s.users) h in
           let n = links.named (user s t.place) (user_head t.place t.there t.edge.1) in
           links.places x (subst (λ z. z < length nodes) t.names_it.0 n.0)
   affected_there key x l (inr (further h r)) = has_place x _ h
     where
-      has_place : (x y : ℕ) → HasEdge shown_edges x y → IsHead s (get_or nodes x 0) × (get_or s.names (get_or nodes x 0) 0 ≡ x)
+      has_place : (x y : ℕ) → HasEdge shown_edges x y
+          → IsHead s (get_or nodes x 0) × (get_or s.names (get_or nodes x 0) 0 ≡ x)
       has_place x y h =
           let t = stands s x y (length s.users) h in
           let n = links.named (user s t.place) (user_head t.place t.there t.edge.1) in

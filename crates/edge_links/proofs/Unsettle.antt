@@ -1,5 +1,6 @@
 -- What is cleared so far, and what is left at the end.
-use Rattle.std.proofs.Common.{◌≡◌, ℕ, ◌<◌, Bool, true, false, cond, nat_eq, List, [], ◌∷◌, length, set, get_or, Contains, ◌⊎◌, ◌↔◌}
+use Rattle.std.proofs.Common.{◌≡◌, ℕ, ◌<◌, Bool, true, false, cond, nat_eq, List, [], ◌∷◌, length, set, get_or}
+use Rattle.std.proofs.Common.{Contains, ◌⊎◌, ◌↔◌}
 use Rattle.std.proofs.Common.{refl, sym, ◌∙◌, ap, subst, inl, inr, arith, get_or-set_other}
 use Rattle.std.proofs.lemmas.Bool.{cases_eq, cond-true, cond-false, eq-eqb, ne_eqb}
 use Rattle.edge_links.specs.Changes.{IsCut, IsParted, HasUser, HasKey}
@@ -7,29 +8,36 @@ use Rattle.edge_links.specs.Owners.{Owners, AreEdges, Waits, IsHead}
 use Rattle.edge_links.specs.PlaceReach.{IsEdge, Reaches, at_once, further, IsAffected, IsCutOff}
 use Rattle.edge_links.proofs.Membership.{contains_none, contains_first, contains_later, contains_cases}
 
+-- the head of the user of a place
 abbrev pub user : Owners → ℕ → ℕ
 user s p = get_or s.users p 0
 
+-- the head of the key of a place
 abbrev pub key_of : Owners → ℕ → ℕ
 key_of s p = get_or s.keys p 0
 
 -- a place that was taken out: its user is done or waits
 abbrev pub IsOut : Owners → Owners → List ℕ → ℕ → Type 0
-IsOut old s done p = (user s p ≡ 0) × (key_of s p ≡ 0) × (user old p ≡ p → ⊥) × (Contains done (user old p) ⊎ Waits s (user old p))
+IsOut old s done p = (user s p ≡ 0) × (key_of s p ≡ 0) × (user old p ≡ p → ⊥)
+    × (Contains done (user old p) ⊎ Waits s (user old p))
 
+-- a place is as before
 abbrev pub IsSame : Owners → Owners → ℕ → Type 0
 IsSame old s p = (user s p ≡ user old p) × (key_of s p ≡ key_of old p)
 
+-- a place has an edge
 abbrev pub IsLive : Owners → ℕ → Type 0
 IsLive s p = (user s p ≡ p → ⊥) × (user s p ≡ 0 → ⊥)
 
+-- what is forgotten so far of the affected nodes, and what waits
 pub record IsUnsettling (old s : Owners) (name : ℕ → ℕ) (marks now : ℕ → Bool) (key : ℕ) : Type 0 where
   pub size : length s.users ≡ length old.users
   pub done : List ℕ
   pub each : (p : ℕ) → p < length old.users → IsOut old s done p ⊎ IsSame old s p
   pub out_user : (p : ℕ) → p < length old.users → IsLive s p → Contains done (user s p) → ⊥
   pub out_key : (p : ℕ) → p < length old.users → IsLive s p → Contains done (key_of s p) → ⊥
-  pub reached : (x : ℕ) → Contains done x ⊎ Waits s x → (x < length old.users) × (user old x ≡ x) × (x ≡ 0 → ⊥) × IsAffected old key x
+  pub reached : (x : ℕ) → Contains done x ⊎ Waits s x → (x < length old.users) × (user old x ≡ x) × (x ≡ 0 → ⊥)
+      × IsAffected old key x
   pub cleared : (x : ℕ) → Contains done x → now (name x) ≡ false
   pub kept : (m : ℕ) → ((x : ℕ) → Contains done x → name x ≡ m → ⊥) → now m ≡ marks m
   pub begun : Contains done key ⊎ Waits s key
@@ -37,11 +45,13 @@ pub record IsUnsettling (old s : Owners) (name : ℕ → ℕ) (marks now : ℕ �
 module _ (old : Owners) (old_edges : AreEdges old.users old.keys) (key : ℕ) (name : ℕ → ℕ) where
   -- s: with x taken from the list; t and v: after the cuts
   module _ (s0 s t v : Owners) (x : ℕ) (marks now : ℕ → Bool)
-      (u : IsUnsettling old s0 name marks now key) (popped : (x < length s0.users) × Waits s0 x × (s.waits ≡ set s0.waits x false))
+      (u : IsUnsettling old s0 name marks now key)
+      (popped : (x < length s0.users) × Waits s0 x × (s.waits ≡ set s0.waits x false))
       (same_users : s.users ≡ s0.users) (same_keys : s.keys ≡ s0.keys) (edges : AreEdges s.users s.keys)
       (cut_users : IsCut (HasUser s x) s t) (t_waits : t.waits ≡ s.waits) (t_size : length t.users ≡ length s.users)
       (cut_keys : IsCut (HasKey t x) t v) (v_waits : (y : ℕ) → Waits v y ↔
-      (Waits t y ⊎ ((p : ℕ) × (p < length t.users) × HasKey t x p × (get_or t.users p 0 ≡ y)))) (v_size : length v.users ≡ length t.users)
+      (Waits t y ⊎ ((p : ℕ) × (p < length t.users) × HasKey t x p × (get_or t.users p 0 ≡ y))))
+      (v_size : length v.users ≡ length t.users)
       (now2 : ℕ → Bool) (cleared_x : (m : ℕ) → now2 m ≡ cond (nat_eq m (name x)) false (now m)) where
     x_facts : (x < length old.users) × (user old x ≡ x) × (x ≡ 0 → ⊥) × IsAffected old key x
     x_facts = u.reached x (inr popped.1)
@@ -77,7 +87,8 @@ module _ (old : Owners) (old_edges : AreEdges old.users old.keys) (key : ℕ) (n
                 let a = (cut_users p ls).1 (λ h. nu h.1) in
                 elim (cases_eq (key_of s p) x) [
                   | inl e ↦ let b = (cut_keys p lt).0 (ne, a.1 ∙ e) in inl (b.0, b.1, ne, inr e)
-                  | inr nk ↦ let b = (cut_keys p lt).1 (λ h. nk (sym a.1 ∙ h.1)) in inr (b.0 ∙ a.0, b.1 ∙ a.1, inr (nu, nk))
+                  | inr nk ↦ let b =
+                      (cut_keys p lt).1 (λ h. nk (sym a.1 ∙ h.1)) in inr (b.0 ∙ a.0, b.1 ∙ a.1, inr (nu, nk))
                 ]
           ]
         ]
@@ -86,13 +97,16 @@ module _ (old : Owners) (old_edges : AreEdges old.users old.keys) (key : ℕ) (n
     still y h =
         elim (cases_eq y x) [
           | inl e ↦ inl e
-          | inr ne ↦ inr ((v_waits y).1 (inl (ap (λ q. get_or q y false) (t_waits ∙ popped.2) ∙ (get_or-set_other s0.waits x y false false ne ∙ h))))
+          | inr ne ↦ inr ((v_waits y).1
+              (inl (ap (λ q. get_or q y false) (t_waits ∙ popped.2)
+              ∙ (get_or-set_other s0.waits x y false false ne ∙ h))))
         ]
 
     -- an edge to x makes its user wait
     user_waits : (p : ℕ) → p < length old.users → (p ≡ x → ⊥) → key_of s p ≡ x → (user s p ≡ x → ⊥) → Waits v (user s p)
     user_waits p l ne e nu =
-        let a = (cut_users p (in_s p l)).1 (λ h. nu h.1) in (v_waits (user s p)).1 (inr (p, in_t p l, (ne, a.1 ∙ e), a.0))
+        let a = (cut_users p (in_s p l)).1 (λ h. nu h.1)
+        in (v_waits (user s p)).1 (inr (p, in_t p l, (ne, a.1 ∙ e), a.0))
 
     done2 : List ℕ
     done2 = x ∷ u.done
@@ -109,7 +123,8 @@ module _ (old : Owners) (old_edges : AreEdges old.users old.keys) (key : ℕ) (n
                 o.2,
                 elim o.3 [
                   | inl i ↦ inl (contains_later (user old p) x u.done i)
-                  | inr q ↦ elim (still (user old p) q) [ inl e ↦ inl (contains_first (user old p) x u.done e) | inr r ↦ inr r ]
+                  | inr q ↦ elim (still (user old p) q)
+                      [ inl e ↦ inl (contains_first (user old p) x u.done e) | inr r ↦ inr r ]
                 ],
               )
           | inr m ↦ elim (both p l) [
@@ -169,7 +184,8 @@ module _ (old : Owners) (old_edges : AreEdges old.users old.keys) (key : ℕ) (n
           | inl q ↦ u.reached y (inr (before y (ap (λ b. get_or b y false) (sym (t_waits ∙ popped.2)) ∙ q)))
           | inr w ↦
               let p : ℕ = w.0 in
-              let lo : p < length old.users = let a : length s.users ≡ length s0.users = ap length same_users in let b = u.size in let d =
+              let lo : p < length old.users = let a : length s.users ≡ length s0.users = ap length same_users in let b =
+              u.size in let d =
               w.1 in omega arith in
               let was : (user s p ≡ x → ⊥) × (user t p ≡ user s p) × (key_of t p ≡ key_of s p) = uncut p lo w.2 in
               let ks : key_of s p ≡ x = sym was.2 ∙ w.2.1 in
@@ -184,7 +200,8 @@ module _ (old : Owners) (old_edges : AreEdges old.users old.keys) (key : ℕ) (n
                       subst (λ z. z < length old.users) uo (old_edges.within p lo),
                       subst (λ z. user old z ≡ z) uo (old_edges.top p lo),
                       λ q. nz (uo ∙ q),
-                      inr (elim x_facts.3 [ inl e ↦ subst (λ z. Reaches old y z) e (at_once p edge) | inr r ↦ further p edge r ]),
+                      inr (elim x_facts.3
+                          [ inl e ↦ subst (λ z. Reaches old y z) e (at_once p edge) | inr r ↦ further p edge r ]),
                     )
               ]
         ]
@@ -196,7 +213,8 @@ module _ (old : Owners) (old_edges : AreEdges old.users old.keys) (key : ℕ) (n
               | inr ne ↦ sym (get_or-set_other s0.waits x z false false ne) ∙ q
             ]
 
-        uncut : (p : ℕ) → p < length old.users → HasKey t x p → (user s p ≡ x → ⊥) × (user t p ≡ user s p) × (key_of t p ≡ key_of s p)
+        uncut : (p : ℕ) → p < length old.users → HasKey t x p → (user s p ≡ x → ⊥) × (user t p ≡ user s p)
+            × (key_of t p ≡ key_of s p)
         uncut p l k =
             let n : user s p ≡ x → ⊥ = λ e. let a = (cut_users p (in_s p l)).0 (k.0, e) in x_facts.2 (sym k.1 ∙ a.1) in
             let a = (cut_users p (in_s p l)).1 (λ w. n w.1) in (n, a.0, a.1)
@@ -221,12 +239,15 @@ module _ (old : Owners) (old_edges : AreEdges old.users old.keys) (key : ℕ) (n
         | inr q ↦ reached_new y q
       ];
       cleared = λ y i. elim (cases_eq (name y) (name x)) [
-        | inl e ↦ cleared_x (name y) ∙ cond-true (nat_eq (name y) (name x)) false (now (name y)) (eq-eqb (name y) (name x) e)
-        | inr ne ↦ cleared_x (name y) ∙ (cond-false (nat_eq (name y) (name x)) false (now (name y)) (ne_eqb (name y) (name x) ne)
+        | inl e ↦ cleared_x (name y)
+            ∙ cond-true (nat_eq (name y) (name x)) false (now (name y)) (eq-eqb (name y) (name x) e)
+        | inr ne ↦ cleared_x (name y)
+            ∙ (cond-false (nat_eq (name y) (name x)) false (now (name y)) (ne_eqb (name y) (name x) ne)
             ∙ u.cleared y (elim (contains_cases y x u.done i) [ inl e ↦ absurd (ne (ap name e)) | inr j ↦ j ]))
       ];
       kept = λ m n. cleared_x m ∙ (cond-false (nat_eq m (name x)) false (now m)
-          (ne_eqb m (name x) (λ e. n x (contains_first x x u.done refl) (sym e))) ∙ u.kept m (λ y i. n y (contains_later y x u.done i)));
+          (ne_eqb m (name x) (λ e. n x (contains_first x x u.done refl) (sym e)))
+          ∙ u.kept m (λ y i. n y (contains_later y x u.done i)));
       begun = elim u.begun [
         | inl i ↦ inl (contains_later key x u.done i)
         | inr q ↦ elim (still key q)
@@ -234,7 +255,8 @@ module _ (old : Owners) (old_edges : AreEdges old.users old.keys) (key : ℕ) (n
       ];
     }
 
-  pub begin : (s : Owners) (marks : ℕ → Bool) → ((x : ℕ) → get_or old.waits x false ≡ false) → key < length old.users → user old key ≡ key
+  pub begin : (s : Owners) (marks : ℕ → Bool) → ((x : ℕ) → get_or old.waits x false ≡ false) → key < length old.users
+      → user old key ≡ key
       → (key ≡ 0 → ⊥)
       → s.users ≡ old.users → s.keys ≡ old.keys → ((x : ℕ) → Waits s x ↔ (Waits old x ⊎ (x ≡ key)))
       → IsUnsettling old s name marks marks key
@@ -248,7 +270,12 @@ module _ (old : Owners) (old_edges : AreEdges old.users old.keys) (key : ℕ) (n
       | inl i ↦ absurd (contains_none x i)
       | inr j ↦ elim ((q x).0 j) [
         | inl k ↦ absurd (let f = idle x in cc)
-        | inr e ↦ (subst (λ z. z < length old.users) (sym e) l, ap (user old) e ∙ (h ∙ sym e), λ z. nz (sym e ∙ z), inl e)
+        | inr e ↦ (
+          subst (λ z. z < length old.users) (sym e) l,
+          ap (user old) e ∙ (h ∙ sym e),
+          λ z. nz (sym e ∙ z),
+          inl e,
+        )
       ]
     ];
     cleared = λ x i. absurd (contains_none x i);
@@ -266,7 +293,9 @@ module _ (old : Owners) (old_edges : AreEdges old.users old.keys) (key : ℕ) (n
     pred_done p x y e i =
         elim (u.each p e.0) [
           | inl o ↦ elim o.3 [ inl j ↦ subst (λ z. Contains u.done z) e.3 j | inr q ↦ absurd (none _ q) ]
-          | inr m ↦ absurd (u.out_key p e.0 (λ q. e.1 (sym m.0 ∙ q), λ q. e.2 (sym m.0 ∙ q)) (subst (λ z. Contains u.done z) (sym (m.1 ∙ e.4)) i))
+          | inr m ↦ absurd
+              (u.out_key p e.0 (λ q. e.1 (sym m.0 ∙ q), λ q. e.2 (sym m.0 ∙ q))
+              (subst (λ z. Contains u.done z) (sym (m.1 ∙ e.4)) i))
         ]
 
     reach_done : {x y : ℕ} → Reaches old x y → Contains u.done y → Contains u.done x
@@ -274,7 +303,8 @@ module _ (old : Owners) (old_edges : AreEdges old.users old.keys) (key : ℕ) (n
     reach_done (further p e r) i = pred_done p _ _ e (reach_done r i)
 
     pub affected_done : (x : ℕ) → IsAffected old key x → Contains u.done x
-    affected_done x (inl e) = subst (λ z. Contains u.done z) (sym e) (elim u.begun [ inl i ↦ i | inr q ↦ absurd (none _ q) ])
+    affected_done x (inl e) =
+        subst (λ z. Contains u.done z) (sym e) (elim u.begun [ inl i ↦ i | inr q ↦ absurd (none _ q) ])
     affected_done x (inr r) = reach_done r (elim u.begun [ inl i ↦ i | inr q ↦ absurd (none _ q) ])
 
     pub done_affected : (x : ℕ) → Contains u.done x → IsAffected old key x

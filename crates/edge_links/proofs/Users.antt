@@ -9,7 +9,8 @@ use Rattle.edge_links.specs.Shown.{edge_at, edges_below, AreLinks}
 use Rattle.edge_links.specs.Times.{times}
 use Rattle.edge_links.specs.Into.{AreUsers}
 use Rattle.edge_links.proofs.Counting.{owned_end}
-use Rattle.edge_links.proofs.Listed.{user, key_of, by_edge, at_none, at_edge, count_append, count_self, count_other, count_found}
+use Rattle.edge_links.proofs.Listed.{user, key_of, by_edge, at_none, at_edge, count_append, count_self, count_other}
+use Rattle.edge_links.proofs.Listed.{count_found}
 use Rattle.edge_links.proofs.Reaching.{key_head}
 use Rattle.edge_links.proofs.Weighing.{summed, weighed, weighed_summed, many}
 
@@ -17,6 +18,7 @@ use Rattle.edge_links.proofs.Weighing.{summed, weighed, weighed_summed, many}
 abbrev pub has_user : Owners → ℕ → ℕ → ℕ
 has_user s x p = cond (nat_eq (get_or s.names (user s p) 0) x) 1 0
 
+-- a sum with one more
 pub summed_end : (f : ℕ → ℕ) (xs : List ℕ) (y : ℕ) → summed f (xs ++ y ∷ []) ≡ summed f xs + f y
 summed_end f [] y = omega arith
 summed_end f (x ∷ xs) y = omega (arith, summed_end f xs y)
@@ -26,7 +28,8 @@ pub user_put : (s : Owners) (users more seen : List ℕ) (place name x : ℕ) �
     → more ≡ users ++ name ∷ []
     → times x users ≡ summed (has_user s x) seen → times x more ≡ summed (has_user s x) (seen ++ place ∷ [])
 user_put s users more seen place name x n e h =
-    sums _ _ _ _ _ (ap (times x) e) (owned_end x users name) (ap (λ k. cond (nat_eq k x) 1 0) n) (summed_end (has_user s x) seen place) h
+    sums _ _ _ _ _ (ap (times x) e) (owned_end x users name) (ap (λ k. cond (nat_eq k x) 1 0) n)
+    (summed_end (has_user s x) seen place) h
   where
     sums : (a b d f i : ℕ) → {j k : ℕ} → a ≡ b → b ≡ d + j → j ≡ k → i ≡ f + k → d ≡ f → a ≡ i
     sums a b d f i h j k l m = omega arith
@@ -40,7 +43,8 @@ stands_in (x ∷ xs) zero l = pos _ _ (cond-true (nat_eq x x) 1 0 (eq-eqb x x re
     pos a b e = omega arith
 stands_in (x ∷ xs) (suc i) l = omega (arith, stands_in xs i (omega arith))
 
-module _ (s : Owners) (e : AreEdges s.users s.keys) (nodes : List ℕ) (links : AreLinks s nodes) (key : ℕ) (there : key < length nodes)
+module _ (s : Owners) (e : AreEdges s.users s.keys) (nodes : List ℕ) (links : AreLinks s nodes) (key : ℕ)
+    (there : key < length nodes)
     (places : List ℕ) (members : AreMembers s.keys (get_or nodes key 0) places) where
   abbrev head : ℕ
   head = get_or nodes key 0
@@ -69,12 +73,15 @@ module _ (s : Owners) (e : AreEdges s.users s.keys) (nodes : List ℕ) (links : 
       | inr ne ↦
           let no_free : user s p ≡ 0 → ⊥ = λ z. is_head.2 (sym q ∙ (e.free p l).0 z) in
           let no_own : user s p ≡ p → ⊥ = λ z. ne (sym ((e.heads p l).0 z) ∙ q) in
-          let named : get_or s.names (key_of s p) 0 ≡ key = ap (λ y. get_or s.names y 0) q ∙ (links.places key there).1 in
-          ap (λ es. edge_count es x key) (at_edge s p no_own no_free) ∙ (of_user (get_or s.names (user s p) 0) (get_or s.names (key_of s p) 0) x named
+          let named : get_or s.names (key_of s p) 0 ≡ key = ap (λ y. get_or s.names y 0) q
+          ∙ (links.places key there).1 in
+          ap (λ es. edge_count es x key) (at_edge s p no_own no_free)
+          ∙ (of_user (get_or s.names (user s p) 0) (get_or s.names (key_of s p) 0) x named
           ∙ sym (one_more (times p places) (members.once p (let z = e.keys_size in omega arith) q ne) (has_user s x p)))
     ]
     | inr ne ↦ elim (by_edge s p) [
-      | inl h ↦ ap (λ es. edge_count es x key) (at_none s p h) ∙ sym (none (times p places) (not_owned ne) (has_user s x p))
+      | inl h ↦ ap (λ es. edge_count es x key) (at_none s p h)
+          ∙ sym (none (times p places) (not_owned ne) (has_user s x p))
       | inr h ↦ ap (λ es. edge_count es x key) (at_edge s p h.0 h.1) ∙ (zero_if _ (λ m.
           let f = count_found (get_or s.names (user s p) 0) (get_or s.names (key_of s p) 0) x key m in
           ne (sym (links.named (key_of s p) (key_head s e nodes links p l h.1)).1 ∙ ap (λ y. get_or nodes y 0) f.1))
@@ -102,7 +109,8 @@ module _ (s : Owners) (e : AreEdges s.users s.keys) (nodes : List ℕ) (links : 
 
   below : (x m : ℕ) → m ≤ length s.users → edge_count (edges_below s m) x key ≡ weighed (has_user s x) places m
   below x zero l = refl
-  below x (suc m) l = count_append (edge_at s m) (edges_below s m) x key ∙ sums _ _ _ _ (at_place x m (omega arith)) (below x m (omega arith))
+  below x (suc m) l = count_append (edge_at s m) (edges_below s m) x key
+      ∙ sums _ _ _ _ (at_place x m (omega arith)) (below x m (omega arith))
     where
       sums : (a b d f : ℕ) → a ≡ d → b ≡ f → a + b ≡ d + f
       sums a b d f h i = omega arith
@@ -115,6 +123,7 @@ module _ (s : Owners) (e : AreEdges s.users s.keys) (nodes : List ℕ) (links : 
   are_users users h x = h x ∙ (sym (weighed_summed (has_user s x) places (length s.users) member_there) ∙ sym
       (below x (length s.users) (omega arith)))
 
+-- a front as long as the list is the list
 pub all_taken : (xs : List ℕ) (i : ℕ) → length xs ≤ i → take i xs ≡ xs
 all_taken [] zero l = refl
 all_taken [] (suc i) l = refl

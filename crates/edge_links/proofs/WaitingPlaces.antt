@@ -1,12 +1,15 @@
 -- The list of what waits.
-use Rattle.std.proofs.Common.{◌≡◌, ℕ, zero, suc, ◌+◌, ◌<◌, ◌≤◌, Bool, true, false, List, [], ◌∷◌, ◌++◌, length, set, get_or, Contains, Option, Some, None, ◌↔◌}
+use Rattle.std.proofs.Common.{◌≡◌, ℕ, zero, suc, ◌+◌, ◌<◌, ◌≤◌, Bool, true, false, List, [], ◌∷◌, ◌++◌, length, set}
+use Rattle.std.proofs.Common.{get_or, Contains, Option, Some, None, ◌↔◌}
 use Rattle.std.proofs.Common.{refl, sym, ◌∙◌, ap, subst, inl, inr, arith, get_or-set_same, get_or-set_other, length-set}
 use Rattle.std.proofs.lemmas.Bool.{cases_eq, false_from_ne_true}
 use Rattle.std.proofs.lemmas.List.{get_or_append_left, length-append}
 use Rattle.edge_links.proofs.Membership.{contains_none, contains_first, contains_later, contains_cases}
 use Rattle.edge_links.specs.Waiting.{AreApart, IsChain, AreWaiting, waiting_count}
 
-chain_set : (behind : List (Option ℕ)) (x : ℕ) (v top : Option ℕ) (xs : List ℕ) → (Contains xs x → ⊥) → IsChain behind top xs
+-- what is put off a chain leaves it
+chain_set : (behind : List (Option ℕ)) (x : ℕ) (v top : Option ℕ) (xs : List ℕ) → (Contains xs x → ⊥)
+    → IsChain behind top xs
     → IsChain (set behind x v) top xs
 chain_set behind x v top [] off h = h
 chain_set behind x v top (y ∷ xs) off h =
@@ -14,10 +17,13 @@ chain_set behind x v top (y ∷ xs) off h =
       h.0,
       l,
       chain_set behind x v (get_or (set behind x v) y None) xs (λ i. off (contains_later x y xs i))
-          (subst (λ (o : Option ℕ). IsChain behind o xs) (sym (get_or-set_other behind x y v None (λ e. off (contains_first x y xs (sym e))))) h.2),
+          (subst (λ (o : Option ℕ). IsChain behind o xs)
+          (sym (get_or-set_other behind x y v None (λ e. off (contains_first x y xs (sym e))))) h.2),
     )
 
-pub pushed : (q : List Bool) (behind : List (Option ℕ)) (top : Option ℕ) (x : ℕ) → AreWaiting q behind top → x < length q
+-- a place that does not wait may be put on top
+pub pushed : (q : List Bool) (behind : List (Option ℕ)) (top : Option ℕ) (x : ℕ) → AreWaiting q behind top
+    → x < length q
     → get_or q x false ≡ false
     → AreWaiting (set q x true) (set behind x top) (Some x)
 pushed q behind top x w l new =
@@ -34,15 +40,21 @@ pushed q behind top x w l new =
             (chain_set behind x top top w.places off w.chain),
       );
       flags = λ y. elim (cases_eq y x) [
-        | inl e ↦ (λ _. contains_first y x w.places e, λ _. ap (λ k. get_or (set q x true) k false) e ∙ get_or-set_same q x true false l)
+        | inl e ↦ (
+          λ _. contains_first y x w.places e,
+          λ _. ap (λ k. get_or (set q x true) k false) e
+              ∙ get_or-set_same q x true false l,
+        )
         | inr ne ↦ (
           λ h. contains_later y x w.places ((w.flags y).0 (sym (get_or-set_other q x y true false ne) ∙ h)),
-          λ i. get_or-set_other q x y true false ne ∙ (w.flags y).1 (elim (contains_cases y x w.places i) [ inl e ↦ absurd (ne e) | inr j ↦ j ]),
+          λ i. get_or-set_other q x y true false ne
+              ∙ (w.flags y).1 (elim (contains_cases y x w.places i) [ inl e ↦ absurd (ne e) | inr j ↦ j ]),
         )
       ];
       apart = (off, w.apart);
     }
 
+-- where nothing is on top, nothing waits
 pub nothing : (q : List Bool) (behind : List (Option ℕ)) (x : ℕ) → AreWaiting q behind None → get_or q x false ≡ false
 nothing q behind x w = none w.places w.chain (w.flags x).0
   where
@@ -50,7 +62,9 @@ nothing q behind x w = none w.places w.chain (w.flags x).0
     none [] c f = false_from_ne_true _ (λ e. contains_none x (f e))
     none (y ∷ xs) c f = absurd (let e : None ≡ Some y = c.0 in cc)
 
-pub popped : (q : List Bool) (behind : List (Option ℕ)) (top : Option ℕ) (x : ℕ) (after : Option ℕ) → AreWaiting q behind top
+-- the top may be taken off
+pub popped : (q : List Bool) (behind : List (Option ℕ)) (top : Option ℕ) (x : ℕ) (after : Option ℕ)
+    → AreWaiting q behind top
     → top ≡ Some x → after ≡ get_or behind x None
     → (x < length behind) × (x < length q) × (get_or q x false ≡ true) × AreWaiting (set q x false) behind after
 popped q behind top x after w t a = go w.places w.chain w.flags w.apart
@@ -73,7 +87,8 @@ popped q behind top x after w t a = go w.places w.chain w.flags w.apart
             chain = subst (λ (o : Option ℕ). IsChain behind o xs) (sym g) c.2;
             flags = λ k. elim (cases_eq k x) [
               | inl d ↦ (
-                λ h. absurd (let z : get_or (set q x false) k false ≡ false = ap (λ j. get_or (set q x false) j false) d ∙ get_or-set_same
+                λ h. absurd (let z : get_or (set q x false) k false ≡ false = ap (λ j. get_or (set q x false) j false) d
+                    ∙ get_or-set_same
                     q x false false l in cc),
                 λ i. absurd (p.0 (subst (λ j. Contains xs j) (d ∙ e) i)),
               )
@@ -87,7 +102,9 @@ popped q behind top x after w t a = go w.places w.chain w.flags w.apart
           },
         )
 
-pub top_there : (q : List Bool) (behind : List (Option ℕ)) (top : Option ℕ) (x : ℕ) → AreWaiting q behind top → top ≡ Some x
+-- it is one of the places
+pub top_there : (q : List Bool) (behind : List (Option ℕ)) (top : Option ℕ) (x : ℕ) → AreWaiting q behind top
+    → top ≡ Some x
     → (x < length behind) × (x < length q)
 top_there q behind top x w t = go w.places w.chain
   where
@@ -98,7 +115,9 @@ top_there q behind top x w t = go w.places w.chain
         let n : x < length behind = subst (λ k. k < length behind) (sym e) c.1 in
         let l : x < length q = let s = w.size in omega arith in (n, l)
 
-chain_grown : (behind : List (Option ℕ)) (top : Option ℕ) (xs : List ℕ) → IsChain behind top xs → IsChain (behind ++ None ∷ []) top xs
+-- a new place leaves a chain
+chain_grown : (behind : List (Option ℕ)) (top : Option ℕ) (xs : List ℕ) → IsChain behind top xs
+    → IsChain (behind ++ None ∷ []) top xs
 chain_grown behind top [] h = h
 chain_grown behind top (x ∷ xs) h = (
   h.0,
@@ -107,6 +126,7 @@ chain_grown behind top (x ∷ xs) h = (
       (chain_grown behind (get_or behind x None) xs h.2),
 )
 
+-- and does not wait
 pub down_at_end : (q : List Bool) (x : ℕ) → get_or (q ++ false ∷ []) x false ≡ get_or q x false
 down_at_end [] zero = refl
 down_at_end [] (suc x) = refl
@@ -117,20 +137,24 @@ down_at_end (b ∷ q) (suc x) = down_at_end q x
 pub grown : (q : List Bool) (behind : List (Option ℕ)) (top : Option ℕ) → AreWaiting q behind top
     → AreWaiting (q ++ false ∷ []) (behind ++ None ∷ []) top
 grown q behind top w = record {
-  size = let a = length-append q (false ∷ []) in let b = length-append behind (None ∷ []) in let d = w.size in omega arith;
+  size = let a = length-append q (false ∷ []) in let b = length-append behind (None ∷ []) in let d =
+      w.size in omega arith;
   places = w.places;
   chain = chain_grown behind top w.places w.chain;
   flags = λ x. (λ h. (w.flags x).0 (sym (down_at_end q x) ∙ h), λ i. down_at_end q x ∙ (w.flags x).1 i);
   apart = w.apart;
 }
 
-pub waiting_set : (q : List Bool) (x : ℕ) → get_or q x false ≡ true → waiting_count (set q x false) + 1 ≡ waiting_count q
+-- a place taken off is one less that waits
+pub waiting_set : (q : List Bool) (x : ℕ) → get_or q x false ≡ true
+    → waiting_count (set q x false) + 1 ≡ waiting_count q
 waiting_set [] x e = cc
 waiting_set (true ∷ q) zero e = omega arith
 waiting_set (false ∷ q) zero e = cc
 waiting_set (true ∷ q) (suc x) e = omega (arith, waiting_set q x e)
 waiting_set (false ∷ q) (suc x) e = waiting_set q x e
 
+-- a place put on is at most one more
 pub waiting_push : (q : List Bool) (x : ℕ) → waiting_count (set q x true) ≤ waiting_count q + 1
 waiting_push [] x = omega arith
 waiting_push (true ∷ q) zero = omega arith
@@ -138,6 +162,7 @@ waiting_push (false ∷ q) zero = omega arith
 waiting_push (true ∷ q) (suc x) = omega (arith, waiting_push q x)
 waiting_push (false ∷ q) (suc x) = waiting_push q x
 
+-- of no places none waits
 pub none_waiting : AreWaiting [] [] None
 none_waiting = record {
   size = refl;

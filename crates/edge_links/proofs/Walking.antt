@@ -9,9 +9,11 @@ use Rattle.std.proofs.lemmas.List.{length-append}
 use Rattle.edge_links.proofs.Counting.{owned_end}
 use Rattle.edge_links.proofs.Weighing.{at_most}
 
+-- one more of a number
 times_same : (x y : ℕ) (xs : List ℕ) → y ≡ x → times x (xs ++ y ∷ []) ≡ times x xs + 1
 times_same x y xs e = owned_end x xs y ∙ ap (λ k. times x xs + k) (cond-true (nat_eq y x) 1 0 (eq-eqb y x e))
 
+-- another one is none more
 times_other : (x y : ℕ) (xs : List ℕ) → (y ≡ x → ⊥) → times x (xs ++ y ∷ []) ≡ times x xs
 times_other x y xs ne = more _ _ _ (owned_end x xs y) (cond-false (nat_eq y x) 1 0 (ne_eqb y x ne))
   where
@@ -25,21 +27,27 @@ times_more x y xs l = let a = owned_end x xs y in more _ _ _ (owned_end x xs y) 
     more : (a b d : ℕ) → a ≡ b + d → 0 < b → 0 < a
     more a b d e f = omega arith
 
-module _ (n : ℕ) (next prev owner : ℕ → ℕ) (r : IsRing n next prev owner) (head : ℕ) (there : head < n) (is_head : owner head ≡ head) where
+module _ (n : ℕ) (next prev owner : ℕ → ℕ) (r : IsRing n next prev owner) (head : ℕ) (there : head < n)
+    (is_head : owner head ≡ head) where
   abbrev Met : List ℕ → ℕ → Type 0
   Met met p = (p ≡ head) ⊎ (0 < times p met)
 
   -- places from the end of the ring down to behind this one were met
   pub record IsWalk (place : ℕ) (met : List ℕ) : Type 0 where
     pub here : (place < n) × (owner place ≡ head)
-    pub owned : (p : ℕ) → 0 < times p met → (p < n) × (owner p ≡ head) × (p ≡ head → ⊥) × ((place ≡ head → ⊥) → r.rank place < r.rank p)
+    pub owned : (p : ℕ) → 0 < times p met → (p < n) × (owner p ≡ head) × (p ≡ head → ⊥)
+        × ((place ≡ head → ⊥) → r.rank place < r.rank p)
     pub once : (p : ℕ) → times p met ≤ 1
     pub closed : (p : ℕ) → 0 < times p met → Met met (next p)
     pub next_met : Met met (next place)
 
   pub walk_start : IsWalk (prev head) []
   walk_start = record {
-    here = (r.prev_in head there, sym (r.own (prev head) (r.prev_in head there)) ∙ (ap owner (r.forth head there) ∙ is_head));
+    here = (
+      r.prev_in head there,
+      sym (r.own (prev head) (r.prev_in head there))
+          ∙ (ap owner (r.forth head there) ∙ is_head),
+    );
     owned = λ p l. absurd (omega (arith, l));
     once = λ p. omega arith;
     closed = λ p l. absurd (omega (arith, l));
@@ -54,7 +62,11 @@ module _ (n : ℕ) (next prev owner : ℕ → ℕ) (r : IsRing n next prev owner
     walk_less = r.falls place w.here.0 (λ e. on (sym e ∙ w.here.1))
 
     new_here : (prev place < n) × (owner (prev place) ≡ head)
-    new_here = (r.prev_in place w.here.0, sym (r.own (prev place) (r.prev_in place w.here.0)) ∙ (ap owner (r.forth place w.here.0) ∙ w.here.1))
+    new_here = (
+      r.prev_in place w.here.0,
+      sym (r.own (prev place) (r.prev_in place w.here.0))
+          ∙ (ap owner (r.forth place w.here.0) ∙ w.here.1),
+    )
 
     not_met : 0 < times place met → ⊥
     not_met l = let a = (w.owned place l).3 on in omega arith
@@ -72,7 +84,8 @@ module _ (n : ℕ) (next prev owner : ℕ → ℕ) (r : IsRing n next prev owner
     walk_next = record {
       here = new_here;
       owned = λ p l. elim (was_met p l) [
-        | inl e ↦ subst (λ q. (q < n) × (owner q ≡ head) × (q ≡ head → ⊥) × ((prev place ≡ head → ⊥) → r.rank (prev place) < r.rank q))
+        | inl e ↦ subst (λ q. (q < n) × (owner q ≡ head) × (q ≡ head → ⊥)
+            × ((prev place ≡ head → ⊥) → r.rank (prev place) < r.rank q))
             (sym e) (w.here.0, w.here.1, on, λ _. walk_less)
         | inr m ↦ let o = w.owned p m in (o.0, o.1, o.2, λ _. let a = o.3 on in let b = walk_less in omega arith)
       ];
@@ -117,40 +130,49 @@ pub record IsWalking (r : Ring) (head place : ℕ) (met : List ℕ) : Type 0 whe
   pub rings : AreRings r
   pub there : head < length r.owner
   pub is_head : get_or r.owner head 0 ≡ head
-  pub walk : IsWalk (length r.owner) (λ k. get_or r.next k 0) (λ k. get_or r.prev k 0) (λ k. get_or r.owner k 0) rings.ring head there
+  pub walk : IsWalk (length r.owner) (λ k. get_or r.next k 0) (λ k. get_or r.prev k 0)
+      (λ k. get_or r.owner k 0) rings.ring head there
       is_head place met
 
+-- a walk begins at the place before the head
 pub walking_start : (r : Ring) (head : ℕ) → AreRings r → head < length r.owner → get_or r.owner head 0 ≡ head
     → IsWalking r head (get_or r.prev head 0) []
 walking_start r head are there is_head = record {
   rings = are;
   there = there;
   is_head = is_head;
-  walk = walk_start (length r.owner) (λ k. get_or r.next k 0) (λ k. get_or r.prev k 0) (λ k. get_or r.owner k 0) are.ring head there is_head;
+  walk = walk_start (length r.owner) (λ k. get_or r.next k 0) (λ k. get_or r.prev k 0)
+      (λ k. get_or r.owner k 0) are.ring head there is_head;
 }
 
+-- and goes on to the one before
 pub walking_next : (r : Ring) (head place : ℕ) (met : List ℕ) → IsWalking r head place met → (place ≡ head → ⊥)
     → IsWalking r head (get_or r.prev place 0) (met ++ place ∷ [])
 walking_next r head place met w on = record {
   rings = w.rings;
   there = w.there;
   is_head = w.is_head;
-  walk = walk_next (length r.owner) (λ k. get_or r.next k 0) (λ k. get_or r.prev k 0) (λ k. get_or r.owner k 0) w.rings.ring head w.there
+  walk = walk_next (length r.owner) (λ k. get_or r.next k 0) (λ k. get_or r.prev k 0)
+      (λ k. get_or r.owner k 0) w.rings.ring head w.there
       w.is_head place met w.walk on;
 }
 
+-- before it is back it has met fewer places than there are
 pub walking_less : (r : Ring) (head place : ℕ) (met : List ℕ) → IsWalking r head place met → (place ≡ head → ⊥)
     → length met < length r.owner
 walking_less r head place met w on =
     let more =
-    walk_next (length r.owner) (λ k. get_or r.next k 0) (λ k. get_or r.prev k 0) (λ k. get_or r.owner k 0) w.rings.ring head w.there
+    walk_next (length r.owner) (λ k. get_or r.next k 0) (λ k. get_or r.prev k 0)
+    (λ k. get_or r.owner k 0) w.rings.ring head w.there
     w.is_head place met w.walk on in
     let a = at_most (length r.owner) (met ++ place ∷ []) (λ p l. (more.owned p l).0) more.once in
     let b = length-append met (place ∷ []) in omega arith
 
+-- back at the head it has met all members
 pub walking_end : (r : Ring) (head : ℕ) (met : List ℕ) → IsWalking r head head met → AreMembers r.owner head met
 walking_end r head met w = record {
   owned = λ p l. let o = w.walk.owned p l in (o.0, o.1, o.2);
-  once = all_met (length r.owner) (λ k. get_or r.next k 0) (λ k. get_or r.prev k 0) (λ k. get_or r.owner k 0) w.rings.ring head w.there
+  once = all_met (length r.owner) (λ k. get_or r.next k 0) (λ k. get_or r.prev k 0)
+      (λ k. get_or r.owner k 0) w.rings.ring head w.there
       w.is_head met w.walk;
 }

@@ -71,7 +71,8 @@ module _ (slots : List Slot) (i : ℕ) (s : Slot) (at : s ≡ get_or slots i s) 
         names = kept (λ x. x.name) t refl j;
       }
 
-  pub user_next : (v : ℕ) → columns (set slots i (record s { user = record s.user { next = v } })) ≡ record (columns slots)
+  pub user_next : (v : ℕ) → columns (set slots i (record s { user = record s.user { next = v } }))
+      ≡ record (columns slots)
       { users = record (columns slots).users { next = set (columns slots).users.next i v } }
   user_next v = user_set _ _ (next_set (λ x. x.user) (record s { user = record s.user { next = v } }) v refl)
 
@@ -79,7 +80,8 @@ module _ (slots : List Slot) (i : ℕ) (s : Slot) (at : s ≡ get_or slots i s) 
       { keys = record (columns slots).keys { next = set (columns slots).keys.next i v } }
   key_next v = key_set _ _ (next_set (λ x. x.key) (record s { key = record s.key { next = v } }) v refl)
 
-  pub user_prev : (v : ℕ) → columns (set slots i (record s { user = record s.user { prev = v } })) ≡ record (columns slots)
+  pub user_prev : (v : ℕ) → columns (set slots i (record s { user = record s.user { prev = v } }))
+      ≡ record (columns slots)
       { users = record (columns slots).users { prev = set (columns slots).users.prev i v } }
   user_prev v = user_set _ _ (prev_set (λ x. x.user) (record s { user = record s.user { prev = v } }) v refl)
 

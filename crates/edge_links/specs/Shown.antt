@@ -1,5 +1,6 @@
 -- What is seen of places: the edges between the nodes that their heads are.
-use Rattle.std.specs.Prelude.{◌≡◌, ◌==◌, ◌||◌, ℕ, zero, suc, ◌-◌, ◌<◌, if◌then◌else◌, List, [], ◌∷◌, ◌++◌, length, false}
+use Rattle.std.specs.Prelude.{◌≡◌, ◌==◌, ◌||◌, ℕ, zero, suc, ◌-◌, ◌<◌, if◌then◌else◌, List, [], ◌∷◌, ◌++◌, length}
+use Rattle.std.specs.Prelude.{false}
 use Rattle.std.specs.Prelude.{slice_index, slice_index_or}
 use Rattle.edge_links.specs.Edges.{Edge, edge, Graph}
 use Rattle.edge_links.specs.Owners.{Owners, IsHead, owned}
@@ -15,8 +16,8 @@ abbrev pub edges_below : Owners → ℕ → List Edge
 edges_below s zero = []
 edges_below s (suc n) = edge_at s n ++ edges_below s n
 
-abbrev pub shown : Owners → List ℕ → Graph
-shown s nodes = record {
+abbrev pub graph_of : Owners → List ℕ → Graph
+graph_of s nodes = record {
   nodes = length nodes;
   edges = edges_below s (length s.users);
   spare = owned 0 s.users - 1;

@@ -1,5 +1,6 @@
 -- Places that wait, each leading to the one that waited before it.
-use Rattle.std.specs.Prelude.{◌≡◌, ◌↔◌, ℕ, ◌<◌, List, [], ◌∷◌, length, Option, Some, None, Bool, true, false, slice_index_or, ◌+◌, Contains}
+use Rattle.std.specs.Prelude.{◌≡◌, ◌↔◌, ℕ, ◌<◌, List, [], ◌∷◌, length, Option, Some, None, Bool, true, false}
+use Rattle.std.specs.Prelude.{slice_index_or, ◌+◌, Contains}
 
 -- no place stands twice
 abbrev pub AreApart : List ℕ → Type 0

@@ -26,11 +26,11 @@ pub struct Links {
 
 impl Model for Links {
     ghost use Rattle.edge_links.specs.Edges.{Graph};
-    ghost use Rattle.edge_links.specs.Shown.{shown, AreLinks};
+    ghost use Rattle.edge_links.specs.Shown.{graph_of, AreLinks};
 
     ghost Value = { Graph };
 
-    ghost view = { λ l. shown l.places l.nodes.items };
+    ghost view = { λ l. graph_of l.places l.nodes.items };
 
     ghost invariant = { λ l. AreLinks l.places l.nodes.items };
 }

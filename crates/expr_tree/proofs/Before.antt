@@ -1,7 +1,9 @@
 -- What tokens leave to the next one, token by token.
-use Rattle.std.proofs.Common.{◌≡◌, ◌<◌, ◌≤◌, ◌+◌, ℕ, zero, suc, Bool, true, false, ◌&&◌, List, [], ◌∷◌, ◌++◌, refl, ap, sym, ◌∙◌, append_assoc, arith}
+use Rattle.std.proofs.Common.{◌≡◌, ◌<◌, ◌≤◌, ◌+◌, ℕ, zero, suc, Bool, true, false, ◌&&◌, List, [], ◌∷◌, ◌++◌, refl, ap}
+use Rattle.std.proofs.Common.{sym, ◌∙◌, append_assoc, arith}
 use Rattle.expr_tree.specs.Rules.{After, WantsOperand, EndsNumeral, EndsOperand}
-use Rattle.expr_tree.specs.Rules.{after, closes, count_closes, count_deepens, count_opens, counted, deepens, depth_after, fits, left_by, may, opened_after, opens}
+use Rattle.expr_tree.specs.Rules.{after, closes, count_closes, count_deepens, count_opens, counted, deepens}
+use Rattle.expr_tree.specs.Rules.{depth_after, fits, left_by, may, opened_after, opens}
 use Rattle.expr_tree.specs.Tokens.{Token, Numeral, Word, WordWithPower, Head, Root}
 use Rattle.expr_tree.specs.Tokens.{Plus, Minus, Open, Close}
 
@@ -12,18 +14,27 @@ counts-swap true false n = refl
 counts-swap false true n = refl
 counts-swap false false n = refl
 
-pub left_by-push : (last : After) (ts : List Token) (t : Token) → left_by last (ts ++ t ∷ []) ≡ after t (left_by last ts)
+-- what tokens with one more leave
+pub left_by-push : (last : After) (ts : List Token) (t : Token)
+    → left_by last (ts ++ t ∷ []) ≡ after t (left_by last ts)
 left_by-push last [] t = refl
 left_by-push last (u ∷ ts) t = left_by-push (after u last) ts t
 
-pub count_opens-push : (ts : List Token) (t : Token) → count_opens (ts ++ t ∷ []) ≡ counted (opens t) false (count_opens ts)
+-- how many of them open a parenthesis
+pub count_opens-push : (ts : List Token) (t : Token)
+    → count_opens (ts ++ t ∷ []) ≡ counted (opens t) false (count_opens ts)
 count_opens-push [] t = refl
-count_opens-push (u ∷ ts) t = ap (counted (opens u) false) (count_opens-push ts t) ∙ counts-swap (opens u) (opens t) (count_opens ts)
+count_opens-push (u ∷ ts) t = ap (counted (opens u) false) (count_opens-push ts t)
+    ∙ counts-swap (opens u) (opens t) (count_opens ts)
 
-pub count_closes-push : (ts : List Token) (t : Token) → count_closes (ts ++ t ∷ []) ≡ counted (closes t) false (count_closes ts)
+-- how many close one
+pub count_closes-push : (ts : List Token) (t : Token)
+    → count_closes (ts ++ t ∷ []) ≡ counted (closes t) false (count_closes ts)
 count_closes-push [] t = refl
-count_closes-push (u ∷ ts) t = ap (counted (closes u) false) (count_closes-push ts t) ∙ counts-swap (closes u) (closes t) (count_closes ts)
+count_closes-push (u ∷ ts) t = ap (counted (closes u) false) (count_closes-push ts t)
+    ∙ counts-swap (closes u) (closes t) (count_closes ts)
 
+-- how many nest deeper
 pub count_deepens-push : (last : After) (ts : List Token) (t : Token)
     → count_deepens last (ts ++ t ∷ []) ≡ counted (deepens t (left_by last ts)) false (count_deepens last ts)
 count_deepens-push last [] t = refl
@@ -32,18 +43,21 @@ count_deepens-push last (u ∷ ts) t =
     ∙ counts-swap (deepens u last) (deepens t (left_by (after u last) ts)) (count_deepens (after u last) ts)
 
 -- a count of ups and one of downs keep their difference
-count-step : (up down : Bool) (total now closed : ℕ) → (up && down) ≡ false → (down ≡ true → 0 < now) → total ≡ now + closed
+count-step : (up down : Bool) (total now closed : ℕ) → (up && down) ≡ false → (down ≡ true → 0 < now)
+    → total ≡ now + closed
     → counted up false total ≡ counted up down now + counted down false closed
 count-step true true total now closed apart some is = cc
 count-step true false total now closed apart some is = omega arith
 count-step false true total now closed apart some is = let h : 0 < now = some refl in omega arith
 count-step false false total now closed apart some is = is
 
+-- no token opens and closes
 opens-or-closes : (t : Token) → (opens t && closes t) ≡ false
 opens-or-closes (Head w) = refl
 opens-or-closes Open = refl
 opens-or-closes t = refl
 
+-- none nests deeper and closes
 deepens-or-closes : (t : Token) (last : After) → (deepens t last && closes t) ≡ false
 deepens-or-closes (Numeral n) last = refl
 deepens-or-closes (Word w) last = refl
@@ -58,6 +72,7 @@ deepens-or-closes Minus EndsOperand = refl
 deepens-or-closes Minus last = refl
 deepens-or-closes t last = refl
 
+-- what opens a parenthesis nests deeper
 opens-deepens : (t : Token) (last : After) → opens t ≡ true → deepens t last ≡ true
 opens-deepens (Head w) last h = refl
 opens-deepens Open last h = refl
@@ -72,7 +87,9 @@ some-open EndsOperand (suc n) Close h k = omega arith
 some-open last opened Close h k = cc
 some-open last opened t h k = cc
 
-counted-le : (up deeper down : Bool) (m n : ℕ) → (up ≡ true → deeper ≡ true) → m ≤ n → counted up down m ≤ counted deeper down n
+-- so the depth is no less than the open parentheses
+counted-le : (up deeper down : Bool) (m n : ℕ) → (up ≡ true → deeper ≡ true) → m ≤ n
+    → counted up down m ≤ counted deeper down n
 counted-le true true down m n h le = omega arith
 counted-le true false down m n h le = let e : false ≡ true = h refl in cc
 counted-le false true true m n h le = omega arith
@@ -88,29 +105,35 @@ pub record Leaves (before : List Token) (last : After) (opened depth : ℕ) : Ty
   pub less : opened ≤ depth
   pub fit : (rest : List Token) → fits WantsOperand 0 (before ++ rest) ≡ fits last opened rest
 
+-- before the first token an operand is wanted, and nothing is open
 pub nothing-leaves : Leaves [] WantsOperand 0 0
 nothing-leaves = record { last_is = refl; opened_is = refl; depth_is = refl; less = omega arith; fit = λ rest. refl }
 
+-- a token that may stand fits where the others do behind it
 fits-cons : (last : After) (opened : ℕ) (t : Token) (rest : List Token) → may last opened t ≡ true
     → fits last opened (t ∷ rest) ≡ fits (after t last) (opened_after t opened) rest
 fits-cons last opened t rest h = ap (λ b. b && fits (after t last) (opened_after t opened) rest) h
 
 -- one more token
-pub leaves-push : (before : List Token) (last : After) (opened depth : ℕ) (t : Token) → Leaves before last opened depth → may last opened t ≡ true
+pub leaves-push : (before : List Token) (last : After) (opened depth : ℕ) (t : Token) → Leaves before last opened depth
+    → may last opened t ≡ true
     → Leaves (before ++ t ∷ []) (after t last) (opened_after t opened) (depth_after t last depth)
 leaves-push before last opened depth t l h =
     let open_enough : closes t ≡ true → 0 < opened = some-open last opened t h in
-    let deep_enough : closes t ≡ true → 0 < depth = (λ k. (let o : 0 < opened = open_enough k in omega (arith, l.less))) in
+    let deep_enough : closes t ≡ true
+    → 0 < depth = (λ k. (let o : 0 < opened = open_enough k in omega (arith, l.less))) in
     record {
       last_is = left_by-push WantsOperand before t ∙ ap (after t) l.last_is;
       opened_is =
           count_opens-push before t
-          ∙ count-step (opens t) (closes t) (count_opens before) opened (count_closes before) (opens-or-closes t) open_enough l.opened_is
+          ∙ count-step (opens t) (closes t) (count_opens before) opened (count_closes before)
+          (opens-or-closes t) open_enough l.opened_is
           ∙ ap (λ n. opened_after t opened + n) (sym (count_closes-push before t));
       depth_is =
           count_deepens-push WantsOperand before t
           ∙ ap (λ a. counted (deepens t a) false (count_deepens WantsOperand before)) l.last_is
-          ∙ count-step (deepens t last) (closes t) (count_deepens WantsOperand before) depth (count_closes before) (deepens-or-closes t last) deep_enough l.depth_is
+          ∙ count-step (deepens t last) (closes t) (count_deepens WantsOperand before) depth (count_closes before)
+          (deepens-or-closes t last) deep_enough l.depth_is
           ∙ ap (λ n. depth_after t last depth + n) (sym (count_closes-push before t));
       less = counted-le (opens t) (deepens t last) (closes t) opened depth (opens-deepens t last) l.less;
       fit = λ rest.

@@ -1,6 +1,8 @@
 -- The lexemes of a text, one by one, and its first fault.
 use Rattle.std.specs.Prelude.{if◌then◌else◌, is_err, is_ok, map}
-use Rattle.std.proofs.Common.{◌≡◌, ◌<◌, ◌≤◌, ◌+◌, ◌-◌, ℕ, zero, suc, Bool, true, false, List, [], ◌∷◌, ◌++◌, length, drop, take, Option, Some, None, Result, Ok, Err, refl, ap, sym, subst, ◌∙◌, append_assoc, add-zero, arith, nat_lt}
+use Rattle.std.proofs.Common.{◌≡◌, ◌<◌, ◌≤◌, ◌+◌, ◌-◌, ℕ, zero, suc, Bool, true, false, List, [], ◌∷◌, ◌++◌, length}
+use Rattle.std.proofs.Common.{drop, take, Option, Some, None, Result, Ok, Err, refl, ap, sym, subst, ◌∙◌, append_assoc}
+use Rattle.std.proofs.Common.{add-zero, arith, nat_lt}
 use Rattle.std.proofs.lemmas.List.{append-nil, drop-drop, length-drop, map-append}
 use Rattle.std.proofs.lemmas.Bool.{ltb-false}
 use Rattle.std.proofs.Math.ListN.{drop_of_length-le}
@@ -13,15 +15,18 @@ use Rattle.expr_tree.specs.declared.lexeme.Piece.{Piece as MadePiece}
 use Rattle.expr_tree.specs.declared.standing.Standing.{Standing}
 use Rattle.expr_tree.specs.declared.token.Token.{Token as Made}
 use Rattle.expr_tree.specs.Faults.{deepest, depth_behind, fault_at, fault_from, first_fault, or_later}
-use Rattle.expr_tree.specs.Lexemes.{Lexeme, Blank, Whole, TooLong, Malformed, Piece, Placed, front, is_numeral, lexemes_from, token_in, tokens, tokens_in}
-use Rattle.expr_tree.specs.Rules.{After, WantsOperand, after, closes, count_closes, count_deepens, count_opens, counted, deepens, depth_after, fits, left_by, may, may_end, opened, opened_after}
+use Rattle.expr_tree.specs.Lexemes.{Lexeme, Blank, Whole, TooLong, Malformed, Piece, Placed, front, is_numeral}
+use Rattle.expr_tree.specs.Lexemes.{lexemes_from, token_in, tokens, tokens_in}
+use Rattle.expr_tree.specs.Rules.{After, WantsOperand, after, closes, count_closes, count_deepens, count_opens, counted}
+use Rattle.expr_tree.specs.Rules.{deepens, depth_after, fits, left_by, may, may_end, opened, opened_after}
 use Rattle.expr_tree.specs.Seen.{seen, seen_lexeme, seen_piece}
 use Rattle.expr_tree.specs.Tokens.{Token}
 use Rattle.expr_tree.proofs.Before.{Leaves, leaves-push, nothing-leaves}
 
 -- what a lexeme covers is passed over
 pub past-covered : (covered : ℕ) (after_numeral : Bool) (place : ℕ) (text : List ℕ)
-    → lexemes_from covered after_numeral place text ≡ lexemes_from zero after_numeral (place + covered) (drop covered text)
+    → lexemes_from covered after_numeral place text
+    ≡ lexemes_from zero after_numeral (place + covered) (drop covered text)
 unfolding lexemes_from
 past-covered zero after_numeral place text = ap (λ p. lexemes_from zero after_numeral p text) (sym (add-zero place))
 past-covered (suc n) after_numeral place [] = refl
@@ -29,8 +34,10 @@ past-covered (suc n) after_numeral place (b ∷ bs) =
     let e : suc place + n ≡ place + suc n = omega arith in
     past-covered n after_numeral (suc place) bs ∙ ap (λ p. lexemes_from zero after_numeral p (drop n bs)) e
 
+-- the lexemes behind one of this length
 rest-of : (len : ℕ) (after_numeral : Bool) (place b : ℕ) (bs : List ℕ) → 0 < len
-    → lexemes_from (len - 1) after_numeral (suc place) bs ≡ lexemes_from zero after_numeral (place + len) (drop len (b ∷ bs))
+    → lexemes_from (len - 1) after_numeral (suc place) bs
+    ≡ lexemes_from zero after_numeral (place + len) (drop len (b ∷ bs))
 rest-of zero after_numeral place b bs h = absurd (omega arith)
 rest-of (suc n) after_numeral place b bs h =
     let one : suc n - 1 ≡ n = omega arith in
@@ -39,6 +46,7 @@ rest-of (suc n) after_numeral place b bs h =
     ∙ past-covered n after_numeral (suc place) bs
     ∙ ap (λ p. lexemes_from zero after_numeral p (drop n bs)) here
 
+-- a piece at its place
 abbrev at : ℕ → Piece → Placed
 at place p = record { place = place; lexeme = p.lexeme }
 
@@ -46,7 +54,8 @@ at place p = record { place = place; lexeme = p.lexeme }
 front-first : (after_numeral : Bool) (place : ℕ) (text : List ℕ) → 0 < length text → 0 < (front after_numeral text).len
     → lexemes_from zero after_numeral place text
     ≡ at place (front after_numeral text)
-    ∷ lexemes_from zero (is_numeral (front after_numeral text).lexeme) (place + (front after_numeral text).len) (drop (front after_numeral text).len text)
+    ∷ lexemes_from zero (is_numeral (front after_numeral text).lexeme) (place + (front after_numeral text).len)
+    (drop (front after_numeral text).len text)
 unfolding lexemes_from
 front-first after_numeral place [] some moves = absurd (omega arith)
 front-first after_numeral place (b ∷ bs) some moves =
@@ -57,38 +66,48 @@ front-first after_numeral place (b ∷ bs) some moves =
 abbrev pub ahead : List ℕ → Bool → ℕ → List Placed
 ahead text after_numeral place = lexemes_from zero after_numeral place (drop place text)
 
+-- the piece at the front is the first lexeme ahead
 pub ahead-first : (text : List ℕ) (after_numeral : Bool) (place : ℕ) (p : Piece) → place < length text
     → p ≡ front after_numeral (drop place text) → 0 < p.len
     → ahead text after_numeral place ≡ at place p ∷ ahead text (is_numeral p.lexeme) (place + p.len)
 ahead-first text after_numeral place p inside is moves =
-    subst (λ (q : Piece). 0 < q.len → ahead text after_numeral place ≡ at place q ∷ ahead text (is_numeral q.lexeme) (place + q.len)) (sym is)
+    subst (λ (q : Piece). 0 < q.len
+    → ahead text after_numeral place ≡ at place q ∷ ahead text (is_numeral q.lexeme) (place + q.len)) (sym is)
     (λ h.
     front-first after_numeral place (drop place text) (omega (arith, length-drop place text)) h
-    ∙ ap (λ bs. at place (front after_numeral (drop place text)) ∷ lexemes_from zero (is_numeral (front after_numeral (drop place text)).lexeme) (place + (front after_numeral (drop place text)).len) bs)
+    ∙ ap (λ bs. at place (front after_numeral (drop place text))
+    ∷ lexemes_from zero (is_numeral (front after_numeral (drop place text)).lexeme)
+    (place + (front after_numeral (drop place text)).len) bs)
     (drop-drop (front after_numeral (drop place text)).len place text))
     moves
 
-pub ahead-end : (text : List ℕ) (after_numeral : Bool) (place : ℕ) → length text ≤ place → ahead text after_numeral place ≡ []
+-- at the end none is
+pub ahead-end : (text : List ℕ) (after_numeral : Bool) (place : ℕ) → length text ≤ place
+    → ahead text after_numeral place ≡ []
 unfolding lexemes_from
 ahead-end text after_numeral place h = ap (lexemes_from zero after_numeral place) (drop_of_length-le text h)
 
 -- the lexemes before a place in a text are read: they are these tokens, and have no fault
-pub record IsRead (text : List ℕ) (before : List Token) (last : After) (opened depth : ℕ) (after_numeral : Bool) (place : ℕ) : Type 0 where
+pub record IsRead (text : List ℕ) (before : List Token) (last : After) (opened depth : ℕ) (after_numeral : Bool)
+    (place : ℕ) : Type 0 where
   pub leaves : Leaves before last opened depth
   pub within : place ≤ length text
   pub shallow : depth ≤ 65
   pub tokens_are : tokens text ≡ before ++ tokens_in (ahead text after_numeral place)
   pub fault_is : first_fault text ≡ fault_from before (length text) (ahead text after_numeral place)
 
+-- at the start nothing is read
 pub nothing-read : (text : List ℕ) → IsRead text [] WantsOperand 0 0 false 0
-nothing-read text = record { leaves = nothing-leaves; within = omega arith; shallow = omega arith; tokens_are = refl; fault_is = refl }
+nothing-read text =
+    record { leaves = nothing-leaves; within = omega arith; shallow = omega arith; tokens_are = refl; fault_is = refl }
 
 -- the fault of a lexeme, by the tokens before it
 pub fault_here : List Token → ℕ → Lexeme → Option ParseFault
 fault_here before place x = fault_at (left_by WantsOperand before) (opened before) (depth_behind before) place x
 
 -- and by what they leave
-pub fault-left : (before : List Token) (last : After) (opened depth place : ℕ) (x : Lexeme) → Leaves before last opened depth
+pub fault-left : (before : List Token) (last : After) (opened depth place : ℕ) (x : Lexeme)
+    → Leaves before last opened depth
     → fault_here before place x ≡ fault_at last opened depth place x
 unfolding fault_here
 fault-left before last opened depth place x l =
@@ -96,35 +115,48 @@ fault-left before last opened depth place x l =
     let f : count_deepens WantsOperand before - count_closes before ≡ depth = omega (arith, l.depth_is) in
     rw (l.last_is, e, f)
 
+-- the fault of lexemes is that of the first, or else of the others behind it
 pub fault_from-cons : (before : List Token) (len place : ℕ) (x : Lexeme) (xs : List Placed)
-    → fault_from before len (record { place = place; lexeme = x } ∷ xs) ≡ or_later (fault_here before place x) (fault_from (before ++ token_in x) len xs)
+    → fault_from before len (record { place = place; lexeme = x } ∷ xs)
+    ≡ or_later (fault_here before place x) (fault_from (before ++ token_in x) len xs)
 unfolding fault_from fault_here
 fault_from-cons before len place x xs = refl
 
 -- a fault that is met is the first one
-pub fault-met : (text : List ℕ) (before : List Token) (last : After) (opened depth : ℕ) (after_numeral : Bool) (place : ℕ) (p : Piece) (fault : ParseFault)
-    → IsRead text before last opened depth after_numeral place → place < length text → p ≡ front after_numeral (drop place text) → 0 < p.len
+pub fault-met : (text : List ℕ) (before : List Token) (last : After) (opened depth : ℕ) (after_numeral : Bool)
+    (place : ℕ) (p : Piece) (fault : ParseFault)
+    → IsRead text before last opened depth after_numeral place → place < length text
+    → p ≡ front after_numeral (drop place text) → 0 < p.len
     → fault_at last opened depth place p.lexeme ≡ Some fault → first_fault text ≡ Some fault
 fault-met text before last opened depth after_numeral place p fault r inside is moves has =
     r.fault_is
     ∙ ap (fault_from before (length text)) (ahead-first text after_numeral place p inside is moves)
     ∙ fault_from-cons before (length text) place p.lexeme _
-    ∙ ap (λ f. or_later f (fault_from (before ++ token_in p.lexeme) (length text) (ahead text (is_numeral p.lexeme) (place + p.len))))
+    ∙ ap (λ f. or_later f
+    (fault_from (before ++ token_in p.lexeme) (length text) (ahead text (is_numeral p.lexeme) (place + p.len))))
     (fault-left before last opened depth place p.lexeme r.leaves ∙ has)
 
-no-fault : (text : List ℕ) (before : List Token) (last : After) (opened depth : ℕ) (after_numeral : Bool) (place : ℕ) (p : Piece)
-    → IsRead text before last opened depth after_numeral place → place < length text → p ≡ front after_numeral (drop place text) → 0 < p.len
+-- where the piece at the front has no fault, the fault of all is that of what is behind it
+no-fault : (text : List ℕ) (before : List Token) (last : After) (opened depth : ℕ) (after_numeral : Bool) (place : ℕ)
+    (p : Piece)
+    → IsRead text before last opened depth after_numeral place → place < length text
+    → p ≡ front after_numeral (drop place text) → 0 < p.len
     → fault_at last opened depth place p.lexeme ≡ None
-    → first_fault text ≡ fault_from (before ++ token_in p.lexeme) (length text) (ahead text (is_numeral p.lexeme) (place + p.len))
+    → first_fault text
+    ≡ fault_from (before ++ token_in p.lexeme) (length text) (ahead text (is_numeral p.lexeme) (place + p.len))
 no-fault text before last opened depth after_numeral place p r inside is moves has =
     r.fault_is
     ∙ ap (fault_from before (length text)) (ahead-first text after_numeral place p inside is moves)
     ∙ fault_from-cons before (length text) place p.lexeme _
-    ∙ ap (λ f. or_later f (fault_from (before ++ token_in p.lexeme) (length text) (ahead text (is_numeral p.lexeme) (place + p.len))))
+    ∙ ap (λ f. or_later f
+    (fault_from (before ++ token_in p.lexeme) (length text) (ahead text (is_numeral p.lexeme) (place + p.len))))
     (fault-left before last opened depth place p.lexeme r.leaves ∙ has)
 
-more-tokens : (text : List ℕ) (before : List Token) (last : After) (opened depth : ℕ) (after_numeral : Bool) (place : ℕ) (p : Piece)
-    → IsRead text before last opened depth after_numeral place → place < length text → p ≡ front after_numeral (drop place text) → 0 < p.len
+-- and its token goes behind those that were read
+more-tokens : (text : List ℕ) (before : List Token) (last : After) (opened depth : ℕ) (after_numeral : Bool) (place : ℕ)
+    (p : Piece)
+    → IsRead text before last opened depth after_numeral place → place < length text
+    → p ≡ front after_numeral (drop place text) → 0 < p.len
     → tokens text ≡ (before ++ token_in p.lexeme) ++ tokens_in (ahead text (is_numeral p.lexeme) (place + p.len))
 unfolding tokens_in
 more-tokens text before last opened depth after_numeral place p r inside is moves =
@@ -132,15 +164,19 @@ more-tokens text before last opened depth after_numeral place p r inside is move
     ∙ ap (λ xs. before ++ tokens_in xs) (ahead-first text after_numeral place p inside is moves)
     ∙ sym (append_assoc before (token_in p.lexeme) (tokens_in (ahead text (is_numeral p.lexeme) (place + p.len))))
 
-pub may-stand : (last : After) (opened depth place : ℕ) (t : Token) → fault_at last opened depth place (Whole t) ≡ None → (may last opened t ≡ true) × (depth ≤ 64)
+-- a token without a fault may stand, at most 64 deep
+pub may-stand : (last : After) (opened depth place : ℕ) (t : Token) → fault_at last opened depth place (Whole t) ≡ None
+    → (may last opened t ≡ true) × (depth ≤ 64)
 may-stand last opened depth place t h = go (may last opened t) (nat_lt deepest depth) refl refl h
   where
     go : (a b : Bool) → may last opened t ≡ a → nat_lt deepest depth ≡ b
-        → (if a then (if b then Some NestedTooDeep else None) else Some (Syntax place)) ≡ None → (may last opened t ≡ true) × (depth ≤ 64)
+        → (if a then (if b then Some NestedTooDeep else None) else Some (Syntax place)) ≡ None
+        → (may last opened t ≡ true) × (depth ≤ 64)
     go true true e f h = cc
     go true false e f h = (e, ltb-false deepest depth f)
     go false b e f h = cc
 
+-- so the next one is at most 65 deep
 depth-step : (t : Token) (last : After) (depth : ℕ) → depth ≤ 64 → depth_after t last depth ≤ 65
 depth-step t last depth h = go (deepens t last) (closes t)
   where
@@ -150,12 +186,16 @@ depth-step t last depth h = go (deepens t last) (closes t)
     go false false = omega arith
 
 -- one more token is read
-pub token-read : (text : List ℕ) (before : List Token) (last : After) (opened depth : ℕ) (after_numeral : Bool) (place : ℕ) (p : Piece) (t : Token)
-    → IsRead text before last opened depth after_numeral place → place < length text → p ≡ front after_numeral (drop place text)
+pub token-read : (text : List ℕ) (before : List Token) (last : After) (opened depth : ℕ) (after_numeral : Bool)
+    (place : ℕ) (p : Piece) (t : Token)
+    → IsRead text before last opened depth after_numeral place → place < length text
+    → p ≡ front after_numeral (drop place text)
     → p.lexeme ≡ Whole t → 0 < p.len → place + p.len ≤ length text → fault_at last opened depth place p.lexeme ≡ None
-    → IsRead text (before ++ t ∷ []) (after t last) (opened_after t opened) (depth_after t last depth) (is_numeral p.lexeme) (place + p.len)
+    → IsRead text (before ++ t ∷ []) (after t last) (opened_after t opened) (depth_after t last depth)
+    (is_numeral p.lexeme) (place + p.len)
 token-read text before last opened depth after_numeral place p t r inside is whole moves within has =
-    let stands : (may last opened t ≡ true) × (depth ≤ 64) = may-stand last opened depth place t (ap (fault_at last opened depth place) (sym whole) ∙ has) in
+    let stands : (may last opened t ≡ true) × (depth ≤ 64) =
+    may-stand last opened depth place t (ap (fault_at last opened depth place) (sym whole) ∙ has) in
     let one : token_in p.lexeme ≡ t ∷ [] = ap token_in whole in
     record {
       leaves = leaves-push before last opened depth t r.leaves stands.0;
@@ -169,19 +209,25 @@ token-read text before last opened depth after_numeral place p t r inside is who
           ∙ ap (λ ts. fault_from (before ++ ts) (length text) (ahead text (is_numeral p.lexeme) (place + p.len))) one;
     }
 
-none-in : (last : After) (opened depth place : ℕ) (x : Lexeme) → fault_at last opened depth place x ≡ None → ((t : Token) → x ≡ Whole t → ⊥) → token_in x ≡ []
+-- a lexeme without a fault that is no token is a blank
+none-in : (last : After) (opened depth place : ℕ) (x : Lexeme) → fault_at last opened depth place x ≡ None
+    → ((t : Token) → x ≡ Whole t → ⊥) → token_in x ≡ []
 none-in last opened depth place Blank has other = refl
 none-in last opened depth place (Whole t) has other = absurd (other t refl)
 none-in last opened depth place TooLong has other = refl
 none-in last opened depth place Malformed has other = refl
 
 -- one more blank is read
-pub blank-read : (text : List ℕ) (before : List Token) (last : After) (opened depth : ℕ) (after_numeral : Bool) (place : ℕ) (p : Piece)
-    → IsRead text before last opened depth after_numeral place → place < length text → p ≡ front after_numeral (drop place text)
-    → ((t : Token) → p.lexeme ≡ Whole t → ⊥) → 0 < p.len → place + p.len ≤ length text → fault_at last opened depth place p.lexeme ≡ None
+pub blank-read : (text : List ℕ) (before : List Token) (last : After) (opened depth : ℕ) (after_numeral : Bool)
+    (place : ℕ) (p : Piece)
+    → IsRead text before last opened depth after_numeral place → place < length text
+    → p ≡ front after_numeral (drop place text)
+    → ((t : Token) → p.lexeme ≡ Whole t → ⊥) → 0 < p.len → place + p.len ≤ length text
+    → fault_at last opened depth place p.lexeme ≡ None
     → IsRead text before last opened depth (is_numeral p.lexeme) (place + p.len)
 blank-read text before last opened depth after_numeral place p r inside is other moves within has =
-    let none : before ++ token_in p.lexeme ≡ before = ap (λ ts. before ++ ts) (none-in last opened depth place p.lexeme has other) ∙ append-nil before in
+    let none : before ++ token_in p.lexeme ≡ before =
+    ap (λ ts. before ++ ts) (none-in last opened depth place p.lexeme has other) ∙ append-nil before in
     record {
       leaves = r.leaves;
       within = within;
@@ -194,6 +240,7 @@ blank-read text before last opened depth after_numeral place p r inside is other
           ∙ ap (λ ts. fault_from ts (length text) (ahead text (is_numeral p.lexeme) (place + p.len))) none;
     }
 
+-- at the end the fault is that of the end
 end-fault : (text : List ℕ) (before : List Token) (last : After) (opened depth : ℕ) (after_numeral : Bool) (place : ℕ)
     → IsRead text before last opened depth after_numeral place → length text ≤ place
     → first_fault text ≡ (if may_end last opened then None else Some (Syntax (length text)))
@@ -205,11 +252,13 @@ end-fault text before last opened depth after_numeral place r over =
     ∙ rw (r.leaves.last_is, e)
 
 -- the text ends and may not
-pub fault-at-end : (text : List ℕ) (before : List Token) (last : After) (opened depth : ℕ) (after_numeral : Bool) (place : ℕ)
+pub fault-at-end : (text : List ℕ) (before : List Token) (last : After) (opened depth : ℕ) (after_numeral : Bool)
+    (place : ℕ)
     → IsRead text before last opened depth after_numeral place → length text ≤ place → may_end last opened ≡ false
     → first_fault text ≡ Some (Syntax (length text))
 fault-at-end text before last opened depth after_numeral place r over ends =
-    end-fault text before last opened depth after_numeral place r over ∙ ap (λ b. if b then None else Some (Syntax (length text))) ends
+    end-fault text before last opened depth after_numeral place r over
+    ∙ ap (λ b. if b then None else Some (Syntax (length text))) ends
 
 -- the text ends and may
 pub record IsWhole (text : List ℕ) (before : List Token) : Type 0 where
@@ -217,12 +266,17 @@ pub record IsWhole (text : List ℕ) (before : List Token) : Type 0 where
   pub faultless : first_fault text ≡ None
   pub fit : fits WantsOperand 0 before ≡ true
 
-pub whole-read : (text : List ℕ) (before : List Token) (last : After) (opened depth : ℕ) (after_numeral : Bool) (place : ℕ)
-    → IsRead text before last opened depth after_numeral place → length text ≤ place → may_end last opened ≡ true → IsWhole text before
+-- and all tokens are read
+pub whole-read : (text : List ℕ) (before : List Token) (last : After) (opened depth : ℕ) (after_numeral : Bool)
+    (place : ℕ)
+    → IsRead text before last opened depth after_numeral place → length text ≤ place → may_end last opened ≡ true
+    → IsWhole text before
 unfolding tokens_in
 whole-read text before last opened depth after_numeral place r over ends = record {
-  tokens_are = sym (r.tokens_are ∙ ap (λ xs. before ++ tokens_in xs) (ahead-end text after_numeral place over) ∙ append-nil before);
-  faultless = end-fault text before last opened depth after_numeral place r over ∙ ap (λ b. if b then None else Some (Syntax (length text))) ends;
+  tokens_are = sym (r.tokens_are ∙ ap (λ xs. before ++ tokens_in xs) (ahead-end text after_numeral place over)
+      ∙ append-nil before);
+  faultless = end-fault text before last opened depth after_numeral place r over
+      ∙ ap (λ b. if b then None else Some (Syntax (length text))) ends;
   fit = ap (fits WantsOperand 0) (sym (append-nil before)) ∙ r.leaves.fit [] ∙ ends;
 }
 
@@ -231,49 +285,69 @@ pub rest-is : (text : List ℕ) (place : ℕ) → take (length text - place) (dr
 rest-is text place = ap (λ n. take n (drop place text)) (sym (length-drop place text)) ∙ take-length (drop place text)
 
 -- and what is at its front
-pub rest-front : (text : List ℕ) (place : ℕ) (after_numeral : Bool) (p : Piece) → p ≡ front after_numeral (take (length text - place) (drop place text))
+pub rest-front : (text : List ℕ) (place : ℕ) (after_numeral : Bool) (p : Piece)
+    → p ≡ front after_numeral (take (length text - place) (drop place text))
     → p ≡ front after_numeral (drop place text)
 rest-front text place after_numeral p is = is ∙ ap (front after_numeral) (rest-is text place)
 
-pub rest-within : (text : List ℕ) (place n : ℕ) → n ≤ length (take (length text - place) (drop place text)) → n ≤ length (drop place text)
+-- a length within what is left of the text is within its rest
+pub rest-within : (text : List ℕ) (place n : ℕ) → n ≤ length (take (length text - place) (drop place text))
+    → n ≤ length (drop place text)
 rest-within text place n h = subst (λ (bs : List ℕ). n ≤ length bs) (rest-is text place) h
 
 -- what a push leaves where it makes no error
-pub kept : {X E A : Type 0} (r : Result X E) (now pushed before : A) → now ≡ (if is_ok r then pushed else before) → is_err r ≡ false → now ≡ pushed
+pub kept : {X E A : Type 0} (r : Result X E) (now pushed before : A) → now ≡ (if is_ok r then pushed else before)
+    → is_err r ≡ false → now ≡ pushed
 kept (Ok x) now pushed before is e = is
 kept (Err x) now pushed before is e = cc
 
 -- the tokens with one more, which the program has as a copy
-pub pushed-token : (xs now : List Made) (t u : Made) → now ≡ xs ++ t ∷ [] → t ≡ u → map seen now ≡ map seen xs ++ seen u ∷ []
+pub pushed-token : (xs now : List Made) (t u : Made) → now ≡ xs ++ t ∷ [] → t ≡ u
+    → map seen now ≡ map seen xs ++ seen u ∷ []
 pushed-token xs now t u is same =
     ap (map seen) is ∙ map-append seen xs (t ∷ []) ∙ ap (λ x. map seen xs ++ seen x ∷ []) same
 
+-- what stands behind a token
 abbrev pub stood : After → ℕ → ℕ → Token → Standing
-stood last opened depth t = record { last = after t last; opened = opened_after t opened; depth = depth_after t last depth }
+stood last opened depth t =
+    record { last = after t last; opened = opened_after t opened; depth = depth_after t last depth }
 
-pub stood-same : (s : Standing) (last : After) (opened depth : ℕ) (t u : Made) → s ≡ stood last opened depth (seen t) → t ≡ u → s ≡ stood last opened depth (seen u)
+-- it is the same by equal tokens
+pub stood-same : (s : Standing) (last : After) (opened depth : ℕ) (t u : Made) → s ≡ stood last opened depth (seen t)
+    → t ≡ u → s ≡ stood last opened depth (seen u)
 stood-same s last opened depth t u is same = is ∙ ap (λ x. stood last opened depth (seen x)) same
 
 -- what a token and a blank read, as the program has it
-pub token-read-as : (text : List ℕ) (before : List Token) (last : After) (opened depth : ℕ) (after_numeral : Bool) (place : ℕ) (p : Piece) (t : Token)
+pub token-read-as : (text : List ℕ) (before : List Token) (last : After) (opened depth : ℕ) (after_numeral : Bool)
+    (place : ℕ) (p : Piece) (t : Token)
     → (now : List Token) (s : Standing) (numeral : Bool)
-    → IsRead text before last opened depth after_numeral place → place < length text → p ≡ front after_numeral (drop place text)
-    → p.lexeme ≡ Whole t → 0 < p.len → p.len ≤ length (drop place text) → fault_at last opened depth place p.lexeme ≡ None
+    → IsRead text before last opened depth after_numeral place → place < length text
+    → p ≡ front after_numeral (drop place text)
+    → p.lexeme ≡ Whole t → 0 < p.len → p.len ≤ length (drop place text)
+    → fault_at last opened depth place p.lexeme ≡ None
     → now ≡ before ++ t ∷ [] → s ≡ stood last opened depth t → numeral ≡ is_numeral p.lexeme
     → IsRead text now s.last s.opened s.depth numeral (place + p.len)
-token-read-as text before last opened depth after_numeral place p t now s numeral r inside is whole moves within has e f g =
-    rw (e, f, g) (token-read text before last opened depth after_numeral place p t r inside is whole moves (omega (arith, length-drop place text)) has)
+token-read-as text before last opened depth after_numeral place p t now s numeral r inside is whole moves within has e f
+    g =
+    rw (e, f, g) (token-read text before last opened depth after_numeral place p t r inside is whole moves
+    (omega (arith, length-drop place text)) has)
 
+-- a lexeme that is no token is not seen as one
 not-whole : (x : MadeLexeme) → ((t : Made) → x ≡ made.Whole t → ⊥) → (t : Token) → seen_lexeme x ≡ Whole t → ⊥
 not-whole made.Blank h t e = cc
 not-whole (made.Whole u) h t e = h u refl
 not-whole made.TooLong h t e = cc
 not-whole made.Malformed h t e = cc
 
-pub blank-read-as : (text : List ℕ) (before : List Token) (last : After) (opened depth : ℕ) (after_numeral : Bool) (place : ℕ) (p : MadePiece) (numeral : Bool)
-    → IsRead text before last opened depth after_numeral place → place < length text → seen_piece p ≡ front after_numeral (drop place text)
-    → ((t : Made) → p.lexeme ≡ made.Whole t → ⊥) → 0 < p.len → p.len ≤ length (drop place text) → fault_at last opened depth place (seen_lexeme p.lexeme) ≡ None
+-- a blank that is read leaves what was read
+pub blank-read-as : (text : List ℕ) (before : List Token) (last : After) (opened depth : ℕ) (after_numeral : Bool)
+    (place : ℕ) (p : MadePiece) (numeral : Bool)
+    → IsRead text before last opened depth after_numeral place → place < length text
+    → seen_piece p ≡ front after_numeral (drop place text)
+    → ((t : Made) → p.lexeme ≡ made.Whole t → ⊥) → 0 < p.len → p.len ≤ length (drop place text)
+    → fault_at last opened depth place (seen_lexeme p.lexeme) ≡ None
     → numeral ≡ is_numeral (seen_lexeme p.lexeme)
     → IsRead text before last opened depth numeral (place + p.len)
 blank-read-as text before last opened depth after_numeral place p numeral r inside is other moves within has g =
-    rw g (blank-read text before last opened depth after_numeral place (seen_piece p) r inside is (not-whole p.lexeme other) moves (omega (arith, length-drop place text)) has)
+    rw g (blank-read text before last opened depth after_numeral place (seen_piece p) r inside is
+    (not-whole p.lexeme other) moves (omega (arith, length-drop place text)) has)

@@ -1,21 +1,26 @@
 -- The tokens of a text without a fault fit.
-use Rattle.std.proofs.Common.{◌≡◌, ◌≤◌, ◌-◌, ℕ, Bool, true, false, List, [], ◌∷◌, ◌++◌, length, Option, Some, None, refl, sym, subst, ◌∙◌, arith}
+use Rattle.std.proofs.Common.{◌≡◌, ◌≤◌, ◌-◌, ℕ, Bool, true, false, List, [], ◌∷◌, ◌++◌, length, Option, Some, None}
+use Rattle.std.proofs.Common.{refl, sym, subst, ◌∙◌, arith}
 use Rattle.std.specs.Prelude.{if◌then◌else◌}
 use Rattle.std.proofs.lemmas.List.{append-nil}
 use Rattle.expr_tree.specs.declared.fault.ParseFault.{ParseFault}
 use Rattle.expr_tree.specs.declared.fault.ParseFault.TheVariants.{Syntax, NumeralTooLong}
 use Rattle.expr_tree.specs.Faults.{fault_at, fault_from, first_fault, or_later, takes_numeral}
-use Rattle.expr_tree.specs.Lexemes.{Lexeme, Blank, Whole, TooLong, Malformed, Placed, lexemes, token_in, tokens, tokens_in}
-use Rattle.expr_tree.specs.Rules.{After, WantsOperand, after, count_closes, count_opens, depth_after, fits, left_by, may, may_end, opened, opened_after}
+use Rattle.expr_tree.specs.Lexemes.{Lexeme, Blank, Whole, TooLong, Malformed, Placed, lexemes, token_in, tokens}
+use Rattle.expr_tree.specs.Lexemes.{tokens_in}
+use Rattle.expr_tree.specs.Rules.{After, WantsOperand, after, count_closes, count_opens, depth_after, fits, left_by}
+use Rattle.expr_tree.specs.Rules.{may, may_end, opened, opened_after}
 use Rattle.expr_tree.specs.Tokens.{Token}
 use Rattle.expr_tree.proofs.Before.{Leaves, leaves-push, nothing-leaves}
 use Rattle.expr_tree.proofs.Cutting.{fault_here, fault-left, fault_from-cons, may-stand}
 use Rattle.expr_tree.proofs.Fits.{both_hold}
 
+-- where neither of two is a fault, both are none
 neither : (a b : Option ParseFault) → or_later a b ≡ None → (a ≡ None) × (b ≡ None)
 neither (Some x) b h = cc
 neither None b h = (refl, h)
 
+-- where the end has no fault, the tokens may end
 ends : (b : Bool) (len : ℕ) → (if b then None else Some (Syntax len)) ≡ None → b ≡ true
 ends true len h = refl
 ends false len h = cc
@@ -25,31 +30,44 @@ too_long : (b : Bool) (place : ℕ) → (if b then Some NumeralTooLong else Some
 too_long true place h = cc
 too_long false place h = cc
 
-end_fits : (before : List Token) (last : After) (k depth len : ℕ) → Leaves before last k depth → fault_from before len [] ≡ None → fits last k [] ≡ true
+-- so at the end they fit
+end_fits : (before : List Token) (last : After) (k depth len : ℕ) → Leaves before last k depth
+    → fault_from before len [] ≡ None → fits last k [] ≡ true
 unfolding fault_from
 end_fits before last k depth len l h =
     let opened_is : count_opens before - count_closes before ≡ k = omega (arith, l.opened_is) in
-    (λ i. may_end (sym l.last_is i) (sym opened_is i)) ∙ ends (may_end (left_by WantsOperand before) (opened before)) len h
+    (λ i. may_end (sym l.last_is i) (sym opened_is i))
+    ∙ ends (may_end (left_by WantsOperand before) (opened before)) len h
 
 -- one lexeme, and what follows it
-fits_next : (before : List Token) (last : After) (k depth place len : ℕ) (y : Lexeme) (xs : List Placed) → Leaves before last k depth
+fits_next : (before : List Token) (last : After) (k depth place len : ℕ) (y : Lexeme) (xs : List Placed)
+    → Leaves before last k depth
     → fault_at last k depth place y ≡ None → fault_from (before ++ token_in y) len xs ≡ None
-    → ((before' : List Token) (last' : After) (k' depth' : ℕ) → Leaves before' last' k' depth' → fault_from before' len xs ≡ None → fits last' k' (tokens_in xs) ≡ true)
+    → ((before' : List Token) (last' : After) (k' depth' : ℕ) → Leaves before' last' k' depth'
+    → fault_from before' len xs ≡ None → fits last' k' (tokens_in xs) ≡ true)
     → fits last k (token_in y ++ tokens_in xs) ≡ true
-fits_next before last k depth place len Blank xs l f r next = next before last k depth l (subst (λ ts. fault_from ts len xs ≡ None) (append-nil before) r)
+fits_next before last k depth place len Blank xs l f r next =
+    next before last k depth l (subst (λ ts. fault_from ts len xs ≡ None) (append-nil before) r)
 fits_next before last k depth place len (Whole t) xs l f r next =
     let stands : (may last k t ≡ true) × (depth ≤ 64) = may-stand last k depth place t f in
-    both_hold _ _ stands.0 (next (before ++ t ∷ []) (after t last) (opened_after t k) (depth_after t last depth) (leaves-push before last k depth t l stands.0) r)
+    both_hold _ _ stands.0
+    (next (before ++ t ∷ []) (after t last) (opened_after t k) (depth_after t last depth)
+    (leaves-push before last k depth t l stands.0) r)
 fits_next before last k depth place len TooLong xs l f r next = absurd (too_long (takes_numeral last) place f)
 fits_next before last k depth place len Malformed xs l f r next = cc
 
-fits_rest : (before : List Token) (last : After) (k depth len : ℕ) (xs : List Placed) → Leaves before last k depth → fault_from before len xs ≡ None → fits last k (tokens_in xs) ≡ true
+-- lexemes without a fault have tokens that fit
+fits_rest : (before : List Token) (last : After) (k depth len : ℕ) (xs : List Placed) → Leaves before last k depth
+    → fault_from before len xs ≡ None → fits last k (tokens_in xs) ≡ true
 unfolding tokens_in
 fits_rest before last k depth len [] l h = end_fits before last k depth len l h
 fits_rest before last k depth len (x ∷ xs) l h =
-    let split : (fault_here before x.place x.lexeme ≡ None) × (fault_from (before ++ token_in x.lexeme) len xs ≡ None) = neither _ _ (sym (fault_from-cons before len x.place x.lexeme xs) ∙ h) in
-    fits_next before last k depth x.place len x.lexeme xs l (sym (fault-left before last k depth x.place x.lexeme l) ∙ split.0) split.1
+    let split : (fault_here before x.place x.lexeme ≡ None) × (fault_from (before ++ token_in x.lexeme) len xs ≡ None) =
+    neither _ _ (sym (fault_from-cons before len x.place x.lexeme xs) ∙ h) in
+    fits_next before last k depth x.place len x.lexeme xs l
+    (sym (fault-left before last k depth x.place x.lexeme l) ∙ split.0) split.1
     (λ before' last' k' depth' l' h'. fits_rest before' last' k' depth' len xs l' h')
 
+-- so has a text without one
 pub faultless_fits : (text : List ℕ) → first_fault text ≡ None → fits WantsOperand 0 (tokens text) ≡ true
 faultless_fits text h = fits_rest [] WantsOperand 0 0 (length text) (lexemes text) nothing-leaves h

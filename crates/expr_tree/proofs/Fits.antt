@@ -4,16 +4,19 @@ use Rattle.expr_tree.specs.Rules.{WantsOperand, EndsOperand, EndsNumeral, fits}
 use Rattle.expr_tree.specs.Tokens.{Token, Numeral, Word, WordWithPower, Head, Root, Bar, Tilde, Open, Close}
 use Rattle.expr_tree.specs.Front.{stops, begins, after_sum, after_atom}
 
+-- where two tests hold together, each does
 pub both : (a b : Bool) → (a && b) ≡ true → (a ≡ true) × (b ≡ true)
 both true b e = (refl, e)
 both false b e = cc
 
+-- and the other way round
 pub both_hold : (a b : Bool) → a ≡ true → b ≡ true → (a && b) ≡ true
 both_hold true b e f = f
 both_hold false b e f = cc
 
 -- what begins an operand may stand before one
-pub begins_wanted : (k : ℕ) (ts : List Token) → begins ts ≡ true → fits EndsOperand k ts ≡ true → fits WantsOperand k ts ≡ true
+pub begins_wanted : (k : ℕ) (ts : List Token) → begins ts ≡ true → fits EndsOperand k ts ≡ true
+    → fits WantsOperand k ts ≡ true
 begins_wanted k [] b h = cc
 begins_wanted k (Numeral n ∷ ts) b h = h
 begins_wanted k (Word w ∷ ts) b h = h
@@ -25,7 +28,8 @@ begins_wanted k (Open ∷ ts) b h = h
 begins_wanted k (t ∷ ts) b h = cc
 
 -- and after one
-pub begins_ended : (k : ℕ) (ts : List Token) → begins ts ≡ true → fits WantsOperand k ts ≡ true → fits EndsOperand k ts ≡ true
+pub begins_ended : (k : ℕ) (ts : List Token) → begins ts ≡ true → fits WantsOperand k ts ≡ true
+    → fits EndsOperand k ts ≡ true
 begins_ended k [] b h = cc
 begins_ended k (Numeral n ∷ ts) b h = h
 begins_ended k (Word w ∷ ts) b h = h
@@ -49,7 +53,9 @@ ended_stops k (Bar ∷ ts) h = cc
 ended_stops k (t ∷ ts) h = refl
 
 -- the parenthesis that closes a sum
-pub closing : (k : ℕ) (r : List Token) → stops after_sum r ≡ true → fits EndsOperand (suc k) r ≡ true → (s : List Token) × (r ≡ Close ∷ s) × (fits EndsOperand k s ≡ true)
+pub closing : (k : ℕ) (r : List Token) → stops after_sum r ≡ true → fits EndsOperand (suc k) r ≡ true
+    → (s : List Token) × (r ≡ Close ∷ s) × (fits EndsOperand k s ≡ true)
 closing k [] h f = let none_open : suc k ≡ 0 = eqb-true (suc k) 0 f in absurd (omega arith)
-closing k (Close ∷ s) h f = let one_less : suc k - 1 ≡ k = omega arith in (s, refl, subst (λ i. fits EndsOperand i s ≡ true) one_less (both _ _ f).1)
+closing k (Close ∷ s) h f = let one_less : suc k - 1 ≡ k =
+    omega arith in (s, refl, subst (λ i. fits EndsOperand i s ≡ true) one_less (both _ _ f).1)
 closing k (t ∷ s) h f = cc

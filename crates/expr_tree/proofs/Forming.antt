@@ -3,29 +3,39 @@ use Rattle.std.proofs.Common.{◌≡◌, ◌∙◌, ap, refl, Bool, true, false,
 use Rattle.expr_tree.specs.declared.operator.Sign.{Sign}
 use Rattle.expr_tree.specs.declared.operator.Sign.TheVariants as signs
 use Rattle.expr_tree.specs.Formed.{are_formed, are_formed_factors, are_formed_terms, is_formed}
-use Rattle.expr_tree.specs.Grammar.{Sum, SumOf, SumRest, NoTerm, NextTerm, Product, ProductOf, ProductRest, NoFactor, NextFactor}
-use Rattle.expr_tree.specs.Grammar.{Juxtaposition, Signed, JuxtapositionOf, JuxtapositionRest, NoPower, NextPower, Power, Bare, Raised, Exponent, SignedExponent, ExponentOf}
-use Rattle.expr_tree.specs.Grammar.{Atom, NumeralAtom, BarAtom, WordAtom, PowerAtom, CallAtom, InverseAtom, RootAtom, GroupAtom}
+use Rattle.expr_tree.specs.Grammar.{Sum, SumOf, SumRest, NoTerm, NextTerm, Product, ProductOf, ProductRest, NoFactor}
+use Rattle.expr_tree.specs.Grammar.{NextFactor}
+use Rattle.expr_tree.specs.Grammar.{Juxtaposition, Signed, JuxtapositionOf, JuxtapositionRest, NoPower, NextPower}
+use Rattle.expr_tree.specs.Grammar.{Power, Bare, Raised, Exponent, SignedExponent, ExponentOf}
+use Rattle.expr_tree.specs.Grammar.{Atom, NumeralAtom, BarAtom, WordAtom, PowerAtom, CallAtom, InverseAtom, RootAtom}
+use Rattle.expr_tree.specs.Grammar.{GroupAtom}
 use Rattle.expr_tree.specs.Grammar.{argument_times, call, is_binder, signed, word, Gives}
-use Rattle.expr_tree.specs.Grammar.{sum_tree, terms, product_tree, factors, juxtaposition_tree, members, power_tree, exponent_tree, atom_tree}
+use Rattle.expr_tree.specs.Grammar.{sum_tree, terms, product_tree, factors, juxtaposition_tree, members, power_tree}
+use Rattle.expr_tree.specs.Grammar.{exponent_tree, atom_tree}
 use Rattle.expr_tree.specs.Syntax.{Syntax}
 use Rattle.expr_tree.specs.Syntax as tree
 use Rattle.expr_tree.specs.Tokens.{Token}
 
+-- two tests that hold hold together
 both : (a b : Bool) → a ≡ true → b ≡ true → (a && b) ≡ true
 both a b g h = ap (λ x. x && b) g ∙ h
 
+-- a word is well formed
 formed-word : (binder : Option (List ℕ)) (w : List ℕ) → is_formed (word binder w) ≡ true
 formed-word binder w =
-    elim (is_binder binder w) as (λ b. is_formed (if b then tree.Argument else tree.Word w) ≡ true) [ true ↦ refl | false ↦ refl ]
+    elim (is_binder binder w) as (λ b. is_formed (if b then tree.Argument else tree.Word w) ≡ true)
+    [ true ↦ refl | false ↦ refl ]
 
-formed-call : (binder : Option (List ℕ)) (w : List ℕ) (e : Syntax) → is_formed e ≡ true → is_formed (call binder w e) ≡ true
+-- so is a call of what is
+formed-call : (binder : Option (List ℕ)) (w : List ℕ) (e : Syntax) → is_formed e ≡ true
+    → is_formed (call binder w e) ≡ true
 formed-call binder w e h =
     elim (is_binder binder w) as (λ b. is_formed (if b then argument_times e else tree.Call w e) ≡ true) [
       | true ↦ both _ _ h refl
       | false ↦ h
     ]
 
+-- so is what has a sign
 formed-signed : (s : Sign) (e : Syntax) → is_formed e ≡ true → is_formed (signed s e) ≡ true
 formed-signed signs.Plus e h = h
 formed-signed signs.Minus e h = h
@@ -33,7 +43,8 @@ formed-signed signs.Minus e h = h
 mutual
   formed-sum : (binder : Option (List ℕ)) (d : Sum) → is_formed (sum_tree binder d) ≡ true
   formed-sum binder (SumOf p NoTerm) = formed-product binder p
-  formed-sum binder (SumOf p (NextTerm s q qs)) = both _ _ (formed-product binder p) (both _ _ (formed-product binder q) (formed-terms binder qs))
+  formed-sum binder (SumOf p (NextTerm s q qs)) =
+      both _ _ (formed-product binder p) (both _ _ (formed-product binder q) (formed-terms binder qs))
 
   formed-terms : (binder : Option (List ℕ)) (ps : SumRest) → are_formed_terms (terms binder ps) ≡ true
   formed-terms binder NoTerm = refl

@@ -2,17 +2,23 @@
 use Rattle.std.proofs.Common.{◌≡◌, ◌∙◌, refl, ap, Bool, false, ◌||◌, None, List}
 use Rattle.expr_tree.specs.declared.operator.Sign.{Sign}
 use Rattle.expr_tree.specs.declared.operator.Sign.TheVariants as signs
-use Rattle.expr_tree.specs.Grammar.{Sum, SumOf, SumRest, NoTerm, NextTerm, Product, ProductOf, ProductRest, NoFactor, NextFactor}
-use Rattle.expr_tree.specs.Grammar.{Juxtaposition, Signed, JuxtapositionOf, JuxtapositionRest, NoPower, NextPower, Power, Bare, Raised, Exponent, SignedExponent, ExponentOf}
-use Rattle.expr_tree.specs.Grammar.{Atom, NumeralAtom, BarAtom, WordAtom, PowerAtom, CallAtom, InverseAtom, RootAtom, GroupAtom}
-use Rattle.expr_tree.specs.Grammar.{sum_tree, terms, product_tree, factors, juxtaposition_tree, members, power_tree, exponent_tree, atom_tree, signed, Gives}
+use Rattle.expr_tree.specs.Grammar.{Sum, SumOf, SumRest, NoTerm, NextTerm, Product, ProductOf, ProductRest, NoFactor}
+use Rattle.expr_tree.specs.Grammar.{NextFactor}
+use Rattle.expr_tree.specs.Grammar.{Juxtaposition, Signed, JuxtapositionOf, JuxtapositionRest, NoPower, NextPower}
+use Rattle.expr_tree.specs.Grammar.{Power, Bare, Raised, Exponent, SignedExponent, ExponentOf}
+use Rattle.expr_tree.specs.Grammar.{Atom, NumeralAtom, BarAtom, WordAtom, PowerAtom, CallAtom, InverseAtom, RootAtom}
+use Rattle.expr_tree.specs.Grammar.{GroupAtom}
+use Rattle.expr_tree.specs.Grammar.{sum_tree, terms, product_tree, factors, juxtaposition_tree, members, power_tree}
+use Rattle.expr_tree.specs.Grammar.{exponent_tree, atom_tree, signed, Gives}
 use Rattle.expr_tree.specs.Syntax.{Syntax}
 use Rattle.expr_tree.specs.Tokens.{Token}
 use Rattle.expr_tree.specs.Arguments.{holds_argument, members_hold, factors_hold, terms_hold}
 
+-- two tests of which none holds do not hold together
 neither : (a b : Bool) → a ≡ false → b ≡ false → a || b ≡ false
 neither a b h k = ap (λ x. x || b) h ∙ k
 
+-- a sign brings no argument
 free-signed : (s : Sign) (e : Syntax) → holds_argument e ≡ false → holds_argument (signed s e) ≡ false
 free-signed signs.Plus e h = h
 free-signed signs.Minus e h = h
@@ -28,7 +34,8 @@ mutual
 
   free-product : (p : Product) → holds_argument (product_tree None p) ≡ false
   free-product (ProductOf j NoFactor) = free-juxtaposition j
-  free-product (ProductOf j (NextFactor s k ks)) = neither _ _ (free-juxtaposition j) (neither _ _ (free-juxtaposition k) (free-factors ks))
+  free-product (ProductOf j (NextFactor s k ks)) =
+      neither _ _ (free-juxtaposition j) (neither _ _ (free-juxtaposition k) (free-factors ks))
 
   free-factors : (js : ProductRest) → factors_hold (factors None js) ≡ false
   free-factors NoFactor = refl
@@ -37,7 +44,8 @@ mutual
   free-juxtaposition : (j : Juxtaposition) → holds_argument (juxtaposition_tree None j) ≡ false
   free-juxtaposition (Signed s j) = free-signed s _ (free-juxtaposition j)
   free-juxtaposition (JuxtapositionOf p NoPower) = free-power p
-  free-juxtaposition (JuxtapositionOf p (NextPower q qs)) = neither _ _ (free-power p) (neither _ _ (free-power q) (free-members qs))
+  free-juxtaposition (JuxtapositionOf p (NextPower q qs)) =
+      neither _ _ (free-power p) (neither _ _ (free-power q) (free-members qs))
 
   free-members : (ps : JuxtapositionRest) → members_hold (members None ps) ≡ false
   free-members NoPower = refl

@@ -3,13 +3,16 @@ use Rattle.std.proofs.Common.{◌≡◌, ℕ, suc, true, false, List, [], ◌∷
 use Rattle.frac128.specs.Decimals.{Decimal}
 use Rattle.expr_tree.specs.declared.operator.Sign.{Sign}
 use Rattle.expr_tree.specs.declared.operator.Sign.TheVariants as signs
-use Rattle.expr_tree.specs.Front.{IsFront, JuxtapositionAt, PowerAt, ExponentAt, AtomAt, IsClosed, first_sign, first_caret, first_denominator, stops, begins, after_sum, after_power, after_atom}
-use Rattle.expr_tree.specs.Grammar.{Signed, Bare, Raised, SignedExponent, ExponentOf, NumeralAtom, BarAtom, WordAtom, PowerAtom, CallAtom, InverseAtom, RootAtom, GroupAtom}
+use Rattle.expr_tree.specs.Front.{IsFront, JuxtapositionAt, PowerAt, ExponentAt, AtomAt, IsClosed, first_sign}
+use Rattle.expr_tree.specs.Front.{first_caret, first_denominator, stops, begins, after_sum, after_power, after_atom}
+use Rattle.expr_tree.specs.Grammar.{Signed, Bare, Raised, SignedExponent, ExponentOf, NumeralAtom, BarAtom, WordAtom}
+use Rattle.expr_tree.specs.Grammar.{PowerAtom, CallAtom, InverseAtom, RootAtom, GroupAtom}
 use Rattle.expr_tree.specs.Grammar.{sign, sum, sum_tree, atom, word, call, signed}
 use Rattle.expr_tree.specs.Rules.{WantsOperand, EndsOperand, EndsNumeral, fits}
 use Rattle.expr_tree.specs.Syntax.{Syntax}
 use Rattle.expr_tree.specs.Syntax as tree
-use Rattle.expr_tree.specs.Tokens.{Token, Numeral, Word, WordWithPower, Head, Root, Plus, Minus, Star, Slash, Bar, Caret, Tilde, Open, Close}
+use Rattle.expr_tree.specs.Tokens.{Token, Numeral, Word, WordWithPower, Head, Root, Plus, Minus, Star, Slash, Bar}
+use Rattle.expr_tree.specs.Tokens.{Caret, Tilde, Open, Close}
 use Rattle.expr_tree.proofs.Fits.{ended_stops}
 use Rattle.expr_tree.specs.declared.operator.RootKind.{RootKind}
 
@@ -17,49 +20,103 @@ use Rattle.expr_tree.specs.declared.operator.RootKind.{RootKind}
 fit_as : (k : ℕ) (x y : List Token) → x ≡ y → fits WantsOperand k x ≡ true → fits WantsOperand k y ≡ true
 fit_as k x y e h = subst (λ z. fits WantsOperand k z ≡ true) e h
 
-pub word_front : (b : Option (List ℕ)) (k : ℕ) (w : List ℕ) (x y : List Token) (e : Syntax) → x ≡ Word w ∷ y → fits WantsOperand k x ≡ true → e ≡ word b w → AtomAt b k x e y
+-- a word in front is an atom
+pub word_front : (b : Option (List ℕ)) (k : ℕ) (w : List ℕ) (x y : List Token) (e : Syntax) → x ≡ Word w ∷ y
+    → fits WantsOperand k x ≡ true → e ≡ word b w → AtomAt b k x e y
 word_front b k w x y e is h says =
     let f : fits EndsOperand k y ≡ true = fit_as k x _ is h in
     record { made = WordAtom w; is = is; says = says; stop = ended_stops k y f; fit = f }
 
-pub word_power_front : (b : Option (List ℕ)) (k : ℕ) (w : List ℕ) (n : Decimal) (x y : List Token) (c e : Syntax) → x ≡ WordWithPower w n ∷ y → fits WantsOperand k x ≡ true → c ≡ word b w → e ≡ tree.Power c (tree.Number n) → AtomAt b k x e y
+-- so is a word with a power
+pub word_power_front : (b : Option (List ℕ)) (k : ℕ) (w : List ℕ) (n : Decimal) (x y : List Token) (c e : Syntax)
+    → x ≡ WordWithPower w n ∷ y → fits WantsOperand k x ≡ true → c ≡ word b w → e ≡ tree.Power c (tree.Number n)
+    → AtomAt b k x e y
 word_power_front b k w n x y c e is h base says =
     let f : fits EndsOperand k y ≡ true = fit_as k x _ is h in
-    record { made = PowerAtom w n; is = is; says = says ∙ ap (λ z. tree.Power z (tree.Number n)) base; stop = ended_stops k y f; fit = f }
+    record {
+      made = PowerAtom w n;
+      is = is;
+      says = says ∙ ap (λ z. tree.Power z (tree.Number n)) base;
+      stop =
+          ended_stops k y f;
+      fit = f;
+    }
 
-pub bar_front : (b : Option (List ℕ)) (k : ℕ) (n d : Decimal) (x y : List Token) (e : Syntax) → x ≡ Numeral n ∷ Bar ∷ Numeral d ∷ y → fits WantsOperand k x ≡ true → e ≡ tree.Bar n d → AtomAt b k x e y
+-- so are two numerals with a bar
+pub bar_front : (b : Option (List ℕ)) (k : ℕ) (n d : Decimal) (x y : List Token) (e : Syntax)
+    → x ≡ Numeral n ∷ Bar ∷ Numeral d ∷ y → fits WantsOperand k x ≡ true → e ≡ tree.Bar n d → AtomAt b k x e y
 bar_front b k n d x y e is h says =
     let f : fits EndsOperand k y ≡ true = fit_as k x _ is h in
     record { made = BarAtom n d; is = is; says = says; stop = ended_stops k y f; fit = f }
 
 -- no numeral after a `|`, so no `|`
-no_denominator : (k : ℕ) (y : List Token) → first_denominator y ≡ None → fits EndsNumeral k y ≡ true → (stops after_atom y ≡ true) × (fits EndsOperand k y ≡ true)
+no_denominator : (k : ℕ) (y : List Token) → first_denominator y ≡ None → fits EndsNumeral k y ≡ true
+    → (stops after_atom y ≡ true) × (fits EndsOperand k y ≡ true)
 no_denominator k [] n h = (refl, h)
 no_denominator k (Bar ∷ Numeral d ∷ y) n h = cc
 no_denominator k (Bar ∷ []) n h = cc
 no_denominator k (Bar ∷ t ∷ y) n h = cc
 no_denominator k (t ∷ y) n h = (refl, h)
 
-pub numeral_front : (b : Option (List ℕ)) (k : ℕ) (n : Decimal) (x y : List Token) (e : Syntax) → x ≡ Numeral n ∷ y → first_denominator y ≡ None → fits WantsOperand k x ≡ true → e ≡ tree.Number n → AtomAt b k x e y
+-- so is one alone
+pub numeral_front : (b : Option (List ℕ)) (k : ℕ) (n : Decimal) (x y : List Token) (e : Syntax) → x ≡ Numeral n ∷ y
+    → first_denominator y ≡ None → fits WantsOperand k x ≡ true → e ≡ tree.Number n → AtomAt b k x e y
 numeral_front b k n x y e is alone h says =
-    let f : (stops after_atom y ≡ true) × (fits EndsOperand k y ≡ true) = no_denominator k y alone (fit_as k x _ is h) in
+    let f : (stops after_atom y ≡ true) × (fits EndsOperand k y ≡ true) =
+    no_denominator k y alone (fit_as k x _ is h) in
     record { made = NumeralAtom n; is = is; says = says; stop = f.0; fit = f.1 }
 
-pub call_front : (b : Option (List ℕ)) (k : ℕ) (w : List ℕ) (x y z : List Token) (a e : Syntax) → x ≡ Head w ∷ y → IsClosed b k y a z → e ≡ call b w a → AtomAt b k x e z
+-- so is a call, up to its closing parenthesis
+pub call_front : (b : Option (List ℕ)) (k : ℕ) (w : List ℕ) (x y z : List Token) (a e : Syntax) → x ≡ Head w ∷ y
+    → IsClosed b k y a z → e ≡ call b w a → AtomAt b k x e z
 call_front b k w x y z a e is c says =
-    record { made = CallAtom w c.made; is = is ∙ ap (λ v. Head w ∷ v) c.is; says = says ∙ ap (call b w) c.says; stop = ended_stops k z c.fit; fit = c.fit }
+    record {
+      made = CallAtom w c.made;
+      is = is ∙ ap (λ v. Head w ∷ v) c.is;
+      says = says ∙ ap (call b w) c.says;
+      stop =
+          ended_stops k z c.fit;
+      fit = c.fit;
+    }
 
-pub inverse_front : (b : Option (List ℕ)) (k : ℕ) (w : List ℕ) (x y z : List Token) (a e : Syntax) → x ≡ Tilde ∷ Head w ∷ y → IsClosed b k y a z → e ≡ tree.Inverse w a → AtomAt b k x e z
+-- so is an inverse
+pub inverse_front : (b : Option (List ℕ)) (k : ℕ) (w : List ℕ) (x y z : List Token) (a e : Syntax)
+    → x ≡ Tilde ∷ Head w ∷ y → IsClosed b k y a z → e ≡ tree.Inverse w a → AtomAt b k x e z
 inverse_front b k w x y z a e is c says =
-    record { made = InverseAtom w c.made; is = is ∙ ap (λ v. Tilde ∷ Head w ∷ v) c.is; says = says ∙ ap (tree.Inverse w) c.says; stop = ended_stops k z c.fit; fit = c.fit }
+    record {
+      made = InverseAtom w c.made;
+      is = is ∙ ap (λ v. Tilde ∷ Head w ∷ v) c.is;
+      says =
+          says ∙ ap (tree.Inverse w) c.says;
+      stop = ended_stops k z c.fit;
+      fit = c.fit;
+    }
 
-pub root_front : (b : Option (List ℕ)) (k : ℕ) (n : RootKind) (x y z : List Token) (a e : Syntax) → x ≡ Root n ∷ Open ∷ y → IsClosed b k y a z → e ≡ tree.Root n a → AtomAt b k x e z
+-- so is a root
+pub root_front : (b : Option (List ℕ)) (k : ℕ) (n : RootKind) (x y z : List Token) (a e : Syntax)
+    → x ≡ Root n ∷ Open ∷ y → IsClosed b k y a z → e ≡ tree.Root n a → AtomAt b k x e z
 root_front b k n x y z a e is c says =
-    record { made = RootAtom n c.made; is = is ∙ ap (λ v. Root n ∷ Open ∷ v) c.is; says = says ∙ ap (tree.Root n) c.says; stop = ended_stops k z c.fit; fit = c.fit }
+    record {
+      made = RootAtom n c.made;
+      is = is ∙ ap (λ v. Root n ∷ Open ∷ v) c.is;
+      says =
+          says ∙ ap (tree.Root n) c.says;
+      stop = ended_stops k z c.fit;
+      fit = c.fit;
+    }
 
-pub group_front : (b : Option (List ℕ)) (k : ℕ) (x y z : List Token) (a e : Syntax) → x ≡ Open ∷ y → IsClosed b k y a z → e ≡ tree.Group a → AtomAt b k x e z
+-- so is a group
+pub group_front : (b : Option (List ℕ)) (k : ℕ) (x y z : List Token) (a e : Syntax) → x ≡ Open ∷ y → IsClosed b k y a z
+    → e ≡ tree.Group a → AtomAt b k x e z
 group_front b k x y z a e is c says =
-    record { made = GroupAtom c.made; is = is ∙ ap (λ v. Open ∷ v) c.is; says = says ∙ ap tree.Group c.says; stop = ended_stops k z c.fit; fit = c.fit }
+    record {
+      made = GroupAtom c.made;
+      is = is ∙ ap (λ v. Open ∷ v) c.is;
+      says = says ∙ ap tree.Group c.says;
+      stop =
+          ended_stops k z c.fit;
+      fit = c.fit;
+    }
 
 -- after an atom, no `^`
 no_caret : (y : List Token) → stops after_atom y ≡ true → first_caret y ≡ false → stops after_power y ≡ true
@@ -68,10 +125,15 @@ no_caret (Caret ∷ y) s c = cc
 no_caret (Bar ∷ y) s c = cc
 no_caret (t ∷ y) s c = refl
 
-pub bare_front : (b : Option (List ℕ)) (k : ℕ) (x y : List Token) (e : Syntax) → AtomAt b k x e y → first_caret y ≡ false → PowerAt b k x e y
-bare_front b k x y e a c = record { made = Bare a.made; is = a.is; says = a.says; stop = no_caret y a.stop c; fit = a.fit }
+-- an atom without `^` behind it is a power
+pub bare_front : (b : Option (List ℕ)) (k : ℕ) (x y : List Token) (e : Syntax) → AtomAt b k x e y
+    → first_caret y ≡ false → PowerAt b k x e y
+bare_front b k x y e a c =
+    record { made = Bare a.made; is = a.is; says = a.says; stop = no_caret y a.stop c; fit = a.fit }
 
-pub raised_front : (b : Option (List ℕ)) (k : ℕ) (x y y' z : List Token) (a c e : Syntax) → AtomAt b k x a y → y ≡ Caret ∷ y' → ExponentAt b k y' c z → e ≡ tree.Power a c → PowerAt b k x e z
+-- so is one with its exponent
+pub raised_front : (b : Option (List ℕ)) (k : ℕ) (x y y' z : List Token) (a c e : Syntax) → AtomAt b k x a y
+    → y ≡ Caret ∷ y' → ExponentAt b k y' c z → e ≡ tree.Power a c → PowerAt b k x e z
 raised_front b k x y y' z a c e p is q says =
     record {
       made = Raised p.made q.made;
@@ -81,27 +143,50 @@ raised_front b k x y y' z a c e p is q says =
       fit = q.fit;
     }
 
-pub exponent_front : (b : Option (List ℕ)) (k : ℕ) (x y : List Token) (e : Syntax) → PowerAt b k x e y → ExponentAt b k x e y
+-- a power is an exponent
+pub exponent_front : (b : Option (List ℕ)) (k : ℕ) (x y : List Token) (e : Syntax) → PowerAt b k x e y
+    → ExponentAt b k x e y
 exponent_front b k x y e p = record { made = ExponentOf p.made; is = p.is; says = p.says; stop = p.stop; fit = p.fit }
 
-pub signed_exponent_front : (b : Option (List ℕ)) (k : ℕ) (s : Sign) (x y z : List Token) (a e : Syntax) → x ≡ sign s ∷ y → ExponentAt b k y a z → e ≡ signed s a → ExponentAt b k x e z
+-- so is one with a sign
+pub signed_exponent_front : (b : Option (List ℕ)) (k : ℕ) (s : Sign) (x y z : List Token) (a e : Syntax)
+    → x ≡ sign s ∷ y → ExponentAt b k y a z → e ≡ signed s a → ExponentAt b k x e z
 signed_exponent_front b k s x y z a e is q says =
-    record { made = SignedExponent s q.made; is = is ∙ ap (λ v. sign s ∷ v) q.is; says = says ∙ ap (signed s) q.says; stop = q.stop; fit = q.fit }
+    record {
+      made = SignedExponent s q.made;
+      is = is ∙ ap (λ v. sign s ∷ v) q.is;
+      says = says ∙ ap (signed s) q.says;
+      stop = q.stop;
+      fit = q.fit;
+    }
 
-pub signed_front : (b : Option (List ℕ)) (k : ℕ) (s : Sign) (x y z : List Token) (a e : Syntax) → x ≡ sign s ∷ y → JuxtapositionAt b k y a z → e ≡ signed s a → JuxtapositionAt b k x e z
+-- a juxtaposition with a sign is one
+pub signed_front : (b : Option (List ℕ)) (k : ℕ) (s : Sign) (x y z : List Token) (a e : Syntax) → x ≡ sign s ∷ y
+    → JuxtapositionAt b k y a z → e ≡ signed s a → JuxtapositionAt b k x e z
 signed_front b k s x y z a e is q says =
-    record { made = Signed s q.made; is = is ∙ ap (λ v. sign s ∷ v) q.is; says = says ∙ ap (signed s) q.says; stop = q.stop; fit = q.fit }
+    record {
+      made = Signed s q.made;
+      is = is ∙ ap (λ v. sign s ∷ v) q.is;
+      says = says ∙ ap (signed s) q.says;
+      stop =
+          q.stop;
+      fit = q.fit;
+    }
 
 -- what each first token leaves to the tokens after it
 
-pub sign_wants : (k : ℕ) (s : Sign) (x y : List Token) → x ≡ sign s ∷ y → fits WantsOperand k x ≡ true → fits WantsOperand k y ≡ true
+-- behind a sign an operand is wanted
+pub sign_wants : (k : ℕ) (s : Sign) (x y : List Token) → x ≡ sign s ∷ y → fits WantsOperand k x ≡ true
+    → fits WantsOperand k y ≡ true
 sign_wants k s x y is h = go s (fit_as k x _ is h)
   where
     go : (s : Sign) → fits WantsOperand k (sign s ∷ y) ≡ true → fits WantsOperand k y ≡ true
     go signs.Plus f = f
     go signs.Minus f = f
 
-pub caret_wants : (k : ℕ) (x y : List Token) → x ≡ Caret ∷ y → fits EndsOperand k x ≡ true → fits WantsOperand k y ≡ true
+-- so it is behind `^`
+pub caret_wants : (k : ℕ) (x y : List Token) → x ≡ Caret ∷ y → fits EndsOperand k x ≡ true
+    → fits WantsOperand k y ≡ true
 caret_wants k x y is h = subst (λ z. fits EndsOperand k z ≡ true) is h
 
 -- where an operand is wanted and no sign stands, a token that begins an operand does
@@ -117,5 +202,7 @@ no_sign_begins k (Close ∷ x) h n = cc
 no_sign_begins k (t ∷ x) h n = refl
 
 -- what is closed
-pub closed_front : (b : Option (List ℕ)) (k : ℕ) (x y z : List Token) (e : Syntax) → IsFront sum (sum_tree b) after_sum (suc k) x e y → y ≡ Close ∷ z → fits EndsOperand k z ≡ true → IsClosed b k x e z
+pub closed_front : (b : Option (List ℕ)) (k : ℕ) (x y z : List Token) (e : Syntax)
+    → IsFront sum (sum_tree b) after_sum (suc k) x e y → y ≡ Close ∷ z → fits EndsOperand k z ≡ true
+    → IsClosed b k x e z
 closed_front b k x y z e p is f = record { made = p.made; is = p.is ∙ ap (sum p.made) is; says = p.says; fit = f }

@@ -1,6 +1,7 @@
 pub mod Before
 pub mod Cutting
 pub mod Derived
+pub mod DerivedRules
 pub mod Faultless
 pub mod Fits
 pub mod Forming

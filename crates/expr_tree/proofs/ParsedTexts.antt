@@ -11,41 +11,61 @@ use Rattle.expr_tree.proofs.Derived.{given}
 use Rattle.expr_tree.proofs.Faultless.{faultless_fits}
 use Rattle.expr_tree.proofs.Found.{tree_of_law}
 
-tree_of_parts : (len : ℕ) (o : Option ParseFault) (t : Option Syntax) (e : Syntax) → (fault_or_tree len o t ≡ Ok e) ↔ ((o ≡ None) × (t ≡ Some e))
+-- a tree is given exactly where there is no fault and a tree is read
+tree_of_parts : (len : ℕ) (o : Option ParseFault) (t : Option Syntax) (e : Syntax)
+    → (fault_or_tree len o t ≡ Ok e) ↔ ((o ≡ None) × (t ≡ Some e))
 tree_of_parts len (Some x) t e = (λ h. cc, λ h. let no : Some x ≡ None = h.0 in cc)
-tree_of_parts len None (Some f) e = (λ h. let same : f ≡ e = cc in (refl, ap Some same), λ h. let same : Some f ≡ Some e = h.1 in let f_is : f ≡ e = cc in ap Ok f_is)
+tree_of_parts len None (Some f) e = (
+  λ h. let same : f ≡ e = cc in (refl, ap Some same),
+  λ h. let same : Some f ≡ Some e = h.1 in let f_is : f ≡ e =
+      cc in ap Ok f_is,
+)
 tree_of_parts len None None e = (λ h. cc, λ h. let no : None ≡ Some e = h.1 in cc)
 
-fault_of_parts : (len : ℕ) (o : Option ParseFault) (t : Option Syntax) (x : ParseFault) → (o ≡ None → t ≡ None → ⊥) → (fault_or_tree len o t ≡ Err x) ↔ (o ≡ Some x)
-fault_of_parts len (Some y) t x some = (λ h. let same : y ≡ x = cc in ap Some same, λ h. let same : y ≡ x = cc in ap Err same)
+-- a fault exactly where there is one
+fault_of_parts : (len : ℕ) (o : Option ParseFault) (t : Option Syntax) (x : ParseFault) → (o ≡ None → t ≡ None → ⊥)
+    → (fault_or_tree len o t ≡ Err x) ↔ (o ≡ Some x)
+fault_of_parts len (Some y) t x some =
+    (λ h. let same : y ≡ x = cc in ap Some same, λ h. let same : y ≡ x = cc in ap Err same)
 fault_of_parts len None (Some f) x some = (λ h. cc, λ h. cc)
 fault_of_parts len None None x some = (λ h. absurd (some refl refl), λ h. cc)
 
 -- a text without a fault has a tree
-has_tree : (binder : Option (List ℕ)) (text : List ℕ) → first_fault text ≡ None → tree_of binder (tokens text) ≡ None → ⊥
+has_tree : (binder : Option (List ℕ)) (text : List ℕ) → first_fault text ≡ None → tree_of binder (tokens text) ≡ None
+    → ⊥
 has_tree binder text h none =
     let x : (e : Syntax) × Gives binder (tokens text) e = given binder (tokens text) (faultless_fits text h) in
     let some : tree_of binder (tokens text) ≡ Some x.0 = (tree_of_law binder (tokens text) x.0).1 x.1 in
     let no : None ≡ Some x.0 = sym none ∙ some in cc
 
-parsed_tree : (binder : Option (List ℕ)) (text : List ℕ) (e : Syntax) → (parsed binder text ≡ Ok e) ↔ ((first_fault text ≡ None) × Gives binder (tokens text) e)
+-- a text is parsed to a tree exactly where it has no fault and its tokens give the tree
+parsed_tree : (binder : Option (List ℕ)) (text : List ℕ) (e : Syntax)
+    → (parsed binder text ≡ Ok e) ↔ ((first_fault text ≡ None) × Gives binder (tokens text) e)
 unfolding parsed
 parsed_tree binder text e =
-    let p : (parsed binder text ≡ Ok e) ↔ ((first_fault text ≡ None) × (tree_of binder (tokens text) ≡ Some e)) = tree_of_parts (length text) (first_fault text) (tree_of binder (tokens text)) e in (
+    let p : (parsed binder text ≡ Ok e) ↔ ((first_fault text ≡ None) × (tree_of binder (tokens text) ≡ Some e)) =
+    tree_of_parts (length text) (first_fault text) (tree_of binder (tokens text)) e in (
       λ h. ((p.0 h).0, (tree_of_law binder (tokens text) e).0 (p.0 h).1),
       λ h. p.1 (h.0, (tree_of_law binder (tokens text) e).1 h.1),
     )
 
-parsed_fault : (binder : Option (List ℕ)) (text : List ℕ) (x : ParseFault) → (parsed binder text ≡ Err x) ↔ (first_fault text ≡ Some x)
+-- and to a fault exactly where that is its first one
+parsed_fault : (binder : Option (List ℕ)) (text : List ℕ) (x : ParseFault)
+    → (parsed binder text ≡ Err x) ↔ (first_fault text ≡ Some x)
 unfolding parsed
-parsed_fault binder text x = fault_of_parts (length text) (first_fault text) (tree_of binder (tokens text)) x (has_tree binder text)
+parsed_fault binder text x =
+    fault_of_parts (length text) (first_fault text) (tree_of binder (tokens text)) x (has_tree binder text)
 
+-- the law of parsed texts
 pub parsed_law : ParsedLaw
 parsed_law binder text = (parsed_tree binder text, parsed_fault binder text)
 
 -- tokens without a fault and their tree
-pub parsed_to : (binder : Option (List ℕ)) (text : List ℕ) (e : Syntax) → first_fault text ≡ None → tree_of binder (tokens text) ≡ Some e → parsed binder text ≡ Ok e
+pub parsed_to : (binder : Option (List ℕ)) (text : List ℕ) (e : Syntax) → first_fault text ≡ None
+    → tree_of binder (tokens text) ≡ Some e → parsed binder text ≡ Ok e
 parsed_to binder text e h t = (parsed_tree binder text e).1 (h, (tree_of_law binder (tokens text) e).0 t)
 
-pub refused_by : (binder : Option (List ℕ)) (text : List ℕ) (x : ParseFault) → first_fault text ≡ Some x → parsed binder text ≡ Err x
+-- a text with a first fault is refused by it
+pub refused_by : (binder : Option (List ℕ)) (text : List ℕ) (x : ParseFault) → first_fault text ≡ Some x
+    → parsed binder text ≡ Err x
 refused_by binder text x h = (parsed_fault binder text x).1 h

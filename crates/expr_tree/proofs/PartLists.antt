@@ -17,10 +17,12 @@ pub record PartRule (P R A L : Type 0) : Type 0 where
   pub head : Syntax → A
   pub ends : List Token → Bool
 
+-- there are some
 abbrev some : {A : Type 0} → List A → Bool
 some [] = false
 some (a ∷ cs) = true
 
+-- with one more there are
 some_more : {A : Type 0} (cs : List A) (a : A) → some (cs ++ a ∷ []) ≡ true
 some_more [] a = refl
 some_more (c ∷ cs) a = refl
@@ -30,22 +32,27 @@ abbrev before : {A L : Type 0} → (A → L → L) → List A → L → L
 before cons [] others = others
 before cons (a ∷ cs) others = cons a (before cons cs others)
 
-before_more : {A L : Type 0} (cons : A → L → L) (cs : List A) (a : A) (others : L) → before cons (cs ++ a ∷ []) others ≡ before cons cs (cons a others)
+-- one more stands before the others
+before_more : {A L : Type 0} (cons : A → L → L) (cs : List A) (a : A) (others : L)
+    → before cons (cs ++ a ∷ []) others ≡ before cons cs (cons a others)
 before_more cons [] a others = refl
 before_more cons (c ∷ cs) a others = ap (cons c) (before_more cons cs a others)
 
 -- the parts that were read stand before the others, whatever rests these go on with
-pub record AreRead {P R A L : Type 0} (rule : PartRule P R A L) (k : ℕ) (x y : List Token) (read : List A) : Type 0 where
+pub record AreRead {P R A L : Type 0} (rule : PartRule P R A L) (k : ℕ) (x y : List Token)
+    (read : List A) : Type 0 where
   pub first : P
   pub more : List A
   pub are : read ≡ rule.head (rule.says first) ∷ more
   pub two : rule.ends y ≡ true → some more ≡ true
   pub stop : stops rule.follow y ≡ true
   pub fit : fits EndsOperand k y ≡ true
-  pub so_far : (q : R) (others : List Token) → y ≡ rule.rest q others → (p : R) × (x ≡ rule.part first (rule.rest p others)) × (before rule.cons more (rule.list q) ≡ rule.list p)
+  pub so_far : (q : R) (others : List Token) → y ≡ rule.rest q others
+      → (p : R) × (x ≡ rule.part first (rule.rest p others)) × (before rule.cons more (rule.list q) ≡ rule.list p)
 
 module _ {P R A L : Type 0} (rule : PartRule P R A L) (k : ℕ) where
-  pub begun : (x y : List Token) (e : Syntax) (read : List A) → IsFront rule.part rule.says rule.follow k x e y → (rule.ends y ≡ true → ⊥) → read ≡ rule.head e ∷ [] → AreRead rule k x y read
+  pub begun : (x y : List Token) (e : Syntax) (read : List A) → IsFront rule.part rule.says rule.follow k x e y
+      → (rule.ends y ≡ true → ⊥) → read ≡ rule.head e ∷ [] → AreRead rule k x y read
   begun x y e read p n are = record {
     first = p.made;
     more = [];
@@ -57,8 +64,11 @@ module _ {P R A L : Type 0} (rule : PartRule P R A L) (k : ℕ) where
   }
 
   -- one more member, by the rests that begin with its part
-  pub gone_on : (x y y' z : List Token) (e : Syntax) (a : A) (read read' : List A) → AreRead rule k x y read → (p : IsFront rule.part rule.says rule.follow k y' e z)
-      → (step : R → R) → ((q : R) (others : List Token) → y' ≡ rule.part p.made (rule.rest q others) → y ≡ rule.rest (step q) others) → ((q : R) → rule.cons a (rule.list q) ≡ rule.list (step q))
+  pub gone_on : (x y y' z : List Token) (e : Syntax) (a : A) (read read' : List A) → AreRead rule k x y read
+      → (p : IsFront rule.part rule.says rule.follow k y' e z)
+      → (step : R → R)
+      → ((q : R) (others : List Token) → y' ≡ rule.part p.made (rule.rest q others) → y ≡ rule.rest (step q) others)
+      → ((q : R) → rule.cons a (rule.list q) ≡ rule.list (step q))
       → read' ≡ read ++ a ∷ [] → AreRead rule k x z read'
   gone_on x y y' z e a read read' r p step spelled listed are = record {
     first = r.first;
@@ -68,31 +78,44 @@ module _ {P R A L : Type 0} (rule : PartRule P R A L) (k : ℕ) where
     stop = p.stop;
     fit = p.fit;
     so_far = λ q others h.
-        let d : (d : R) × (x ≡ rule.part r.first (rule.rest d others)) × (before rule.cons r.more (rule.list (step q)) ≡ rule.list d)
+        let d : (d : R) × (x ≡ rule.part r.first (rule.rest d others))
+        × (before rule.cons r.more (rule.list (step q)) ≡ rule.list d)
         = r.so_far (step q) others (spelled q others (p.is ∙ ap (rule.part p.made) h)) in
         (d.0, d.1, before_more rule.cons r.more a (rule.list q) ∙ ap (before rule.cons r.more) (listed q) ∙ d.2);
   }
 
 -- the members are listed, and two or more are said as a whole
-module _ {P R A L : Type 0} (rule : PartRule P R A L) (listed : List A → L) (whole : L → Syntax) (joined : Syntax → L → Syntax) where
-  before_none : ((a : A) (cs : List A) → listed (a ∷ cs) ≡ rule.cons a (listed cs)) → (cs : List A) → before rule.cons cs (listed []) ≡ listed cs
+module _ {P R A L : Type 0} (rule : PartRule P R A L) (listed : List A → L) (whole : L → Syntax)
+    (joined : Syntax → L → Syntax) where
+  before_none : ((a : A) (cs : List A) → listed (a ∷ cs) ≡ rule.cons a (listed cs)) → (cs : List A)
+      → before rule.cons cs (listed []) ≡ listed cs
   before_none each [] = refl
   before_none each (a ∷ cs) = ap (rule.cons a) (before_none each cs) ∙ sym (each a cs)
 
   said_joined : ((a : A) (cs : List A) → listed (a ∷ cs) ≡ rule.cons a (listed cs))
       → ((e : Syntax) (a : A) (l : L) → whole (rule.cons (rule.head e) (rule.cons a l)) ≡ joined e (rule.cons a l))
-      → (e : Syntax) (more : List A) → some more ≡ true → whole (listed (rule.head e ∷ more)) ≡ joined e (before rule.cons more (listed []))
+      → (e : Syntax) (more : List A) → some more ≡ true
+      → whole (listed (rule.head e ∷ more)) ≡ joined e (before rule.cons more (listed []))
   said_joined each join e [] h = cc
   said_joined each join e (a ∷ more) h =
       ap whole (each (rule.head e) (a ∷ more) ∙ ap (rule.cons (rule.head e)) (each a more))
       ∙ (join e a (listed more) ∙ ap (λ v. joined e (rule.cons a v)) (sym (before_none each more)))
 
-  pub all_read : (k : ℕ) (x y : List Token) (e : Syntax) (read : List A) (r : AreRead rule k x y read) → rule.ends y ≡ true
+  pub all_read : (k : ℕ) (x y : List Token) (e : Syntax) (read : List A) (r : AreRead rule k x y read)
+      → rule.ends y ≡ true
       → (none : R) → y ≡ rule.rest none y → rule.list none ≡ listed []
       → ((a : A) (cs : List A) → listed (a ∷ cs) ≡ rule.cons a (listed cs))
       → ((e : Syntax) (a : A) (l : L) → whole (rule.cons (rule.head e) (rule.cons a l)) ≡ joined e (rule.cons a l))
-      → e ≡ whole (listed read) → (p : R) × (x ≡ rule.part r.first (rule.rest p y)) × (e ≡ joined (rule.says r.first) (rule.list p))
+      → e ≡ whole (listed read) → (p : R) × (x ≡ rule.part r.first (rule.rest p y))
+      × (e ≡ joined (rule.says r.first) (rule.list p))
   all_read k x y e read r n none spelled empty each join says =
-      let d : (p : R) × (x ≡ rule.part r.first (rule.rest p y)) × (before rule.cons r.more (rule.list none) ≡ rule.list p) = r.so_far none y spelled in
-      let listed_all : before rule.cons r.more (listed []) ≡ rule.list d.0 = ap (before rule.cons r.more) (sym empty) ∙ d.2 in
-      (d.0, d.1, says ∙ (ap (λ v. whole (listed v)) r.are ∙ (said_joined each join (rule.says r.first) r.more (r.two n) ∙ ap (joined (rule.says r.first)) listed_all)))
+      let d : (p : R) × (x ≡ rule.part r.first (rule.rest p y))
+      × (before rule.cons r.more (rule.list none) ≡ rule.list p) = r.so_far none y spelled in
+      let listed_all : before rule.cons r.more (listed []) ≡ rule.list d.0 = ap (before rule.cons r.more) (sym empty)
+      ∙ d.2 in (
+        d.0,
+        d.1,
+        says ∙ (ap (λ v. whole (listed v)) r.are
+            ∙ (said_joined each join (rule.says r.first) r.more (r.two n)
+            ∙ ap (joined (rule.says r.first)) listed_all)),
+      )

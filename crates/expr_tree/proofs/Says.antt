@@ -12,15 +12,20 @@ pub ruleset says = (views, append-nil, append_assoc)
 
 -- the words of the member at a place, and of the members behind it
 pub member_words_at : (ts : List Tree) (i : ℕ) (d : Tree) → i < length ts
-    → words_in_members (members (map syntax (drop i ts))) ≡ words_in (syntax (get_or ts i d)) ++ words_in_members (members (map syntax (drop (i + 1) ts)))
+    → words_in_members (members (map syntax (drop i ts))) ≡ words_in (syntax (get_or ts i d))
+    ++ words_in_members (members (map syntax (drop (i + 1) ts)))
 member_words_at ts i d h = ap (λ xs. words_in_members (members (map syntax xs))) (drop_more ts i d h)
 
+-- the words of factors from a place on are those of the one there and of those behind it
 pub factor_words_at : (fs : List (Scale × Tree)) (i : ℕ) (d : Scale × Tree) → i < length fs
-    → words_in_factors (factors (map factor (drop i fs))) ≡ words_in (syntax (get_or fs i d).1) ++ words_in_factors (factors (map factor (drop (i + 1) fs)))
+    → words_in_factors (factors (map factor (drop i fs))) ≡ words_in (syntax (get_or fs i d).1)
+    ++ words_in_factors (factors (map factor (drop (i + 1) fs)))
 factor_words_at fs i d h = ap (λ xs. words_in_factors (factors (map factor xs))) (drop_more fs i d h)
 
+-- so are those of terms
 pub term_words_at : (ts : List (Sign × Tree)) (i : ℕ) (d : Sign × Tree) → i < length ts
-    → words_in_terms (terms (map term (drop i ts))) ≡ words_in (syntax (get_or ts i d).1) ++ words_in_terms (terms (map term (drop (i + 1) ts)))
+    → words_in_terms (terms (map term (drop i ts))) ≡ words_in (syntax (get_or ts i d).1)
+    ++ words_in_terms (terms (map term (drop (i + 1) ts)))
 term_words_at ts i d h = ap (λ xs. words_in_terms (terms (map term xs))) (drop_more ts i d h)
 
 pub ruleset member_words = (member_words_at, append_assoc, append-nil)
@@ -30,17 +35,22 @@ pub ruleset factor_words = (factor_words_at, append_assoc, append-nil)
 pub ruleset term_words = (term_words_at, append_assoc, append-nil)
 
 -- one more copy
-pub trees-push : (ts : List Tree) (i : ℕ) (d c : Tree) (cs : List Tree) → i < length ts → map syntax cs ≡ map syntax (take i ts) → syntax c ≡ syntax (get_or ts i d)
+pub trees-push : (ts : List Tree) (i : ℕ) (d c : Tree) (cs : List Tree) → i < length ts
+    → map syntax cs ≡ map syntax (take i ts) → syntax c ≡ syntax (get_or ts i d)
     → map syntax (cs ++ c ∷ []) ≡ map syntax (take (i + 1) ts)
 trees-push ts i d c cs h e f =
     rw (map-append syntax cs (c ∷ []), e, f, take_more ts i d h, map-append syntax (take i ts) (get_or ts i d ∷ []))
 
-pub factors-push : (fs : List (Scale × Tree)) (i : ℕ) (d c : Scale × Tree) (cs : List (Scale × Tree)) → i < length fs → map factor cs ≡ map factor (take i fs) → factor c ≡ factor (get_or fs i d)
+-- copies of the factors before a place, with one of the factor there
+pub factors-push : (fs : List (Scale × Tree)) (i : ℕ) (d c : Scale × Tree) (cs : List (Scale × Tree)) → i < length fs
+    → map factor cs ≡ map factor (take i fs) → factor c ≡ factor (get_or fs i d)
     → map factor (cs ++ c ∷ []) ≡ map factor (take (i + 1) fs)
 factors-push fs i d c cs h e f =
     rw (map-append factor cs (c ∷ []), e, f, take_more fs i d h, map-append factor (take i fs) (get_or fs i d ∷ []))
 
-pub terms-push : (ts : List (Sign × Tree)) (i : ℕ) (d c : Sign × Tree) (cs : List (Sign × Tree)) → i < length ts → map term cs ≡ map term (take i ts) → term c ≡ term (get_or ts i d)
+-- the same of terms
+pub terms-push : (ts : List (Sign × Tree)) (i : ℕ) (d c : Sign × Tree) (cs : List (Sign × Tree)) → i < length ts
+    → map term cs ≡ map term (take i ts) → term c ≡ term (get_or ts i d)
     → map term (cs ++ c ∷ []) ≡ map term (take (i + 1) ts)
 terms-push ts i d c cs h e f =
     rw (map-append term cs (c ∷ []), e, f, take_more ts i d h, map-append term (take i ts) (get_or ts i d ∷ []))

@@ -1,5 +1,6 @@
 -- The tokens from a place on, and the token there.
-use Rattle.std.proofs.Common.{◌≡◌, ℕ, suc, ◌+◌, ◌<◌, ◌≤◌, Bool, true, false, List, [], ◌∷◌, length, map, get_or, Some, refl, sym, ◌∙◌, ap, subst, arith, ltb-true, ltb-false, nat_lt}
+use Rattle.std.proofs.Common.{◌≡◌, ℕ, suc, ◌+◌, ◌<◌, ◌≤◌, Bool, true, false, List, [], ◌∷◌, length, map, get_or, Some}
+use Rattle.std.proofs.Common.{refl, sym, ◌∙◌, ap, subst, arith, ltb-true, ltb-false, nat_lt}
 use Rattle.std.proofs.Math.ListN.{drop_of_length-le}
 use Rattle.std.proofs.lemmas.List.{drop_more}
 use Rattle.expr_tree.specs.declared.operator.RootKind.{RootKind}
@@ -9,7 +10,8 @@ use Rattle.expr_tree.specs.declared.operator.Sign.{Sign}
 use Rattle.expr_tree.specs.declared.operator.Sign.TheVariants as signs
 use Rattle.expr_tree.specs.declared.token.Token.{Token as Made}
 use Rattle.expr_tree.specs.declared.token.Token.TheVariants as made
-use Rattle.expr_tree.specs.Front.{tokens_from, first_sign, first_scale, first_caret, first_denominator, stops, begins, after_sum}
+use Rattle.expr_tree.specs.Front.{tokens_from, first_sign, first_scale, first_caret, first_denominator, stops, begins}
+use Rattle.expr_tree.specs.Front.{after_sum}
 use Rattle.expr_tree.specs.Grammar.{sign, scale}
 use Rattle.expr_tree.specs.Rules.{WantsHead, WantsOpen, WantsOperand, EndsOperand, fits}
 use Rattle.frac128.specs.Decimals.{Decimal}
@@ -17,9 +19,12 @@ use Rattle.expr_tree.specs.Seen.{seen}
 use Rattle.expr_tree.specs.Tokens.{Token, Numeral, Root, Plus, Minus, Star, Slash, Bar, Caret, Open, Close}
 use Rattle.expr_tree.proofs.Fits.{closing}
 
-pub here : (ts : List Made) (at : ℕ) (d : Made) → at < length ts → tokens_from ts at ≡ seen (get_or ts at d) ∷ tokens_from ts (at + 1)
+-- the tokens from a place on begin with the one there
+pub here : (ts : List Made) (at : ℕ) (d : Made) → at < length ts
+    → tokens_from ts at ≡ seen (get_or ts at d) ∷ tokens_from ts (at + 1)
 here ts at d l = ap (map seen) (drop_more ts at d l)
 
+-- past the end there are none
 pub past : (ts : List Made) (at : ℕ) → length ts ≤ at → tokens_from ts at ≡ []
 past ts at h = ap (map seen) (drop_of_length-le ts h)
 
@@ -28,11 +33,13 @@ data Ahead (ts : List Made) (at : ℕ) : Type 0 where
   nothing : tokens_from ts at ≡ [] → Ahead ts at
   something : at < length ts → (t : Token) → tokens_from ts at ≡ t ∷ tokens_from ts (at + 1) → Ahead ts at
 
+-- what is ahead at each place
 ahead : (ts : List Made) (at : ℕ) → Ahead ts at
 ahead ts at = go (nat_lt at (length ts)) refl
   where
     go : (b : Bool) → nat_lt at (length ts) ≡ b → Ahead ts at
-    go true e = let l : at < length ts = ltb-true at (length ts) e in something l (seen (get_or ts at made.Plus)) (here ts at made.Plus l)
+    go true e = let l : at < length ts =
+        ltb-true at (length ts) e in something l (seen (get_or ts at made.Plus)) (here ts at made.Plus l)
     go false e = nothing (past ts at (ltb-false at (length ts) e))
 
 -- what stands where a test of the first token holds
@@ -40,6 +47,7 @@ pub record Standing (ts : List Made) (at : ℕ) (t : Token) : Type 0 where
   pub within : at < length ts
   pub is : tokens_from ts at ≡ t ∷ tokens_from ts (at + 1)
 
+-- where an operand is wanted, a token is there
 pub wanted : (ts : List Made) (at k : ℕ) → fits WantsOperand k (tokens_from ts at) ≡ true → at < length ts
 wanted ts at k h = go (ahead ts at)
   where
@@ -47,7 +55,9 @@ wanted ts at k h = go (ahead ts at)
     go (nothing e) = let f : fits WantsOperand k [] ≡ true = subst (λ y. fits WantsOperand k y ≡ true) e h in cc
     go (something l t e) = l
 
-pub sign_stands : (ts : List Made) (at : ℕ) (s : Sign) → first_sign (tokens_from ts at) ≡ Some s → Standing ts at (sign s)
+-- a first sign stands there
+pub sign_stands : (ts : List Made) (at : ℕ) (s : Sign) → first_sign (tokens_from ts at) ≡ Some s
+    → Standing ts at (sign s)
 sign_stands ts at s h = go (ahead ts at)
   where
     one : (t : Token) (others : List Token) → first_sign (t ∷ others) ≡ Some s → t ≡ sign s
@@ -57,9 +67,16 @@ sign_stands ts at s h = go (ahead ts at)
 
     go : Ahead ts at → Standing ts at (sign s)
     go (nothing e) = let f : first_sign [] ≡ Some s = sym (ap first_sign e) ∙ h in cc
-    go (something l t e) = record { within = l; is = e ∙ ap (λ (x : Token). x ∷ tokens_from ts (at + 1)) (one t _ (sym (ap first_sign e) ∙ h)) }
+    go (something l t e) =
+        record {
+          within = l;
+          is =
+              e ∙ ap (λ (x : Token). x ∷ tokens_from ts (at + 1)) (one t _ (sym (ap first_sign e) ∙ h));
+        }
 
-pub scale_stands : (ts : List Made) (at : ℕ) (s : Scale) → first_scale (tokens_from ts at) ≡ Some s → Standing ts at (scale s)
+-- so does a first `*` or `/`
+pub scale_stands : (ts : List Made) (at : ℕ) (s : Scale) → first_scale (tokens_from ts at) ≡ Some s
+    → Standing ts at (scale s)
 scale_stands ts at s h = go (ahead ts at)
   where
     one : (t : Token) (others : List Token) → first_scale (t ∷ others) ≡ Some s → t ≡ scale s
@@ -69,8 +86,14 @@ scale_stands ts at s h = go (ahead ts at)
 
     go : Ahead ts at → Standing ts at (scale s)
     go (nothing e) = let f : first_scale [] ≡ Some s = sym (ap first_scale e) ∙ h in cc
-    go (something l t e) = record { within = l; is = e ∙ ap (λ (x : Token). x ∷ tokens_from ts (at + 1)) (one t _ (sym (ap first_scale e) ∙ h)) }
+    go (something l t e) =
+        record {
+          within = l;
+          is =
+              e ∙ ap (λ (x : Token). x ∷ tokens_from ts (at + 1)) (one t _ (sym (ap first_scale e) ∙ h));
+        }
 
+-- so does a first `^`
 pub caret_stands : (ts : List Made) (at : ℕ) → first_caret (tokens_from ts at) ≡ true → Standing ts at Caret
 caret_stands ts at h = go (ahead ts at)
   where
@@ -80,24 +103,36 @@ caret_stands ts at h = go (ahead ts at)
 
     go : Ahead ts at → Standing ts at Caret
     go (nothing e) = let f : first_caret [] ≡ true = sym (ap first_caret e) ∙ h in cc
-    go (something l t e) = record { within = l; is = e ∙ ap (λ (x : Token). x ∷ tokens_from ts (at + 1)) (one t _ (sym (ap first_caret e) ∙ h)) }
+    go (something l t e) =
+        record {
+          within = l;
+          is =
+              e ∙ ap (λ (x : Token). x ∷ tokens_from ts (at + 1)) (one t _ (sym (ap first_caret e) ∙ h));
+        }
 
-pub close_stands : (ts : List Made) (at k : ℕ) → stops after_sum (tokens_from ts at) ≡ true → fits EndsOperand (suc k) (tokens_from ts at) ≡ true
+-- where a sum ends inside a parenthesis, its `)` stands there
+pub close_stands : (ts : List Made) (at k : ℕ) → stops after_sum (tokens_from ts at) ≡ true
+    → fits EndsOperand (suc k) (tokens_from ts at) ≡ true
     → Standing ts at Close × (fits EndsOperand k (tokens_from ts (at + 1)) ≡ true)
 close_stands ts at k s f = go (ahead ts at) (closing k (tokens_from ts at) s f)
   where
-    go : Ahead ts at → (r : List Token) × (tokens_from ts at ≡ Close ∷ r) × (fits EndsOperand k r ≡ true) → Standing ts at Close × (fits EndsOperand k (tokens_from ts (at + 1)) ≡ true)
+    go : Ahead ts at → (r : List Token) × (tokens_from ts at ≡ Close ∷ r) × (fits EndsOperand k r ≡ true)
+        → Standing ts at Close × (fits EndsOperand k (tokens_from ts (at + 1)) ≡ true)
     go (nothing e) c = let f : [] ≡ Close ∷ c.0 = sym e ∙ c.1 in cc
     go (something l t e) c =
         let both : t ∷ tokens_from ts (at + 1) ≡ Close ∷ c.0 = sym e ∙ c.1 in
         let first : t ≡ Close = cc in
-        let others : c.0 ≡ tokens_from ts (at + 1) = cc in
-        (record { within = l; is = e ∙ ap (λ (x : Token). x ∷ tokens_from ts (at + 1)) first }, subst (λ y. fits EndsOperand k y ≡ true) others c.2)
+        let others : c.0 ≡ tokens_from ts (at + 1) = cc in (
+          record { within = l; is = e ∙ ap (λ (x : Token). x ∷ tokens_from ts (at + 1)) first },
+          subst (λ y. fits EndsOperand k y ≡ true) others c.2,
+        )
 
 -- the token that the program reads
-pub stands_as : (ts : List Made) (at : ℕ) (d m : Made) → at < length ts → get_or ts at d ≡ m → tokens_from ts at ≡ seen m ∷ tokens_from ts (at + 1)
+pub stands_as : (ts : List Made) (at : ℕ) (d m : Made) → at < length ts → get_or ts at d ≡ m
+    → tokens_from ts at ≡ seen m ∷ tokens_from ts (at + 1)
 stands_as ts at d m l is = here ts at d l ∙ ap (λ (t : Made). seen t ∷ tokens_from ts (at + 1)) is
 
+-- where an operand begins, a token is there
 pub begun : (ts : List Made) (at : ℕ) → begins (tokens_from ts at) ≡ true → at < length ts
 begun ts at h = go (ahead ts at)
   where
@@ -105,6 +140,7 @@ begun ts at h = go (ahead ts at)
     go (nothing e) = let f : begins [] ≡ true = sym (ap begins e) ∙ h in cc
     go (something l t e) = l
 
+-- so it is where a head is wanted
 pub head_wanted : (ts : List Made) (at k : ℕ) → fits WantsHead k (tokens_from ts at) ≡ true → at < length ts
 head_wanted ts at k h = go (ahead ts at)
   where
@@ -112,10 +148,14 @@ head_wanted ts at k h = go (ahead ts at)
     go (nothing e) = let f : fits WantsHead k [] ≡ true = subst (λ y. fits WantsHead k y ≡ true) e h in cc
     go (something l t e) = l
 
-pub open_stands : (ts : List Made) (at k : ℕ) → fits WantsOpen k (tokens_from ts at) ≡ true → Standing ts at Open × (fits WantsOperand (suc k) (tokens_from ts (at + 1)) ≡ true)
+-- where a `(` is wanted, it stands there
+pub open_stands : (ts : List Made) (at k : ℕ) → fits WantsOpen k (tokens_from ts at) ≡ true
+    → Standing ts at Open × (fits WantsOperand (suc k) (tokens_from ts (at + 1)) ≡ true)
 open_stands ts at k h = go (ahead ts at)
   where
-    one : (t : Token) → tokens_from ts at ≡ t ∷ tokens_from ts (at + 1) → at < length ts → fits WantsOpen k (t ∷ tokens_from ts (at + 1)) ≡ true → Standing ts at Open × (fits WantsOperand (suc k) (tokens_from ts (at + 1)) ≡ true)
+    one : (t : Token) → tokens_from ts at ≡ t ∷ tokens_from ts (at + 1) → at < length ts
+        → fits WantsOpen k (t ∷ tokens_from ts (at + 1)) ≡ true
+        → Standing ts at Open × (fits WantsOperand (suc k) (tokens_from ts (at + 1)) ≡ true)
     one Open e l f = (record { within = l; is = e }, f)
     one t e l f = cc
 
@@ -123,7 +163,9 @@ open_stands ts at k h = go (ahead ts at)
     go (nothing e) = let f : fits WantsOpen k [] ≡ true = subst (λ y. fits WantsOpen k y ≡ true) e h in cc
     go (something l t e) = one t e l (subst (λ y. fits WantsOpen k y ≡ true) e h)
 
-pub denominator_stands : (ts : List Made) (at : ℕ) (n : Decimal) → first_denominator (tokens_from ts at) ≡ Some n → (at + 2 ≤ length ts) × (tokens_from ts at ≡ Bar ∷ Numeral n ∷ tokens_from ts (at + 2))
+-- a numeral behind a bar stands at its place
+pub denominator_stands : (ts : List Made) (at : ℕ) (n : Decimal) → first_denominator (tokens_from ts at) ≡ Some n
+    → (at + 2 ≤ length ts) × (tokens_from ts at ≡ Bar ∷ Numeral n ∷ tokens_from ts (at + 2))
 denominator_stands ts at n h = first (ahead ts at)
   where
     numeral : (t : Token) (others : List Token) → first_denominator (Bar ∷ t ∷ others) ≡ Some n → t ≡ Numeral n
@@ -134,16 +176,25 @@ denominator_stands ts at n h = first (ahead ts at)
     bar Bar others e = refl
     bar t others e = cc
 
-    second : tokens_from ts at ≡ Bar ∷ tokens_from ts (at + 1) → Ahead ts (at + 1) → (at + 2 ≤ length ts) × (tokens_from ts at ≡ Bar ∷ Numeral n ∷ tokens_from ts (at + 2))
-    second e (nothing e') = let f : first_denominator (Bar ∷ []) ≡ Some n = sym (ap first_denominator (e ∙ ap (λ y. Bar ∷ y) e')) ∙ h in cc
+    second : tokens_from ts at ≡ Bar ∷ tokens_from ts (at + 1) → Ahead ts (at + 1)
+        → (at + 2 ≤ length ts) × (tokens_from ts at ≡ Bar ∷ Numeral n ∷ tokens_from ts (at + 2))
+    second e (nothing e') = let f : first_denominator (Bar ∷ []) ≡ Some n =
+        sym (ap first_denominator (e ∙ ap (λ y. Bar ∷ y) e')) ∙ h in cc
     second e (something l t e') =
         let all : tokens_from ts at ≡ Bar ∷ t ∷ tokens_from ts (at + 1 + 1) = e ∙ ap (λ y. Bar ∷ y) e' in
-        let next : at + 1 + 1 ≡ at + 2 = omega arith in
-        (omega arith, all ∙ (ap (λ (x : Token). Bar ∷ x ∷ tokens_from ts (at + 1 + 1)) (numeral t _ (sym (ap first_denominator all) ∙ h)) ∙ ap (λ i. Bar ∷ Numeral n ∷ tokens_from ts i) next))
+        let next : at + 1 + 1 ≡ at + 2 = omega arith in (
+          omega arith,
+          all
+              ∙ (ap (λ (x : Token). Bar ∷ x ∷ tokens_from ts (at + 1 + 1))
+              (numeral t _ (sym (ap first_denominator all) ∙ h))
+              ∙ ap (λ i. Bar ∷ Numeral n ∷ tokens_from ts i) next),
+        )
 
     first : Ahead ts at → (at + 2 ≤ length ts) × (tokens_from ts at ≡ Bar ∷ Numeral n ∷ tokens_from ts (at + 2))
     first (nothing e) = let f : first_denominator [] ≡ Some n = sym (ap first_denominator e) ∙ h in cc
-    first (something l t e) = second (e ∙ ap (λ (x : Token). x ∷ tokens_from ts (at + 1)) (bar t _ (sym (ap first_denominator e) ∙ h))) (ahead ts (at + 1))
+    first (something l t e) =
+        second (e ∙ ap (λ (x : Token). x ∷ tokens_from ts (at + 1)) (bar t _ (sym (ap first_denominator e) ∙ h)))
+        (ahead ts (at + 1))
 
 -- a root and its `(`
 pub record Rooted (ts : List Made) (at k : ℕ) (n : RootKind) : Type 0 where
@@ -151,7 +202,9 @@ pub record Rooted (ts : List Made) (at k : ℕ) (n : RootKind) : Type 0 where
   pub is : tokens_from ts at ≡ Root n ∷ Open ∷ tokens_from ts (at + 2)
   pub fit : fits WantsOperand (k + 1) (tokens_from ts (at + 2)) ≡ true
 
-pub rooted : (ts : List Made) (at k : ℕ) (n : RootKind) (d : Made) → at < length ts → get_or ts at d ≡ made.Root n → fits WantsOperand k (tokens_from ts at) ≡ true → Rooted ts at k n
+-- the word of a root stands before its `(`
+pub rooted : (ts : List Made) (at k : ℕ) (n : RootKind) (d : Made) → at < length ts → get_or ts at d ≡ made.Root n
+    → fits WantsOperand k (tokens_from ts at) ≡ true → Rooted ts at k n
 rooted ts at k n d l is h = go (open_stands ts (at + 1) k (subst (λ y. fits WantsOperand k y ≡ true) root h))
   where
     root : tokens_from ts at ≡ Root n ∷ tokens_from ts (at + 1)
@@ -164,7 +217,8 @@ rooted ts at k n d l is h = go (open_stands ts (at + 1) k (subst (λ y. fits Wan
         record {
           within = omega (arith, o.0.within);
           is = root ∙ ap (λ y. Root n ∷ y) (o.0.is ∙ ap (λ i. Open ∷ tokens_from ts i) next);
-          fit = subst (λ i. fits WantsOperand i (tokens_from ts (at + 2)) ≡ true) more (subst (λ i. fits WantsOperand (suc k) (tokens_from ts i) ≡ true) next o.1);
+          fit = subst (λ i. fits WantsOperand i (tokens_from ts (at + 2)) ≡ true) more
+              (subst (λ i. fits WantsOperand (suc k) (tokens_from ts i) ≡ true) next o.1);
         }
 
 -- two numerals and the `|` between them
@@ -172,8 +226,16 @@ pub record Barred (ts : List Made) (at : ℕ) (n d : Decimal) : Type 0 where
   pub within : at + 3 ≤ length ts
   pub is : tokens_from ts at ≡ Numeral n ∷ Bar ∷ Numeral d ∷ tokens_from ts (at + 3)
 
-pub barred : (ts : List Made) (at : ℕ) (n d : Decimal) → at < length ts → tokens_from ts at ≡ Numeral n ∷ tokens_from ts (at + 1) → Some d ≡ first_denominator (tokens_from ts (at + 1)) → Barred ts at n d
+-- two numerals stand with a bar between
+pub barred : (ts : List Made) (at : ℕ) (n d : Decimal) → at < length ts
+    → tokens_from ts at ≡ Numeral n ∷ tokens_from ts (at + 1) → Some d ≡ first_denominator (tokens_from ts (at + 1))
+    → Barred ts at n d
 barred ts at n d l is h =
-    let p : (at + 1 + 2 ≤ length ts) × (tokens_from ts (at + 1) ≡ Bar ∷ Numeral d ∷ tokens_from ts (at + 1 + 2)) = denominator_stands ts (at + 1) d (sym h) in
+    let p : (at + 1 + 2 ≤ length ts) × (tokens_from ts (at + 1) ≡ Bar ∷ Numeral d ∷ tokens_from ts (at + 1 + 2)) =
+    denominator_stands ts (at + 1) d (sym h) in
     let next : at + 1 + 2 ≡ at + 3 = omega arith in
-    record { within = omega (arith, p.0); is = is ∙ ap (λ y. Numeral n ∷ y) (p.1 ∙ ap (λ i. Bar ∷ Numeral d ∷ tokens_from ts i) next) }
+    record {
+      within = omega (arith, p.0);
+      is =
+          is ∙ ap (λ y. Numeral n ∷ y) (p.1 ∙ ap (λ i. Bar ∷ Numeral d ∷ tokens_from ts i) next);
+    }

@@ -1,5 +1,6 @@
 -- Sums, products and juxtapositions, which are read part by part.
-use Rattle.std.proofs.Common.{◌≡◌, ℕ, true, false, not, List, [], ◌∷◌, ◌++◌, Option, Some, None, is_none, refl, sym, ◌∙◌, ap, subst}
+use Rattle.std.proofs.Common.{◌≡◌, ℕ, true, false, not, List, [], ◌∷◌, ◌++◌, Option, Some, None, is_none, refl, sym}
+use Rattle.std.proofs.Common.{◌∙◌, ap, subst}
 use Rattle.expr_tree.specs.declared.operator.Scale.{Scale}
 use Rattle.expr_tree.specs.declared.operator.Scale.TheVariants.{Multiply, Divide}
 use Rattle.expr_tree.specs.declared.operator.Sign.{Sign}
@@ -7,8 +8,10 @@ use Rattle.expr_tree.specs.declared.operator.Sign.TheVariants as signs
 use Rattle.expr_tree.specs.Front.{JuxtapositionAt, PowerAt, ProductAt, SumAt, begins, first_scale, first_sign, stops}
 use Rattle.expr_tree.specs.Front.{after_juxtaposition, after_power, after_product, after_sum}
 use Rattle.expr_tree.specs.Grammar.{SumOf, SumRest, NoTerm, NextTerm, sign, sum_rest, summed}
-use Rattle.expr_tree.specs.Grammar.{Product, ProductOf, ProductRest, NoFactor, NextFactor, scale, product, product_rest, product_tree, multiplied}
-use Rattle.expr_tree.specs.Grammar.{Juxtaposition, JuxtapositionOf, JuxtapositionRest, NoPower, NextPower, juxtaposed, juxtaposition, juxtaposition_rest, juxtaposition_tree}
+use Rattle.expr_tree.specs.Grammar.{Product, ProductOf, ProductRest, NoFactor, NextFactor, scale, product, product_rest}
+use Rattle.expr_tree.specs.Grammar.{product_tree, multiplied}
+use Rattle.expr_tree.specs.Grammar.{Juxtaposition, JuxtapositionOf, JuxtapositionRest, NoPower, NextPower, juxtaposed}
+use Rattle.expr_tree.specs.Grammar.{juxtaposition, juxtaposition_rest, juxtaposition_tree}
 use Rattle.expr_tree.specs.Grammar.{Power, power, power_tree}
 use Rattle.expr_tree.specs.Grammar.{terms as terms_of_rest, factors as factors_of_rest, members as members_of_rest}
 use Rattle.expr_tree.specs.Rules.{WantsOperand, EndsOperand, fits}
@@ -18,12 +21,14 @@ use Rattle.expr_tree.specs.Tokens.{Token, Plus, Minus, Star, Slash, Close}
 use Rattle.expr_tree.specs.Trees.{factors, members, terms}
 use Rattle.expr_tree.proofs.PartLists.{AreRead, PartRule, all_read, begun, gone_on}
 
+-- what is found to be none is none
 no_some : {A : Type 0} (o : Option A) → is_none o ≡ true → o ≡ None
 no_some None h = refl
 no_some (Some x) h = cc
 
 -- sums
 
+-- how terms make a sum
 abbrev sums : Option (List ℕ) → PartRule Product SumRest (Sign × Syntax) Terms
 sums b = record {
   part = product;
@@ -36,9 +41,11 @@ sums b = record {
   ends = λ y. is_none (first_sign y);
 }
 
+-- the terms that are read so far
 abbrev pub TermsRead : Option (List ℕ) → ℕ → List Token → List Token → List (Sign × Syntax) → Type 0
 TermsRead b = AreRead (sums b)
 
+-- where a product ends and no sign follows, the sum ends
 no_term : (y : List Token) → stops after_product y ≡ true → first_sign y ≡ None → stops after_sum y ≡ true
 no_term [] s n = refl
 no_term (Close ∷ y) s n = refl
@@ -46,27 +53,38 @@ no_term (Plus ∷ y) s n = cc
 no_term (Minus ∷ y) s n = cc
 no_term (t ∷ y) s n = cc
 
-pub one_term : (b : Option (List ℕ)) (k : ℕ) (x y : List Token) (e : Syntax) → ProductAt b k x e y → first_sign y ≡ None → SumAt b k x e y
-one_term b k x y e p n = record { made = SumOf p.made NoTerm; is = p.is; says = p.says; stop = no_term y p.stop n; fit = p.fit }
+-- so a product alone is a sum
+pub one_term : (b : Option (List ℕ)) (k : ℕ) (x y : List Token) (e : Syntax) → ProductAt b k x e y → first_sign y ≡ None
+    → SumAt b k x e y
+one_term b k x y e p n =
+    record { made = SumOf p.made NoTerm; is = p.is; says = p.says; stop = no_term y p.stop n; fit = p.fit }
 
-pub terms_begun : (b : Option (List ℕ)) (k : ℕ) (x y : List Token) (e : Syntax) (read : List (Sign × Syntax)) → ProductAt b k x e y
+-- else it is the first term
+pub terms_begun : (b : Option (List ℕ)) (k : ℕ) (x y : List Token) (e : Syntax) (read : List (Sign × Syntax))
+    → ProductAt b k x e y
     → (first_sign y ≡ None → ⊥) → read ≡ (signs.Plus, e) ∷ [] → TermsRead b k x y read
 terms_begun b k x y e read p n are = begun (sums b) k x y e read p (λ h. n (no_some (first_sign y) h)) are
 
-pub next_term : (b : Option (List ℕ)) (k : ℕ) (x y y' z : List Token) (s : Sign) (e : Syntax) (read read' : List (Sign × Syntax)) → TermsRead b k x y read
+-- a product behind a sign is the next one
+pub next_term : (b : Option (List ℕ)) (k : ℕ) (x y y' z : List Token) (s : Sign) (e : Syntax)
+    (read read' : List (Sign × Syntax)) → TermsRead b k x y read
     → y ≡ sign s ∷ y' → ProductAt b k y' e z → read' ≡ read ++ (s, e) ∷ [] → TermsRead b k x z read'
 next_term b k x y y' z s e read read' r is p are =
     gone_on (sums b) k x y y' z e (s, e) read read' r p (NextTerm s p.made) (λ q others h. is ∙ ap (λ v. sign s ∷ v) h)
     (λ q. ap (λ v. tree.Term s v (terms_of_rest b q)) p.says) are
 
-pub all_terms : (b : Option (List ℕ)) (k : ℕ) (x y : List Token) (e : Syntax) (read : List (Sign × Syntax)) → TermsRead b k x y read
+-- where no sign follows, the terms are a sum
+pub all_terms : (b : Option (List ℕ)) (k : ℕ) (x y : List Token) (e : Syntax) (read : List (Sign × Syntax))
+    → TermsRead b k x y read
     → first_sign y ≡ None → e ≡ tree.Sum (terms read) → SumAt b k x e y
 all_terms b k x y e read r n says =
-    let all = all_read (sums b) terms tree.Sum summed k x y e read r (ap is_none n) NoTerm refl refl (λ t ts. refl) (λ e t ts. refl) says in
+    let all = all_read (sums b) terms tree.Sum summed k x y e read r (ap is_none n) NoTerm refl refl (λ t ts. refl)
+    (λ e t ts. refl) says in
     record { made = SumOf r.first all.0; is = all.1; says = all.2; stop = no_term y r.stop n; fit = r.fit }
 
 -- an operand is wanted after the sign of a term
-pub term_wants : (k : ℕ) (s : Sign) (x y : List Token) → x ≡ sign s ∷ y → fits EndsOperand k x ≡ true → fits WantsOperand k y ≡ true
+pub term_wants : (k : ℕ) (s : Sign) (x y : List Token) → x ≡ sign s ∷ y → fits EndsOperand k x ≡ true
+    → fits WantsOperand k y ≡ true
 term_wants k s x y is h = go s (subst (λ z. fits EndsOperand k z ≡ true) is h)
   where
     go : (s : Sign) → fits EndsOperand k (sign s ∷ y) ≡ true → fits WantsOperand k y ≡ true
@@ -75,6 +93,7 @@ term_wants k s x y is h = go s (subst (λ z. fits EndsOperand k z ≡ true) is h
 
 -- products
 
+-- how factors make a product
 abbrev products : Option (List ℕ) → PartRule Juxtaposition ProductRest (Scale × Syntax) Factors
 products b = record {
   part = juxtaposition;
@@ -87,9 +106,11 @@ products b = record {
   ends = λ y. is_none (first_scale y);
 }
 
+-- the factors that are read so far
 abbrev pub FactorsRead : Option (List ℕ) → ℕ → List Token → List Token → List (Scale × Syntax) → Type 0
 FactorsRead b = AreRead (products b)
 
+-- where a juxtaposition ends and no `*` or `/` follows, the product ends
 no_factor : (y : List Token) → stops after_juxtaposition y ≡ true → first_scale y ≡ None → stops after_product y ≡ true
 no_factor [] s n = refl
 no_factor (Close ∷ y) s n = refl
@@ -99,27 +120,39 @@ no_factor (Star ∷ y) s n = cc
 no_factor (Slash ∷ y) s n = cc
 no_factor (t ∷ y) s n = cc
 
-pub one_factor : (b : Option (List ℕ)) (k : ℕ) (x y : List Token) (e : Syntax) → JuxtapositionAt b k x e y → first_scale y ≡ None → ProductAt b k x e y
-one_factor b k x y e p n = record { made = ProductOf p.made NoFactor; is = p.is; says = p.says; stop = no_factor y p.stop n; fit = p.fit }
+-- so a juxtaposition alone is a product
+pub one_factor : (b : Option (List ℕ)) (k : ℕ) (x y : List Token) (e : Syntax) → JuxtapositionAt b k x e y
+    → first_scale y ≡ None → ProductAt b k x e y
+one_factor b k x y e p n =
+    record { made = ProductOf p.made NoFactor; is = p.is; says = p.says; stop = no_factor y p.stop n; fit = p.fit }
 
-pub factors_begun : (b : Option (List ℕ)) (k : ℕ) (x y : List Token) (e : Syntax) (read : List (Scale × Syntax)) → JuxtapositionAt b k x e y
+-- else it is the first factor
+pub factors_begun : (b : Option (List ℕ)) (k : ℕ) (x y : List Token) (e : Syntax) (read : List (Scale × Syntax))
+    → JuxtapositionAt b k x e y
     → (first_scale y ≡ None → ⊥) → read ≡ (Multiply, e) ∷ [] → FactorsRead b k x y read
 factors_begun b k x y e read p n are = begun (products b) k x y e read p (λ h. n (no_some (first_scale y) h)) are
 
-pub next_factor : (b : Option (List ℕ)) (k : ℕ) (x y y' z : List Token) (s : Scale) (e : Syntax) (read read' : List (Scale × Syntax)) → FactorsRead b k x y read
+-- a juxtaposition behind a `*` or `/` is the next one
+pub next_factor : (b : Option (List ℕ)) (k : ℕ) (x y y' z : List Token) (s : Scale) (e : Syntax)
+    (read read' : List (Scale × Syntax)) → FactorsRead b k x y read
     → y ≡ scale s ∷ y' → JuxtapositionAt b k y' e z → read' ≡ read ++ (s, e) ∷ [] → FactorsRead b k x z read'
 next_factor b k x y y' z s e read read' r is p are =
-    gone_on (products b) k x y y' z e (s, e) read read' r p (NextFactor s p.made) (λ q others h. is ∙ ap (λ v. scale s ∷ v) h)
+    gone_on (products b) k x y y' z e (s, e) read read' r p (NextFactor s p.made)
+    (λ q others h. is ∙ ap (λ v. scale s ∷ v) h)
     (λ q. ap (λ v. tree.Factor s v (factors_of_rest b q)) p.says) are
 
-pub all_factors : (b : Option (List ℕ)) (k : ℕ) (x y : List Token) (e : Syntax) (read : List (Scale × Syntax)) → FactorsRead b k x y read
+-- where none follows, the factors are a product
+pub all_factors : (b : Option (List ℕ)) (k : ℕ) (x y : List Token) (e : Syntax) (read : List (Scale × Syntax))
+    → FactorsRead b k x y read
     → first_scale y ≡ None → e ≡ tree.Product (factors read) → ProductAt b k x e y
 all_factors b k x y e read r n says =
-    let all = all_read (products b) factors tree.Product multiplied k x y e read r (ap is_none n) NoFactor refl refl (λ f fs. refl) (λ e f fs. refl) says in
+    let all = all_read (products b) factors tree.Product multiplied k x y e read r (ap is_none n) NoFactor refl refl
+    (λ f fs. refl) (λ e f fs. refl) says in
     record { made = ProductOf r.first all.0; is = all.1; says = all.2; stop = no_factor y r.stop n; fit = r.fit }
 
 -- an operand is wanted after the scale of a factor
-pub factor_wants : (k : ℕ) (s : Scale) (x y : List Token) → x ≡ scale s ∷ y → fits EndsOperand k x ≡ true → fits WantsOperand k y ≡ true
+pub factor_wants : (k : ℕ) (s : Scale) (x y : List Token) → x ≡ scale s ∷ y → fits EndsOperand k x ≡ true
+    → fits WantsOperand k y ≡ true
 factor_wants k s x y is h = go s (subst (λ z. fits EndsOperand k z ≡ true) is h)
   where
     go : (s : Scale) → fits EndsOperand k (scale s ∷ y) ≡ true → fits WantsOperand k y ≡ true
@@ -128,6 +161,7 @@ factor_wants k s x y is h = go s (subst (λ z. fits EndsOperand k z ≡ true) is
 
 -- juxtapositions
 
+-- how powers make a juxtaposition
 abbrev juxtapositions : Option (List ℕ) → PartRule Power JuxtapositionRest Syntax Members
 juxtapositions b = record {
   part = power;
@@ -140,9 +174,11 @@ juxtapositions b = record {
   ends = λ y. not (begins y);
 }
 
+-- the powers that are read so far
 abbrev pub MembersRead : Option (List ℕ) → ℕ → List Token → List Token → List Syntax → Type 0
 MembersRead b = AreRead (juxtapositions b)
 
+-- where a power ends and no operand begins, the juxtaposition ends
 no_member : (y : List Token) → stops after_power y ≡ true → begins y ≡ false → stops after_juxtaposition y ≡ true
 no_member [] s n = refl
 no_member (Plus ∷ y) s n = refl
@@ -152,22 +188,32 @@ no_member (Slash ∷ y) s n = refl
 no_member (Close ∷ y) s n = refl
 no_member (t ∷ y) s n = cc
 
-pub one_member : (b : Option (List ℕ)) (k : ℕ) (x y : List Token) (e : Syntax) → PowerAt b k x e y → begins y ≡ false → JuxtapositionAt b k x e y
-one_member b k x y e p n = record { made = JuxtapositionOf p.made NoPower; is = p.is; says = p.says; stop = no_member y p.stop n; fit = p.fit }
+-- so a power alone is a juxtaposition
+pub one_member : (b : Option (List ℕ)) (k : ℕ) (x y : List Token) (e : Syntax) → PowerAt b k x e y → begins y ≡ false
+    → JuxtapositionAt b k x e y
+one_member b k x y e p n =
+    record { made = JuxtapositionOf p.made NoPower; is = p.is; says = p.says; stop = no_member y p.stop n; fit = p.fit }
 
-pub members_begun : (b : Option (List ℕ)) (k : ℕ) (x y : List Token) (e : Syntax) (read : List Syntax) → PowerAt b k x e y
+-- else it is the first member
+pub members_begun : (b : Option (List ℕ)) (k : ℕ) (x y : List Token) (e : Syntax) (read : List Syntax)
+    → PowerAt b k x e y
     → begins y ≡ true → read ≡ e ∷ [] → MembersRead b k x y read
 members_begun b k x y e read p n are =
     begun (juxtapositions b) k x y e read p (λ h. let no : false ≡ true = sym (ap not n) ∙ h in cc) are
 
-pub next_member : (b : Option (List ℕ)) (k : ℕ) (x y z : List Token) (e : Syntax) (read read' : List Syntax) → MembersRead b k x y read
+-- a power behind it is the next one
+pub next_member : (b : Option (List ℕ)) (k : ℕ) (x y z : List Token) (e : Syntax) (read read' : List Syntax)
+    → MembersRead b k x y read
     → PowerAt b k y e z → read' ≡ read ++ e ∷ [] → MembersRead b k x z read'
 next_member b k x y z e read read' r p are =
     gone_on (juxtapositions b) k x y y z e e read read' r p (NextPower p.made) (λ q others h. h)
     (λ q. ap (λ v. tree.Member v (members_of_rest b q)) p.says) are
 
-pub all_members : (b : Option (List ℕ)) (k : ℕ) (x y : List Token) (e : Syntax) (read : List Syntax) → MembersRead b k x y read
+-- where no operand begins, the members are a juxtaposition
+pub all_members : (b : Option (List ℕ)) (k : ℕ) (x y : List Token) (e : Syntax) (read : List Syntax)
+    → MembersRead b k x y read
     → begins y ≡ false → e ≡ tree.Juxtaposed (members read) → JuxtapositionAt b k x e y
 all_members b k x y e read r n says =
-    let all = all_read (juxtapositions b) members tree.Juxtaposed juxtaposed k x y e read r (ap not n) NoPower refl refl (λ e es. refl) (λ e f es. refl) says in
+    let all = all_read (juxtapositions b) members tree.Juxtaposed juxtaposed k x y e read r (ap not n) NoPower refl refl
+    (λ e es. refl) (λ e f es. refl) says in
     record { made = JuxtapositionOf r.first all.0; is = all.1; says = all.2; stop = no_member y r.stop n; fit = r.fit }

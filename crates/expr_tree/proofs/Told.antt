@@ -1,5 +1,6 @@
 -- The faults of texts are never want of memory.
-use Rattle.std.proofs.Common.{◌≡◌, ◌++◌, ℕ, Bool, true, false, if◌then◌else◌, List, [], ◌∷◌, length, Option, Some, None, refl, sym, ap, ◌∙◌, true≢false}
+use Rattle.std.proofs.Common.{◌≡◌, ◌++◌, ℕ, Bool, true, false, if◌then◌else◌, List, [], ◌∷◌, length, Option, Some, None}
+use Rattle.std.proofs.Common.{refl, sym, ap, ◌∙◌, true≢false}
 use Rattle.std.specs.Prelude.{nat_lt}
 use Rattle.expr_tree.specs.declared.fault.ParseFault.{ParseFault}
 use Rattle.expr_tree.specs.declared.fault.ParseFault.TheVariants.{Syntax, NumeralTooLong, NestedTooDeep, OutOfMemory}
@@ -15,14 +16,18 @@ abbrev of_text : Option ParseFault → Bool
 of_text (Some OutOfMemory) = false
 of_text _ = true
 
-either : (t : Bool) (x y : Option ParseFault) → of_text x ≡ true → of_text y ≡ true → of_text (if t then x else y) ≡ true
+-- where both are faults of a text, the one that is taken is
+either : (t : Bool) (x y : Option ParseFault) → of_text x ≡ true → of_text y ≡ true
+    → of_text (if t then x else y) ≡ true
 either true x y e f = e
 either false x y e f = f
 
+-- so is the first of two
 later : (x y : Option ParseFault) → of_text x ≡ true → of_text y ≡ true → of_text (or_later x y) ≡ true
 later (Some fault) y e f = e
 later None y e f = f
 
+-- the fault of a lexeme is one of the text
 at_lexeme : (last : After) (opens depth place : ℕ) (x : Lexeme) → of_text (fault_at last opens depth place x) ≡ true
 at_lexeme last opens depth place Blank = refl
 at_lexeme last opens depth place Malformed = refl
@@ -32,14 +37,19 @@ at_lexeme last opens depth place (Whole t) =
     either (may last opens t) (if nat_lt deepest depth then Some NestedTooDeep else None) (Some (Syntax place))
     (either (nat_lt deepest depth) (Some NestedTooDeep) None refl refl) refl
 
+-- so is that of lexemes
 from_lexemes : (before : List Token) (len : ℕ) (xs : List Placed) → of_text (fault_from before len xs) ≡ true
 unfolding fault_from
 from_lexemes before len [] =
     either (may_end (left_by WantsOperand before) (opened before)) None (Some (Syntax len)) refl refl
 from_lexemes before len (x ∷ xs) =
-    later (fault_at (left_by WantsOperand before) (opened before) (depth_behind before) x.place x.lexeme) (fault_from (before ++ token_in x.lexeme) len xs)
-    (at_lexeme (left_by WantsOperand before) (opened before) (depth_behind before) x.place x.lexeme) (from_lexemes (before ++ token_in x.lexeme) len xs)
+    later (fault_at (left_by WantsOperand before) (opened before) (depth_behind before) x.place x.lexeme)
+    (fault_from (before ++ token_in x.lexeme) len xs)
+    (at_lexeme (left_by WantsOperand before) (opened before) (depth_behind before) x.place x.lexeme)
+    (from_lexemes (before ++ token_in x.lexeme) len xs)
 
+-- the law that want of memory is no fault of a text
 pub told : ToldLaw
 told binder text said =
-    true≢false (sym (from_lexemes [] (length text) (lexemes text)) ∙ ap of_text (((parsed_law binder text).1 OutOfMemory).0 said))
+    true≢false (sym (from_lexemes [] (length text) (lexemes text))
+    ∙ ap of_text (((parsed_law binder text).1 OutOfMemory).0 said))

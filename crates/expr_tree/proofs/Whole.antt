@@ -16,7 +16,9 @@ nothing_left [] s f = refl
 nothing_left (Close ∷ y) s f = cc
 nothing_left (t ∷ y) s f = cc
 
-pub whole : (b : Option (List ℕ)) (ts : List Made) (e : Syntax) (end : ℕ) → SumAt b 0 (tokens_from ts 0) e (tokens_from ts end) → tree_of b (map seen ts) ≡ Some e
+-- a sum up to the end is the tree of the tokens
+pub whole : (b : Option (List ℕ)) (ts : List Made) (e : Syntax) (end : ℕ)
+    → SumAt b 0 (tokens_from ts 0) e (tokens_from ts end) → tree_of b (map seen ts) ≡ Some e
 whole b ts e end p =
     let all : tokens_from ts end ≡ [] = nothing_left _ p.stop p.fit in
     (tree_of_law b (map seen ts) e).1 (p.made, p.is ∙ ap (sum p.made) all, p.says)

@@ -1,7 +1,8 @@
 -- Trees in which the argument of a function stands.
 use Rattle.std.specs.Prelude.{◌≡◌, ℕ, Bool, true, false, ◌||◌, List, None, Ok}
 use Rattle.expr_tree.specs.Parsed.{parsed}
-use Rattle.expr_tree.specs.Syntax.{Syntax, Number, Bar, Word, Argument, Call, Inverse, Root, Group, Negate, Power, Juxtaposed, Product, Sum}
+use Rattle.expr_tree.specs.Syntax.{Syntax, Number, Bar, Word, Argument, Call, Inverse, Root, Group, Negate, Power}
+use Rattle.expr_tree.specs.Syntax.{Juxtaposed, Product, Sum}
 use Rattle.expr_tree.specs.Syntax.{Members, NoMember, Member, Factors, NoFactor, Factor, Terms, NoTerm, Term}
 
 abbrev mutual

@@ -5,7 +5,8 @@ use Rattle.expr_tree.specs.declared.operator.RootKind.TheVariants.{Square}
 use Rattle.expr_tree.specs.declared.operator.Scale.TheVariants.{Multiply, Divide}
 use Rattle.expr_tree.specs.declared.operator.Sign.TheVariants as signs
 use Rattle.expr_tree.specs.Reading.{tree_of}
-use Rattle.expr_tree.specs.Syntax.{Syntax, NoMember, Member, NoFactor, Factor, NoTerm, Term, Negate, Power, Juxtaposed, Product, Sum, Group, Argument, Inverse}
+use Rattle.expr_tree.specs.Syntax.{Syntax, NoMember, Member, NoFactor, Factor, NoTerm, Term, Negate, Power, Juxtaposed}
+use Rattle.expr_tree.specs.Syntax.{Product, Sum, Group, Argument, Inverse}
 use Rattle.expr_tree.specs.Syntax as tree
 use Rattle.expr_tree.specs.Tokens.{Token, Numeral, Word, WordWithPower, Head, Root}
 use Rattle.expr_tree.specs.Tokens.{Minus, Star, Slash, Bar, Caret, Tilde, Open, Close}

@@ -3,7 +3,8 @@ use Rattle.std.specs.Prelude.{◌≡◌, ℕ, Bool, true, false, ◌&&◌, IsTru
 use Rattle.expr_tree.specs.declared.operator.Scale.TheVariants.{Multiply}
 use Rattle.expr_tree.specs.declared.operator.Sign.TheVariants.{Plus}
 use Rattle.expr_tree.specs.Parsed.{parsed}
-use Rattle.expr_tree.specs.Syntax.{Syntax, Number, Bar, Word, Argument, Call, Inverse, Root, Group, Negate, Power, Juxtaposed, Product, Sum}
+use Rattle.expr_tree.specs.Syntax.{Syntax, Number, Bar, Word, Argument, Call, Inverse, Root, Group, Negate, Power}
+use Rattle.expr_tree.specs.Syntax.{Juxtaposed, Product, Sum}
 use Rattle.expr_tree.specs.Syntax.{Members, NoMember, Member, Factors, NoFactor, Factor, Terms, NoTerm, Term}
 
 -- each list has a first member, that of a product multiplies and that of a sum has a plus

@@ -1,5 +1,6 @@
 -- What stands at the front of tokens: single tokens, and derivations before the other tokens.
-use Rattle.std.specs.Prelude.{◌≡◌, ◌<◌, ◌≤◌, ℕ, Bool, true, false, List, [], ◌∷◌, drop, length, map, Option, Some, None, Result, IfOk}
+use Rattle.std.specs.Prelude.{◌≡◌, ◌<◌, ◌≤◌, ℕ, Bool, true, false, List, [], ◌∷◌, drop, length, map, Option, Some, None}
+use Rattle.std.specs.Prelude.{Result, IfOk}
 use Rattle.std.specs.declared.alloc.AllocError.{AllocError}
 use Rattle.frac128.specs.Decimals.{Decimal}
 use Rattle.expr_tree.specs.declared.operator.Scale.{Scale}
@@ -8,7 +9,8 @@ use Rattle.expr_tree.specs.declared.operator.Sign.{Sign}
 use Rattle.expr_tree.specs.declared.operator.Sign.TheVariants as signs
 use Rattle.expr_tree.specs.declared.token.Token.{Token as Made}
 use Rattle.expr_tree.specs.declared.tree.Tree.{Tree}
-use Rattle.expr_tree.specs.Grammar.{Sum, sum, sum_tree, product, product_tree, juxtaposition, juxtaposition_tree, power, power_tree, exponent, exponent_tree, atom, atom_tree}
+use Rattle.expr_tree.specs.Grammar.{Sum, sum, sum_tree, product, product_tree, juxtaposition, juxtaposition_tree, power}
+use Rattle.expr_tree.specs.Grammar.{power_tree, exponent, exponent_tree, atom, atom_tree}
 use Rattle.expr_tree.specs.Rules.{EndsOperand, begins_operand, fits}
 use Rattle.expr_tree.specs.Seen.{seen}
 use Rattle.expr_tree.specs.Syntax.{Syntax}
@@ -82,7 +84,8 @@ after_atom _ = true
 
 -- a derivation of the tree stands before the other tokens, which may stand after an operand inside
 -- so many parentheses
-pub record IsFront {X : Type 0} (spell : X → List Token → List Token) (tree : X → Syntax) (follow : Token → Bool) (opened : ℕ) (ts : List Token) (e : Syntax) (others : List Token) : Type 0 where
+pub record IsFront {X : Type 0} (spell : X → List Token → List Token) (tree : X → Syntax) (follow : Token → Bool)
+    (opened : ℕ) (ts : List Token) (e : Syntax) (others : List Token) : Type 0 where
   pub made : X
   pub is : ts ≡ spell made others
   pub says : e ≡ tree made
@@ -110,13 +113,16 @@ abbrev pub AtomAt : Option (List ℕ) → ℕ → List Token → Syntax → List
 AtomAt binder = IsFront atom (atom_tree binder) after_atom
 
 -- a sum and its `)` stand before the other tokens
-pub record IsClosed (binder : Option (List ℕ)) (opened : ℕ) (ts : List Token) (e : Syntax) (others : List Token) : Type 0 where
+pub record IsClosed (binder : Option (List ℕ)) (opened : ℕ) (ts : List Token) (e : Syntax)
+    (others : List Token) : Type 0 where
   pub made : Sum
   pub is : ts ≡ sum made (Close ∷ others)
   pub says : e ≡ sum_tree binder made
   pub fit : fits EndsOperand opened others ≡ true
 
 -- what a rule reads at a place: its tree stands there, before the tokens from a later place on
-abbrev pub IsReadAt : (List Token → Syntax → List Token → Type 0) → List Made → ℕ → Result (Tree × ℕ) AllocError → Type 0
-IsReadAt Stands tokens at result = IfOk result (λ read. Stands (tokens_from tokens at) (syntax read.0) (tokens_from tokens read.1)
+abbrev pub IsReadAt : (List Token → Syntax → List Token → Type 0) → List Made → ℕ → Result (Tree × ℕ) AllocError
+    → Type 0
+IsReadAt Stands tokens at result =
+    IfOk result (λ read. Stands (tokens_from tokens at) (syntax read.0) (tokens_from tokens read.1)
     × (at < read.1) × (read.1 ≤ length tokens))

@@ -1,12 +1,17 @@
 -- The tree that tokens give, as a function: each rule of the grammar reads its derivation from the
 -- front of the tokens, and leaves the others.
-use Rattle.std.specs.Prelude.{◌↔◌, ◌≡◌, ℕ, zero, suc, ◌+◌, ◌*◌, List, [], ◌∷◌, length, Option, Some, None, option_map, if◌then◌else◌}
-use Rattle.expr_tree.specs.Grammar.{Sum, SumOf, SumRest, NoTerm, NextTerm, Product, ProductOf, ProductRest, NoFactor, NextFactor}
-use Rattle.expr_tree.specs.Grammar.{Juxtaposition, Signed, JuxtapositionOf, JuxtapositionRest, NoPower, NextPower, Power, Bare, Raised, Exponent, SignedExponent, ExponentOf}
-use Rattle.expr_tree.specs.Grammar.{Atom, NumeralAtom, BarAtom, WordAtom, PowerAtom, CallAtom, InverseAtom, RootAtom, GroupAtom, sum_tree, Gives}
+use Rattle.std.specs.Prelude.{◌↔◌, ◌≡◌, ℕ, zero, suc, ◌+◌, ◌*◌, List, [], ◌∷◌, length, Option, Some, None, option_map}
+use Rattle.std.specs.Prelude.{if◌then◌else◌}
+use Rattle.expr_tree.specs.Grammar.{Sum, SumOf, SumRest, NoTerm, NextTerm, Product, ProductOf, ProductRest, NoFactor}
+use Rattle.expr_tree.specs.Grammar.{NextFactor}
+use Rattle.expr_tree.specs.Grammar.{Juxtaposition, Signed, JuxtapositionOf, JuxtapositionRest, NoPower, NextPower}
+use Rattle.expr_tree.specs.Grammar.{Power, Bare, Raised, Exponent, SignedExponent, ExponentOf}
+use Rattle.expr_tree.specs.Grammar.{Atom, NumeralAtom, BarAtom, WordAtom, PowerAtom, CallAtom, InverseAtom, RootAtom}
+use Rattle.expr_tree.specs.Grammar.{GroupAtom, sum_tree, Gives}
 use Rattle.expr_tree.specs.Rules.{WantsOperand, begins_operand, fits}
 use Rattle.expr_tree.specs.Syntax.{Syntax}
-use Rattle.expr_tree.specs.Tokens.{Token, Numeral, Word, WordWithPower, Head, Root, Plus, Minus, Star, Slash, Bar, Caret, Tilde, Open, Close}
+use Rattle.expr_tree.specs.Tokens.{Token, Numeral, Word, WordWithPower, Head, Root, Plus, Minus, Star, Slash, Bar}
+use Rattle.expr_tree.specs.Tokens.{Caret, Tilde, Open, Close}
 use Rattle.expr_tree.specs.declared.operator.Scale.TheVariants.{Multiply, Divide}
 use Rattle.expr_tree.specs.declared.operator.Sign.TheVariants as signs
 

@@ -4,7 +4,8 @@ use Rattle.std.specs.Prelude.{List, [], ◌∷◌, take, Some, slice_get}
 use Rattle.expr_tree.specs.Tokens.{Token, Numeral, Word, WordWithPower, Head, Root}
 use Rattle.expr_tree.specs.Tokens.{Plus, Minus, Star, Slash, Bar, Caret, Tilde, Open, Close}
 pub use Rattle.expr_tree.specs.declared.rules.After.{After}
-pub use Rattle.expr_tree.specs.declared.rules.After.TheVariants.{WantsOperand, WantsHead, WantsOpen, WantsNumeral, EndsNumeral, EndsOperand}
+pub use Rattle.expr_tree.specs.declared.rules.After.TheVariants.{WantsOperand, WantsHead, WantsOpen, WantsNumeral}
+pub use Rattle.expr_tree.specs.declared.rules.After.TheVariants.{EndsNumeral, EndsOperand}
 
 abbrev pub begins_operand : Token → Bool
 begins_operand (Numeral n) = true

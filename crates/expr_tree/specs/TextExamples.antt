@@ -16,7 +16,8 @@ TextExamplesLaw =
     (tokens (codes "5eV") ≡ Numeral (whole 5) ∷ Word (codes "eV") ∷ [])
     × (tokens (codes "f(2)") ≡ Head (codes "f") ∷ Numeral (whole 2) ∷ Close ∷ [])
     × (tokens (codes "f (2)") ≡ Word (codes "f") ∷ Open ∷ Numeral (whole 2) ∷ Close ∷ [])
-    × (tokens (codes "m2 per s**3") ≡ WordWithPower (codes "m") (whole 2) ∷ Slash ∷ Word (codes "s") ∷ Caret ∷ Numeral (whole 3) ∷ [])
+    × (tokens (codes "m2 per s**3") ≡ WordWithPower (codes "m") (whole 2) ∷ Slash ∷ Word (codes "s") ∷ Caret
+    ∷ Numeral (whole 3) ∷ [])
     × (first_fault (codes "5eV") ≡ None)
     × (first_fault [] ≡ Some (Syntax 0))
     × (first_fault (codes "2 +") ≡ Some (Syntax 3))

@@ -8,7 +8,8 @@ use Rattle.expr_tree.specs.declared.tree.Factors.{Factors as FactorList, out-Fac
 use Rattle.expr_tree.specs.declared.tree.Terms.{Terms as TermList, out-Terms}
 use Rattle.expr_tree.specs.declared.tree.Tree.TheOpen as one
 use Rattle.expr_tree.specs.declared.tree.Tree.TheFolds.{fold-Tree}
-use Rattle.expr_tree.specs.Syntax.{Syntax, Number, Bar, Word, Argument, Call, Inverse, Root, Group, Negate, Power, Juxtaposed, Product, Sum}
+use Rattle.expr_tree.specs.Syntax.{Syntax, Number, Bar, Word, Argument, Call, Inverse, Root, Group, Negate, Power}
+use Rattle.expr_tree.specs.Syntax.{Juxtaposed, Product, Sum}
 use Rattle.expr_tree.specs.Syntax.{Members, NoMember, Member, Factors, NoFactor, Factor, Terms, NoTerm, Term}
 
 -- operands side by side
@@ -44,7 +45,8 @@ level (one.Sum ts) = Sum ts
 
 -- what a tree says
 abbrev pub syntax : Tree → Syntax
-syntax = fold-Tree Syntax Factors Terms Members level (λ fs. factors fs.items.items) (λ ts. terms ts.items.items) (λ es. members es.items.items)
+syntax = fold-Tree Syntax Factors Terms Members level (λ fs. factors fs.items.items) (λ ts. terms ts.items.items)
+    (λ es. members es.items.items)
 
 -- what a member of a product says
 abbrev pub factor : Scale × Tree → Scale × Syntax

@@ -7,7 +7,8 @@ use Rattle.expr_tree.specs.declared.tree.Factors.{Factors}
 use Rattle.expr_tree.specs.declared.tree.Quotient.{Quotient}
 use Rattle.expr_tree.specs.declared.tree.Terms.{Terms}
 use Rattle.expr_tree.specs.declared.tree.Tree.{Tree}
-use Rattle.expr_tree.specs.declared.tree.Tree.TheVariants.{Number, Bar, Word, Argument, Call, Inverse, Root, Group, Negate, Power, Juxtaposed, Product, Sum}
+use Rattle.expr_tree.specs.declared.tree.Tree.TheVariants.{Number, Bar, Word, Argument, Call, Inverse, Root, Group}
+use Rattle.expr_tree.specs.declared.tree.Tree.TheVariants.{Negate, Power, Juxtaposed, Product, Sum}
 use Rattle.expr_tree.specs.declared.tree.Trees.{Trees}
 use Rattle.expr_tree.specs.Syntax as tree
 use Rattle.expr_tree.specs.Trees.{syntax, members, factors, terms, trees_of, factors_of, terms_of}

@@ -2,7 +2,8 @@
 use Rattle.std.specs.Prelude.{List, [], ◌∷◌, ◌++◌}
 use Rattle.expr_tree.specs.declared.word_list.WordKind.TheVariants as kind
 use Rattle.expr_tree.specs.WordUses.{WordUse}
-use Rattle.expr_tree.specs.Syntax.{Syntax, Number, Bar, Word, Argument, Call, Inverse, Root, Group, Negate, Power, Juxtaposed, Product, Sum}
+use Rattle.expr_tree.specs.Syntax.{Syntax, Number, Bar, Word, Argument, Call, Inverse, Root, Group, Negate, Power}
+use Rattle.expr_tree.specs.Syntax.{Juxtaposed, Product, Sum}
 use Rattle.expr_tree.specs.Syntax.{Members, NoMember, Member, Factors, NoFactor, Factor, Terms, NoTerm, Term}
 
 abbrev mutual

@@ -3,7 +3,8 @@
 
 ghost use Rattle.std.specs.Prelude.{◌≡◌, ◌+◌, ◌<◌, ◌≤◌, ◌∷◌, true, IfOk, Some, map};
 ghost use Rattle.std.specs.Option.{option_copied};
-ghost use Rattle.expr_tree.specs.Front.{AtomAt, ExponentAt, IsClosed, IsReadAt, JuxtapositionAt, PowerAt, ProductAt, SumAt, begins, tokens_from};
+ghost use Rattle.expr_tree.specs.Front.{AtomAt, ExponentAt, IsClosed, IsReadAt, JuxtapositionAt, PowerAt, ProductAt};
+ghost use Rattle.expr_tree.specs.Front.{SumAt, begins, tokens_from};
 ghost use Rattle.expr_tree.specs.Reading.{tree_of};
 ghost use Rattle.expr_tree.specs.Rules.{WantsHead, WantsOperand, fits};
 ghost use Rattle.expr_tree.specs.Seen.{seen};

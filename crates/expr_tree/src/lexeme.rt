@@ -1,11 +1,9 @@
 //! Lexemes, and the one at the front of a text.
 
 ghost use Rattle.std.specs.Prelude.{◌≡◌, ◌<◌, ◌≤◌, ◌+◌, ◌^◌, if◌then◌else◌, IsTrue, length, slice_index};
-ghost use Rattle.std.specs.List.{prefix_len as prefix_len_of};
-ghost use Rattle.expr_tree.specs.Lexemes.{front, mark as mark_of, mark_piece as mark_piece_of, numeral_piece as numeral_piece_of};
-ghost use Rattle.expr_tree.specs.Lexemes.{is_numeral as is_numeral_lexeme, is_opened as is_opened_of, other_word as other_word_of, word_front};
-ghost use Rattle.expr_tree.specs.Lexemes.{word_piece as word_piece_of, word_with_power as word_with_power_of};
-ghost use Rattle.expr_tree.specs.Names.{is_word_byte as is_of_words};
+ghost use Rattle.std.specs.List as lists;
+ghost use Rattle.expr_tree.specs.Lexemes as spec;
+ghost use Rattle.expr_tree.specs.Names as names;
 ghost use Rattle.expr_tree.specs.Seen.{seen_lexeme, seen_piece};
 
 use crate::name::{has_power, is_name, is_refused, is_word_byte};
@@ -40,7 +38,7 @@ impl<'a> Piece<'a> {
     // malformed.
     pub(crate) fn first(text: &'a [u8], after_numeral: bool) -> Piece<'a>
         requires { 0 < length text.now }
-        ensures is { seen_piece result ≡ front after_numeral text.now }
+        ensures is { seen_piece result ≡ spec.front after_numeral text.now }
         ensures some { 0 < result.len }
         ensures within { result.len ≤ length text.now }
     {
@@ -70,7 +68,7 @@ impl<'a> Piece<'a> {
 impl Lexeme<'_> {
     // Whether it is a numeral.
     pub(crate) fn is_numeral(&self) -> bool
-        ensures { result ≡ is_numeral_lexeme (seen_lexeme self.now) }
+        ensures { result ≡ spec.is_numeral (seen_lexeme self.now) }
     {
         match self {
             Lexeme::TooLong => true,
@@ -83,7 +81,7 @@ impl Lexeme<'_> {
 // The numeral at the front.
 fn numeral_piece(text: &[u8]) -> Piece<'_>
     requires { 0 < length text.now }
-    ensures is { seen_piece result ≡ numeral_piece_of text.now }
+    ensures is { seen_piece result ≡ spec.numeral_piece text.now }
     ensures some { 0 < result.len }
     ensures within { result.len ≤ length text.now }
 {
@@ -105,9 +103,9 @@ fn numeral_piece(text: &[u8]) -> Piece<'_>
 // The word at the front.
 #[tactic(auto, using(crate::proofs::Lengths::lengths))]
 fn word_at_front(text: &[u8]) -> Piece<'_>
-    requires word { IsTrue (is_of_words (slice_index text.now 0)) }
+    requires word { IsTrue (names.is_word_byte (slice_index text.now 0)) }
     requires some { 0 < length text.now }
-    ensures is { seen_piece result ≡ word_front text.now }
+    ensures is { seen_piece result ≡ spec.word_front text.now }
     ensures some { 0 < result.len }
     ensures within { result.len ≤ length text.now }
 {
@@ -118,14 +116,14 @@ fn word_at_front(text: &[u8]) -> Piece<'_>
 
 // How many bytes the word has that the bytes begin with.
 fn word_len(bytes: &[u8]) -> usize
-    ensures { result ≡ prefix_len_of is_of_words bytes.now }
+    ensures { result ≡ lists.prefix_len names.is_word_byte bytes.now }
 {
     prefix_len(bytes, is_word_byte)
 }
 
 // Whether the byte `(` stands at the front.
 fn is_opened(text: &[u8]) -> bool
-    ensures is { result ≡ is_opened_of text.now }
+    ensures is { result ≡ spec.is_opened text.now }
     ensures some { IsTrue result → 0 < length text.now }
 {
     !text.is_empty() && text[0] == b'('
@@ -135,7 +133,7 @@ fn is_opened(text: &[u8]) -> bool
 fn word_piece(word: &[u8], opened: bool) -> Piece<'_>
     requires some { 0 < length word.now }
     requires room { length word.now + (if opened then 1 else 0) < 2 ^ 64 }
-    ensures is { seen_piece result ≡ word_piece_of word.now opened }
+    ensures is { seen_piece result ≡ spec.word_piece word.now opened }
     ensures some { 0 < result.len }
     ensures within { result.len ≤ length word.now + (if opened then 1 else 0) }
 {
@@ -159,7 +157,7 @@ fn word_piece(word: &[u8], opened: bool) -> Piece<'_>
 
 // What a word is that is neither a name nor refused.
 fn other_word(word: &[u8]) -> Lexeme<'_>
-    ensures { seen_lexeme result ≡ other_word_of word.now }
+    ensures { seen_lexeme result ≡ spec.other_word word.now }
 {
     if word == b"per".as_slice() {
         return Lexeme::Whole(Token::Slash);
@@ -176,7 +174,7 @@ fn other_word(word: &[u8]) -> Lexeme<'_>
 // A name with one digit from 2 to 9 behind it.
 #[tactic(auto, using(crate::proofs::PowerWords::powers))]
 fn word_with_power(word: &[u8]) -> Lexeme<'_>
-    ensures { seen_lexeme result ≡ word_with_power_of word.now }
+    ensures { seen_lexeme result ≡ spec.word_with_power word.now }
 {
     if !has_power(word) {
         return Lexeme::Malformed;
@@ -189,7 +187,7 @@ fn word_with_power(word: &[u8]) -> Lexeme<'_>
 // Two stars, or a byte that is a token by itself.
 fn mark_piece(text: &[u8]) -> Piece<'_>
     requires { 0 < length text.now }
-    ensures is { seen_piece result ≡ mark_piece_of text.now }
+    ensures is { seen_piece result ≡ spec.mark_piece text.now }
     ensures some { 0 < result.len }
     ensures within { result.len ≤ length text.now }
 {
@@ -207,7 +205,7 @@ fn mark_piece(text: &[u8]) -> Piece<'_>
 
 // A byte that is a token by itself.
 fn mark(byte: u8) -> Lexeme<'static>
-    ensures { seen_lexeme result ≡ mark_of byte }
+    ensures { seen_lexeme result ≡ spec.mark byte }
 {
     match byte {
         b'+' => Lexeme::Whole(Token::Plus),

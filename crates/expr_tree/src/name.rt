@@ -2,10 +2,7 @@
 
 ghost use Rattle.std.specs.Prelude.{◌≡◌};
 ghost use Rattle.std.specs.List.{list_all};
-ghost use Rattle.expr_tree.specs.Names.{ends_in_count as ends_in_count_of, has_index as has_index_in, has_power as has_power_of, is_among};
-ghost use Rattle.expr_tree.specs.Names.{is_count as is_count_byte, is_index_byte as is_index};
-ghost use Rattle.expr_tree.specs.Names.{is_name as is_name_of, is_refused as is_refused_name, is_spelled as is_spelled_name};
-ghost use Rattle.expr_tree.specs.Names.{is_power_byte as is_power, is_word_byte as is_of_words, keywords, may_begin as may_begin_name, may_end as may_end_name};
+ghost use Rattle.expr_tree.specs.Names as spec;
 
 // The most bytes of a name.
 const LONGEST_NAME: usize = 255;
@@ -15,14 +12,14 @@ const LONGEST_NAME: usize = 255;
 /// `_ , .`. Where the last is a digit from 1 to 9, some `_` has only digits, dots and commas
 /// after it. `per`, `sqrt`, `cuberoot` and the refused names are no names.
 pub fn is_name(bytes: &[u8]) -> bool
-    ensures { result ≡ is_name_of bytes.now }
+    ensures { result ≡ spec.is_name bytes.now }
 {
     is_spelled(bytes) && !ends_in_count(bytes) && !is_keyword(bytes) && !is_refused(bytes)
 }
 
 // Whether the number of bytes, the bytes, the first and the last are those of a name.
 fn is_spelled(bytes: &[u8]) -> bool
-    ensures { result ≡ is_spelled_name bytes.now }
+    ensures { result ≡ spec.is_spelled bytes.now }
 {
     !bytes.is_empty()
         && bytes.len() <= LONGEST_NAME
@@ -33,21 +30,21 @@ fn is_spelled(bytes: &[u8]) -> bool
 
 // Whether a word may hold each of the bytes.
 fn has_word_bytes(bytes: &[u8]) -> bool
-    ensures { result ≡ list_all is_of_words bytes.now }
+    ensures { result ≡ list_all spec.is_word_byte bytes.now }
 {
     bytes.iter().all(|byte| is_word_byte(*byte))
 }
 
 // Whether the last byte is a digit from 1 to 9 that belongs to no index.
 fn ends_in_count(bytes: &[u8]) -> bool
-    ensures { result ≡ ends_in_count_of bytes.now }
+    ensures { result ≡ spec.ends_in_count bytes.now }
 {
     !bytes.is_empty() && is_count(bytes[bytes.len() - 1]) && !has_index(bytes)
 }
 
 /// Whether the bytes are the name of a function that is refused.
 pub fn is_refused(bytes: &[u8]) -> bool
-    ensures { result ≡ is_refused_name bytes.now }
+    ensures { result ≡ spec.is_refused bytes.now }
 {
     matches!(
         bytes,
@@ -72,28 +69,28 @@ pub fn is_refused(bytes: &[u8]) -> bool
 
 // Whether the bytes are a name, followed by one digit from 2 to 9.
 pub(crate) fn has_power(word: &[u8]) -> bool
-    ensures { result ≡ has_power_of word.now }
+    ensures { result ≡ spec.has_power word.now }
 {
     !word.is_empty() && is_power_byte(word[word.len() - 1]) && is_name(&word[..word.len() - 1])
 }
 
 // Whether the byte is a digit from 2 to 9.
 fn is_power_byte(byte: u8) -> bool
-    ensures { result ≡ is_power byte }
+    ensures { result ≡ spec.is_power_byte byte }
 {
     matches!(byte, b'2'..=b'9')
 }
 
 // Whether the bytes are a word that means something of its own.
 fn is_keyword(bytes: &[u8]) -> bool
-    ensures { result ≡ is_among keywords bytes.now }
+    ensures { result ≡ spec.is_among spec.keywords bytes.now }
 {
     matches!(bytes, b"per" | b"sqrt") || bytes == b"cuberoot".as_slice()
 }
 
 // Whether a word may hold the byte.
 pub(crate) fn is_word_byte(byte: u8) -> bool
-    ensures { result ≡ is_of_words byte }
+    ensures { result ≡ spec.is_word_byte byte }
 {
     !matches!(
         byte,
@@ -117,35 +114,35 @@ pub(crate) fn is_word_byte(byte: u8) -> bool
 
 // Whether a name may begin with the byte.
 fn may_begin(byte: u8) -> bool
-    ensures { result ≡ may_begin_name byte }
+    ensures { result ≡ spec.may_begin byte }
 {
     !matches!(byte, b'0'..=b'9' | b'_' | b',' | b'.' | b'!')
 }
 
 // Whether a name may end in the byte.
 fn may_end(byte: u8) -> bool
-    ensures { result ≡ may_end_name byte }
+    ensures { result ≡ spec.may_end byte }
 {
     !matches!(byte, b'_' | b',' | b'.')
 }
 
 // Whether the byte is a digit from 1 to 9.
 fn is_count(byte: u8) -> bool
-    ensures { result ≡ is_count_byte byte }
+    ensures { result ≡ spec.is_count byte }
 {
     matches!(byte, b'1'..=b'9')
 }
 
 // Whether the byte is a digit, a dot or a comma.
 fn is_index_byte(byte: u8) -> bool
-    ensures { result ≡ is_index byte }
+    ensures { result ≡ spec.is_index_byte byte }
 {
     matches!(byte, b'0'..=b'9' | b'.' | b',')
 }
 
 // Whether some `_` has nothing but digits, dots and commas after it.
 fn has_index(bytes: &[u8]) -> bool
-    ensures { result ≡ has_index_in bytes.now }
+    ensures { result ≡ spec.has_index bytes.now }
 {
     let mut in_index = false;
     for &byte in bytes {

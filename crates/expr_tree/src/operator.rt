@@ -6,21 +6,27 @@ ghost use Rattle.expr_tree.specs.Syntax.{degree};
 /// The sign before a member of a sum.
 #[derive(Clone, Copy, Drop)]
 pub enum Sign {
+    /// It is added.
     Plus,
+    /// It is subtracted.
     Minus,
 }
 
 /// Whether a member of a product multiplies or divides.
 #[derive(Clone, Copy, Drop)]
 pub enum Scale {
+    /// It multiplies.
     Multiply,
+    /// It divides.
     Divide,
 }
 
 /// Which root is taken.
 #[derive(Clone, Copy, Drop)]
 pub enum RootKind {
+    /// The square root.
     Square,
+    /// The cube root.
     Cube,
 }
 

@@ -4,7 +4,7 @@ ghost use Rattle.std.specs.Prelude.{◌≡◌, ◌⊎◌, MatchResult, Ok, Err, 
 ghost use Rattle.std.specs.Option.{option_copied};
 ghost use Rattle.expr_tree.specs.Faults.{first_fault};
 ghost use Rattle.expr_tree.specs.Grammar.{Gives};
-ghost use Rattle.expr_tree.specs.Lexemes.{tokens as tokens_of};
+ghost use Rattle.expr_tree.specs.Lexemes as spec;
 ghost use Rattle.expr_tree.specs.Parsed.{parsed};
 ghost use Rattle.expr_tree.specs.Trees.{syntax};
 
@@ -24,7 +24,7 @@ use std::alloc::Global;
 pub fn parse_expr(alloc: Global, text: &[u8], binder: Option<&[u8]>) -> Result<Tree, ParseFault>
     ensures exact { MatchResult result
         (λ tree. (first_fault text.now ≡ None)
-        × Gives (option_copied binder.entry) (tokens_of text.now) (syntax tree))
+        × Gives (option_copied binder.entry) (spec.tokens text.now) (syntax tree))
         (λ fault. (fault ≡ ParseFault.OutOfMemory) ⊎ (first_fault text.now ≡ Some fault)) }
     ensures computed { MatchResult result
         (λ tree. parsed (option_copied binder.entry) text.now ≡ Ok (syntax tree))

@@ -1,9 +1,7 @@
 //! Which token may stand after which.
 
 ghost use Rattle.std.specs.Prelude.{◌≡◌};
-ghost use Rattle.expr_tree.specs.Rules.{after as after_token, closes as closes_token};
-ghost use Rattle.expr_tree.specs.Rules.{deepens as deepens_token, has_ended as has_ended_at};
-ghost use Rattle.expr_tree.specs.Rules.{may as may_stand, opens as opens_token};
+ghost use Rattle.expr_tree.specs.Rules as spec;
 ghost use Rattle.expr_tree.specs.Faults.{takes_numeral};
 ghost use Rattle.expr_tree.specs.Seen.{seen};
 
@@ -29,7 +27,7 @@ pub(crate) enum After {
 impl After {
     // What a token leaves.
     pub(crate) fn then(self, token: &Token) -> After
-        ensures { result ≡ after_token (seen token.now) self }
+        ensures { result ≡ spec.after (seen token.now) self }
     {
         match token {
             Token::Numeral(_) => match self {
@@ -52,7 +50,7 @@ impl After {
 
     // Whether a token may stand where so many parentheses are open.
     pub(crate) fn may(self, opened: usize, token: &Token) -> bool
-        ensures { result ≡ may_stand self opened (seen token.now) }
+        ensures { result ≡ spec.may self opened (seen token.now) }
     {
         match token {
             Token::Numeral(_) => !matches!(self, After::WantsHead | After::WantsOpen),
@@ -77,70 +75,33 @@ impl After {
 
     // Whether an operand has ended.
     pub(crate) fn has_ended(self) -> bool
-        ensures { result ≡ has_ended_at self }
+        ensures { result ≡ spec.has_ended self }
     {
         matches!(self, After::EndsNumeral | After::EndsOperand)
     }
 
     // Whether a token nests what follows it deeper.
     pub(crate) fn deepens(self, token: &Token) -> bool
-        ensures { result ≡ deepens_token (seen token.now) self }
+        ensures { result ≡ spec.deepens (seen token.now) self }
     {
         match token {
             Token::Caret | Token::Head(_) | Token::Open => true,
             Token::Plus | Token::Minus => !self.has_ended(),
-            Token::Numeral(_)
-            | Token::Word(_)
-            | Token::WordWithPower(_, _)
-            | Token::Root(_)
-            | Token::Star
-            | Token::Slash
-            | Token::Bar
-            | Token::Tilde
-            | Token::Close => false,
+            _ => false,
         }
     }
 }
 
 // Whether a token opens a parenthesis.
 pub(crate) fn opens(token: &Token) -> bool
-    ensures { result ≡ opens_token (seen token.now) }
+    ensures { result ≡ spec.opens (seen token.now) }
 {
-    match token {
-        Token::Head(_) | Token::Open => true,
-        Token::Numeral(_)
-        | Token::Word(_)
-        | Token::WordWithPower(_, _)
-        | Token::Root(_)
-        | Token::Plus
-        | Token::Minus
-        | Token::Star
-        | Token::Slash
-        | Token::Bar
-        | Token::Caret
-        | Token::Tilde
-        | Token::Close => false,
-    }
+    matches!(token, Token::Head(_) | Token::Open)
 }
 
 // Whether a token closes a parenthesis.
 pub(crate) fn closes(token: &Token) -> bool
-    ensures { result ≡ closes_token (seen token.now) }
+    ensures { result ≡ spec.closes (seen token.now) }
 {
-    match token {
-        Token::Close => true,
-        Token::Numeral(_)
-        | Token::Word(_)
-        | Token::WordWithPower(_, _)
-        | Token::Head(_)
-        | Token::Root(_)
-        | Token::Plus
-        | Token::Minus
-        | Token::Star
-        | Token::Slash
-        | Token::Bar
-        | Token::Caret
-        | Token::Tilde
-        | Token::Open => false,
-    }
+    matches!(token, Token::Close)
 }

@@ -2,7 +2,7 @@
 
 ghost use Rattle.std.specs.Prelude.{◌≡◌, ◌⊎◌, IfOk, IfErr, None, Some, map, true};
 ghost use Rattle.expr_tree.specs.Faults.{first_fault};
-ghost use Rattle.expr_tree.specs.Lexemes.{tokens as tokens_of};
+ghost use Rattle.expr_tree.specs.Lexemes as spec;
 ghost use Rattle.expr_tree.specs.Rules.{WantsOperand, fits};
 ghost use Rattle.expr_tree.specs.Seen.{seen};
 
@@ -15,7 +15,7 @@ use std::alloc::Global;
 // The tokens of a text that has no fault, each of which may stand where it stands, or its first
 // fault.
 pub(crate) fn scan(alloc: Global, text: &[u8]) -> Result<Vec<Token<'_>>, ParseFault>
-    ensures tokens { IfOk result (λ tokens. map seen tokens.items ≡ tokens_of text.now) }
+    ensures tokens { IfOk result (λ tokens. map seen tokens.items ≡ spec.tokens text.now) }
     ensures faultless { IfOk result (λ tokens. first_fault text.now ≡ None) }
     ensures fits { IfOk result (λ tokens. fits WantsOperand 0 (map seen tokens.items) ≡ true) }
     ensures fault { IfErr result (λ fault. (fault ≡ ParseFault.OutOfMemory) ⊎ (first_fault text.now ≡ Some fault)) }

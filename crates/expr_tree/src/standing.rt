@@ -2,7 +2,7 @@
 
 ghost use Rattle.std.specs.Prelude.{◌≡◌, ◌<◌, ◌^◌};
 ghost use Rattle.expr_tree.specs.Faults.{fault_at};
-ghost use Rattle.expr_tree.specs.Rules.{after, counted as counted_by, depth_after, may_end as may_end_at, opened_after};
+ghost use Rattle.expr_tree.specs.Rules as spec;
 ghost use Rattle.expr_tree.specs.Seen.{seen, seen_lexeme};
 
 use crate::fault::ParseFault;
@@ -65,9 +65,9 @@ impl Standing {
         requires opened { self.now.opened < 2 ^ 32 }
         requires depth { self.now.depth < 2 ^ 32 }
         ensures { result ≡ record {
-          last = after (seen token.now) self.now.last;
-          opened = opened_after (seen token.now) self.now.opened;
-          depth = depth_after (seen token.now) self.now.last self.now.depth;
+          last = spec.after (seen token.now) self.now.last;
+          opened = spec.opened_after (seen token.now) self.now.opened;
+          depth = spec.depth_after (seen token.now) self.now.last self.now.depth;
         } }
     {
         let closes = closes(token);
@@ -80,7 +80,7 @@ impl Standing {
 
     // Whether the tokens may end.
     pub(crate) fn may_end(&self) -> bool
-        ensures { result ≡ may_end_at self.now.last self.now.opened }
+        ensures { result ≡ spec.may_end self.now.last self.now.opened }
     {
         self.last.has_ended() && self.opened == 0
     }
@@ -89,7 +89,7 @@ impl Standing {
 // One more, one less, or the same.
 fn counted(more: bool, less: bool, n: usize) -> usize
     requires { n < 2 ^ 32 }
-    ensures { result ≡ counted_by more less n }
+    ensures { result ≡ spec.counted more less n }
 {
     if more {
         n + 1

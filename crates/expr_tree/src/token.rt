@@ -49,21 +49,6 @@ impl Token<'_> {
     pub(crate) fn is_numeral(&self) -> bool
         ensures { result ≡ is_numeral_token (seen self.now) }
     {
-        match self {
-            Token::Numeral(_) => true,
-            Token::Word(_)
-            | Token::WordWithPower(_, _)
-            | Token::Head(_)
-            | Token::Root(_)
-            | Token::Plus
-            | Token::Minus
-            | Token::Star
-            | Token::Slash
-            | Token::Bar
-            | Token::Caret
-            | Token::Tilde
-            | Token::Open
-            | Token::Close => false,
-        }
+        matches!(self, Token::Numeral(_))
     }
 }

@@ -24,9 +24,9 @@ pub struct WordUse<'a> {
 }
 
 impl<'a> Model for WordUse<'a> {
-    ghost use Rattle.expr_tree.specs.WordUses.{WordUse as Used};
+    ghost use Rattle.expr_tree.specs.WordUses as spec;
 
-    ghost Value = { Used };
+    ghost Value = { spec.WordUse };
 
     ghost view = { λ word. record { text = word.text.now; kind = word.kind } };
 }

@@ -3,7 +3,7 @@ use Rattle.std.specs.Prelude.{◌++◌, ℕ, List, [], ◌∷◌, codes, Option,
 use Rattle.std.specs.List.{flat_map}
 use Rattle.frac128.specs.Faults.{fault_text as number_fault_text}
 use Rattle.quantity.specs.Amount.{Amount}
-use Rattle.quantity.specs.Text.{shown}
+use Rattle.quantity.specs.Text.{amount_text}
 use Rattle.digits_print.specs.declared.style.Style.{Style}
 use Rattle.def_entry.specs.declared.key.Key.{Key}
 use Rattle.def_entry.specs.Keys.{key_text}
@@ -34,7 +34,8 @@ name_fault_text (Cycle keys) = codes "cycle: " ++ chain_text keys
 
 -- of a sum of two quantities that do not conform
 abbrev pub unlike_sum_text : Style → Amount → Amount → List ℕ
-unlike_sum_text style x y = (codes "sum of unlike units: " ++ shown style x) ++ (codes " and " ++ shown style y)
+unlike_sum_text style x y =
+    (codes "sum of unlike units: " ++ amount_text style x) ++ (codes " and " ++ amount_text style y)
 
 -- of a value
 abbrev pub value_fault_text : Style → ValueFault → List ℕ

@@ -2,7 +2,7 @@
 
 ghost use Rattle.std.specs.Prelude.{◌≡◌, ◌++◌, OnOk};
 ghost use Rattle.digits_print.specs.Styles.{IsStyle};
-ghost use Rattle.quantity.specs.Text.{shown};
+ghost use Rattle.quantity.specs.Text.{amount_text};
 ghost use Rattle.fault_texts.specs.Texts as spec;
 
 use crate::put::put_named;
@@ -60,7 +60,7 @@ fn put_shown(
     x: &Quantity,
 ) -> Result<(), AllocError>
     requires { IsStyle style }
-    ensures { OnOk result (text.new.items ≡ text.old.items ++ (words.now ++ shown style x.now)) }
+    ensures { OnOk result (text.new.items ≡ text.old.items ++ (words.now ++ amount_text style x.now)) }
 {
     put_named(text, words, x.show(alloc, style)?.as_bytes())
 }

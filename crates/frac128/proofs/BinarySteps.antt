@@ -1,5 +1,6 @@
 -- The greatest common divisor by differences and factors of two.
-use Rattle.std.proofs.Common.{inl, inr, ◌≡◌, ◌+◌, ◌-◌, ◌*◌, ◌/◌, ◌%◌, ◌^◌, ◌<◌, ◌≤◌, ℕ, suc, zero, min, mod-eq_of_lt, arith, sym, ap, ◌∙◌}
+use Rattle.std.proofs.Common.{inl, inr, ◌≡◌, ◌+◌, ◌-◌, ◌*◌, ◌/◌, ◌%◌, ◌^◌, ◌<◌, ◌≤◌, ℕ, suc, zero, min, mod-eq_of_lt}
+use Rattle.std.proofs.Common.{arith, sym, ap, ◌∙◌}
 use Rattle.std.proofs.Common.{lit<}
 use mir.Syntax.{Width}
 use mir.Val.{bits}
@@ -8,7 +9,8 @@ use Rattle.std.proofs.lemmas.Bool.{cases_lt}
 use Rattle.std.proofs.lemmas.Nat.{pow-add, shr-shr}
 use Rattle.std.proofs.lemmas.Nat.Bits.{bit_at-suc, bit_at-trailing_zeros, bit_at_lowest}
 use Rattle.std.proofs.lemmas.Nat.Gcd.{IsGcd-swap, dvd_refl, dvd_trans, le_of_dvd, same_from_IsGcd}
-use Rattle.std.proofs.Math.Nat.{div-one, dvd-mul_left, dvd-mul_right_of_dvd, dvd-sub, dvd-sub_iff_left, mul_assoc, mul_comm, one-dvd}
+use Rattle.std.proofs.Math.Nat.{div-one, dvd-mul_left, dvd-mul_right_of_dvd, dvd-sub, dvd-sub_iff_left, mul_assoc}
+use Rattle.std.proofs.Math.Nat.{mul_comm, one-dvd}
 use Rattle.std.proofs.Math.Nat.{one-mul, pow-suc, pow-zero}
 use Rattle.frac128.specs.Divisors.{gcd, gcd_within}
 use Rattle.frac128.proofs.Coprime.{IsCoprime, euclid_lemma}
@@ -32,8 +34,11 @@ pub gcd-coprime : (z u g : ℕ) → IsCoprime z u → gcd z (u * g) ≡ gcd z g
 gcd-coprime z u g h =
     let is = gcd_is z g in
     let all = gcd_is z (u * g) in
-    same_from_IsGcd z g _ _
-    (all.0, euclid_lemma z u g _ h (dvd-mul_right_of_dvd _ all.0 g) all.1, λ d p q. all.2 d p (dvd_trans d q (dvd-mul_left g u)))
+    same_from_IsGcd z g _ _ (
+      all.0,
+      euclid_lemma z u g _ h (dvd-mul_right_of_dvd _ all.0 g) all.1,
+      λ d p q. all.2 d p (dvd_trans d q (dvd-mul_left g u)),
+    )
     is
 
 -- an odd number is coprime to two
@@ -63,7 +68,8 @@ twos_out : (t n : ℕ) → ((i : ℕ) → i < t → bit_at n i ≡ 0) → 2 ^ t 
 twos_out zero n none = rw (pow-zero 2, div-one n) (one-mul n)
 twos_out (suc t) n none =
     let even : n % 2 ≡ 0 = sym (bit_at_lowest n) ∙ none 0 (omega arith) in
-    let half : 2 ^ t * (n / 2 / 2 ^ t) ≡ n / 2 = twos_out t (n / 2) (λ i h. sym (bit_at-suc n i) ∙ none (suc i) (omega arith)) in
+    let half : 2 ^ t * (n / 2 / 2 ^ t) ≡ n / 2 =
+    twos_out t (n / 2) (λ i h. sym (bit_at-suc n i) ∙ none (suc i) (omega arith)) in
     let one_more : 1 + t ≡ suc t = omega arith in
     let quotient : n / 2 / 2 ^ t ≡ n / 2 ^ suc t = shr-shr n 1 t ∙ ap (λ k. n / 2 ^ k) one_more in
     ap (λ k. k * (n / 2 ^ suc t)) (pow-suc 2 t ∙ mul_comm (2 ^ t) 2) ∙ mul_assoc 2 (2 ^ t) (n / 2 ^ suc t)
@@ -73,7 +79,8 @@ twos_out (suc t) n none =
     doubled even = omega arith
 
 -- the odd part of a number above 0
-pub odd_part : (w : Width) (n : ℕ) → 0 < n → n < 2 ^ bits w → IsOddPart n (trailing_zeros w n) (n / 2 ^ trailing_zeros w n)
+pub odd_part : (w : Width) (n : ℕ) → 0 < n → n < 2 ^ bits w
+    → IsOddPart n (trailing_zeros w n) (n / 2 ^ trailing_zeros w n)
 odd_part w n some fits =
     let is = bit_at-trailing_zeros w n some fits in
     record { whole = twos_out (trailing_zeros w n) n is.2; odd = is.1 }
@@ -85,7 +92,8 @@ pub record IsOddPair (a b x y : ℕ) : Type 0 where
   pub same : gcd x y ≡ gcd a b
 
 -- the less of two such numbers, and the odd part of their difference
-pub pair_more : (w : Width) (a b x y m d : ℕ) → IsOddPair a b x y → (x ≡ y → ⊥) → m ≡ min x y → d ≡ abs_diff x y → d < 2 ^ bits w
+pub pair_more : (w : Width) (a b x y m d : ℕ) → IsOddPair a b x y → (x ≡ y → ⊥) → m ≡ min x y → d ≡ abs_diff x y
+    → d < 2 ^ bits w
     → IsOddPair a b m (d / 2 ^ trailing_zeros w d)
 pair_more w a b x y m d is other m_is d_is fits =
     let some : 0 < d = omega (arith, other) in
@@ -95,8 +103,10 @@ pair_more w a b x y m d is other m_is d_is fits =
       | inr h ↦ (let less : m ≡ y = omega arith in rw less is.odd_y)
     ] in
     let steps : gcd m d ≡ gcd x y = elim (cases_lt x y) [
-      | inl h ↦ (let less : m ≡ x = omega arith in let rest : d ≡ y - x = omega arith in rw (less, rest) (gcd_less x y (omega arith)))
-      | inr h ↦ (let less : m ≡ y = omega arith in let rest : d ≡ x - y = omega arith in rw (less, rest) (gcd_less y x h ∙ gcd_swap y x))
+      | inl h ↦ (let less : m ≡ x = omega arith in let rest : d ≡ y - x =
+          omega arith in rw (less, rest) (gcd_less x y (omega arith)))
+      | inr h ↦ (let less : m ≡ y = omega arith in let rest : d ≡ x - y =
+          omega arith in rw (less, rest) (gcd_less y x h ∙ gcd_swap y x))
     ] in
     record {
       odd_x = odd;
@@ -113,8 +123,10 @@ pair_end a b x y is e =
 twos_shared : (i j x y : ℕ) → x % 2 ≡ 1 → i ≤ j → gcd (2 ^ i * x) (2 ^ j * y) ≡ gcd x y * 2 ^ i
 twos_shared i j x y odd low =
     let parts : j ≡ i + (j - i) = omega arith in
-    let power : 2 ^ j * y ≡ 2 ^ i * (2 ^ (j - i) * y) = ap (λ k. 2 ^ k * y) parts ∙ ap (λ k. k * y) (pow-add 2 i (j - i)) ∙ mul_assoc (2 ^ i) (2 ^ (j - i)) y in
-    ap (gcd (2 ^ i * x)) power ∙ gcd-mul (2 ^ i) x (2 ^ (j - i) * y) ∙ ap (λ k. 2 ^ i * k) (gcd-odd x (j - i) y odd) ∙ mul_comm (2 ^ i) (gcd x y)
+    let power : 2 ^ j * y ≡ 2 ^ i * (2 ^ (j - i) * y) = ap (λ k. 2 ^ k * y) parts
+    ∙ ap (λ k. k * y) (pow-add 2 i (j - i)) ∙ mul_assoc (2 ^ i) (2 ^ (j - i)) y in
+    ap (gcd (2 ^ i * x)) power ∙ gcd-mul (2 ^ i) x (2 ^ (j - i) * y) ∙ ap (λ k. 2 ^ i * k) (gcd-odd x (j - i) y odd)
+    ∙ mul_comm (2 ^ i) (gcd x y)
 
 -- two numbers above 0 by their odd parts
 pub odd_parts : (w : Width) (a b k g : ℕ) → 0 < a → 0 < b → a < 2 ^ bits w → b < 2 ^ bits w
@@ -126,8 +138,14 @@ odd_parts w a b k g some_a some_b a_fits b_fits k_is g_is =
     let a_part = odd_part w a some_a a_fits in
     let b_part = odd_part w b some_b b_fits in
     let whole : g * 2 ^ k ≡ gcd a b = elim (cases_lt i j) [
-      | inl h ↦ (let less : k ≡ i = omega arith in rw (less, g_is) (sym (twos_shared i j _ _ a_part.odd (omega arith)) ∙ ap (λ n. gcd n (2 ^ j * (b / 2 ^ j))) a_part.whole ∙ ap (gcd a) b_part.whole))
-      | inr h ↦ (let less : k ≡ j = omega arith in rw (less, g_is) (ap (λ n. n * 2 ^ j) (gcd_swap _ _) ∙ sym (twos_shared j i _ _ b_part.odd h) ∙ ap (λ n. gcd n (2 ^ i * (a / 2 ^ i))) b_part.whole ∙ ap (gcd b) a_part.whole ∙ gcd_swap b a))
+      | inl h ↦ (let less : k ≡ i =
+          omega arith in rw (less, g_is)
+          (sym (twos_shared i j _ _ a_part.odd (omega arith)) ∙ ap (λ n. gcd n (2 ^ j * (b / 2 ^ j))) a_part.whole
+          ∙ ap (gcd a) b_part.whole))
+      | inr h ↦ (let less : k ≡ j =
+          omega arith in rw (less, g_is)
+          (ap (λ n. n * 2 ^ j) (gcd_swap _ _) ∙ sym (twos_shared j i _ _ b_part.odd h)
+          ∙ ap (λ n. gcd n (2 ^ i * (a / 2 ^ i))) b_part.whole ∙ ap (gcd b) a_part.whole ∙ gcd_swap b a))
     ] in
     let low : gcd a b ≤ a = le_of_dvd some_a (gcd_is a b).0 in
     ap (λ n. n % 2 ^ bits w) whole ∙ mod-eq_of_lt (omega arith)

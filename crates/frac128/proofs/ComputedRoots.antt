@@ -1,6 +1,8 @@
 -- Roots that are computed by a search among whole numbers.
-use Rattle.std.proofs.Common.{inl, inr, ◌≡◌, ◌<◌, ◌≤◌, ◌^◌, ◌%◌, refl, sym, ap, subst, ◌∙◌, arith, Bool, true, false, cond, ℕ, ℤ, pos}
-use Rattle.std.proofs.Common.{negsuc, suc, zero, unsigned_abs, int_lt, List, [], ◌∷◌, Option, None, Some, Result, Ok, Err}
+use Rattle.std.proofs.Common.{inl, inr, ◌≡◌, ◌<◌, ◌≤◌, ◌^◌, ◌%◌, refl, sym, ap, subst, ◌∙◌, arith, Bool, true, false}
+use Rattle.std.proofs.Common.{cond, ℕ, ℤ, pos}
+use Rattle.std.proofs.Common.{negsuc, suc, zero, unsigned_abs, int_lt, List, [], ◌∷◌, Option, None, Some, Result, Ok}
+use Rattle.std.proofs.Common.{Err}
 use Rattle.std.specs.Prelude.{◌==◌, ◌&&◌, IsFalse, if◌then◌else◌}
 use Rattle.std.specs.Int.{int_pow}
 use Rattle.std.specs.List.{find}
@@ -20,7 +22,8 @@ found_passes : (test : ℕ → Bool) (xs : List ℕ) (x : ℕ) → find test xs 
 found_passes test [] x is = absurd (cc)
 found_passes test (y ∷ ys) x is = go (test y) refl is (λ rest. found_passes test ys x rest)
   where
-    go : (b : Bool) → test y ≡ b → cond b (Some y) (find test ys) ≡ Some x → (find test ys ≡ Some x → test x ≡ true) → test x ≡ true
+    go : (b : Bool) → test y ≡ b → cond b (Some y) (find test ys) ≡ Some x → (find test ys ≡ Some x → test x ≡ true)
+        → test x ≡ true
     go true passes is rest = let same : y ≡ x = cc in ap test (sym same) ∙ passes
     go false fails is rest = rest is
 
@@ -34,7 +37,8 @@ none_passes : (test : ℕ → Bool) (n m : ℕ) → m ≤ n → find test (down_
 none_passes test zero m low none = let same : m ≡ 0 = omega arith in ap test same ∙ (failed (test 0) 0 None none).0
 none_passes test (suc n) m low none = elim (cases_eq m (suc n)) [
   | inl same ↦ ap test same ∙ (failed (test (suc n)) (suc n) (find test (down_from n)) none).0
-  | inr other ↦ none_passes test n m (omega (arith, other)) (failed (test (suc n)) (suc n) (find test (down_from n)) none).1
+  | inr other ↦ none_passes test n m (omega (arith, other))
+      (failed (test (suc n)) (suc n) (find test (down_from n)) none).1
 ]
 
 -- ---- the law
@@ -80,19 +84,26 @@ root_of_law x q is some = by_sign (is_negative x) (q % 2 == 0) refl refl
         → whole_root (unsigned_abs x.num) q ≡ top → whole_root x.den q ≡ bottom
         → IsRootAnswer x q (root_over s top bottom)
     by_parts s (Some a) (Some b) s_is other top bottom =
-        root_by x q s (unsigned_abs x.num) x.den a b (made s s_is) some (found_root (unsigned_abs x.num) q a top) (found_root x.den q b bottom) other
-    by_parts s (Some a) None s_is other top bottom = (refl, λ r root. no_root x.den q r.den some bottom (ap (λ f. f.den) root.power))
-    by_parts s None bottom s_is other top none =
-        (refl, λ r root. no_root (unsigned_abs x.num) q (unsigned_abs r.num) some top (sym (abs-pow r.num q) ∙ ap (λ f. unsigned_abs f.num) root.power))
+        root_by x q s (unsigned_abs x.num) x.den a b (made s s_is) some (found_root (unsigned_abs x.num) q a top)
+        (found_root x.den q b bottom) other
+    by_parts s (Some a) None s_is other top bottom =
+        (refl, λ r root. no_root x.den q r.den some bottom (ap (λ f. f.den) root.power))
+    by_parts s None bottom s_is other top none = (
+      refl,
+      λ r root. no_root (unsigned_abs x.num) q (unsigned_abs r.num) some top
+          (sym (abs-pow r.num q) ∙ ap (λ f. unsigned_abs f.num) root.power),
+    )
 
     by_sign : (s e : Bool) → is_negative x ≡ s → (q % 2 == 0) ≡ e
-        → IsRootAnswer x q (if s && e then Err NoExactRoot else root_over s (whole_root (unsigned_abs x.num) q) (whole_root x.den q))
+        → IsRootAnswer x q
+        (if s && e then Err NoExactRoot else root_over s (whole_root (unsigned_abs x.num) q) (whole_root x.den q))
     by_sign true true s_is e_is = (refl, λ r root. no_even x r q s_is (even (q % 2) e_is) root)
     by_sign true false s_is e_is = by_parts true _ _ s_is (λ _. odd (q % 2) e_is) refl refl
     by_sign false e s_is e_is = by_parts false _ _ s_is (λ h _. false≢true h) refl refl
 
 -- an answer is the one that is computed
-pub root_is : (x : Fraction) (q : ℕ) (answer : Result Fraction FracFault) → IsReduced x → 0 < q → IsRootAnswer x q answer
+pub root_is : (x : Fraction) (q : ℕ) (answer : Result Fraction FracFault) → IsReduced x → 0 < q
+    → IsRootAnswer x q answer
     → answer ≡ root_of x q
 root_is x q answer is some h = go answer (root_of x q) h (root_of_law x q is some)
   where

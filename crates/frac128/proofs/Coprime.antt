@@ -55,5 +55,9 @@ coprime-quotients a b some =
     let g = gcd a b in
     let first : g * (a / g) ≡ a = mul-div_cancel' g (gcd_is a b).0 in
     let second : g * (b / g) ≡ b = mul-div_cancel' g (gcd_is a b).1 in
-    let whole : g * gcd (a / g) (b / g) ≡ g * 1 = sym (gcd-mul g (a / g) (b / g)) ∙ rw (first, second) (sym (mul-one g)) in
-    record { one = sym (mul-div_cancel_left (gcd (a / g) (b / g)) some) ∙ ap (λ n. n / g) whole ∙ mul-div_cancel_left 1 some }
+    let whole : g * gcd (a / g) (b / g) ≡ g * 1 = sym (gcd-mul g (a / g) (b / g))
+    ∙ rw (first, second) (sym (mul-one g)) in
+    record {
+      one = sym (mul-div_cancel_left (gcd (a / g) (b / g)) some) ∙ ap (λ n. n / g) whole
+          ∙ mul-div_cancel_left 1 some;
+    }

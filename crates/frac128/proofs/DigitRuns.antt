@@ -1,12 +1,14 @@
 -- Digits that are read one by one.
-use Rattle.std.proofs.Common.{add-one, zero-add, ◌≡◌, ◌+◌, ◌-◌, ◌*◌, ◌^◌, ◌<◌, ◌≤◌, ℕ, suc, zero, Bool, true, false, List, [], ◌∷◌}
+use Rattle.std.proofs.Common.{add-one, zero-add, ◌≡◌, ◌+◌, ◌-◌, ◌*◌, ◌^◌, ◌<◌, ◌≤◌, ℕ, suc, zero, Bool, true, false}
+use Rattle.std.proofs.Common.{List, [], ◌∷◌}
 use Rattle.std.proofs.Common.{length, drop, get_or, Some, None, arith, refl, sym, ap, subst, ◌∙◌, lit<}
 use Rattle.std.specs.Prelude.{fold, if◌then◌else◌, nat_le}
 use Rattle.std.specs.List.{list_all}
 use Rattle.std.proofs.lemmas.Bool.Decides.{nat_tests}
 use Rattle.std.proofs.lemmas.List.{at_drop_all, at_drop_more}
 use Rattle.std.proofs.Math.Nat.{le-mul_of_pos_right, zero-mul, mul-one, mul_assoc, pow-suc}
-use Rattle.frac128.specs.Decimals.{coefficient_of, digits_of, end_zeros, exponent_size, is_zero_digit, most_exponent, number}
+use Rattle.frac128.specs.Decimals.{coefficient_of, digits_of, end_zeros, exponent_size, is_zero_digit, most_exponent}
+use Rattle.frac128.specs.Decimals.{number}
 use Rattle.frac128.specs.Decimals.{short_coefficient, without_end_zeros}
 use Rattle.frac128.specs.Fraction.{most}
 use Rattle.frac128.specs.Numerals.{is_digit}
@@ -32,7 +34,8 @@ without-all_zero [] h = refl
 without-all_zero (d ∷ ds) h = rw h refl
 
 -- a digit stays where another one than 0 follows or it is one
-without-other : (d : ℕ) (ds : List ℕ) → all_zero (d ∷ ds) ≡ false → without_end_zeros (d ∷ ds) ≡ d ∷ without_end_zeros ds
+without-other : (d : ℕ) (ds : List ℕ) → all_zero (d ∷ ds) ≡ false
+    → without_end_zeros (d ∷ ds) ≡ d ∷ without_end_zeros ds
 without-other d ds h = rw h refl
 
 -- zeros alone
@@ -68,28 +71,39 @@ collect-others n z [] h = absurd (cc)
 collect-others n z (zero ∷ ds) h =
     collect-others n (z + 1) ds h
     ∙ ap (λ m. (fold extend m (without_end_zeros ds), length ds - length (without_end_zeros ds))) (shifted n z)
-    ∙ ap (λ k. (fold extend (n * 10 ^ z * 10 + 0) (without_end_zeros ds), k)) (taken (length ds) (length (without_end_zeros ds)))
+    ∙ ap (λ k. (fold extend (n * 10 ^ z * 10 + 0) (without_end_zeros ds), k))
+    (taken (length ds) (length (without_end_zeros ds)))
     ∙ ap (λ w. (fold extend (n * 10 ^ z) w, suc (length ds) - length w)) (sym (without-other zero ds h))
 collect-others n z (suc d ∷ ds) h =
     by_test (all_zero ds) refl (λ m k e. collect-others m k ds e)
     ∙ ap (λ w. (fold extend (n * 10 ^ z) w, suc (length ds) - length w)) (sym (without-other (suc d) ds h))
   where
     by_test : (b : Bool) → all_zero ds ≡ b
-        → ((m k : ℕ) → all_zero ds ≡ false → collect m k ds ≡ (fold extend (m * 10 ^ k) (without_end_zeros ds), length ds - length (without_end_zeros ds)))
-        → collect (n * 10 ^ (z + 1) + suc d) 0 ds ≡ (fold extend (n * 10 ^ z * 10 + suc d) (without_end_zeros ds), suc (length ds) - suc (length (without_end_zeros ds)))
+        → ((m k : ℕ) → all_zero ds ≡ false
+        → collect m k ds ≡ (fold extend (m * 10 ^ k) (without_end_zeros ds), length ds - length (without_end_zeros ds)))
+        → collect (n * 10 ^ (z + 1) + suc d) 0 ds
+        ≡ (
+          fold extend (n * 10 ^ z * 10 + suc d) (without_end_zeros ds),
+          suc (length ds) - suc (length (without_end_zeros ds)),
+        )
     by_test true e others =
-        rw (without-all_zero ds e) (collect-zeros (n * 10 ^ (z + 1) + suc d) 0 ds e ∙ ap (λ m. (m + suc d, 0 + length ds)) (power_more n z)
+        rw (without-all_zero ds e)
+        (collect-zeros (n * 10 ^ (z + 1) + suc d) 0 ds e ∙ ap (λ m. (m + suc d, 0 + length ds)) (power_more n z)
         ∙ ap (λ k. (n * 10 ^ z * 10 + suc d, k)) (one_less (length ds)))
     by_test false e others =
         others (n * 10 ^ (z + 1) + suc d) 0 e
-        ∙ ap (λ m. (fold extend m (without_end_zeros ds), length ds - length (without_end_zeros ds))) (once (n * 10 ^ (z + 1) + suc d) ∙ ap (λ m. m + suc d) (power_more n z))
-        ∙ ap (λ k. (fold extend (n * 10 ^ z * 10 + suc d) (without_end_zeros ds), k)) (taken (length ds) (length (without_end_zeros ds)))
+        ∙ ap (λ m. (fold extend m (without_end_zeros ds), length ds - length (without_end_zeros ds)))
+        (once (n * 10 ^ (z + 1) + suc d) ∙ ap (λ m. m + suc d) (power_more n z))
+        ∙ ap (λ k. (fold extend (n * 10 ^ z * 10 + suc d) (without_end_zeros ds), k))
+        (taken (length ds) (length (without_end_zeros ds)))
 
 -- the digits of a whole text
-collect-all : (ds : List ℕ) → collect 0 0 ds ≡ (number (without_end_zeros ds), length ds - length (without_end_zeros ds))
+collect-all : (ds : List ℕ)
+    → collect 0 0 ds ≡ (number (without_end_zeros ds), length ds - length (without_end_zeros ds))
 collect-all ds = by_test (all_zero ds) refl
   where
-    by_test : (b : Bool) → all_zero ds ≡ b → collect 0 0 ds ≡ (number (without_end_zeros ds), length ds - length (without_end_zeros ds))
+    by_test : (b : Bool) → all_zero ds ≡ b
+        → collect 0 0 ds ≡ (number (without_end_zeros ds), length ds - length (without_end_zeros ds))
     by_test true h = rw (without-all_zero ds h) (collect-zeros 0 0 ds h ∙ ap (λ k. (0, k)) (omega arith))
     by_test false h = collect-others 0 0 ds h
 
@@ -114,19 +128,29 @@ fold-without n (d ∷ ds) h =
     ∙ ap (λ w. fold extend n w * 10 ^ (suc (length ds) - length w)) (sym (without-other d ds h))
   where
     by_test : (b : Bool) → all_zero ds ≡ b
-        → ((m : ℕ) → all_zero ds ≡ false → fold extend m ds ≡ fold extend m (without_end_zeros ds) * 10 ^ (length ds - length (without_end_zeros ds)))
-        → fold extend (n * 10 + d) ds ≡ fold extend (n * 10 + d) (without_end_zeros ds) * 10 ^ (suc (length ds) - suc (length (without_end_zeros ds)))
+        → ((m : ℕ) → all_zero ds ≡ false
+        → fold extend m ds ≡ fold extend m (without_end_zeros ds) * 10 ^ (length ds - length (without_end_zeros ds)))
+        → fold extend (n * 10 + d) ds
+        ≡ fold extend (n * 10 + d) (without_end_zeros ds) * 10 ^ (suc (length ds) - suc (length (without_end_zeros ds)))
     by_test true e others =
-        rw (without-all_zero ds e) (fold-zeros (n * 10 + d) ds e ∙ ap (λ k. (n * 10 + d) * 10 ^ k) (sym (zero-add (length ds)) ∙ one_less (length ds)))
+        rw (without-all_zero ds e)
+        (fold-zeros (n * 10 + d) ds e
+        ∙ ap (λ k. (n * 10 + d) * 10 ^ k) (sym (zero-add (length ds)) ∙ one_less (length ds)))
     by_test false e others =
-        others (n * 10 + d) e ∙ ap (λ k. fold extend (n * 10 + d) (without_end_zeros ds) * 10 ^ k) (taken (length ds) (length (without_end_zeros ds)))
+        others (n * 10 + d) e
+        ∙ ap (λ k. fold extend (n * 10 + d) (without_end_zeros ds) * 10 ^ k)
+        (taken (length ds) (length (without_end_zeros ds)))
 
 -- both cases
-pub number-without : (ds : List ℕ) → number ds ≡ number (without_end_zeros ds) * 10 ^ (length ds - length (without_end_zeros ds))
+pub number-without : (ds : List ℕ)
+    → number ds ≡ number (without_end_zeros ds) * 10 ^ (length ds - length (without_end_zeros ds))
 number-without ds = by_test (all_zero ds) refl
   where
-    by_test : (b : Bool) → all_zero ds ≡ b → number ds ≡ number (without_end_zeros ds) * 10 ^ (length ds - length (without_end_zeros ds))
-    by_test true e = rw (without-all_zero ds e) (fold-zeros 0 ds e ∙ zero-mul (10 ^ length ds) ∙ sym (zero-mul (10 ^ (length ds - 0))))
+    by_test : (b : Bool) → all_zero ds ≡ b
+        → number ds ≡ number (without_end_zeros ds) * 10 ^ (length ds - length (without_end_zeros ds))
+    by_test true e =
+        rw (without-all_zero ds e)
+        (fold-zeros 0 ds e ∙ zero-mul (10 ^ length ds) ∙ sym (zero-mul (10 ^ (length ds - 0))))
     by_test false e = fold-without 0 ds e
 
 -- the number only grows
@@ -152,16 +176,19 @@ digit_next n z b bs other h = rw h (by_digit (b - 48) some)
     some = let low : 48 ≤ b = grind (arith, nat_tests) in omega (arith, other)
 
     by_digit : (d : ℕ) → 0 < d
-        → (if is_zero_digit d then collect n (z + 1) (digits_of bs) else collect (n * 10 ^ (z + 1) + d) 0 (digits_of bs)) ≡ collect (n * 10 ^ (z + 1) + d) 0 (digits_of bs)
+        → (if is_zero_digit d then collect n (z + 1) (digits_of bs)
+        else collect (n * 10 ^ (z + 1) + d) 0 (digits_of bs)) ≡ collect (n * 10 ^ (z + 1) + d) 0 (digits_of bs)
     by_digit zero h = absurd (omega arith)
     by_digit (suc d) h = refl
 
 -- what the rest gives after such a digit
 digit_rest : (bytes : List ℕ) (i n z : ℕ) → IsCollected bytes i n z → i < length bytes → (get_or bytes i 0 ≡ 48 → ⊥)
     → is_digit (get_or bytes i 0) ≡ true
-    → collect (n * 10 ^ (z + 1) + (get_or bytes i 0 - 48)) 0 (digits_of (drop (i + 1) bytes)) ≡ collect 0 0 (digits_of bytes)
+    → collect (n * 10 ^ (z + 1) + (get_or bytes i 0 - 48)) 0 (digits_of (drop (i + 1) bytes))
+    ≡ collect 0 0 (digits_of bytes)
 digit_rest bytes i n z is h other b =
-    sym (digit_next n z (get_or bytes i 0) (drop (i + 1) bytes) other b) ∙ sym (at_drop_more (λ xs. collect n z (digits_of xs)) bytes i 0 h) ∙ is.rest
+    sym (digit_next n z (get_or bytes i 0) (drop (i + 1) bytes) other b)
+    ∙ sym (at_drop_more (λ xs. collect n z (digits_of xs)) bytes i 0 h) ∙ is.rest
 
 -- a number that is too large
 past : (c : ℕ) (p : ℕ × ℕ) → most < c → (if nat_le c most then Some p else None) ≡ None
@@ -172,23 +199,29 @@ pub kept : (c : ℕ) (p : ℕ × ℕ) → c ≤ most → (if nat_le c most then 
 kept c p h = rw (le-true c most h) refl
 
 -- the number with one digit more is too large
-pub collected_wide : (bytes : List ℕ) (i n z : ℕ) → IsCollected bytes i n z → i < length bytes → (get_or bytes i 0 ≡ 48 → ⊥)
+pub collected_wide : (bytes : List ℕ) (i n z : ℕ) → IsCollected bytes i n z → i < length bytes
+    → (get_or bytes i 0 ≡ 48 → ⊥)
     → is_digit (get_or bytes i 0) ≡ true
     → (n * 10 ^ (z + 1) + (get_or bytes i 0 - 48) ≤ most → ⊥) → short_coefficient bytes ≡ None
 collected_wide bytes i n z is h other b wide =
     let m = n * 10 ^ (z + 1) + (get_or bytes i 0 - 48) in
     let grown = collect_grows m 0 (digits_of (drop (i + 1) bytes)) in
-    let whole : (collect m 0 (digits_of (drop (i + 1) bytes))).0 ≡ coefficient_of bytes = ap (λ x. x.0) (digit_rest bytes i n z is h other b ∙ collect-all (digits_of bytes)) in
-    past (coefficient_of bytes) (coefficient_of bytes, end_zeros bytes) (high m (coefficient_of bytes) wide (subst (λ c. m ≤ c) whole grown))
+    let whole : (collect m 0 (digits_of (drop (i + 1) bytes))).0 ≡ coefficient_of bytes =
+    ap (λ x. x.0) (digit_rest bytes i n z is h other b ∙ collect-all (digits_of bytes)) in
+    past (coefficient_of bytes) (coefficient_of bytes, end_zeros bytes)
+    (high m (coefficient_of bytes) wide (subst (λ c. m ≤ c) whole grown))
   where
     high : (m c : ℕ) → (m ≤ most → ⊥) → m ≤ c → most < c
     high m c wide low = omega (arith, wide)
 
 -- all bytes have been read
-pub collected_all : (bytes : List ℕ) (i n z : ℕ) → IsCollected bytes i n z → length bytes ≤ i → short_coefficient bytes ≡ Some (n, z)
+pub collected_all : (bytes : List ℕ) (i n z : ℕ) → IsCollected bytes i n z → length bytes ≤ i
+    → short_coefficient bytes ≡ Some (n, z)
 collected_all bytes i n z is h =
-    let whole : (n, z) ≡ (coefficient_of bytes, end_zeros bytes) = sym (at_drop_all (λ xs. collect n z (digits_of xs)) bytes i h) ∙ is.rest ∙ collect-all (digits_of bytes) in
-    kept (coefficient_of bytes) (coefficient_of bytes, end_zeros bytes) (subst (λ c. c ≤ most) (ap (λ x. x.0) whole) is.fits) ∙ ap Some (sym whole)
+    let whole : (n, z) ≡ (coefficient_of bytes, end_zeros bytes) =
+    sym (at_drop_all (λ xs. collect n z (digits_of xs)) bytes i h) ∙ is.rest ∙ collect-all (digits_of bytes) in
+    kept (coefficient_of bytes) (coefficient_of bytes, end_zeros bytes)
+    (subst (λ c. c ≤ most) (ap (λ x. x.0) whole) is.fits) ∙ ap Some (sym whole)
 
 -- the exponent's digits
 fold_grows : (n : ℕ) (ds : List ℕ) → n ≤ fold extend n ds
@@ -203,14 +236,17 @@ pub record IsCounted (bytes : List ℕ) (i n : ℕ) : Type 0 where
 -- what the rest gives after one digit more
 counted_rest : (bytes : List ℕ) (i n : ℕ) → IsCounted bytes i n → i < length bytes → is_digit (get_or bytes i 0) ≡ true
     → fold extend (n * 10 + (get_or bytes i 0 - 48)) (digits_of (drop (i + 1) bytes)) ≡ exponent_size bytes
-counted_rest bytes i n is h b = step (get_or bytes i 0) b ∙ sym (at_drop_more (λ xs. fold extend n (digits_of xs)) bytes i 0 h) ∙ is.rest
+counted_rest bytes i n is h b = step (get_or bytes i 0) b
+    ∙ sym (at_drop_more (λ xs. fold extend n (digits_of xs)) bytes i 0 h) ∙ is.rest
   where
     step : (b : ℕ) → is_digit b ≡ true
-        → fold extend (n * 10 + (b - 48)) (digits_of (drop (i + 1) bytes)) ≡ fold extend n (digits_of (b ∷ drop (i + 1) bytes))
+        → fold extend (n * 10 + (b - 48)) (digits_of (drop (i + 1) bytes))
+        ≡ fold extend n (digits_of (b ∷ drop (i + 1) bytes))
     step b h = rw h refl
 
 -- the exponent is too large where its first digits are
-pub counted_wide : (bytes : List ℕ) (i n : ℕ) → IsCounted bytes i n → i < length bytes → is_digit (get_or bytes i 0) ≡ true
+pub counted_wide : (bytes : List ℕ) (i n : ℕ) → IsCounted bytes i n → i < length bytes
+    → is_digit (get_or bytes i 0) ≡ true
     → most_exponent < n * 10 + (get_or bytes i 0 - 48) → most_exponent < exponent_size bytes
 counted_wide bytes i n is h b wide =
     let grown = fold_grows (n * 10 + (get_or bytes i 0 - 48)) (digits_of (drop (i + 1) bytes)) in

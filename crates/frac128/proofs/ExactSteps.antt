@@ -1,5 +1,6 @@
 -- Steps on fractions have the values of the exact sums and products.
-use Rattle.std.proofs.Common.{◌≡◌, ◌*◌, ◌/◌, ◌<◌, ◌+ℤ◌, ◌-ℤ◌, ◌*ℤ◌, ℕ, ℤ, pos, negsuc, neg_ℤ, suc, zero, Bool, true, false, arith, refl}
+use Rattle.std.proofs.Common.{◌≡◌, ◌*◌, ◌/◌, ◌<◌, ◌+ℤ◌, ◌-ℤ◌, ◌*ℤ◌, ℕ, ℤ, pos, negsuc, neg_ℤ, suc, zero, Bool, true}
+use Rattle.std.proofs.Common.{false, arith, refl}
 use Rattle.std.proofs.Common.{sym, ap, ◌∙◌}
 use Rattle.std.specs.Prelude.{◌&&◌, int_lt, unsigned_abs, Ok, Err, if◌then◌else◌}
 use Rattle.std.specs.Int.{◌∣◌}
@@ -12,7 +13,7 @@ use Rattle.frac128.specs.Exact.{StepsLaw, difference, sum}
 use Rattle.frac128.specs.Fraction.{Fraction, SameValue, fits, negated}
 use Rattle.frac128.specs.Sign.{differ, signed}
 use Rattle.frac128.specs.Steps.{fitting, ratio, reduced}
-use Rattle.frac128.specs.Sums.{in_range, joined, minus, numerator_over, plus}
+use Rattle.frac128.specs.Sums.{in_range, step_over, minus, numerator_over, plus}
 use Rattle.frac128.proofs.Euclid.{gcd_is}
 use Rattle.frac128.proofs.Multiples.{lcm-times}
 use Rattle.frac128.proofs.Reduced.{reduced-value}
@@ -20,10 +21,11 @@ use Rattle.frac128.proofs.Signs.{mul-signed, neg-times, signed_is}
 use Rattle.frac128.proofs.Sums.{lcm-div, minus-negated}
 
 -- a sum of numerators over a multiple, where it has an answer
-joined_ok : (step : ℤ → ℤ → ℤ) (m : ℕ) (l r : ℤ) (y : Fraction) → joined step m l r ≡ Ok y → y ≡ reduced (step l r) m
+joined_ok : (step : ℤ → ℤ → ℤ) (m : ℕ) (l r : ℤ) (y : Fraction) → step_over step m l r ≡ Ok y → y ≡ reduced (step l r) m
 joined_ok step m l r y h = by_tests (in_range (pos m)) (in_range l) (in_range r) (in_range (step l r)) h
   where
-    by_tests : (a b c d : Bool) → (if a && b && c then (if d then Ok (reduced (step l r) m) else Err Overflow) else Err Overflow) ≡ Ok y
+    by_tests : (a b c d : Bool)
+        → (if a && b && c then (if d then Ok (reduced (step l r) m) else Err Overflow) else Err Overflow) ≡ Ok y
         → y ≡ reduced (step l r) m
     by_tests true true true true e = cc
     by_tests true true true false e = absurd (cc)
@@ -44,7 +46,8 @@ mul-twice : (z : ℤ) (a b : ℕ) → z *ℤ pos a *ℤ pos b ≡ z *ℤ pos (a 
 mul-twice z a b =
     let s = int_lt z (pos 0) in
     let n = unsigned_abs z in
-    ap (λ k. k *ℤ pos a *ℤ pos b) (signed_is z) ∙ ap (λ k. k *ℤ pos b) (mul-signed s false n a) ∙ mul-signed (differ s false) false (n * a) b
+    ap (λ k. k *ℤ pos a *ℤ pos b) (signed_is z) ∙ ap (λ k. k *ℤ pos b) (mul-signed s false n a)
+    ∙ mul-signed (differ s false) false (n * a) b
     ∙ plain s (n * a * b) ∙ ap (signed (differ s false)) (mul_assoc n a b)
     ∙ sym (ap (λ k. k *ℤ pos (a * b)) (signed_is z) ∙ mul-signed s false n (a * b))
   where
@@ -69,7 +72,8 @@ mul-sum y z (suc g) =
 scaled : (z : Fraction) (n : ℤ) (m g : ℕ) → SameValue z (record { num = n; den = m })
     → SameValue z (record { num = n *ℤ pos g; den = m * g })
 scaled z n m g same =
-    sym (mul-twice z.num m g) ∙ ap (λ k. k *ℤ pos g) same ∙ mul-twice n z.den g ∙ ap (λ k. n *ℤ pos k) (mul_comm z.den g) ∙ sym (mul-twice n g z.den)
+    sym (mul-twice z.num m g) ∙ ap (λ k. k *ℤ pos g) same ∙ mul-twice n z.den g
+    ∙ ap (λ k. n *ℤ pos k) (mul_comm z.den g) ∙ sym (mul-twice n g z.den)
 
 -- a sum
 plus_value : (x y z : Fraction) → 0 < x.den → 0 < y.den → plus x y ≡ Ok z → SameValue z (sum x y)
@@ -81,25 +85,31 @@ plus_value x y z some_x some_y h =
     let is : z ≡ reduced (l +ℤ r) m = joined_ok ◌+ℤ◌ m l r z h in
     let same : SameValue z (record { num = l +ℤ r; den = m }) = rw is (reduced-value (l +ℤ r) m) in
     let parts = lcm-div x.den y.den some_x some_y in
-    let left : l *ℤ pos g ≡ x.num *ℤ pos y.den = over_divisor x.num (m / x.den) y.den g parts.0 (gcd_is x.den y.den).1 in
-    let right : r *ℤ pos g ≡ y.num *ℤ pos x.den = over_divisor y.num (m / y.den) x.den g parts.1 (gcd_is x.den y.den).0 in
+    let left : l *ℤ pos g ≡ x.num *ℤ pos y.den =
+    over_divisor x.num (m / x.den) y.den g parts.0 (gcd_is x.den y.den).1 in
+    let right : r *ℤ pos g ≡ y.num *ℤ pos x.den =
+    over_divisor y.num (m / y.den) x.den g parts.1 (gcd_is x.den y.den).0 in
     ap (λ d. z.num *ℤ pos d) (sym (lcm-times x.den y.den)) ∙ scaled z (l +ℤ r) m g same
-    ∙ ap (λ n. n *ℤ pos z.den) (mul-sum l r g ∙ ap (λ k. k +ℤ (r *ℤ pos g)) left ∙ ap (λ k. (x.num *ℤ pos y.den) +ℤ k) right)
+    ∙ ap (λ n. n *ℤ pos z.den)
+    (mul-sum l r g ∙ ap (λ k. k +ℤ (r *ℤ pos g)) left ∙ ap (λ k. (x.num *ℤ pos y.den) +ℤ k) right)
   where
     over_divisor : (n : ℤ) (k d g : ℕ) → k ≡ d / g → g ∣ d → n *ℤ pos k *ℤ pos g ≡ n *ℤ pos d
-    over_divisor n k d g e divides = mul-twice n k g ∙ ap (λ k. n *ℤ pos k) (ap (λ k. k * g) e ∙ mul_comm (d / g) g ∙ mul-div_cancel' g divides)
+    over_divisor n k d g e divides = mul-twice n k g
+        ∙ ap (λ k. n *ℤ pos k) (ap (λ k. k * g) e ∙ mul_comm (d / g) g ∙ mul-div_cancel' g divides)
 
 -- a difference
 minus_value : (x y z : Fraction) → 0 < x.den → 0 < y.den → minus x y ≡ Ok z → SameValue z (difference x y)
 minus_value x y z some_x some_y h =
     plus_value x (negated y) z some_x some_y (sym (minus-negated x y) ∙ h)
-    ∙ ap (λ n. n *ℤ pos z.den) (ap (λ k. (x.num *ℤ pos y.den) +ℤ k) (sym (neg-times y.num x.den)) ∙ less (x.num *ℤ pos y.den) (y.num *ℤ pos x.den))
+    ∙ ap (λ n. n *ℤ pos z.den)
+    (ap (λ k. (x.num *ℤ pos y.den) +ℤ k) (sym (neg-times y.num x.den)) ∙ less (x.num *ℤ pos y.den) (y.num *ℤ pos x.den))
   where
     less : (a b : ℤ) → a +ℤ neg_ℤ b ≡ a -ℤ b
     less a b = omega (arith, ints)
 
 -- a quotient over a number above 0
-ratio_value : (n : ℤ) (d : ℕ) (z : Fraction) → 0 < d → ratio n (pos d) ≡ Ok z → SameValue z (record { num = n; den = d })
+ratio_value : (n : ℤ) (d : ℕ) (z : Fraction) → 0 < d → ratio n (pos d) ≡ Ok z
+    → SameValue z (record { num = n; den = d })
 ratio_value n zero z some h = absurd (omega arith)
 ratio_value n (suc d) z some h = rw (fitting_ok (reduced n (suc d)) z h) (reduced-value n (suc d))
 
@@ -113,16 +123,20 @@ over_value n (pos zero) b d z some h = absurd (none (b * 0) (mul-zero b) h)
     none (suc k) e h = omega arith
 over_value n (pos (suc k)) b d z some h =
     mul-twice z.num (suc k) b ∙ ap (λ j. z.num *ℤ pos j) (mul_comm (suc k) b)
-    ∙ ratio_value (n *ℤ pos d) (b * suc k) z (mul-pos some (omega arith)) h ∙ mul-twice n d z.den ∙ ap (λ j. n *ℤ pos j) (mul_comm d z.den)
+    ∙ ratio_value (n *ℤ pos d) (b * suc k) z (mul-pos some (omega arith)) h ∙ mul-twice n d z.den
+    ∙ ap (λ j. n *ℤ pos j) (mul_comm d z.den)
 over_value n (negsuc k) b d z some h =
     ap (λ j. j *ℤ pos b) (*ℤ-negsuc z.num k) ∙ sym (neg-times (z.num *ℤ pos (suc k)) b)
-    ∙ ap neg_ℤ (mul-twice z.num (suc k) b ∙ ap (λ j. z.num *ℤ pos j) (mul_comm (suc k) b) ∙ below (b * suc k) (mul-pos some (omega arith)) (ap (ratio (n *ℤ pos d)) (sym (pos-*ℤ-negsuc b k)) ∙ h))
+    ∙ ap neg_ℤ (mul-twice z.num (suc k) b ∙ ap (λ j. z.num *ℤ pos j) (mul_comm (suc k) b)
+    ∙ below (b * suc k) (mul-pos some (omega arith)) (ap (ratio (n *ℤ pos d)) (sym (pos-*ℤ-negsuc b k)) ∙ h))
     ∙ ap neg_ℤ (sym (neg-times (n *ℤ pos d) z.den)) ∙ neg_ℤ-neg_ℤ (n *ℤ pos d *ℤ pos z.den) ∙ mul-twice n d z.den
     ∙ ap (λ j. n *ℤ pos j) (mul_comm d z.den)
   where
-    below : (j : ℕ) → 0 < j → ratio (n *ℤ pos d) (neg_ℤ (pos j)) ≡ Ok z → z.num *ℤ pos j ≡ neg_ℤ (n *ℤ pos d) *ℤ pos z.den
+    below : (j : ℕ) → 0 < j → ratio (n *ℤ pos d) (neg_ℤ (pos j)) ≡ Ok z
+        → z.num *ℤ pos j ≡ neg_ℤ (n *ℤ pos d) *ℤ pos z.den
     below zero some h = absurd (omega arith)
-    below (suc j) some h = rw (fitting_ok (reduced (neg_ℤ (n *ℤ pos d)) (suc j)) z h) (reduced-value (neg_ℤ (n *ℤ pos d)) (suc j))
+    below (suc j) some h =
+        rw (fitting_ok (reduced (neg_ℤ (n *ℤ pos d)) (suc j)) z h) (reduced-value (neg_ℤ (n *ℤ pos d)) (suc j))
 
 -- all four
 pub steps_law : StepsLaw

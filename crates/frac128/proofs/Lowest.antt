@@ -1,14 +1,17 @@
 -- Ratios in lowest terms.
 use Rattle.std.proofs.Common.{◌≡◌, ◌*◌, ◌/◌, ◌<◌, ℕ, suc, zero, arith, refl, sym, ap, subst, ◌∙◌}
 use Rattle.std.specs.Int.{IsGcd}
-use Rattle.std.proofs.Math.Nat.{mul_comm, mul_assoc, dvd-mul_left, mul-div_cancel', mul-div_cancel_left, mul-one, mul-pos, mul-zero}
+use Rattle.std.proofs.Math.Nat.{mul_comm, mul_assoc, dvd-mul_left, mul-div_cancel', mul-div_cancel_left, mul-one}
+use Rattle.std.proofs.Math.Nat.{mul-pos, mul-zero}
 use Prim.Native.Nat.{◌∣◌}
 use Rattle.frac128.specs.Divisors.{IsLowest, gcd}
 use Rattle.frac128.proofs.Euclid.{gcd_is, gcd-mul, gcd_some}
-use Rattle.frac128.proofs.Coprime.{IsCoprime, coprime_is, is_coprime, coprime-mul, coprime-swap, coprime-dvd, coprime-quotients}
+use Rattle.frac128.proofs.Coprime.{IsCoprime, coprime_is, is_coprime, coprime-mul, coprime-swap, coprime-dvd}
+use Rattle.frac128.proofs.Coprime.{coprime-quotients}
 
 -- coprime numbers, each times the same number
-lowest-mul : (a b m top bottom : ℕ) → m * top ≡ a → m * bottom ≡ b → 0 < m → IsCoprime top bottom → IsLowest a b top bottom
+lowest-mul : (a b m top bottom : ℕ) → m * top ≡ a → m * bottom ≡ b → 0 < m → IsCoprime top bottom
+    → IsLowest a b top bottom
 lowest-mul a b m top bottom p q some h =
     let whole : gcd a b ≡ m = rw (← p, ← q) (gcd-mul m top bottom ∙ ap (λ g. m * g) h.one ∙ mul-one m) in
     record {
@@ -38,13 +41,18 @@ lowest-crosswise a b c d some_b some_d ab cd =
     let y_z : IsCoprime (c / h) (b / h) = coprime-quotients c b some_h in
     let y_w : IsCoprime (c / h) (d / g) = coprime-dvd c d _ _ cd cx dx in
     let coprime : IsCoprime (a / g * (c / h)) (b / h * (d / g)) =
-    coprime-swap _ _ (coprime-mul _ _ _ (coprime-swap _ _ (coprime-mul _ _ _ x_z x_w)) (coprime-swap _ _ (coprime-mul _ _ _ y_z y_w))) in
+    coprime-swap _ _
+    (coprime-mul _ _ _ (coprime-swap _ _ (coprime-mul _ _ _ x_z x_w))
+    (coprime-swap _ _ (coprime-mul _ _ _ y_z y_w))) in
     let top : g * h * (a / g * (c / h)) ≡ a * c = four g h (a / g) (c / h) ∙ rw (a_is, c_is) refl in
-    let bottom : g * h * (b / h * (d / g)) ≡ b * d = ap (λ n. n * (b / h * (d / g))) (mul_comm g h) ∙ four h g (b / h) (d / g) ∙ rw (b_is, d_is) refl in
+    let bottom : g * h * (b / h * (d / g)) ≡ b * d = ap (λ n. n * (b / h * (d / g))) (mul_comm g h)
+    ∙ four h g (b / h) (d / g) ∙ rw (b_is, d_is) refl in
     lowest-mul _ _ (g * h) _ _ top bottom (product_some g h some_g some_h) coprime
   where
     four : (m n x y : ℕ) → m * n * (x * y) ≡ m * x * (n * y)
-    four m n x y = mul_assoc m n (x * y) ∙ ap (λ k. m * k) (sym (mul_assoc n x y) ∙ ap (λ k. k * y) (mul_comm n x) ∙ mul_assoc x n y) ∙ sym (mul_assoc m x (n * y))
+    four m n x y = mul_assoc m n (x * y)
+        ∙ ap (λ k. m * k) (sym (mul_assoc n x y) ∙ ap (λ k. k * y) (mul_comm n x) ∙ mul_assoc x n y)
+        ∙ sym (mul_assoc m x (n * y))
 
     product_some : (m n : ℕ) → 0 < m → 0 < n → 0 < m * n
     product_some m n p q = mul-pos p q
@@ -52,11 +60,13 @@ lowest-crosswise a b c d some_b some_d ab cd =
 -- the same, by what the divisors are
 pub lowest_by : (a b c d g h : ℕ) → g ≡ gcd a d → h ≡ gcd c b → 0 < b → 0 < d → IsGcd a b 1 → IsGcd c d 1
     → IsLowest (a * c) (b * d) (a / g * (c / h)) (b / h * (d / g))
-lowest_by a b c d g h p q some_b some_d ab cd = rw (p, q) (lowest-crosswise a b c d some_b some_d (coprime_is a b ab) (coprime_is c d cd))
+lowest_by a b c d g h p q some_b some_d ab cd =
+    rw (p, q) (lowest-crosswise a b c d some_b some_d (coprime_is a b ab) (coprime_is c d cd))
 
 -- a ratio in lowest terms has no common divisor, and its denominator is above 0
 pub lowest_gcd : (a b top bottom : ℕ) → 0 < b → IsLowest a b top bottom → IsGcd top bottom 1
-lowest_gcd a b top bottom some low = rw (← low.top_is, ← low.bottom_is) (is_coprime _ _ (coprime-quotients a b (gcd_some a b some)))
+lowest_gcd a b top bottom some low =
+    rw (← low.top_is, ← low.bottom_is) (is_coprime _ _ (coprime-quotients a b (gcd_some a b some)))
 
 -- a denominator in lowest terms is above 0
 pub lowest_some : (a b top bottom : ℕ) → 0 < b → IsLowest a b top bottom → 0 < bottom
@@ -72,10 +82,13 @@ lowest-cross a d p q some some_q coprime cross =
     let some_g : 0 < g = gcd_some a d some in
     let whole : d ≡ q * g =
     sym (mul-one d) ∙ ap (λ n. d * n) (sym coprime.one) ∙ sym (gcd-mul d p q)
-    ∙ ap (λ n. gcd n (d * q)) (mul_comm d p ∙ cross ∙ mul_comm a q) ∙ ap (λ n. gcd (q * a) n) (mul_comm d q) ∙ gcd-mul q a d in
+    ∙ ap (λ n. gcd n (d * q)) (mul_comm d p ∙ cross ∙ mul_comm a q) ∙ ap (λ n. gcd (q * a) n) (mul_comm d q)
+    ∙ gcd-mul q a d in
     let bottom : d / g ≡ q = ap (λ n. n / g) (whole ∙ mul_comm q g) ∙ mul-div_cancel_left q some_g in
-    let even : q * a ≡ q * (g * p) = mul_comm q a ∙ sym cross ∙ ap (λ n. p * n) whole ∙ mul_comm p (q * g) ∙ mul_assoc q g p in
-    let top_times : a ≡ g * p = sym (mul-div_cancel_left a some_q) ∙ ap (λ n. n / q) even ∙ mul-div_cancel_left (g * p) some_q in
+    let even : q * a ≡ q * (g * p) = mul_comm q a ∙ sym cross ∙ ap (λ n. p * n) whole ∙ mul_comm p (q * g)
+    ∙ mul_assoc q g p in
+    let top_times : a ≡ g * p = sym (mul-div_cancel_left a some_q) ∙ ap (λ n. n / q) even
+    ∙ mul-div_cancel_left (g * p) some_q in
     record { top_is = ap (λ n. n / g) top_times ∙ mul-div_cancel_left p some_g; bottom_is = bottom }
 
 -- what is in lowest terms has the cross product of the ratio

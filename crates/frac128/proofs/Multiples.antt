@@ -1,7 +1,8 @@
 -- Least common multiples.
 use Rattle.std.proofs.Common.{◌≡◌, ◌*◌, ◌/◌, ◌<◌, ℕ, refl, sym, ap, subst, ◌∙◌}
 use Rattle.std.specs.Int.{◌∣◌}
-use Rattle.std.proofs.Math.Nat.{dvd-mul_left, dvd-mul_right, dvd_of_mul-dvd-mul_right, mul-div_cancel', mul-dvd-mul_left, mul_assoc}
+use Rattle.std.proofs.Math.Nat.{dvd-mul_left, dvd-mul_right, dvd_of_mul-dvd-mul_right, mul-div_cancel'}
+use Rattle.std.proofs.Math.Nat.{mul-dvd-mul_left, mul_assoc}
 use Rattle.std.proofs.Math.Nat.{mul_comm}
 use Rattle.frac128.specs.Divisors.{LcmLaw, gcd, lcm}
 use Rattle.frac128.proofs.Euclid.{gcd_is, gcd-mul, gcd_some}
@@ -18,7 +19,8 @@ lcm-right a b =
     let g = gcd a b in
     let a_is : g * (a / g) ≡ a = mul-div_cancel' g (gcd_is a b).0 in
     let b_is : g * (b / g) ≡ b = mul-div_cancel' g (gcd_is a b).1 in
-    ap (λ n. a / g * n) (sym b_is) ∙ sym (mul_assoc (a / g) g (b / g)) ∙ ap (λ n. n * (b / g)) (mul_comm (a / g) g ∙ a_is)
+    ap (λ n. a / g * n) (sym b_is) ∙ sym (mul_assoc (a / g) g (b / g))
+    ∙ ap (λ n. n * (b / g)) (mul_comm (a / g) g ∙ a_is)
 
 -- the multiple times the divisor is the product
 pub lcm-times : (a b : ℕ) → lcm a b * gcd a b ≡ a * b
@@ -31,8 +33,10 @@ lcm-times a b =
 lcm_least : (a b n : ℕ) → 0 < b → a ∣ n → b ∣ n → lcm a b ∣ n
 lcm_least a b n some p q =
     let left : a * b ∣ n * a = subst (λ m. a * b ∣ m) (mul_comm a n) (mul-dvd-mul_left b a q) in
-    let right : a * b ∣ n * b = subst (λ m. m ∣ n * b) (mul_comm b a) (subst (λ m. b * a ∣ m) (mul_comm b n) (mul-dvd-mul_left a b p)) in
-    let both : a * b ∣ n * gcd a b = subst (λ m. a * b ∣ m) (gcd-mul n a b) ((gcd_is (n * a) (n * b)).2 (a * b) left right) in
+    let right : a * b ∣ n * b =
+    subst (λ m. m ∣ n * b) (mul_comm b a) (subst (λ m. b * a ∣ m) (mul_comm b n) (mul-dvd-mul_left a b p)) in
+    let both : a * b ∣ n * gcd a b =
+    subst (λ m. a * b ∣ m) (gcd-mul n a b) ((gcd_is (n * a) (n * b)).2 (a * b) left right) in
     dvd_of_mul-dvd-mul_right (lcm a b) (gcd_some a b some) (subst (λ m. m ∣ n * gcd a b) (sym (lcm-times a b)) both)
 
 -- it is the least common multiple

@@ -51,6 +51,7 @@ away_whole b q r g (low zero is gap) = omega arith
 away_whole b q r g (low (suc j) is gap) = absurd (omega arith)
 away_whole b q r g (high j is gap) = absurd (omega arith)
 
+-- the quotient and the next whole number are together a divisor away
 away_next : (b q r g : ℕ) → IsAway b q r (q + 1) g → g + r ≡ b
 away_next b q r g (low j is gap) = absurd (omega arith)
 away_next b q r g (high zero is gap) = omega arith
@@ -72,6 +73,7 @@ whole_only b q r e g f some own half same (low zero is gap) = omega arith
 whole_only b q r e g f some own half same (low (suc j) is gap) = absurd (omega arith)
 whole_only b q r e g f some own half same (high j is gap) = absurd (omega arith)
 
+-- where the rest is more than half of the divisor, no other whole number is as near as the next one
 next_only : (b q r e g f : ℕ) → 0 < b → g + r ≡ b → b < 2 * r → f ≡ g → IsAway b q r e f → e ≡ q + 1
 next_only b q r e g f some own half same (low j is gap) = absurd (omega arith)
 next_only b q r e g f some own half same (high zero is gap) = omega arith
@@ -83,19 +85,24 @@ nearest_is a b some =
     let whole : b * (a / b) + a % b ≡ a = div-add-mod a b in
     by_order (a / b) (a % b) whole (omega arith) (nat_cmp (2 * (a % b)) b) (ranked (2 * (a % b)) b _ refl)
   where
-    by_order : (q r : ℕ) → b * q + r ≡ a → r < b → (order : Ordering) → MatchOrdering order (2 * r < b) (2 * r ≡ b) (b < 2 * r)
+    by_order : (q r : ℕ) → b * q + r ≡ a → r < b → (order : Ordering)
+        → MatchOrdering order (2 * r < b) (2 * r ≡ b) (b < 2 * r)
         → IsNearestWhole a b (by_half q order)
     by_order q r whole part Less half =
         let own = away_whole b q r (distance a b q) (away a b q r q whole part) in
         record {
-          near = λ e. whole_near b q r e (distance a b q) (distance a b e) own (omega arith) (away a b q r e whole part);
-          tie = λ e same. inl (whole_only b q r e (distance a b q) (distance a b e) some own half same (away a b q r e whole part));
+          near = λ e. whole_near b q r e (distance a b q) (distance a b e) own (omega arith)
+              (away a b q r e whole part);
+          tie = λ e same. inl (whole_only b q r e (distance a b q) (distance a b e) some own half same
+              (away a b q r e whole part));
         }
     by_order q r whole part Greater half =
         let own = away_next b q r (distance a b (q + 1)) (away a b q r (q + 1) whole part) in
         record {
-          near = λ e. next_near b q r e (distance a b (q + 1)) (distance a b e) own (omega arith) (away a b q r e whole part);
-          tie = λ e same. inl (next_only b q r e (distance a b (q + 1)) (distance a b e) some own half same (away a b q r e whole part));
+          near = λ e. next_near b q r e (distance a b (q + 1)) (distance a b e) own (omega arith)
+              (away a b q r e whole part);
+          tie = λ e same. inl (next_only b q r e (distance a b (q + 1)) (distance a b e) some own half same
+              (away a b q r e whole part));
         }
     by_order q r whole part Equal half = by_last (q % 2) refl (omega arith)
       where
@@ -106,13 +113,17 @@ nearest_is a b some =
         by_last zero is below =
             let n_is : q + q % 2 ≡ q = omega arith in
             rw n_is (record {
-              near = λ e. whole_near b q r e (distance a b q) (distance a b e) (away_whole b q r (distance a b q) (away a b q r q whole part)) (omega arith) (away a b q r e whole part);
+              near = λ e. whole_near b q r e (distance a b q) (distance a b e)
+                  (away_whole b q r (distance a b q) (away a b q r q whole part)) (omega arith)
+                  (away a b q r e whole part);
               tie = λ e same. inr is;
             })
         by_last (suc zero) is below =
             let n_is : q + q % 2 ≡ q + 1 = omega arith in
             rw n_is (record {
-              near = λ e. next_near b q r e (distance a b (q + 1)) (distance a b e) (away_next b q r (distance a b (q + 1)) (away a b q r (q + 1) whole part)) (omega arith) (away a b q r e whole part);
+              near = λ e. next_near b q r e (distance a b (q + 1)) (distance a b e)
+                  (away_next b q r (distance a b (q + 1)) (away a b q r (q + 1) whole part)) (omega arith)
+                  (away a b q r e whole part);
               tie = λ e same. inr (even q 1 is below);
             })
         by_last (suc (suc l)) is below = absurd (omega arith)
@@ -125,7 +136,8 @@ near_whole a b n some is =
     let r = a % b in
     let part : r < b = omega arith in
     by_place (distance a b n) (is.near q) (is.near (q + 1)) (away a b q r n whole part)
-    (away_whole b q r (distance a b q) (away a b q r q whole part)) (away_next b q r (distance a b (q + 1)) (away a b q r (q + 1) whole part))
+    (away_whole b q r (distance a b q) (away a b q r q whole part))
+    (away_next b q r (distance a b (q + 1)) (away a b q r (q + 1) whole part))
   where
     by_place : (g : ℕ) → g ≤ distance a b (a / b) → g ≤ distance a b (a / b + 1) → IsAway b (a / b) (a % b) n g
         → distance a b (a / b) ≡ a % b → distance a b (a / b + 1) + a % b ≡ b → (n ≡ a / b) ⊎ (n ≡ a / b + 1)
@@ -137,7 +149,8 @@ near_whole a b n some is =
 -- two nearest numbers are one
 nearest_same : (a b m n : ℕ) → 0 < b → IsNearestWhole a b m → IsNearestWhole a b n → m ≡ n
 nearest_same a b m n some is_m is_n =
-    let same : distance a b m ≡ distance a b n = both_ways (distance a b m) (distance a b n) (is_m.near n) (is_n.near m) in
+    let same : distance a b m ≡ distance a b n =
+    both_ways (distance a b m) (distance a b n) (is_m.near n) (is_n.near m) in
     elim (is_n.tie m same) [
       | inl e ↦ e
       | inr even_n ↦ elim (is_m.tie n (sym same)) [
@@ -157,4 +170,5 @@ nearest_same a b m n some is_m is_n =
 
 -- the nearest number, and the only one
 pub nearest_whole_law : NearestWholeLaw
-nearest_whole_law a b some = (nearest_is a b some, λ n is. nearest_same a b n (nearest_whole a b) some is (nearest_is a b some))
+nearest_whole_law a b some =
+    (nearest_is a b some, λ n is. nearest_same a b n (nearest_whole a b) some is (nearest_is a b some))

@@ -1,5 +1,6 @@
 -- The value of a numeral by all its digits.
-use Rattle.std.proofs.Common.{◌≡◌, ◌*◌, ◌+◌, ◌-◌, ◌^◌, ◌<◌, ◌+ℤ◌, ◌-ℤ◌, ◌/◌, ℕ, ℤ, pos, negsuc, suc, zero, List, false, arith, refl, sym}
+use Rattle.std.proofs.Common.{◌≡◌, ◌*◌, ◌+◌, ◌-◌, ◌^◌, ◌<◌, ◌+ℤ◌, ◌-ℤ◌, ◌/◌, ℕ, ℤ, pos, negsuc, suc, zero, List, false}
+use Rattle.std.proofs.Common.{arith, refl, sym}
 use Rattle.std.proofs.Common.{ap, ◌∙◌, lit<, inl, inr}
 use Rattle.std.specs.Prelude.{◌==◌, if◌then◌else◌}
 use Rattle.std.proofs.lemmas.Bool.{cases_lt}
@@ -7,7 +8,8 @@ use Rattle.std.proofs.lemmas.Bool.Decides.{nat_tests}
 use Rattle.std.proofs.lemmas.Int.{ints}
 use Rattle.std.proofs.lemmas.Nat.{pow-add}
 use Rattle.std.proofs.Math.Nat.{mul-pos, zero-mul}
-use Rattle.frac128.specs.Decimals.{NumeralLaw, coefficient_of, decimal, digits_of, end_zeros, exponent_of, exponent_text, mantissa}
+use Rattle.frac128.specs.Decimals.{NumeralLaw, coefficient_of, decimal, digits_of, end_zeros, exponent_of}
+use Rattle.frac128.specs.Decimals.{exponent_text, mantissa}
 use Rattle.frac128.specs.Decimals.{number, places, times_power, value_of}
 use Rattle.frac128.specs.Divisors.{IsLowest, gcd}
 use Rattle.frac128.specs.Steps.{ratio}
@@ -25,7 +27,8 @@ ratio-mul a b m some some_m =
     let q = b / gcd a b in
     let low : IsLowest a b p q = record { top_is = refl; bottom_is = refl } in
     let cross : p * (b * m) ≡ a * m * q = turned p b m ∙ ap (λ n. n * m) (cross-lowest a b p q low) ∙ back a m q in
-    let wide = lowest-cross (a * m) (b * m) p q (mul-pos some some_m) (lowest_some a b p q some low) (coprime_is p q (lowest_gcd a b p q some low)) cross in
+    let wide = lowest-cross (a * m) (b * m) p q (mul-pos some some_m) (lowest_some a b p q some low)
+    (coprime_is p q (lowest_gcd a b p q some low)) cross in
     ratio-signed false (a * m) (b * m) p q (mul-pos some some_m) wide ∙ sym (ratio-signed false a b p q some low)
   where
     turned : (p b m : ℕ) → p * (b * m) ≡ p * b * m
@@ -36,7 +39,8 @@ ratio-mul a b m some some_m =
 
 -- zeros at the end and the power of ten
 zeros-out : (c z : ℕ) (s : ℤ) → times_power c (s +ℤ pos z) ≡ times_power (c * 10 ^ z) s
-zeros-out c z (pos k) = ap (times_power c) (sum k z) ∙ ap (λ n. ratio (pos n) (pos 1)) (ap (λ p. c * p) (pow-add 10 z k) ∙ spread c (10 ^ z) (10 ^ k))
+zeros-out c z (pos k) = ap (times_power c) (sum k z)
+    ∙ ap (λ n. ratio (pos n) (pos 1)) (ap (λ p. c * p) (pow-add 10 z k) ∙ spread c (10 ^ z) (10 ^ k))
   where
     sum : (k z : ℕ) → pos k +ℤ pos z ≡ pos (z + k)
     sum k z = omega (arith, ints)
@@ -55,7 +59,9 @@ zeros-out c z (negsuc k) = elim (cases_lt k z) [
     above j is =
         ap (times_power c) (up j is)
         ∙ sym (ratio-mul (c * 10 ^ j) 1 (10 ^ suc k) (lit< tt) (pow_some 10 (suc k) (lit< tt)))
-        ∙ ap (λ n. ratio (pos n) (pos (1 * 10 ^ suc k))) (sym (spread c (10 ^ j) (10 ^ suc k)) ∙ ap (λ p. c * p) (sym (pow-add 10 j (suc k)) ∙ ap (λ n. 10 ^ n) (sym is)))
+        ∙ ap (λ n. ratio (pos n) (pos (1 * 10 ^ suc k)))
+        (sym (spread c (10 ^ j) (10 ^ suc k))
+        ∙ ap (λ p. c * p) (sym (pow-add 10 j (suc k)) ∙ ap (λ n. 10 ^ n) (sym is)))
         ∙ ap (λ n. ratio (pos (c * 10 ^ z)) (pos n)) (one (10 ^ suc k))
       where
         up : (j : ℕ) → z ≡ j + suc k → negsuc k +ℤ pos z ≡ pos j
@@ -82,14 +88,23 @@ decimal_value : (bytes : List ℕ) (power : ℤ)
 decimal_value bytes power = by_coefficient (coefficient_of bytes) (number-without (digits_of bytes))
   where
     by_coefficient : (c : ℕ) → number (digits_of bytes) ≡ c * 10 ^ end_zeros bytes
-        → value_of (if c == 0 then record { coefficient = 0; scale = pos 0 } else record { coefficient = c; scale = power -ℤ pos (places bytes) +ℤ pos (end_zeros bytes) })
+        → value_of (if c == 0 then record { coefficient = 0; scale = pos 0 }
+        else record { coefficient = c; scale = power -ℤ pos (places bytes) +ℤ pos (end_zeros bytes) })
         ≡ times_power (number (digits_of bytes)) (power -ℤ pos (places bytes))
-    by_coefficient zero is = zero_power (pos 0) ∙ sym (ap (λ n. times_power n (power -ℤ pos (places bytes))) (is ∙ zero-mul (10 ^ end_zeros bytes)) ∙ zero_power (power -ℤ pos (places bytes)))
-    by_coefficient (suc c) is = rw (other c) (zeros-out (suc c) (end_zeros bytes) (power -ℤ pos (places bytes)) ∙ sym (ap (λ n. times_power n (power -ℤ pos (places bytes))) is))
+    by_coefficient zero is = zero_power (pos 0)
+        ∙ sym (ap (λ n. times_power n (power -ℤ pos (places bytes))) (is ∙ zero-mul (10 ^ end_zeros bytes))
+        ∙ zero_power (power -ℤ pos (places bytes)))
+    by_coefficient (suc c) is =
+        rw (other c) (zeros-out (suc c) (end_zeros bytes) (power -ℤ pos (places bytes))
+        ∙ sym (ap (λ n. times_power n (power -ℤ pos (places bytes))) is))
       where
         other : (c : ℕ) → (suc c == 0) ≡ false
         other c = grind (arith, nat_tests)
 
+-- the law of the values of numerals
 pub numeral_law : NumeralLaw
-numeral_law bytes is short =
-    (decimal (mantissa bytes) (exponent_of (exponent_text bytes)), rw (is, short) refl, decimal_value (mantissa bytes) (exponent_of (exponent_text bytes)))
+numeral_law bytes is short = (
+  decimal (mantissa bytes) (exponent_of (exponent_text bytes)),
+  rw (is, short) refl,
+  decimal_value (mantissa bytes) (exponent_of (exponent_text bytes)),
+)

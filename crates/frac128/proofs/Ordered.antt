@@ -1,5 +1,6 @@
 -- The laws of the order.
-use Rattle.std.proofs.Common.{◌≡◌, ◌*◌, ◌<◌, ◌*ℤ◌, ◌<ℤ◌, ◌≤ℤ◌, ℕ, ℤ, pos, negsuc, suc, false, true, unsigned_abs, int_lt, arith, refl}
+use Rattle.std.proofs.Common.{◌≡◌, ◌*◌, ◌<◌, ◌*ℤ◌, ◌<ℤ◌, ◌≤ℤ◌, ℕ, ℤ, pos, negsuc, suc, false, true, unsigned_abs}
+use Rattle.std.proofs.Common.{int_lt, arith, refl}
 use Rattle.std.proofs.Common.{sym, ap, ◌∙◌}
 use Rattle.std.specs.declared.cmp.Ordering.{Ordering}
 use Rattle.std.specs.declared.cmp.Ordering.TheVariants.{Less, Equal, Greater}
@@ -20,16 +21,19 @@ use Rattle.frac128.proofs.Quotients.{scaled}
 
 -- a factor above 0 keeps the order
 mul_less : (a b : ℤ) (d : ℕ) → 0 < d → a <ℤ b → (a *ℤ pos d) <ℤ (b *ℤ pos d)
-mul_less (pos a) (pos b) d some h = let low : a * d < b * d = scaled a b d (omega (arith, ints)) some in omega (arith, ints)
+mul_less (pos a) (pos b) d some h = let low : a * d < b * d =
+    scaled a b d (omega (arith, ints)) some in omega (arith, ints)
 mul_less (pos a) (negsuc b) d some h = absurd (omega (arith, ints))
-mul_less (negsuc a) (pos b) d some h = let minus : 0 < suc a * d = mul-pos {m = suc a} (omega arith) some in rw (negsuc-*ℤ-pos a d) (omega (arith, ints))
+mul_less (negsuc a) (pos b) d some h = let minus : 0 < suc a * d =
+    mul-pos {m = suc a} (omega arith) some in rw (negsuc-*ℤ-pos a d) (omega (arith, ints))
 mul_less (negsuc a) (negsuc b) d some h =
     let low : suc b * d < suc a * d = scaled (suc b) (suc a) d (omega (arith, ints)) some in
     rw (negsuc-*ℤ-pos a d, negsuc-*ℤ-pos b d) (omega (arith, ints))
 
 -- also where the numbers may be equal
 mul_at_most : (a b : ℤ) (d : ℕ) → 0 < d → a ≤ℤ b → (a *ℤ pos d) ≤ℤ (b *ℤ pos d)
-mul_at_most a b d some h = by_lt_z a b (λ low. weaker (a *ℤ pos d) (b *ℤ pos d) (mul_less a b d some low)) (λ high. same a b h high)
+mul_at_most a b d some h =
+    by_lt_z a b (λ low. weaker (a *ℤ pos d) (b *ℤ pos d) (mul_less a b d some low)) (λ high. same a b h high)
   where
     weaker : (x y : ℤ) → x <ℤ y → x ≤ℤ y
     weaker x y h = omega (arith, ints)
@@ -39,32 +43,38 @@ mul_at_most a b d some h = by_lt_z a b (λ low. weaker (a *ℤ pos d) (b *ℤ po
 
 -- and is taken away
 less_of_mul : (a b : ℤ) (d : ℕ) → 0 < d → (a *ℤ pos d) <ℤ (b *ℤ pos d) → a <ℤ b
-less_of_mul a b d some h = by_lt_z a b (λ k. k) (λ k. absurd (clash (a *ℤ pos d) (b *ℤ pos d) h (mul_at_most b a d some k)))
+less_of_mul a b d some h =
+    by_lt_z a b (λ k. k) (λ k. absurd (clash (a *ℤ pos d) (b *ℤ pos d) h (mul_at_most b a d some k)))
   where
     clash : (x y : ℤ) → x <ℤ y → y ≤ℤ x → ⊥
     clash x y h k = omega (arith, ints)
 
 -- two factors in turn
 exchanged : (z : ℤ) (a b : ℕ) → z *ℤ pos a *ℤ pos b ≡ z *ℤ pos b *ℤ pos a
-exchanged z a b = twice z a b ∙ ap (signed (differ (differ (int_lt z (pos 0)) false) false)) (turned (unsigned_abs z) a b) ∙ sym (twice z b a)
+exchanged z a b = twice z a b
+    ∙ ap (signed (differ (differ (int_lt z (pos 0)) false) false)) (turned (unsigned_abs z) a b) ∙ sym (twice z b a)
   where
-    twice : (z : ℤ) (a b : ℕ) → z *ℤ pos a *ℤ pos b ≡ signed (differ (differ (int_lt z (pos 0)) false) false) (unsigned_abs z * a * b)
+    twice : (z : ℤ) (a b : ℕ)
+        → z *ℤ pos a *ℤ pos b ≡ signed (differ (differ (int_lt z (pos 0)) false) false) (unsigned_abs z * a * b)
     twice z a b =
         let s = int_lt z (pos 0) in
-        ap (λ n. n *ℤ pos a *ℤ pos b) (signed_is z) ∙ ap (λ n. n *ℤ pos b) (mul-signed s false (unsigned_abs z) a) ∙ mul-signed (differ s false) false (unsigned_abs z * a) b
+        ap (λ n. n *ℤ pos a *ℤ pos b) (signed_is z) ∙ ap (λ n. n *ℤ pos b) (mul-signed s false (unsigned_abs z) a)
+        ∙ mul-signed (differ s false) false (unsigned_abs z * a) b
 
     turned : (m a b : ℕ) → m * a * b ≡ m * b * a
     turned m a b = omega arith
 
 -- less is transitive
-less_trans : (x y z : Fraction) → 0 < x.den → 0 < y.den → 0 < z.den → compared x y ≡ Less → compared y z ≡ Less → compared x z ≡ Less
+less_trans : (x y z : Fraction) → 0 < x.den → 0 < y.den → 0 < z.den → compared x y ≡ Less → compared y z ≡ Less
+    → compared x z ≡ Less
 less_trans x y z some_x some_y some_z h k =
     let first : (x.num *ℤ pos y.den) <ℤ (y.num *ℤ pos x.den) = int_ranked _ _ Less (sym h) in
     let second : (y.num *ℤ pos z.den) <ℤ (z.num *ℤ pos y.den) = int_ranked _ _ Less (sym k) in
     let left = mul_less _ _ z.den some_z first in
     let right = mul_less _ _ x.den some_x second in
     let both : (x.num *ℤ pos z.den *ℤ pos y.den) <ℤ (z.num *ℤ pos x.den *ℤ pos y.den) =
-    rw (exchanged x.num z.den y.den, exchanged z.num x.den y.den) (chained _ _ _ _ left (exchanged y.num x.den z.den) right) in
+    rw (exchanged x.num z.den y.den, exchanged z.num x.den y.den)
+    (chained _ _ _ _ left (exchanged y.num x.den z.den) right) in
     sym (int_cmp_is _ _ Less (less_of_mul _ _ y.den some_y both))
   where
     chained : (a b c d : ℤ) → a <ℤ b → b ≡ c → c <ℤ d → a <ℤ d

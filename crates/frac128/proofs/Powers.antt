@@ -1,5 +1,6 @@
 -- Powers of numbers and fractions.
-use Rattle.std.proofs.Common.{neg_ℤ, cond, ◌≡◌, ◌^◌, ◌%◌, ◌<◌, ℕ, ℤ, pos, negsuc, suc, zero, Bool, true, false, unsigned_abs, arith, refl}
+use Rattle.std.proofs.Common.{neg_ℤ, cond, ◌≡◌, ◌^◌, ◌%◌, ◌<◌, ℕ, ℤ, pos, negsuc, suc, zero, Bool, true, false}
+use Rattle.std.proofs.Common.{unsigned_abs, arith, refl}
 use Rattle.std.proofs.Common.{sym, ap, ◌∙◌}
 use Rattle.std.specs.Prelude.{int_lt, ◌&&◌, ◌==◌}
 use Rattle.std.specs.Int.{IsGcd, int_pow}
@@ -46,25 +47,30 @@ pow-signed true (suc a) n = by_rest (n % 2) (suc a ^ n) (omega arith)
     by_rest (suc (suc r)) m h = absurd (omega arith)
 
 -- the power of a fraction in lowest terms
-pub power_up : (x : Fraction) (n : ℕ) → 0 < x.den → IsGcd (unsigned_abs x.num) x.den 1 → power x (pos n) ≡ fitting (raised x n)
+pub power_up : (x : Fraction) (n : ℕ) → 0 < x.den → IsGcd (unsigned_abs x.num) x.den 1
+    → power x (pos n) ≡ fitting (raised x n)
 power_up x n some lowest =
     let s = int_lt x.num (pos 0) in
     let a = unsigned_abs x.num in
-    let is : int_pow x.num n ≡ signed (s && (n % 2 == 1)) (a ^ n) = ap (λ z. int_pow z n) (signed_is x.num) ∙ pow-signed s a n in
+    let is : int_pow x.num n ≡ signed (s && (n % 2 == 1)) (a ^ n) = ap (λ z. int_pow z n) (signed_is x.num)
+    ∙ pow-signed s a n in
     let some_n = pow_some x.den n some in
     let low = lowest_self (a ^ n) (x.den ^ n) some_n (coprime-pow a x.den n (coprime_is _ _ lowest)) in
     rw is (ratio-signed _ (a ^ n) (x.den ^ n) _ _ some_n low)
 
 -- and turned upside down
 pub power_down : (x : Fraction) (n : ℕ) → 0 < unsigned_abs x.num → IsGcd (unsigned_abs x.num) x.den 1
-    → power x (negsuc n) ≡ fitting (raised (record { num = signed (int_lt x.num (pos 0)) x.den; den = unsigned_abs x.num }) (suc n))
+    → power x (negsuc n)
+    ≡ fitting (raised (record { num = signed (int_lt x.num (pos 0)) x.den; den = unsigned_abs x.num }) (suc n))
 power_down x n some lowest =
     let s = int_lt x.num (pos 0) in
     let a = unsigned_abs x.num in
     let m = suc n in
-    let is : int_pow x.num m ≡ signed (s && (m % 2 == 1)) (a ^ m) = ap (λ z. int_pow z m) (signed_is x.num) ∙ pow-signed s a m in
+    let is : int_pow x.num m ≡ signed (s && (m % 2 == 1)) (a ^ m) = ap (λ z. int_pow z m) (signed_is x.num)
+    ∙ pow-signed s a m in
     let some_m = pow_some a m some in
-    let low = lowest_self (x.den ^ m) (a ^ m) some_m (coprime-swap _ _ (coprime-pow a x.den m (coprime_is _ _ lowest))) in
+    let low = lowest_self (x.den ^ m) (a ^ m) some_m
+    (coprime-swap _ _ (coprime-pow a x.den m (coprime_is _ _ lowest))) in
     rw (is, pow-signed s x.den m) (ratio_over_signed (s && (m % 2 == 1)) (x.den ^ m) (a ^ m) some_m low)
   where
     ratio_over_signed : (s : Bool) (top bottom : ℕ) → 0 < bottom → IsLowest top bottom top bottom
@@ -82,14 +88,17 @@ pub record IsMade (x : Fraction) (s : Bool) (a b : ℕ) : Type 0 where
   pub lowest : IsGcd a x.den 1
 
 -- a power that is not below 0
-pub power_at : (x : Fraction) (k : ℤ) (s : Bool) (a b m : ℕ) → IsMade x s a b → m ≡ unsigned_abs k → le_z (pos 0) k ≡ true
+pub power_at : (x : Fraction) (k : ℤ) (s : Bool) (a b m : ℕ) → IsMade x s a b → m ≡ unsigned_abs k
+    → le_z (pos 0) k ≡ true
     → fitting (raised (record { num = signed s a; den = b }) m) ≡ power x k
 power_at x (pos n) s a b m is m_is h =
-    rw (m_is, is.s_is, is.a_is, is.b_is, ← signed_is x.num) (sym (power_up x n (rw (← is.b_is) is.some) (rw (← is.a_is) is.lowest)))
+    rw (m_is, is.s_is, is.a_is, is.b_is, ← signed_is x.num)
+    (sym (power_up x n (rw (← is.b_is) is.some) (rw (← is.a_is) is.lowest)))
 power_at x (negsuc n) s a b m is m_is h = absurd (cc)
 
 -- a power below 0 of a fraction other than 0
-pub power_below : (x : Fraction) (k : ℤ) (s : Bool) (a b m : ℕ) → IsMade x s a b → m ≡ unsigned_abs k → le_z (pos 0) k ≡ false → 0 < a
+pub power_below : (x : Fraction) (k : ℤ) (s : Bool) (a b m : ℕ) → IsMade x s a b → m ≡ unsigned_abs k
+    → le_z (pos 0) k ≡ false → 0 < a
     → fitting (raised (record { num = signed s b; den = a }) m) ≡ power x k
 power_below x (pos n) s a b m is m_is h some = absurd (not_below n h)
   where

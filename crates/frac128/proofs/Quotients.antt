@@ -46,7 +46,8 @@ both_equal : (m n x y : ℕ) → m ≡ n → x ≡ y → nat_cmp m n ≡ nat_cmp
 both_equal m n x y h k = grind (arith, nat_tests)
 
 -- different quotients decide
-pub quotients_decide : (a b c d : ℕ) → 0 < b → 0 < d → (a / b ≡ c / d → ⊥) → nat_cmp (a / b) (c / d) ≡ nat_cmp (a * d) (c * b)
+pub quotients_decide : (a b c d : ℕ) → 0 < b → 0 < d → (a / b ≡ c / d → ⊥)
+    → nat_cmp (a / b) (c / d) ≡ nat_cmp (a * d) (c * b)
 quotients_decide a b c d some_b some_d other =
     elim (cases_order (a / b) (c / d)) [
       | inl h ↦ absurd (other h)
@@ -55,11 +56,14 @@ quotients_decide a b c d some_b some_d other =
     ]
 
 -- at equal quotients the remainders decide
-pub quotient_same : (a b c d : ℕ) → 0 < b → 0 < d → a / b ≡ c / d → nat_cmp (a * d) (c * b) ≡ nat_cmp (a % b * d) (c % d * b)
+pub quotient_same : (a b c d : ℕ) → 0 < b → 0 < d → a / b ≡ c / d
+    → nat_cmp (a * d) (c * b) ≡ nat_cmp (a % b * d) (c % d * b)
 quotient_same a b c d some_b some_d h =
-    let left : a * d ≡ b * (a / b) * d + a % b * d = ap (λ n. n * d) (sym (div-add-mod a b)) ∙ add-mul (b * (a / b)) (a % b) d in
+    let left : a * d ≡ b * (a / b) * d + a % b * d = ap (λ n. n * d) (sym (div-add-mod a b))
+    ∙ add-mul (b * (a / b)) (a % b) d in
     let right : c * b ≡ b * (a / b) * d + c % d * b =
-    ap (λ n. n * b) (sym (div-add-mod c d)) ∙ add-mul (d * (c / d)) (c % d) b ∙ ap (λ n. n + c % d * b) (ap (λ q. d * q * b) (sym h) ∙ turned d (a / b) b) in
+    ap (λ n. n * b) (sym (div-add-mod c d)) ∙ add-mul (d * (c / d)) (c % d) b
+    ∙ ap (λ n. n + c % d * b) (ap (λ q. d * q * b) (sym h) ∙ turned d (a / b) b) in
     rw (left, right) (shifted (b * (a / b) * d) (a % b * d) (c % d * b))
   where
     shifted : (k x y : ℕ) → nat_cmp (k + x) (k + y) ≡ nat_cmp x y
@@ -71,7 +75,11 @@ quotient_same a b c d some_b some_d h =
 -- a remainder of 0 decides
 pub rest_decides : (r s b d : ℕ) → 0 < b → 0 < d → (r ≡ 0) ⊎ (s ≡ 0) → nat_cmp r s ≡ nat_cmp (r * d) (s * b)
 rest_decides zero zero b d some_b some_d h = both_equal 0 0 (0 * d) (0 * b) refl (omega arith)
-rest_decides zero (suc s) b d some_b some_d h = both_less 0 (suc s) (0 * d) (suc s * b) (omega arith) (omega (arith, mul-pos {m = suc s} {n = b} (omega arith) some_b))
-rest_decides (suc r) zero b d some_b some_d h = both_greater (suc r) 0 (suc r * d) (0 * b) (omega arith) (omega (arith, mul-pos {m = suc r} {n = d} (omega arith) some_d))
+rest_decides zero (suc s) b d some_b some_d h =
+    both_less 0 (suc s) (0 * d) (suc s * b) (omega arith)
+    (omega (arith, mul-pos {m = suc s} {n = b} (omega arith) some_b))
+rest_decides (suc r) zero b d some_b some_d h =
+    both_greater (suc r) 0 (suc r * d) (0 * b) (omega arith)
+    (omega (arith, mul-pos {m = suc r} {n = d} (omega arith) some_d))
 rest_decides (suc r) (suc s) b d some_b some_d (inl h) = absurd (omega arith)
 rest_decides (suc r) (suc s) b d some_b some_d (inr h) = absurd (omega arith)

@@ -1,10 +1,12 @@
 -- What the parts of a numeral give.
-use Rattle.std.proofs.Common.{◌≡◌, ◌≤◌, ◌-◌, ◌+ℤ◌, ◌-ℤ◌, ℕ, ℤ, suc, pos, Bool, true, false, List, [], ◌∷◌, length, take, drop, Some, None}
+use Rattle.std.proofs.Common.{◌≡◌, ◌≤◌, ◌-◌, ◌+ℤ◌, ◌-ℤ◌, ℕ, ℤ, suc, pos, Bool, true, false, List, [], ◌∷◌, length, take}
+use Rattle.std.proofs.Common.{drop, Some, None}
 use Rattle.std.proofs.Common.{arith, refl, sym, ap, ◌∙◌}
 use Rattle.std.specs.Prelude.{if◌then◌else◌, ◌==◌, nat_le, Ok, Err}
 use Rattle.std.proofs.lemmas.Bool.Decides.{nat_tests}
 use Rattle.frac128.specs.declared.numeral.NumeralFault.TheVariants.{TooLong}
-use Rattle.frac128.specs.Decimals.{coefficient_of, digits_of, end_zeros, exponent_of, exponent_size, exponent_text, mantissa, most_exponent, places}
+use Rattle.frac128.specs.Decimals.{coefficient_of, digits_of, end_zeros, exponent_of, exponent_size, exponent_text}
+use Rattle.frac128.specs.Decimals.{mantissa, most_exponent, places}
 use Rattle.frac128.specs.Decimals.{read, short_coefficient}
 use Rattle.frac128.specs.Fraction.{most}
 use Rattle.frac128.specs.Numerals.{before, from, is_digit, is_mark_byte, is_numeral}
@@ -15,7 +17,8 @@ pub before-le : (p : ℕ → Bool) (xs : List ℕ) → length (before p xs) ≤ 
 before-le p [] = omega arith
 before-le p (x ∷ xs) = by_test (p x) (before-le p xs)
   where
-    by_test : (b : Bool) → length (before p xs) ≤ length xs → length (if◌then◌else◌ {A = List ℕ} b [] (x ∷ before p xs)) ≤ suc (length xs)
+    by_test : (b : Bool) → length (before p xs) ≤ length xs
+        → length (if◌then◌else◌ {A = List ℕ} b [] (x ∷ before p xs)) ≤ suc (length xs)
     by_test true h = omega arith
     by_test false h = omega arith
 
@@ -35,7 +38,8 @@ take-before p [] = refl
 take-before p (x ∷ xs) = by_test (p x) (take-before p xs)
   where
     by_test : (b : Bool) → take (length (before p xs)) xs ≡ before p xs
-        → take (length (if◌then◌else◌ {A = List ℕ} b [] (x ∷ before p xs))) (x ∷ xs) ≡ (if◌then◌else◌ {A = List ℕ} b [] (x ∷ before p xs))
+        → take (length (if◌then◌else◌ {A = List ℕ} b [] (x ∷ before p xs))) (x ∷ xs)
+        ≡ (if◌then◌else◌ {A = List ℕ} b [] (x ∷ before p xs))
     by_test true h = refl
     by_test false h = ap (λ ys. x ∷ ys) h
 
@@ -45,7 +49,8 @@ drop-before p [] = refl
 drop-before p (x ∷ xs) = by_test (p x) (drop-before p xs)
   where
     by_test : (b : Bool) → drop (length (before p xs)) xs ≡ from p xs
-        → drop (length (if◌then◌else◌ {A = List ℕ} b [] (x ∷ before p xs))) (x ∷ xs) ≡ (if◌then◌else◌ {A = List ℕ} b (x ∷ xs) (from p xs))
+        → drop (length (if◌then◌else◌ {A = List ℕ} b [] (x ∷ before p xs))) (x ∷ xs)
+        ≡ (if◌then◌else◌ {A = List ℕ} b (x ∷ xs) (from p xs))
     by_test true h = refl
     by_test false h = h
 
@@ -56,7 +61,8 @@ pub record IsSplit (bytes m t : List ℕ) : Type 0 where
   pub t_is : t ≡ exponent_text bytes
 
 -- the parts by the place of the mark
-pub split_by : (bytes m t : List ℕ) (n : ℕ) → n ≡ length (before is_mark_byte bytes) → m ≡ take n bytes → t ≡ drop n bytes
+pub split_by : (bytes m t : List ℕ) (n : ℕ) → n ≡ length (before is_mark_byte bytes) → m ≡ take n bytes
+    → t ≡ drop n bytes
     → is_numeral bytes ≡ true → IsSplit bytes m t
 split_by bytes m t n n_is m_is t_is h = record {
   numeral = h;
@@ -84,7 +90,8 @@ zeros-le bytes c z some =
 -- the coefficient is too large
 pub read_wide : (bytes m t : List ℕ) → IsSplit bytes m t → None ≡ short_coefficient m → Err TooLong ≡ read bytes
 read_wide bytes m t is none =
-    let wide : nat_le (coefficient_of (mantissa bytes)) most ≡ false = rw (← is.m_is) (no_short (nat_le (coefficient_of m) most) (coefficient_of m, end_zeros m) none) in
+    let wide : nat_le (coefficient_of (mantissa bytes)) most ≡ false =
+    rw (← is.m_is) (no_short (nat_le (coefficient_of m) most) (coefficient_of m, end_zeros m) none) in
     rw (is.numeral, wide) refl
 
 -- the exponent is too large
@@ -93,22 +100,27 @@ pub read_long : (bytes m t : List ℕ) (c z : ℕ) → IsSplit bytes m t → Som
 read_long bytes m t c z is some wide =
     let short = is_shortened (nat_le (coefficient_of m) most) (c, z) (coefficient_of m, end_zeros m) some in
     let fits : nat_le (coefficient_of (mantissa bytes)) most ≡ true = rw (← is.m_is) short.0 in
-    let long : nat_le (exponent_size (exponent_text bytes)) most_exponent ≡ false = rw (← is.t_is) (le-false (exponent_size t) most_exponent (omega (arith, wide))) in
+    let long : nat_le (exponent_size (exponent_text bytes)) most_exponent ≡ false =
+    rw (← is.t_is) (le-false (exponent_size t) most_exponent (omega (arith, wide))) in
     rw (is.numeral, fits, long) refl
 
 -- the numeral by its parts
-pub read_short : (bytes m t : List ℕ) (c z : ℕ) → IsSplit bytes m t → Some (c, z) ≡ short_coefficient m → exponent_size t ≤ most_exponent
-    → read bytes ≡ Ok (if c == 0 then record { coefficient = 0; scale = pos 0 } else record { coefficient = c; scale = exponent_of t -ℤ pos (places m) +ℤ pos z })
+pub read_short : (bytes m t : List ℕ) (c z : ℕ) → IsSplit bytes m t → Some (c, z) ≡ short_coefficient m
+    → exponent_size t ≤ most_exponent
+    → read bytes ≡ Ok (if c == 0 then record { coefficient = 0; scale = pos 0 }
+    else record { coefficient = c; scale = exponent_of t -ℤ pos (places m) +ℤ pos z })
 read_short bytes m t c z is some low =
     let short = is_shortened (nat_le (coefficient_of m) most) (c, z) (coefficient_of m, end_zeros m) some in
     let fits : nat_le (coefficient_of (mantissa bytes)) most ≡ true = rw (← is.m_is) short.0 in
-    let near : nat_le (exponent_size (exponent_text bytes)) most_exponent ≡ true = rw (← is.t_is) (le-true (exponent_size t) most_exponent low) in
+    let near : nat_le (exponent_size (exponent_text bytes)) most_exponent ≡ true =
+    rw (← is.t_is) (le-true (exponent_size t) most_exponent low) in
     let c_is : c ≡ coefficient_of m = ap (λ p. p.0) short.1 in
     let z_is : z ≡ end_zeros m = ap (λ p. p.1) short.1 in
     rw (is.numeral, fits, near, c_is, z_is, is.m_is, is.t_is) refl
 
 -- the coefficient is 0
-pub read_zero : (bytes m t : List ℕ) (c z : ℕ) → IsSplit bytes m t → Some (c, z) ≡ short_coefficient m → exponent_size t ≤ most_exponent
+pub read_zero : (bytes m t : List ℕ) (c z : ℕ) → IsSplit bytes m t → Some (c, z) ≡ short_coefficient m
+    → exponent_size t ≤ most_exponent
     → c ≡ 0
     → Ok (record { coefficient = 0; scale = pos 0 }) ≡ read bytes
 read_zero bytes m t c z is some low c_is = sym (read_short bytes m t c z is some low ∙ rw c_is refl)
@@ -116,7 +128,8 @@ read_zero bytes m t c z is some low c_is = sym (read_short bytes m t c z is some
 -- the coefficient is above 0
 pub read_some : (bytes m t : List ℕ) (c z k : ℕ) (power : ℤ) → IsSplit bytes m t → Some (c, z) ≡ short_coefficient m
     → exponent_size t ≤ most_exponent → (c ≡ 0 → ⊥)
-    → power ≡ exponent_of t → k ≡ places m → Ok (record { coefficient = c; scale = power -ℤ pos k +ℤ pos z }) ≡ read bytes
+    → power ≡ exponent_of t → k ≡ places m → Ok (record { coefficient = c; scale = power -ℤ pos k +ℤ pos z })
+    ≡ read bytes
 read_some bytes m t c z k power is some low other power_is k_is =
     let test : (c == 0) ≡ false = grind (arith, nat_tests) in
     sym (read_short bytes m t c z is some low ∙ rw (test, power_is, k_is) refl)

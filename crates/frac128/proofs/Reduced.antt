@@ -12,8 +12,13 @@ use Rattle.frac128.proofs.Signs.{abs-signed, mul-signed, reduced-signed, sign_ke
 
 -- the sign and the magnitude of the numerator, and the denominator
 pub reduced_is : (n : ℤ) (d : ℕ)
-    → reduced n d ≡ record { num = signed (int_lt n (pos 0)) (unsigned_abs n / gcd (unsigned_abs n) d); den = d / gcd (unsigned_abs n) d }
-reduced_is n d = ap (λ z. reduced z d) (signed_is n) ∙ reduced-signed _ _ d _ _ (record { top_is = refl; bottom_is = refl })
+    → reduced n d ≡ record {
+      num = signed (int_lt n (pos 0)) (unsigned_abs n / gcd (unsigned_abs n) d);
+      den =
+          d / gcd (unsigned_abs n) d;
+    }
+reduced_is n d = ap (λ z. reduced z d) (signed_is n)
+    ∙ reduced-signed _ _ d _ _ (record { top_is = refl; bottom_is = refl })
 
 -- it is reduced
 reduced_reduced : (n : ℤ) (d : ℕ) → 0 < d → IsReduced (reduced n d)
@@ -21,7 +26,8 @@ reduced_reduced n d some =
     let low : IsLowest (unsigned_abs n) d _ _ = record { top_is = refl; bottom_is = refl } in
     rw (reduced_is n d) (record {
       positive = lowest_some _ _ _ _ some low;
-      lowest = rw (abs-signed (int_lt n (pos 0)) (unsigned_abs n / gcd (unsigned_abs n) d)) (lowest_gcd _ _ _ _ some low);
+      lowest = rw (abs-signed (int_lt n (pos 0)) (unsigned_abs n / gcd (unsigned_abs n) d))
+          (lowest_gcd _ _ _ _ some low);
     })
 
 -- it has the value of the quotient
@@ -37,14 +43,17 @@ reduced-value n d =
     )
 
 -- no other reduced fraction has the value
-pub reduced_only : (n : ℤ) (d : ℕ) (x : Fraction) → 0 < d → IsReduced x → SameValue x (record { num = n; den = d }) → x ≡ reduced n d
+pub reduced_only : (n : ℤ) (d : ℕ) (x : Fraction) → 0 < d → IsReduced x → SameValue x (record { num = n; den = d })
+    → x ≡ reduced n d
 reduced_only n d x some is same =
     let cross : unsigned_abs x.num * d ≡ unsigned_abs n * x.den =
     sym (unsigned_abs-mul x.num (pos d)) ∙ ap unsigned_abs same ∙ unsigned_abs-mul n (pos x.den) in
-    let low = lowest-cross (unsigned_abs n) d (unsigned_abs x.num) x.den some is.positive (coprime_is _ _ is.lowest) cross in
+    let low = lowest-cross (unsigned_abs n) d (unsigned_abs x.num) x.den some is.positive
+    (coprime_is _ _ is.lowest) cross in
     let sign : int_lt x.num (pos 0) ≡ int_lt n (pos 0) =
     sym (sign_kept x.num d some) ∙ ap (λ z. int_lt z (pos 0)) same ∙ sign_kept n x.den is.positive in
-    let num : x.num ≡ signed (int_lt n (pos 0)) (unsigned_abs x.num) = signed_is x.num ∙ ap (λ s. signed s (unsigned_abs x.num)) sign in
+    let num : x.num ≡ signed (int_lt n (pos 0)) (unsigned_abs x.num) = signed_is x.num
+    ∙ ap (λ s. signed s (unsigned_abs x.num)) sign in
     ap (λ z. record { num = z; den = x.den }) num
     ∙ sym (reduced-signed (int_lt n (pos 0)) (unsigned_abs n) d _ _ low) ∙ ap (λ z. reduced z d) (sym (signed_is n))
 

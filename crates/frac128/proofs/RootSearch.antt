@@ -1,8 +1,10 @@
 -- Whole roots between two numbers.
-use Rattle.std.proofs.Common.{◌≡◌, ◌+◌, ◌-◌, ◌*◌, ◌/◌, ◌%◌, ◌^◌, ◌<◌, ◌≤◌, ◌⊎◌, inl, inr, ℕ, suc, zero, arith, refl, sym, ap, ◌∙◌, lit<}
+use Rattle.std.proofs.Common.{◌≡◌, ◌+◌, ◌-◌, ◌*◌, ◌/◌, ◌%◌, ◌^◌, ◌<◌, ◌≤◌, ◌⊎◌, inl, inr, ℕ, suc, zero, arith, refl}
+use Rattle.std.proofs.Common.{sym, ap, ◌∙◌, lit<}
 use Rattle.std.proofs.lemmas.Bool.{cases_lt}
 use Rattle.std.proofs.lemmas.Nat.{one_shl, pow-add}
-use Rattle.std.proofs.Math.Nat.{mul_comm, mul-zero, one-le-pow, one-mul, pow-le-pow_left, pow-le-pow_right, pow-suc, pow-zero}
+use Rattle.std.proofs.Math.Nat.{mul_comm, mul-zero, one-le-pow, one-mul, pow-le-pow_left, pow-le-pow_right, pow-suc}
+use Rattle.std.proofs.Math.Nat.{pow-zero}
 
 -- the powers of the two numbers are below and above n
 pub record IsBetween (low high q n : ℕ) : Type 0 where
@@ -73,8 +75,10 @@ search_start n q k some other big next bound =
 -- two numbers in turn: no root is between them
 pub no_root : (low high q n : ℕ) → IsBetween low high q n → high - low ≤ 1 → (m : ℕ) → m ^ q ≡ n → ⊥
 no_root low high q n is h m e = elim (cases_lt low m) [
-  | inl above ↦ (let reached : high ^ q ≤ m ^ q = pow-le-pow_left (next low high m is.order h above) q in past (high ^ q) (m ^ q) n reached e is.above)
-  | inr below ↦ (let reached : m ^ q ≤ low ^ q = pow-le-pow_left below q in short (low ^ q) (m ^ q) n reached e is.below)
+  | inl above ↦ (let reached : high ^ q ≤ m ^ q =
+      pow-le-pow_left (next low high m is.order h above) q in past (high ^ q) (m ^ q) n reached e is.above)
+  | inr below ↦ (let reached : m ^ q ≤ low ^ q =
+      pow-le-pow_left below q in short (low ^ q) (m ^ q) n reached e is.below)
 ]
   where
     next : (low high m : ℕ) → low < high → high - low ≤ 1 → low < m → high ≤ m

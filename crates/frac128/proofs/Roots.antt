@@ -1,5 +1,6 @@
 -- Roots of fractions by the roots of their parts.
-use Rattle.std.proofs.Common.{inl, inr, ◌≡◌, ◌%◌, ◌^◌, ◌<◌, ◌≤◌, ℕ, ℤ, pos, negsuc, suc, zero, Bool, true, false, unsigned_abs, arith}
+use Rattle.std.proofs.Common.{inl, inr, ◌≡◌, ◌%◌, ◌^◌, ◌<◌, ◌≤◌, ℕ, ℤ, pos, negsuc, suc, zero, Bool, true, false}
+use Rattle.std.proofs.Common.{unsigned_abs, arith}
 use Rattle.std.proofs.Common.{refl, sym, ap, subst, ◌∙◌}
 use Rattle.std.specs.Prelude.{int_lt, IsFalse, Ok, ◌&&◌, ◌==◌}
 use Rattle.std.specs.Int.{◌∣◌, IsGcd, int_pow}
@@ -25,7 +26,8 @@ root_some (suc m) q b some e h = omega arith
 -- a number is at most its power
 pub le-pow : (m q : ℕ) → 0 < q → m ≤ m ^ q
 le-pow zero q some = omega arith
-le-pow (suc m) q some = subst (λ k. k ≤ suc m ^ q) (pow-one (suc m)) (pow-le-pow_right {n = suc m} (omega arith) {i = 1} {j = q} some)
+le-pow (suc m) q some =
+    subst (λ k. k ≤ suc m ^ q) (pow-one (suc m)) (pow-le-pow_right {n = suc m} (omega arith) {i = 1} {j = q} some)
 
 -- a number divides its power
 pub dvd-pow : (m q : ℕ) → 0 < q → m ∣ m ^ q
@@ -35,7 +37,8 @@ dvd-pow m (suc q) some = subst (λ k. m ∣ k) (sym (pow-suc m q)) (dvd-mul_left
 -- roots of coprime numbers are coprime
 pub root_lowest : (m n q a b : ℕ) → 0 < q → m ^ q ≡ a → n ^ q ≡ b → IsGcd a b 1 → IsGcd m n 1
 root_lowest m n q a b some first second h =
-    is_coprime m n (coprime-dvd a b m n (coprime_is a b h) (subst (λ k. m ∣ k) first (dvd-pow m q some)) (subst (λ k. n ∣ k) second (dvd-pow n q some)))
+    is_coprime m n (coprime-dvd a b m n (coprime_is a b h) (subst (λ k. m ∣ k) first (dvd-pow m q some))
+    (subst (λ k. n ∣ k) second (dvd-pow n q some)))
 
 -- what fits is no overflow
 fitting_ok : (s : Bool) (top bottom : ℕ) → top ≤ most → bottom ≤ most
@@ -58,7 +61,8 @@ plain_sign false top q odd even = grind (arith, ints)
 plain_sign true top q odd even = absurd (odd refl even)
 
 -- the root by the roots of numerator and denominator
-pub root_by : (x : Fraction) (q : ℕ) (s : Bool) (a b top bottom : ℕ) → IsMade x s a b → 0 < q → top ^ q ≡ a → bottom ^ q ≡ b
+pub root_by : (x : Fraction) (q : ℕ) (s : Bool) (a b top bottom : ℕ) → IsMade x s a b → 0 < q → top ^ q ≡ a
+    → bottom ^ q ≡ b
     → (s ≡ true → q % 2 ≡ 0 → ⊥) → IsRoot x q (record { num = signed s top; den = bottom })
 root_by x q s a b top bottom is some first second odd =
     let num : int_pow (signed s top) q ≡ x.num =
@@ -69,18 +73,21 @@ root_by x q s a b top bottom is some first second odd =
         positive = root_some bottom q b some second is.some;
         lowest = rw (abs-signed s top) (root_lowest top bottom q a b some first second (rw is.b_is is.lowest));
       };
-      power = ap (λ n. record { num = n; den = bottom ^ q }) num ∙ ap (λ d. record { num = x.num; den = d }) (second ∙ is.b_is);
+      power = ap (λ n. record { num = n; den = bottom ^ q }) num
+          ∙ ap (λ d. record { num = x.num; den = d }) (second ∙ is.b_is);
       plain = plain_sign s top q odd;
     }
 
 -- it fits where they do
-pub root_made : (x : Fraction) (q : ℕ) (s : Bool) (a b top bottom : ℕ) → IsMade x s a b → 0 < q → top ^ q ≡ a → bottom ^ q ≡ b → a ≤ most
+pub root_made : (x : Fraction) (q : ℕ) (s : Bool) (a b top bottom : ℕ) → IsMade x s a b → 0 < q → top ^ q ≡ a
+    → bottom ^ q ≡ b → a ≤ most
     → b ≤ most
     → (s ≡ true → q % 2 ≡ 0 → ⊥) → IsRootAnswer x q (fitting (record { num = signed s top; den = bottom }))
 root_made x q s a b top bottom is some first second a_fits b_fits odd =
     let low : top ≤ most = under top a (subst (λ k. top ≤ k) first (le-pow top q some)) a_fits in
     let high : bottom ≤ most = under bottom b (subst (λ k. bottom ≤ k) second (le-pow bottom q some)) b_fits in
-    subst (IsRootAnswer x q) (sym (fitting_ok s top bottom low high)) (root_by x q s a b top bottom is some first second odd)
+    subst (IsRootAnswer x q) (sym (fitting_ok s top bottom low high))
+    (root_by x q s a b top bottom is some first second odd)
   where
     under : (m n : ℕ) → m ≤ n → n ≤ most → m ≤ most
     under m n h k = omega arith
@@ -99,7 +106,8 @@ same_of_pow m n q some e = elim (cases_order m n) [
 -- the magnitude and the sign of a power
 pub abs-pow : (z : ℤ) (q : ℕ) → unsigned_abs (int_pow z q) ≡ unsigned_abs z ^ q
 abs-pow z q =
-    ap (λ n. unsigned_abs (int_pow n q)) (signed_is z) ∙ ap unsigned_abs (pow-signed (int_lt z (pos 0)) (unsigned_abs z) q) ∙ abs-signed _ (unsigned_abs z ^ q)
+    ap (λ n. unsigned_abs (int_pow n q)) (signed_is z)
+    ∙ ap unsigned_abs (pow-signed (int_lt z (pos 0)) (unsigned_abs z) q) ∙ abs-signed _ (unsigned_abs z ^ q)
 
 -- the sign of a number other than 0
 sign_of : (s : Bool) (m : ℕ) → 0 < m → int_lt (signed s m) (pos 0) ≡ s
@@ -112,7 +120,9 @@ odd_pow : (z : ℤ) (q : ℕ) → 0 < unsigned_abs z → q % 2 ≡ 1 → int_lt 
 odd_pow z q some odd =
     let s = int_lt z (pos 0) in
     let m = unsigned_abs z in
-    ap (λ n. int_lt n (pos 0)) (ap (λ n. int_pow n q) (signed_is z) ∙ pow-signed s m q ∙ ap (λ b. signed (s && b) (m ^ q)) (one_is (q % 2) odd) ∙ ap (λ b. signed b (m ^ q)) (and-true s))
+    ap (λ n. int_lt n (pos 0))
+    (ap (λ n. int_pow n q) (signed_is z) ∙ pow-signed s m q ∙ ap (λ b. signed (s && b) (m ^ q)) (one_is (q % 2) odd)
+    ∙ ap (λ b. signed b (m ^ q)) (and-true s))
     ∙ sign_of s (m ^ q) (pow_some m q some)
   where
     one_is : (r : ℕ) → r ≡ 1 → (r == 1) ≡ true
@@ -122,7 +132,8 @@ odd_pow z q some odd =
 same_num : (m n : ℤ) (q : ℕ) → 0 < q → int_pow m q ≡ int_pow n q → (q % 2 ≡ 0 → IsFalse (int_lt m (pos 0)))
     → (q % 2 ≡ 0 → IsFalse (int_lt n (pos 0))) → m ≡ n
 same_num m n q some e plain_m plain_n =
-    let size : unsigned_abs m ≡ unsigned_abs n = same_of_pow (unsigned_abs m) (unsigned_abs n) q some (sym (abs-pow m q) ∙ ap unsigned_abs e ∙ abs-pow n q) in
+    let size : unsigned_abs m ≡ unsigned_abs n =
+    same_of_pow (unsigned_abs m) (unsigned_abs n) q some (sym (abs-pow m q) ∙ ap unsigned_abs e ∙ abs-pow n q) in
     by_size (unsigned_abs m) refl size
   where
     none : (z : ℤ) → unsigned_abs z ≡ 0 → z ≡ pos 0
@@ -132,7 +143,8 @@ same_num m n q some e plain_m plain_n =
 
     sign : (r : ℕ) → q % 2 ≡ r → r < 2 → 0 < unsigned_abs m → 0 < unsigned_abs n → int_lt m (pos 0) ≡ int_lt n (pos 0)
     sign zero r_is h some_m some_n = plain_m r_is ∙ sym (plain_n r_is)
-    sign (suc zero) r_is h some_m some_n = sym (odd_pow m q some_m r_is) ∙ ap (λ z. int_lt z (pos 0)) e ∙ odd_pow n q some_n r_is
+    sign (suc zero) r_is h some_m some_n = sym (odd_pow m q some_m r_is) ∙ ap (λ z. int_lt z (pos 0)) e
+        ∙ odd_pow n q some_n r_is
     sign (suc (suc r)) r_is h some_m some_n = absurd (omega arith)
 
     by_size : (a : ℕ) → unsigned_abs m ≡ a → unsigned_abs m ≡ unsigned_abs n → m ≡ n
@@ -141,7 +153,8 @@ same_num m n q some e plain_m plain_n =
         let some_m : 0 < unsigned_abs m = omega arith in
         let some_n : 0 < unsigned_abs n = omega arith in
         let below : q % 2 < 2 = omega arith in
-        signed_is m ∙ ap (λ s. signed s (unsigned_abs m)) (sign (q % 2) refl below some_m some_n) ∙ ap (signed (int_lt n (pos 0))) size ∙ sym (signed_is n)
+        signed_is m ∙ ap (λ s. signed s (unsigned_abs m)) (sign (q % 2) refl below some_m some_n)
+        ∙ ap (signed (int_lt n (pos 0))) size ∙ sym (signed_is n)
 
 -- two roots are one
 pub root_law : RootLaw

@@ -1,5 +1,6 @@
 -- Ratios of numbers that are given by sign and magnitude.
-use Rattle.std.proofs.Common.{◌≡◌, ◌*◌, ◌/◌, ◌<◌, ◌≤◌, ℕ, suc, zero, ℤ, pos, negsuc, neg_ℤ, ◌*ℤ◌, Bool, true, false, not, arith, refl}
+use Rattle.std.proofs.Common.{◌≡◌, ◌*◌, ◌/◌, ◌<◌, ◌≤◌, ℕ, suc, zero, ℤ, pos, negsuc, neg_ℤ, ◌*ℤ◌, Bool, true, false}
+use Rattle.std.proofs.Common.{not, arith, refl}
 use Rattle.std.proofs.Common.{sym, ap, ◌∙◌, unsigned_abs}
 use Rattle.std.specs.Prelude.{int_lt, int_div}
 use Rattle.std.proofs.lemmas.Int.{ints, unsigned_abs-mul}
@@ -92,9 +93,11 @@ pub ratio_is : (n d : ℤ) (top bottom : ℕ) → 0 < unsigned_abs d → IsLowes
 ratio_is n (pos zero) top bottom some low = absurd (omega arith)
 ratio_is n (pos (suc d)) top bottom some low =
     let plus : int_lt (pos (suc d)) (pos 0) ≡ false = grind (arith, ints) in
-    ap (λ z. ratio z (pos (suc d))) (signed_is n) ∙ ratio-signed _ _ (suc d) top bottom some low ∙ ap (λ s. fitting (record { num = signed s top; den = bottom })) (sym (ap (differ _) plus ∙ differ-false _))
+    ap (λ z. ratio z (pos (suc d))) (signed_is n) ∙ ratio-signed _ _ (suc d) top bottom some low
+    ∙ ap (λ s. fitting (record { num = signed s top; den = bottom })) (sym (ap (differ _) plus ∙ differ-false _))
 ratio_is n (negsuc d) top bottom some low =
-    ap (λ z. ratio z (negsuc d)) (signed_is n) ∙ ap (λ z. fitting (reduced z (suc d))) (neg-signed (int_lt n (pos 0)) (unsigned_abs n))
+    ap (λ z. ratio z (negsuc d)) (signed_is n)
+    ∙ ap (λ z. fitting (reduced z (suc d))) (neg-signed (int_lt n (pos 0)) (unsigned_abs n))
     ∙ ap fitting (reduced-signed _ _ (suc d) top bottom low)
     ∙ ap (λ s. fitting (record { num = signed s top; den = bottom })) (sym (differ-true _))
 
@@ -103,28 +106,35 @@ pub times_is : (x y : Fraction) (top bottom : ℕ) → 0 < x.den → 0 < y.den
     → IsLowest (unsigned_abs x.num * unsigned_abs y.num) (x.den * y.den) top bottom
     → times x y ≡ fitting (record { num = signed (signs_differ x.num y.num) top; den = bottom })
 times_is x y top bottom some_x some_y low =
-    ap (λ z. ratio z (pos (x.den * y.den))) (product_is x.num y.num) ∙ ratio-signed _ _ (x.den * y.den) top bottom (mul-pos some_x some_y) low
+    ap (λ z. ratio z (pos (x.den * y.den))) (product_is x.num y.num)
+    ∙ ratio-signed _ _ (x.den * y.den) top bottom (mul-pos some_x some_y) low
   where
     product_is : (m n : ℤ) → m *ℤ n ≡ signed (signs_differ m n) (unsigned_abs m * unsigned_abs n)
-    product_is m n = ap (λ z. z *ℤ n) (signed_is m) ∙ ap (λ z. signed _ (unsigned_abs m) *ℤ z) (signed_is n) ∙ mul-signed _ _ (unsigned_abs m) (unsigned_abs n)
+    product_is m n = ap (λ z. z *ℤ n) (signed_is m) ∙ ap (λ z. signed _ (unsigned_abs m) *ℤ z) (signed_is n)
+        ∙ mul-signed _ _ (unsigned_abs m) (unsigned_abs n)
 
 -- a fraction with a part of more than 128 bits does not fit
 pub wide_over : (s : Bool) (top bottom : ℕ) → (2 ^ 128 ≤ top) ⊎ (2 ^ 128 ≤ bottom)
     → fitting (record { num = signed s top; den = bottom }) ≡ Err Overflow
 wide_over s top bottom (inl h) = rw (abs-signed s top, le-false top most (omega arith)) refl
-wide_over s top bottom (inr h) = rw (le-false bottom most (omega arith), and-false (nat_le (unsigned_abs (signed s top)) most)) refl
+wide_over s top bottom (inr h) =
+    rw (le-false bottom most (omega arith), and-false (nat_le (unsigned_abs (signed s top)) most)) refl
 
 -- a product that is too wide
-pub times_wide : (x y : Fraction) → 0 < x.den → 0 < y.den → IsWide (unsigned_abs x.num * unsigned_abs y.num) (x.den * y.den)
+pub times_wide : (x y : Fraction) → 0 < x.den → 0 < y.den
+    → IsWide (unsigned_abs x.num * unsigned_abs y.num) (x.den * y.den)
     → times x y ≡ Err Overflow
-times_wide x y some_x some_y wide = times_is x y _ _ some_x some_y (record { top_is = refl; bottom_is = refl }) ∙ wide_over _ _ _ wide
+times_wide x y some_x some_y wide = times_is x y _ _ some_x some_y (record { top_is = refl; bottom_is = refl })
+    ∙ wide_over _ _ _ wide
 
 -- a numerator that is too large
-pub top_over : (s : Bool) (top bottom : ℕ) → most < top → fitting (record { num = signed s top; den = bottom }) ≡ Err Overflow
+pub top_over : (s : Bool) (top bottom : ℕ) → most < top
+    → fitting (record { num = signed s top; den = bottom }) ≡ Err Overflow
 top_over s top bottom h = rw (abs-signed s top, le-false top most h) refl
 
 -- a denominator that is too large
-pub bottom_over : (s : Bool) (top bottom : ℕ) → most < bottom → fitting (record { num = signed s top; den = bottom }) ≡ Err Overflow
+pub bottom_over : (s : Bool) (top bottom : ℕ) → most < bottom
+    → fitting (record { num = signed s top; den = bottom }) ≡ Err Overflow
 bottom_over s top bottom h = rw (le-false bottom most h, and-false (nat_le (unsigned_abs (signed s top)) most)) refl
 
 -- no natural number is below 0
@@ -154,12 +164,14 @@ over_is x y top bottom some_x some_y some low =
     (rw (unsigned_abs-mul (pos x.den) y.num) (mul-pos some_x some))
     (rw (unsigned_abs-mul x.num (pos y.den), unsigned_abs-mul (pos x.den) y.num) low)
     ∙ ap (λ s. fitting (record { num = signed s top; den = bottom }))
-    (ap (λ s. differ s (int_lt (pos x.den *ℤ y.num) (pos 0))) (sign_kept x.num y.den some_y) ∙ ap (differ (int_lt x.num (pos 0))) (sign_kept_left y.num x.den some_x))
+    (ap (λ s. differ s (int_lt (pos x.den *ℤ y.num) (pos 0))) (sign_kept x.num y.den some_y)
+    ∙ ap (differ (int_lt x.num (pos 0))) (sign_kept_left y.num x.den some_x))
 
 -- a quotient that is too wide
 pub over_wide : (x y : Fraction) → 0 < x.den → 0 < y.den → 0 < unsigned_abs y.num
     → IsWide (unsigned_abs x.num * y.den) (x.den * unsigned_abs y.num) → over x y ≡ Err Overflow
-over_wide x y some_x some_y some wide = over_is x y _ _ some_x some_y some (record { top_is = refl; bottom_is = refl }) ∙ wide_over _ _ _ wide
+over_wide x y some_x some_y some wide = over_is x y _ _ some_x some_y some (record { top_is = refl; bottom_is = refl })
+    ∙ wide_over _ _ _ wide
 
 -- the magnitude of a number other than 0
 pub some_abs : (d : ℤ) → (d ≡ pos 0 → ⊥) → 0 < unsigned_abs d

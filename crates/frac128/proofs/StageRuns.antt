@@ -1,5 +1,6 @@
 -- Numerals that are read byte by byte.
-use Rattle.std.proofs.Common.{inl, inr, add-one, subst, ◌≡◌, ◌+◌, ◌-◌, ◌<◌, ◌≤◌, ℕ, suc, zero, Bool, true, false, List, [], ◌∷◌, take}
+use Rattle.std.proofs.Common.{inl, inr, add-one, subst, ◌≡◌, ◌+◌, ◌-◌, ◌<◌, ◌≤◌, ℕ, suc, zero, Bool, true, false, List}
+use Rattle.std.proofs.Common.{[], ◌∷◌, take}
 use Rattle.std.proofs.Common.{drop, length, get_or, Option, Some, None, arith, refl, sym, ap, ◌∙◌}
 use Rattle.std.specs.Prelude.{nat_eq, ◌&&◌, if◌then◌else◌}
 use Rattle.std.specs.List.{list_all}
@@ -9,7 +10,8 @@ use Rattle.std.proofs.lemmas.List.{drop_more, take_all}
 use Rattle.frac128.specs.declared.spelling.Kind.{Kind}
 use Rattle.frac128.specs.declared.spelling.Stage.{Stage}
 use Rattle.frac128.specs.declared.spelling.Stage.TheVariants.{Start, Whole, Pointed, Fraction, Marked, Signed, Exponent}
-use Rattle.frac128.specs.Numerals.{before, behind_sign, from, greatest, is_digit, is_exponent, is_mark_byte, is_numeral, is_point_byte}
+use Rattle.frac128.specs.Numerals.{before, behind_sign, from, greatest, is_digit, is_exponent, is_mark_byte, is_numeral}
+use Rattle.frac128.specs.Numerals.{is_point_byte}
 use Rattle.frac128.specs.Numerals.{is_pointed, is_sign_byte, is_whole, numeral_len_of}
 use Rattle.frac128.specs.Stages.{kind_of, may_end, stage_after}
 use Rattle.frac128.proofs.Comparisons.{and-false}
@@ -68,15 +70,34 @@ point_no_sign b h = grind (arith, nat_tests)
 mark_no_sign : (b : ℕ) → is_mark_byte b ≡ true → is_sign_byte b ≡ false
 mark_no_sign b h = grind (arith, nat_tests)
 
+-- each byte is of one of the kinds that the stages test
 tested : (b : ℕ) → IsTested b
 tested b = by_tests (is_digit b) (is_point_byte b) (is_mark_byte b) (is_sign_byte b) refl refl refl refl
   where
-    by_tests : (d p m s : Bool) → is_digit b ≡ d → is_point_byte b ≡ p → is_mark_byte b ≡ m → is_sign_byte b ≡ s → IsTested b
-    by_tests true p m s d_is p_is m_is s_is = IsDigit (record { digit_is = d_is; point_is = digit_no_point b d_is; mark_is = digit_no_mark b d_is; sign_is = digit_no_sign b d_is })
-    by_tests false true m s d_is p_is m_is s_is = IsPoint (record { digit_is = d_is; point_is = p_is; mark_is = point_no_mark b p_is; sign_is = point_no_sign b p_is })
-    by_tests false false true s d_is p_is m_is s_is = IsMark (record { digit_is = d_is; point_is = p_is; mark_is = m_is; sign_is = mark_no_sign b m_is })
-    by_tests false false false true d_is p_is m_is s_is = IsSign (record { digit_is = d_is; point_is = p_is; mark_is = m_is; sign_is = s_is })
-    by_tests false false false false d_is p_is m_is s_is = IsOther (record { digit_is = d_is; point_is = p_is; mark_is = m_is; sign_is = s_is })
+    by_tests : (d p m s : Bool) → is_digit b ≡ d → is_point_byte b ≡ p → is_mark_byte b ≡ m → is_sign_byte b ≡ s
+        → IsTested b
+    by_tests true p m s d_is p_is m_is s_is =
+        IsDigit (record {
+          digit_is = d_is;
+          point_is = digit_no_point b d_is;
+          mark_is = digit_no_mark b d_is;
+          sign_is =
+              digit_no_sign b d_is;
+        })
+    by_tests false true m s d_is p_is m_is s_is =
+        IsPoint (record {
+          digit_is = d_is;
+          point_is = p_is;
+          mark_is = point_no_mark b p_is;
+          sign_is =
+              point_no_sign b p_is;
+        })
+    by_tests false false true s d_is p_is m_is s_is =
+        IsMark (record { digit_is = d_is; point_is = p_is; mark_is = m_is; sign_is = mark_no_sign b m_is })
+    by_tests false false false true d_is p_is m_is s_is =
+        IsSign (record { digit_is = d_is; point_is = p_is; mark_is = m_is; sign_is = s_is })
+    by_tests false false false false d_is p_is m_is s_is =
+        IsOther (record { digit_is = d_is; point_is = p_is; mark_is = m_is; sign_is = s_is })
 
 -- one more byte
 rest_step : (s : Stage) (b : ℕ) (bs : List ℕ) → rest_of s (b ∷ bs) ≡ rest_of_some (stage_after s (kind_of b)) bs
@@ -148,7 +169,8 @@ read_start bytes = record {
     plain n = omega arith
 
 -- what the rest must be, one byte on
-rest_on : (bytes : List ℕ) (i len : ℕ) (s : Stage) (k : Kind) → IsReadTo bytes i s len → i < length bytes → k ≡ kind_of (get_or bytes i 0)
+rest_on : (bytes : List ℕ) (i len : ℕ) (s : Stage) (k : Kind) → IsReadTo bytes i s len → i < length bytes
+    → k ≡ kind_of (get_or bytes i 0)
     → (n : ℕ) → is_numeral (take (i + 1 + n) bytes) ≡ rest_of_some (stage_after s k) (take n (drop (i + 1) bytes))
 rest_on bytes i len s k is h k_is n =
     ap (λ m. is_numeral (take m bytes)) (moved i n)
@@ -161,36 +183,44 @@ rest_on bytes i len s k is h k_is n =
     moved i n = omega arith
 
 -- one number more
-greatest_more : (test : ℕ → Bool) (i : ℕ) (b : Bool) → test (i + 1) ≡ b → greatest test (i + 1) ≡ (if b then i + 1 else greatest test i)
+greatest_more : (test : ℕ → Bool) (i : ℕ) (b : Bool) → test (i + 1) ≡ b
+    → greatest test (i + 1) ≡ (if b then i + 1 else greatest test i)
 unfolding greatest
-greatest_more test i b e = subst (λ n. test n ≡ b → greatest test n ≡ (if b then n else greatest test i)) (sym (add-one i)) (step (suc i) refl) e
+greatest_more test i b e =
+    subst (λ n. test n ≡ b → greatest test n ≡ (if b then n else greatest test i)) (sym (add-one i))
+    (step (suc i) refl) e
   where
     step : (n : ℕ) → n ≡ suc i → test (suc i) ≡ b → greatest test (suc i) ≡ (if b then suc i else greatest test i)
     step n e h = rw h refl
 
 -- one byte more
-pub read_more : (bytes : List ℕ) (i : ℕ) (s next : Stage) (k : Kind) (len more : ℕ) → IsReadTo bytes i s len → i < length bytes
+pub read_more : (bytes : List ℕ) (i : ℕ) (s next : Stage) (k : Kind) (len more : ℕ) → IsReadTo bytes i s len
+    → i < length bytes
     → k ≡ kind_of (get_or bytes i 0)
     → Some next ≡ stage_after s k → more ≡ (if may_end next then i + 1 else len) → IsReadTo bytes (i + 1) next more
 read_more bytes i s next k len more is h k_is next_is more_is =
     let on : (n : ℕ) → is_numeral (take (i + 1 + n) bytes) ≡ rest_of next (take n (drop (i + 1) bytes)) =
     λ n. rest_on bytes i len s k is h k_is n ∙ ap (λ t. rest_of_some t (take n (drop (i + 1) bytes))) (sym next_is) in
-    let test : is_numeral (take (i + 1) bytes) ≡ may_end next = ap (λ n. is_numeral (take n bytes)) (plain (i + 1)) ∙ on 0 ∙ rest_end next in
+    let test : is_numeral (take (i + 1) bytes) ≡ may_end next = ap (λ n. is_numeral (take n bytes)) (plain (i + 1))
+    ∙ on 0 ∙ rest_end next in
     record {
       within = omega arith;
       rest = on;
-      longest = more_is ∙ ap (λ n. if may_end next then i + 1 else n) is.longest ∙ sym (greatest_more (λ n. is_numeral (take n bytes)) i (may_end next) test);
+      longest = more_is ∙ ap (λ n. if may_end next then i + 1 else n) is.longest
+          ∙ sym (greatest_more (λ n. is_numeral (take n bytes)) i (may_end next) test);
     }
   where
     plain : (n : ℕ) → n ≡ n + 0
     plain n = omega arith
 
 -- where no number above i passes the test
-greatest-stays : (test : ℕ → Bool) (i n : ℕ) → i ≤ n → ((m : ℕ) → i < m → m ≤ n → test m ≡ false) → greatest test n ≡ greatest test i
+greatest-stays : (test : ℕ → Bool) (i n : ℕ) → i ≤ n → ((m : ℕ) → i < m → m ≤ n → test m ≡ false)
+    → greatest test n ≡ greatest test i
 unfolding greatest
 greatest-stays test i zero h none = let same : zero ≡ i = omega arith in ap (greatest test) same
 greatest-stays test i (suc n) h none = elim (cases_lt i (suc n)) [
-  | inl low ↦ ap (λ b. if b then suc n else greatest test n) (none (suc n) low (omega arith)) ∙ greatest-stays test i n (omega arith) (λ m p q. none m p (omega arith))
+  | inl low ↦ ap (λ b. if b then suc n else greatest test n) (none (suc n) low (omega arith))
+      ∙ greatest-stays test i n (omega arith) (λ m p q. none m p (omega arith))
   | inr high ↦ (let same : suc n ≡ i = omega arith in ap (greatest test) same)
 ]
 
@@ -204,7 +234,8 @@ read_end bytes i s k len is h k_is none =
     longer : (m : ℕ) → i < m → is_numeral (take m bytes) ≡ false
     longer m p =
         let n : ℕ = m - (i + 1) in
-        ap (λ j. is_numeral (take j bytes)) (parts m p) ∙ rest_on bytes i len s k is h k_is n ∙ ap (λ t. rest_of_some t (take n (drop (i + 1) bytes))) (sym none)
+        ap (λ j. is_numeral (take j bytes)) (parts m p) ∙ rest_on bytes i len s k is h k_is n
+        ∙ ap (λ t. rest_of_some t (take n (drop (i + 1) bytes))) (sym none)
       where
         parts : (m : ℕ) → i < m → m ≡ i + 1 + (m - (i + 1))
         parts m p = omega arith
@@ -230,5 +261,7 @@ greatest-whole test (suc n) h = by_test (test (suc n)) (greatest-le test n)
     by_test false h = grind (arith, nat_tests)
 
 -- all bytes are a numeral where the longest one is as long
-pub numeral_len-whole : (bytes : List ℕ) → 0 < length bytes → nat_eq (numeral_len_of bytes) (length bytes) ≡ is_numeral bytes
-numeral_len-whole bytes some = greatest-whole (λ n. is_numeral (take n bytes)) (length bytes) some ∙ ap is_numeral (take_all (length bytes) bytes (omega arith))
+pub numeral_len-whole : (bytes : List ℕ) → 0 < length bytes
+    → nat_eq (numeral_len_of bytes) (length bytes) ≡ is_numeral bytes
+numeral_len-whole bytes some = greatest-whole (λ n. is_numeral (take n bytes)) (length bytes) some
+    ∙ ap is_numeral (take_all (length bytes) bytes (omega arith))

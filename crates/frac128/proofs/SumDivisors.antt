@@ -1,16 +1,19 @@
 -- What a sum over a common multiple shares with it.
-use Rattle.std.proofs.Common.{inl, inr, ◌≡◌, ◌+◌, ◌-◌, ◌*◌, ◌/◌, ◌<◌, ◌+ℤ◌, ℕ, pos, neg_ℤ, unsigned_abs, Bool, true, false, arith, sym}
+use Rattle.std.proofs.Common.{inl, inr, ◌≡◌, ◌+◌, ◌-◌, ◌*◌, ◌/◌, ◌<◌, ◌+ℤ◌, ℕ, pos, neg_ℤ, unsigned_abs, Bool, true}
+use Rattle.std.proofs.Common.{false, arith, sym}
 use Rattle.std.proofs.Common.{ap, subst, ◌∙◌}
 use Rattle.std.specs.Int.{◌∣◌, IsGcd}
 use Rattle.std.proofs.lemmas.Bool.{cases_lt}
 use Rattle.std.proofs.lemmas.Int.{ints}
 use Rattle.std.proofs.lemmas.Nat.Gcd.{dvd_refl, dvd_trans}
 use Rattle.std.proofs.Math.IntN.{+ℤ_comm}
-use Rattle.std.proofs.Math.Nat.{dvd-add, dvd-add_iff_left, dvd-sub, mul-div_cancel', mul_assoc, mul_comm, one-dvd, dvd-mul_left}
+use Rattle.std.proofs.Math.Nat.{dvd-add, dvd-add_iff_left, dvd-sub, mul-div_cancel', mul_assoc, mul_comm, one-dvd}
+use Rattle.std.proofs.Math.Nat.{dvd-mul_left}
 use Rattle.frac128.specs.Divisors.{gcd}
 use Rattle.frac128.specs.Sign.{signed}
 use Rattle.frac128.proofs.BinarySteps.{gcd-coprime}
-use Rattle.frac128.proofs.Coprime.{IsCoprime, coprime-dvd, coprime-mul, coprime-quotients, coprime-swap, coprime_is, is_coprime}
+use Rattle.frac128.proofs.Coprime.{IsCoprime, coprime-dvd, coprime-mul, coprime-quotients, coprime-swap, coprime_is}
+use Rattle.frac128.proofs.Coprime.{is_coprime}
 use Rattle.frac128.proofs.Euclid.{gcd_is, gcd_some}
 
 -- a difference by magnitudes
@@ -20,8 +23,10 @@ abs-difference x y = omega (arith, ints)
 -- what divides a difference and one of two numbers divides the other
 dvd-difference : (x y k : ℕ) → k ∣ (x - y) + (y - x) → k ∣ y → k ∣ x
 dvd-difference x y k both h = elim (cases_lt x y) [
-  | inl low ↦ (let less : (x - y) + (y - x) ≡ y - x = omega arith in let rest : y - (y - x) ≡ x = omega arith in subst (λ n. k ∣ n) rest (dvd-sub k h (subst (λ n. k ∣ n) less both)))
-  | inr high ↦ (let less : (x - y) + (y - x) ≡ x - y = omega arith in let whole : x - y + y ≡ x = omega arith in subst (λ n. k ∣ n) whole (dvd-add k (subst (λ n. k ∣ n) less both) h))
+  | inl low ↦ (let less : (x - y) + (y - x) ≡ y - x = omega arith in let rest : y - (y - x) ≡ x =
+      omega arith in subst (λ n. k ∣ n) rest (dvd-sub k h (subst (λ n. k ∣ n) less both)))
+  | inr high ↦ (let less : (x - y) + (y - x) ≡ x - y = omega arith in let whole : x - y + y ≡ x =
+      omega arith in subst (λ n. k ∣ n) whole (dvd-add k (subst (λ n. k ∣ n) less both) h))
 ]
 
 -- the same with signs
@@ -62,6 +67,8 @@ sum_shares s t a b c d some_b some_d ab cd =
     let p_a : IsCoprime p a = coprime-dvd b a p a (coprime-swap a b (coprime_is a b ab)) p_b (dvd_refl a) in
     let q_c : IsCoprime q c = coprime-dvd d c q c (coprime-swap c d (coprime_is c d cd)) q_d (dvd_refl c) in
     let z_p : IsCoprime z p = coprime-sum s t (a * q) (c * p) p (coprime-mul p a q p_a p_q) (dvd-mul_left p c) in
-    let z_q : IsCoprime z q = rw (+ℤ_comm (signed s (a * q)) (signed t (c * p))) (coprime-sum t s (c * p) (a * q) q (coprime-mul q c p q_c (coprime-swap p q p_q)) (dvd-mul_left q a)) in
+    let z_q : IsCoprime z q =
+    rw (+ℤ_comm (signed s (a * q)) (signed t (c * p)))
+    (coprime-sum t s (c * p) (a * q) q (coprime-mul q c p q_c (coprime-swap p q p_q)) (dvd-mul_left q a)) in
     let multiple : p * d ≡ p * q * g = ap (λ n. p * n) (sym d_is ∙ mul_comm g q) ∙ sym (mul_assoc p q g) in
     ap (gcd z) multiple ∙ gcd-coprime z (p * q) g (coprime-mul z p q z_p z_q)

@@ -1,5 +1,6 @@
 -- Sums over a common multiple.
-use Rattle.std.proofs.Common.{◌≡◌, ◌*◌, ◌/◌, ◌<◌, ◌≤◌, ◌+ℤ◌, ◌-ℤ◌, ◌*ℤ◌, ℕ, ℤ, pos, neg_ℤ, suc, zero, Bool, true, false, unsigned_abs}
+use Rattle.std.proofs.Common.{◌≡◌, ◌*◌, ◌/◌, ◌<◌, ◌≤◌, ◌+ℤ◌, ◌-ℤ◌, ◌*ℤ◌, ℕ, ℤ, pos, neg_ℤ, suc, zero, Bool, true, false}
+use Rattle.std.proofs.Common.{unsigned_abs}
 use Rattle.std.proofs.Common.{arith, refl, sym, ap, ◌∙◌}
 use Rattle.std.specs.Prelude.{int_lt, Ok, Err, if◌then◌else◌}
 use Rattle.std.specs.Int.{IsGcd}
@@ -10,7 +11,7 @@ use Rattle.frac128.specs.Divisors.{gcd, lcm}
 use Rattle.frac128.specs.Fraction.{Fraction, fits, most, negated}
 use Rattle.frac128.specs.Sign.{signed}
 use Rattle.frac128.specs.Steps.{ratio, reduced}
-use Rattle.frac128.specs.Sums.{in_range, joined, minus, numerator_over, plus, sum_over, within}
+use Rattle.frac128.specs.Sums.{in_range, step_over, minus, numerator_over, plus, sum_over, within}
 use Rattle.frac128.proofs.Euclid.{gcd_is}
 use Rattle.frac128.proofs.Multiples.{lcm-left, lcm-right}
 use Rattle.frac128.proofs.Reduced.{reduced_is}
@@ -53,8 +54,10 @@ are_parts x y b_is d_is g_is p_is q_is some_b some_d top_is other_is = record {
 }
 
 -- a numerator times a factor, by sign and magnitude
-numerator-signed : (n : ℤ) (s : Bool) (a k : ℕ) → s ≡ int_lt n (pos 0) → a ≡ unsigned_abs n → n *ℤ pos k ≡ signed s (a * k)
-numerator-signed n s a k p q = ap (λ z. z *ℤ pos k) (signed_is n) ∙ rw (← p, ← q) (mul-signed s false a k ∙ ap (λ t. signed t (a * k)) (differ-false s))
+numerator-signed : (n : ℤ) (s : Bool) (a k : ℕ) → s ≡ int_lt n (pos 0) → a ≡ unsigned_abs n
+    → n *ℤ pos k ≡ signed s (a * k)
+numerator-signed n s a k p q = ap (λ z. z *ℤ pos k) (signed_is n)
+    ∙ rw (← p, ← q) (mul-signed s false a k ∙ ap (λ t. signed t (a * k)) (differ-false s))
 
 -- a test that fails, or passes
 if_err : (b : Bool) (z : ℤ) (e : FracFault) → Err e ≡ (if b then Ok z else Err Overflow) → (b ≡ false) × (e ≡ Overflow)
@@ -80,7 +83,12 @@ fits_reduced z m top bottom =
     let g = gcd (unsigned_abs z) m in
     let low : unsigned_abs z / g ≤ most = omega (arith, div-le_self (unsigned_abs z) g) in
     let high : m / g ≤ most = omega (arith, div-le_self m g) in
-    rw (reduced_is z m, abs-signed (int_lt z (pos 0)) (unsigned_abs z / g), le-true (unsigned_abs z / g) most low, le-true (m / g) most high) refl
+    rw (
+      reduced_is z m,
+      abs-signed (int_lt z (pos 0)) (unsigned_abs z / g),
+      le-true (unsigned_abs z / g) most low,
+      le-true (m / g) most high,
+    ) refl
 
 -- a sum in range is the ratio
 pub sum_over-ratio : (m : ℕ) (z : ℤ) → 0 < m → m ≤ most → unsigned_abs z ≤ most → ratio z (pos m) ≡ sum_over m z
@@ -88,21 +96,25 @@ sum_over-ratio zero z some low h = absurd (omega arith)
 sum_over-ratio (suc m) z some low h = rw (fits_reduced z (suc m) h low, le-true (unsigned_abs z) most h) refl
 
 -- the first part that is out of range
-joined-multiple : (step : ℤ → ℤ → ℤ) (m : ℕ) (l r : ℤ) (e : FracFault) → Err e ≡ within (pos m) → joined step m l r ≡ Err e
+joined-multiple : (step : ℤ → ℤ → ℤ) (m : ℕ) (l r : ℤ) (e : FracFault) → Err e ≡ within (pos m)
+    → step_over step m l r ≡ Err e
 joined-multiple step m l r e h = let no = within_err (pos m) e h in rw (no.0, no.1) refl
 
 -- also the first numerator
-joined-left : (step : ℤ → ℤ → ℤ) (m : ℕ) (l r n : ℤ) (e : FracFault) → Ok n ≡ within (pos m) → Err e ≡ within l → joined step m l r ≡ Err e
+joined-left : (step : ℤ → ℤ → ℤ) (m : ℕ) (l r n : ℤ) (e : FracFault) → Ok n ≡ within (pos m) → Err e ≡ within l
+    → step_over step m l r ≡ Err e
 joined-left step m l r n e p h = let no = within_err l e h in rw ((within_ok n (pos m) p).0, no.0, no.1) refl
 
 -- also the second
-joined-right : (step : ℤ → ℤ → ℤ) (m : ℕ) (l r n k : ℤ) (e : FracFault) → Ok n ≡ within (pos m) → Ok k ≡ within l → Err e ≡ within r
-    → joined step m l r ≡ Err e
-joined-right step m l r n k e p q h = let no = within_err r e h in rw ((within_ok n (pos m) p).0, (within_ok k l q).0, no.0, no.1) refl
+joined-right : (step : ℤ → ℤ → ℤ) (m : ℕ) (l r n k : ℤ) (e : FracFault) → Ok n ≡ within (pos m) → Ok k ≡ within l
+    → Err e ≡ within r
+    → step_over step m l r ≡ Err e
+joined-right step m l r n k e p q h = let no =
+    within_err r e h in rw ((within_ok n (pos m) p).0, (within_ok k l q).0, no.0, no.1) refl
 
 -- all parts in range
 joined-sum : (step : ℤ → ℤ → ℤ) (m : ℕ) (l r n k j : ℤ) → Ok n ≡ within (pos m) → Ok k ≡ within l → Ok j ≡ within r
-    → joined step m l r ≡ sum_over (unsigned_abs n) (step k j)
+    → step_over step m l r ≡ sum_over (unsigned_abs n) (step k j)
 joined-sum step m l r n k j p q h =
     let n_is = within_ok n (pos m) p in
     let k_is = within_ok k l q in
@@ -110,20 +122,31 @@ joined-sum step m l r n k j p q h =
     rw (n_is.0, k_is.0, j_is.0, n_is.1, k_is.1, j_is.1) refl
 
 -- the sum by the parts that the code makes
-plus_by : (x y : Fraction) (b d g p q top other : ℕ) (s t : Bool) → IsParts x y b d g p q top other → s ≡ int_lt x.num (pos 0)
+plus_by : (x y : Fraction) (b d g p q top other : ℕ) (s t : Bool) → IsParts x y b d g p q top other
+    → s ≡ int_lt x.num (pos 0)
     → t ≡ int_lt y.num (pos 0)
-    → plus x y ≡ joined ◌+ℤ◌ (p * d) (signed s (top * q)) (signed t (other * p))
+    → plus x y ≡ step_over ◌+ℤ◌ (p * d) (signed s (top * q)) (signed t (other * p))
 plus_by x y b d g p q top other s t is s_is t_is =
-    rw (sym (numerator-signed x.num s top q s_is is.top_is), sym (numerator-signed y.num t other p t_is is.other_is), is.p_is, is.q_is, is.g_is, is.b_is, is.d_is)
+    rw (
+      sym (numerator-signed x.num s top q s_is is.top_is),
+      sym (numerator-signed y.num t other p t_is is.other_is),
+      is.p_is,
+      is.q_is,
+      is.g_is,
+      is.b_is,
+      is.d_is,
+    )
     (by_divisor x y (rw (← is.b_is) is.some_b) (rw (← is.d_is) is.some_d))
   where
     by_divisor : (x y : Fraction) → 0 < x.den → 0 < y.den
-        → plus x y ≡ joined ◌+ℤ◌ (x.den / gcd x.den y.den * y.den) (x.num *ℤ pos (y.den / gcd x.den y.den)) (y.num *ℤ pos (x.den / gcd x.den y.den))
+        → plus x y ≡ step_over ◌+ℤ◌ (x.den / gcd x.den y.den * y.den) (x.num *ℤ pos (y.den / gcd x.den y.den))
+        (y.num *ℤ pos (x.den / gcd x.den y.den))
     by_divisor x y some_x some_y =
         let parts = lcm-div x.den y.den some_x some_y in
-        ap (λ k. joined ◌+ℤ◌ (lcm x.den y.den) (x.num *ℤ pos k) (y.num *ℤ pos (lcm x.den y.den / y.den))) parts.0
-        ∙ ap (λ k. joined ◌+ℤ◌ (lcm x.den y.den) (x.num *ℤ pos (y.den / gcd x.den y.den)) (y.num *ℤ pos k)) parts.1
-        ∙ ap (λ m. joined ◌+ℤ◌ m (x.num *ℤ pos (y.den / gcd x.den y.den)) (y.num *ℤ pos (x.den / gcd x.den y.den))) (lcm-left x.den y.den)
+        ap (λ k. step_over ◌+ℤ◌ (lcm x.den y.den) (x.num *ℤ pos k) (y.num *ℤ pos (lcm x.den y.den / y.den))) parts.0
+        ∙ ap (λ k. step_over ◌+ℤ◌ (lcm x.den y.den) (x.num *ℤ pos (y.den / gcd x.den y.den)) (y.num *ℤ pos k)) parts.1
+        ∙ ap (λ m. step_over ◌+ℤ◌ m (x.num *ℤ pos (y.den / gcd x.den y.den)) (y.num *ℤ pos (x.den / gcd x.den y.den)))
+        (lcm-left x.den y.den)
 
 -- the least common multiple is above 0
 pub multiple_some : (x y : Fraction) (b d g p q top other : ℕ) → IsParts x y b d g p q top other → 0 < p * d
@@ -140,21 +163,28 @@ multiple_some x y b d g p q top other is = mul-pos (above p refl) is.some_d
 pub plus-multiple : (x y : Fraction) (b d g p q top other : ℕ) (e : FracFault) → IsParts x y b d g p q top other
     → Err e ≡ within (pos (p * d)) → plus x y ≡ Err e
 plus-multiple x y b d g p q top other e is h =
-    plus_by x y b d g p q top other _ _ is refl refl ∙ joined-multiple ◌+ℤ◌ (p * d) (signed (int_lt x.num (pos 0)) (top * q)) (signed (int_lt y.num (pos 0)) (other * p)) e h
+    plus_by x y b d g p q top other _ _ is refl refl
+    ∙ joined-multiple ◌+ℤ◌ (p * d) (signed (int_lt x.num (pos 0)) (top * q))
+    (signed (int_lt y.num (pos 0)) (other * p)) e h
 
 -- the sum where the first numerator is
-pub plus-left : (x y : Fraction) (b d g p q top other : ℕ) (s : Bool) (n : ℤ) (e : FracFault) → IsParts x y b d g p q top other
+pub plus-left : (x y : Fraction) (b d g p q top other : ℕ) (s : Bool) (n : ℤ) (e : FracFault)
+    → IsParts x y b d g p q top other
     → s ≡ int_lt x.num (pos 0)
     → Ok n ≡ within (pos (p * d)) → Err e ≡ within (signed s (top * q)) → plus x y ≡ Err e
 plus-left x y b d g p q top other s n e is s_is m h =
-    plus_by x y b d g p q top other s _ is s_is refl ∙ joined-left ◌+ℤ◌ (p * d) (signed s (top * q)) (signed (int_lt y.num (pos 0)) (other * p)) n e m h
+    plus_by x y b d g p q top other s _ is s_is refl
+    ∙ joined-left ◌+ℤ◌ (p * d) (signed s (top * q)) (signed (int_lt y.num (pos 0)) (other * p)) n e m h
 
 -- the sum where the second numerator is
-pub plus-right : (x y : Fraction) (b d g p q top other : ℕ) (s t : Bool) (n k : ℤ) (e : FracFault) → IsParts x y b d g p q top other
+pub plus-right : (x y : Fraction) (b d g p q top other : ℕ) (s t : Bool) (n k : ℤ) (e : FracFault)
+    → IsParts x y b d g p q top other
     → s ≡ int_lt x.num (pos 0) → t ≡ int_lt y.num (pos 0)
-    → Ok n ≡ within (pos (p * d)) → Ok k ≡ within (signed s (top * q)) → Err e ≡ within (signed t (other * p)) → plus x y ≡ Err e
+    → Ok n ≡ within (pos (p * d)) → Ok k ≡ within (signed s (top * q)) → Err e ≡ within (signed t (other * p))
+    → plus x y ≡ Err e
 plus-right x y b d g p q top other s t n k e is s_is t_is m l h =
-    plus_by x y b d g p q top other s t is s_is t_is ∙ joined-right ◌+ℤ◌ (p * d) (signed s (top * q)) (signed t (other * p)) n k e m l h
+    plus_by x y b d g p q top other s t is s_is t_is
+    ∙ joined-right ◌+ℤ◌ (p * d) (signed s (top * q)) (signed t (other * p)) n k e m l h
 
 -- the sum where all parts are in range
 pub plus-sum : (x y : Fraction) (b d g p q top other : ℕ) (s t : Bool) (n k j : ℤ) → IsParts x y b d g p q top other
@@ -162,22 +192,32 @@ pub plus-sum : (x y : Fraction) (b d g p q top other : ℕ) (s t : Bool) (n k j 
     → Ok n ≡ within (pos (p * d)) → Ok k ≡ within (signed s (top * q)) → Ok j ≡ within (signed t (other * p))
     → plus x y ≡ sum_over (unsigned_abs n) (k +ℤ j)
 plus-sum x y b d g p q top other s t n k j is s_is t_is m l h =
-    plus_by x y b d g p q top other s t is s_is t_is ∙ joined-sum ◌+ℤ◌ (p * d) (signed s (top * q)) (signed t (other * p)) n k j m l h
+    plus_by x y b d g p q top other s t is s_is t_is
+    ∙ joined-sum ◌+ℤ◌ (p * d) (signed s (top * q)) (signed t (other * p)) n k j m l h
 
 -- what the sum shares with the multiple, it shares with the divisor
-pub sum-shared : (x y : Fraction) (b d g p q top other : ℕ) (s t : Bool) (n k j : ℤ) → IsParts x y b d g p q top other → IsGcd top b 1
+pub sum-shared : (x y : Fraction) (b d g p q top other : ℕ) (s t : Bool) (n k j : ℤ) → IsParts x y b d g p q top other
+    → IsGcd top b 1
     → IsGcd other d 1
     → Ok n ≡ within (pos (p * d)) → Ok k ≡ within (signed s (top * q)) → Ok j ≡ within (signed t (other * p))
     → gcd (unsigned_abs (k +ℤ j)) g ≡ gcd (unsigned_abs (k +ℤ j)) (unsigned_abs n)
 sum-shared x y b d g p q top other s t n k j is first second m l h =
-    rw ((within_ok n (pos (p * d)) m).1, (within_ok k (signed s (top * q)) l).1, (within_ok j (signed t (other * p)) h).1, is.p_is, is.q_is, is.g_is)
+    rw (
+      (within_ok n (pos (p * d)) m).1,
+      (within_ok k (signed s (top * q)) l).1,
+      (within_ok j (signed t (other * p)) h).1,
+      is.p_is,
+      is.q_is,
+      is.g_is,
+    )
     (sym (sum_shares s t top b other d is.some_b is.some_d first second))
 
 -- a difference is the sum with the other sign
 pub minus-negated : (x y : Fraction) → minus x y ≡ plus x (negated y)
 minus-negated x y =
     let m = lcm x.den y.den in
-    turned m (numerator_over x m) (numerator_over y m) ∙ ap (λ r. joined ◌+ℤ◌ m (numerator_over x m) r) (neg-times y.num (m / y.den))
+    turned m (numerator_over x m) (numerator_over y m)
+    ∙ ap (λ r. step_over ◌+ℤ◌ m (numerator_over x m) r) (neg-times y.num (m / y.den))
   where
-    turned : (m : ℕ) (l r : ℤ) → joined ◌-ℤ◌ m l r ≡ joined ◌+ℤ◌ m l (neg_ℤ r)
+    turned : (m : ℕ) (l r : ℤ) → step_over ◌-ℤ◌ m l r ≡ step_over ◌+ℤ◌ m l (neg_ℤ r)
     turned m l r = rw (abs-neg r) refl

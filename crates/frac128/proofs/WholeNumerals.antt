@@ -1,5 +1,6 @@
 -- Digits alone are a numeral.
-use Rattle.std.proofs.Common.{◌≡◌, ◌-◌, ◌*◌, ◌^◌, ◌<◌, ◌≤◌, ◌+ℤ◌, ◌-ℤ◌, ℕ, suc, zero, pos, Bool, true, false, List, [], ◌∷◌, length, drop}
+use Rattle.std.proofs.Common.{◌≡◌, ◌-◌, ◌*◌, ◌^◌, ◌<◌, ◌≤◌, ◌+ℤ◌, ◌-ℤ◌, ℕ, suc, zero, pos, Bool, true, false, List, []}
+use Rattle.std.proofs.Common.{◌∷◌, length, drop}
 use Rattle.std.proofs.Common.{arith, refl, sym, ap, ◌∙◌, lit<}
 use Rattle.std.specs.Prelude.{if◌then◌else◌, ◌==◌, ◌&&◌, ◌||◌, Ok}
 use Rattle.std.specs.List.{list_all, list_any}
@@ -8,7 +9,8 @@ use Rattle.std.proofs.lemmas.Int.{ints}
 use Rattle.std.proofs.Math.Nat.{le-mul_of_pos_right, zero-mul}
 use Rattle.frac128.specs.Decimals.{Decimal, DigitsLaw, coefficient_of, digits_of, end_zeros, number, places, value_of}
 use Rattle.frac128.specs.Fraction.{most, whole}
-use Rattle.frac128.specs.Numerals.{before, from, is_digit, is_exponent, is_mantissa, is_mark_byte, is_numeral, is_point_byte}
+use Rattle.frac128.specs.Numerals.{before, from, is_digit, is_exponent, is_mantissa, is_mark_byte, is_numeral}
+use Rattle.frac128.specs.Numerals.{is_point_byte}
 use Rattle.frac128.proofs.DigitRuns.{kept, number-without}
 use Rattle.frac128.proofs.Powers.{pow_some}
 use Rattle.frac128.proofs.Readings.{IsSplit, read_short}
@@ -25,14 +27,16 @@ abbrev all : List ℕ → Type 0
 all bs = list_all is_digit bs ≡ true
 
 -- no mark and no point stands among digits
-before_digits : (test : ℕ → Bool) (bs : List ℕ) → ((b : ℕ) → is_digit b ≡ true → test b ≡ false) → all bs → before test bs ≡ bs
+before_digits : (test : ℕ → Bool) (bs : List ℕ) → ((b : ℕ) → is_digit b ≡ true → test b ≡ false) → all bs
+    → before test bs ≡ bs
 before_digits test [] none h = refl
 before_digits test (b ∷ bs) none h =
     let parts = both (is_digit b) (list_all is_digit bs) h in
     rw (none b parts.0) (ap (λ xs. b ∷ xs) (before_digits test bs none parts.1))
 
 -- nothing follows digits
-from_digits : (test : ℕ → Bool) (bs : List ℕ) → ((b : ℕ) → is_digit b ≡ true → test b ≡ false) → all bs → from test bs ≡ []
+from_digits : (test : ℕ → Bool) (bs : List ℕ) → ((b : ℕ) → is_digit b ≡ true → test b ≡ false) → all bs
+    → from test bs ≡ []
 from_digits test [] none h = refl
 from_digits test (b ∷ bs) none h =
     let parts = both (is_digit b) (list_all is_digit bs) h in
@@ -46,16 +50,26 @@ digits_numeral (b ∷ bs) some h =
     let parts = both (is_digit b) (list_all is_digit bs) h in
     ap (λ xs. is_mantissa xs && is_exponent (from is_mark_byte ds)) (before_digits is_mark_byte ds digit_no_mark h)
     ∙ ap (λ xs. is_mantissa ds && is_exponent xs) (from_digits is_mark_byte ds digit_no_mark h)
-    ∙ ap (λ xs. (list_any is_digit ds && (list_all is_digit xs && list_all is_digit (drop 1 (from is_point_byte ds)))) && true) (before_digits is_point_byte ds digit_no_point h)
-    ∙ ap (λ xs. (list_any is_digit ds && (list_all is_digit ds && list_all is_digit (drop 1 xs))) && true) (from_digits is_point_byte ds digit_no_point h)
+    ∙ ap (λ xs. (list_any is_digit ds && (list_all is_digit xs && list_all is_digit (drop 1 (from is_point_byte ds))))
+    && true) (before_digits is_point_byte ds digit_no_point h)
+    ∙ ap (λ xs. (list_any is_digit ds && (list_all is_digit ds && list_all is_digit (drop 1 xs))) && true)
+    (from_digits is_point_byte ds digit_no_point h)
     ∙ ap (λ t. (list_any is_digit ds && (t && true)) && true) h
     ∙ ap (λ t. ((t || list_any is_digit bs) && true) && true) parts.0
 
 -- the value of a coefficient and the zeros at its end
 value_zeros : (c z n : ℕ) → n ≡ c * 10 ^ z → n ≤ most
-    → (x : Decimal) × ((if c == 0 then record { coefficient = 0; scale = pos 0 } else record { coefficient = c; scale = pos z }) ≡ x) × (value_of x ≡ Ok (whole (pos n)))
-value_zeros zero z n e fits = (record { coefficient = 0; scale = pos 0 }, refl, zero_power (pos 0) ∙ ap (λ m. Ok (whole (pos m))) (sym (e ∙ zero-mul (10 ^ z))))
-value_zeros (suc c) z n e fits = (record { coefficient = suc c; scale = pos z }, rw (other c) refl, rw (← e) (whole_ratio n fits))
+    → (x : Decimal) ×
+    ((if c == 0 then record { coefficient = 0; scale = pos 0 } else record { coefficient = c; scale = pos z }) ≡ x)
+    × (value_of x ≡ Ok (whole (pos n)))
+value_zeros zero z n e fits = (
+  record { coefficient = 0; scale = pos 0 },
+  refl,
+  zero_power (pos 0)
+      ∙ ap (λ m. Ok (whole (pos m))) (sym (e ∙ zero-mul (10 ^ z))),
+)
+value_zeros (suc c) z n e fits =
+    (record { coefficient = suc c; scale = pos z }, rw (other c) refl, rw (← e) (whole_ratio n fits))
   where
     other : (c : ℕ) → (suc c == 0) ≡ false
     other c = grind (arith, nat_tests)
@@ -75,12 +89,14 @@ digits_law bytes some h fits =
       t_is = sym (from_digits is_mark_byte bytes digit_no_mark h);
     } in
     let no_places : places bytes ≡ 0 = ap (λ xs. length xs - 1) (from_digits is_point_byte bytes digit_no_point h) in
-    let scale : pos 0 -ℤ pos (places bytes) +ℤ pos z ≡ pos z = ap (λ k. pos 0 -ℤ pos k +ℤ pos z) no_places ∙ omega (arith, ints) in
+    let scale : pos 0 -ℤ pos (places bytes) +ℤ pos z ≡ pos z = ap (λ k. pos 0 -ℤ pos k +ℤ pos z) no_places
+    ∙ omega (arith, ints) in
     let value = value_zeros c z (number ds) n_is fits in
     let x : Decimal = value.0 in (
       x,
       read_short bytes bytes [] c z split (sym (kept c (c, z) low)) (omega arith)
-          ∙ ap (λ s. Ok (if c == 0 then record { coefficient = 0; scale = pos 0 } else record { coefficient = c; scale = s })) scale
+          ∙ ap (λ s. Ok (if c == 0 then record { coefficient = 0; scale = pos 0 }
+          else record { coefficient = c; scale = s })) scale
           ∙ ap Ok value.1,
       value.2,
     )

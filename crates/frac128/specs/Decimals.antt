@@ -120,4 +120,5 @@ DigitsLaw = (bytes : List ℕ) → 0 < length bytes → IsTrue (list_all is_digi
 abbrev pub NumeralLaw : Type 0
 NumeralLaw = (bytes : List ℕ) → is_numeral bytes ≡ true → is_short bytes ≡ true
     → (x : Decimal) × (read bytes ≡ Ok x)
-    × (value_of x ≡ times_power (number (digits_of (mantissa bytes))) (exponent_of (exponent_text bytes) -ℤ pos (places (mantissa bytes))))
+    × (value_of x ≡ times_power (number (digits_of (mantissa bytes)))
+    (exponent_of (exponent_text bytes) -ℤ pos (places (mantissa bytes))))

@@ -33,7 +33,7 @@ abbrev pub fits : Fraction → Bool
 fits x = nat_le (unsigned_abs x.num) most && nat_le x.den most
 
 -- what is known of each fraction of the program
-pub record IsKept (x : Fraction) : Type 0 where
+pub record IsFrac (x : Fraction) : Type 0 where
   pub reduced : IsReduced x
   pub num_fits : unsigned_abs x.num ≤ most
   pub den_fits : x.den ≤ most

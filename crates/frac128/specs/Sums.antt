@@ -1,5 +1,6 @@
 -- Sums and differences.
-use Rattle.std.specs.Prelude.{◌/◌, ◌*ℤ◌, ◌+ℤ◌, ◌-ℤ◌, ◌&&◌, ℕ, ℤ, Bool, pos, unsigned_abs, nat_le, if◌then◌else◌, Result, Ok, Err}
+use Rattle.std.specs.Prelude.{◌/◌, ◌*ℤ◌, ◌+ℤ◌, ◌-ℤ◌, ◌&&◌, ℕ, ℤ, Bool, pos, unsigned_abs, nat_le, if◌then◌else◌, Result}
+use Rattle.std.specs.Prelude.{Ok, Err}
 use Rattle.frac128.specs.declared.fault.FracFault.{FracFault}
 use Rattle.frac128.specs.declared.fault.FracFault.TheVariants.{Overflow}
 use Rattle.frac128.specs.Divisors.{lcm}
@@ -24,8 +25,8 @@ sum_over multiple sum = if in_range sum then Ok (reduced sum multiple) else Err 
 
 -- a step on the numerators of two fractions over a common multiple of their denominators:
 -- the multiple, both numerators and what the step gives must be in range
-abbrev pub joined : (ℤ → ℤ → ℤ) → ℕ → ℤ → ℤ → Result Fraction FracFault
-joined step multiple left right =
+abbrev pub step_over : (ℤ → ℤ → ℤ) → ℕ → ℤ → ℤ → Result Fraction FracFault
+step_over step multiple left right =
     if in_range (pos multiple) && in_range left && in_range right
     then sum_over multiple (step left right)
     else Err Overflow
@@ -34,10 +35,10 @@ joined step multiple left right =
 abbrev pub plus : Fraction → Fraction → Result Fraction FracFault
 plus x y =
     let multiple = lcm x.den y.den in
-    joined ◌+ℤ◌ multiple (numerator_over x multiple) (numerator_over y multiple)
+    step_over ◌+ℤ◌ multiple (numerator_over x multiple) (numerator_over y multiple)
 
 -- the difference over the least common multiple of the denominators
 abbrev pub minus : Fraction → Fraction → Result Fraction FracFault
 minus x y =
     let multiple = lcm x.den y.den in
-    joined ◌-ℤ◌ multiple (numerator_over x multiple) (numerator_over y multiple)
+    step_over ◌-ℤ◌ multiple (numerator_over x multiple) (numerator_over y multiple)

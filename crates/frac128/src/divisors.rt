@@ -1,7 +1,7 @@
 //! The greatest common divisor.
 
 ghost use Rattle.std.specs.Prelude.{◌≡◌, ◌<◌, ◌/◌, ◌%◌};
-ghost use Rattle.frac128.specs.Divisors.{gcd as gcd_of};
+ghost use Rattle.frac128.specs.Divisors as spec;
 
 // The greatest number of one word.
 const NARROW: u128 = u64::MAX as u128;
@@ -9,7 +9,7 @@ const NARROW: u128 = u64::MAX as u128;
 // The greatest common divisor. Where one number has one word, a division leaves two such; the rest
 // is done without division, which is slow.
 pub(crate) fn gcd(a: u128, b: u128) -> u128
-    ensures is { result ≡ gcd_of a b }
+    ensures is { result ≡ spec.gcd a b }
     ensures some { 0 < b → 0 < result }
 {
     if a < b {
@@ -21,7 +21,7 @@ pub(crate) fn gcd(a: u128, b: u128) -> u128
 
 // The same, where the second number is often the less.
 fn ordered_gcd(a: u128, b: u128) -> u128
-    ensures { result ≡ gcd_of a b }
+    ensures { result ≡ spec.gcd a b }
 {
     if b > NARROW {
         return wide_gcd(a, b);
@@ -50,7 +50,7 @@ fn rest(a: u128, b: u64) -> u64
 // parts, times the less power of two.
 fn narrow_gcd(a: u64, b: u64) -> u64
     requires { 0 < b }
-    ensures { result ≡ gcd_of a b }
+    ensures { result ≡ spec.gcd a b }
 {
     if a == 0 {
         return b;
@@ -62,7 +62,7 @@ fn narrow_gcd(a: u64, b: u64) -> u64
 // The same in two words.
 fn wide_gcd(a: u128, b: u128) -> u128
     requires { 0 < b }
-    ensures { result ≡ gcd_of a b }
+    ensures { result ≡ spec.gcd a b }
 {
     if a == 0 {
         return b;
@@ -76,7 +76,7 @@ fn wide_gcd(a: u128, b: u128) -> u128
 fn narrow_odd_gcd(a: u64, b: u64) -> u64
     requires odd_a { a % 2 ≡ 1 }
     requires odd_b { b % 2 ≡ 1 }
-    ensures { result ≡ gcd_of a b }
+    ensures { result ≡ spec.gcd a b }
 {
     let mut x = a;
     let mut y = b;
@@ -92,7 +92,7 @@ fn narrow_odd_gcd(a: u64, b: u64) -> u64
 fn wide_odd_gcd(a: u128, b: u128) -> u128
     requires odd_a { a % 2 ≡ 1 }
     requires odd_b { b % 2 ≡ 1 }
-    ensures { result ≡ gcd_of a b }
+    ensures { result ≡ spec.gcd a b }
 {
     let mut x = a;
     let mut y = b;

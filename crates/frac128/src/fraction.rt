@@ -2,9 +2,9 @@
 
 ghost use Rattle.std.specs.Prelude.{◌≡◌, ◌<◌, ◌≤◌, ◌↔◌, pos, int_lt, unsigned_abs, IsTrue};
 ghost use Rattle.std.specs.Int.{IsGcd};
-ghost use Rattle.frac128.specs.Divisors.{gcd as gcd_of};
-ghost use Rattle.frac128.specs.Fraction.{IsKept, IsReduced, most, negated, whole};
-ghost use Rattle.frac128.specs.Sign.{signed as signed_of};
+ghost use Rattle.frac128.specs.Divisors as spec;
+ghost use Rattle.frac128.specs.Fraction.{IsFrac, IsReduced, most, negated, whole};
+ghost use Rattle.frac128.specs.Sign as sign;
 ghost use Rattle.frac128.specs.Steps.{fitting, ratio};
 
 use crate::divisors::{gcd, quotient};
@@ -23,13 +23,13 @@ pub struct Frac {
 }
 
 impl Model for Frac {
-    ghost use Rattle.frac128.specs.Fraction.{Fraction, IsKept};
+    ghost use Rattle.frac128.specs.Fraction.{Fraction, IsFrac};
 
     ghost Value = { Fraction };
 
     ghost view = { λ x. record { num = x.num; den = x.den } };
 
-    ghost invariant = { λ x. IsKept (record { num = x.num; den = x.den }) };
+    ghost invariant = { λ x. IsFrac (record { num = x.num; den = x.den }) };
 
     ghost inverse = { λ x. record { num = x.num; den = x.den } };
 }
@@ -58,7 +58,7 @@ impl Frac {
     /// The denominator, which is at least 1. The fraction is in lowest terms and fits.
     pub fn den(&self) -> i128
         ensures value { result ≡ pos self.now.den }
-        ensures kept { IsKept self.now }
+        ensures kept { IsFrac self.now }
     {
         self.den as i128
     }
@@ -118,7 +118,7 @@ impl Frac {
     pub(crate) fn fitting(negative: bool, top: u128, bottom: u128) -> Result<Frac, FracFault>
         requires some { 0 < bottom }
         requires lowest { IsGcd top bottom 1 }
-        ensures { result ≡ fitting (record { num = signed_of negative top; den = bottom }) }
+        ensures { result ≡ fitting (record { num = sign.signed negative top; den = bottom }) }
     {
         if top > MOST || bottom > MOST {
             return Err(FracFault::Overflow);
@@ -135,8 +135,8 @@ impl Frac {
         divisor: u128,
     ) -> Result<Frac, FracFault>
         requires some { 0 < bottom }
-        requires divisor { divisor ≡ gcd_of top bottom }
-        ensures { result ≡ ratio (signed_of negative top) (pos bottom) }
+        requires divisor { divisor ≡ spec.gcd top bottom }
+        ensures { result ≡ ratio (sign.signed negative top) (pos bottom) }
     {
         Frac::fitting(negative, quotient(top, divisor), quotient(bottom, divisor))
     }

@@ -3,7 +3,7 @@
 ghost use Rattle.std.specs.Prelude.{◌≡◌, ◌<◌};
 ghost use Rattle.std.specs.Int.{IsGcd};
 ghost use Rattle.frac128.specs.Powers.{power, raised};
-ghost use Rattle.frac128.specs.Sign.{signed as signed_of};
+ghost use Rattle.frac128.specs.Sign as spec;
 ghost use Rattle.frac128.specs.Steps.{fitting};
 
 use crate::fault::FracFault;
@@ -32,7 +32,7 @@ impl Frac {
         requires some { 0 < bottom }
         requires lowest { IsGcd top bottom 1 }
         ensures { result
-            ≡ fitting (raised (record { num = signed_of negative top; den = bottom }) times) }
+            ≡ fitting (raised (record { num = spec.signed negative top; den = bottom }) times) }
     {
         let negative = negative && times % 2 == 1;
         match (top.checked_pow(times), bottom.checked_pow(times)) {

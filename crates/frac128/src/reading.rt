@@ -2,10 +2,9 @@
 
 ghost use Rattle.std.specs.Prelude.{◌≡◌, ◌<◌, ◌≤◌, ◌+◌, ◌*◌, ◌^◌, true, length, take, SomeIff};
 ghost use Rattle.std.specs.List.{list_any};
-ghost use Rattle.frac128.specs.Decimals.{exponent_of, exponent_size as exponent_size_of, most_exponent};
-ghost use Rattle.frac128.specs.Decimals.{places as places_of, read, short_coefficient};
+ghost use Rattle.frac128.specs.Decimals as spec;
 ghost use Rattle.frac128.specs.Fraction.{most};
-ghost use Rattle.frac128.specs.Numerals.{before, is_mark_byte, is_minus_byte, is_numeral as is_numeral_of, numeral_len_of};
+ghost use Rattle.frac128.specs.Numerals as numerals;
 
 use crate::fraction::MOST;
 use crate::numeral::{Numeral, NumeralFault};
@@ -18,7 +17,7 @@ const MOST_EXPONENT: u32 = 9_999;
 /// its digits without the zeros at both ends are above the largest numerator, or its exponent
 /// is outside -9,999..9,999.
 pub fn read_numeral(bytes: &[u8]) -> Result<Numeral, NumeralFault>
-    ensures { result ≡ read bytes.now }
+    ensures { result ≡ spec.read bytes.now }
 {
     if !is_numeral(bytes) {
         return Err(NumeralFault::NotNumeral);
@@ -29,9 +28,9 @@ pub fn read_numeral(bytes: &[u8]) -> Result<Numeral, NumeralFault>
 /// The longest numeral that is a prefix of the bytes: how many bytes it has, and what it says.
 /// Where none is, 0 and `NotNumeral`.
 pub fn read_longest(bytes: &[u8]) -> (usize, Result<Numeral, NumeralFault>)
-    ensures len { result.0 ≡ numeral_len_of bytes.now }
+    ensures len { result.0 ≡ numerals.numeral_len_of bytes.now }
     ensures within { result.0 ≤ length bytes.now }
-    ensures numeral { result.1 ≡ read (take (numeral_len_of bytes.now) bytes.now) }
+    ensures numeral { result.1 ≡ spec.read (take (numerals.numeral_len_of bytes.now) bytes.now) }
 {
     let len = numeral_len(bytes);
     if len == 0 {
@@ -42,8 +41,8 @@ pub fn read_longest(bytes: &[u8]) -> (usize, Result<Numeral, NumeralFault>)
 
 // What a numeral says.
 fn read_spelled(bytes: &[u8]) -> Result<Numeral, NumeralFault>
-    requires { is_numeral_of bytes.now ≡ true }
-    ensures { result ≡ read bytes.now }
+    requires { numerals.is_numeral bytes.now ≡ true }
+    ensures { result ≡ spec.read bytes.now }
 {
     let (mantissa, text) = bytes.split_at(mark_place(bytes));
     let Some((coefficient, zeros)) = significant(mantissa) else {
@@ -61,14 +60,14 @@ fn read_spelled(bytes: &[u8]) -> Result<Numeral, NumeralFault>
 
 // Whether all of the bytes are one numeral.
 fn is_numeral(bytes: &[u8]) -> bool
-    ensures { result ≡ is_numeral_of bytes.now }
+    ensures { result ≡ numerals.is_numeral bytes.now }
 {
     !bytes.is_empty() && numeral_len(bytes) == bytes.len()
 }
 
 // The place of the first `e` or `E`, or the length where there is none.
 fn mark_place(bytes: &[u8]) -> usize
-    ensures { result ≡ length (before is_mark_byte bytes.now) }
+    ensures { result ≡ length (numerals.before numerals.is_mark_byte bytes.now) }
 {
     for (i, &byte) in bytes.iter().enumerate() {
         if byte == b'E' || byte == b'e' {
@@ -80,7 +79,7 @@ fn mark_place(bytes: &[u8]) -> usize
 
 // How many bytes stand after the point, or 0 where there is none.
 fn places(bytes: &[u8]) -> usize
-    ensures is { result ≡ places_of bytes.now }
+    ensures is { result ≡ spec.places bytes.now }
     ensures within { result ≤ length bytes.now }
     ensures fits { length bytes.now < 2 ^ 63 }
 {
@@ -96,7 +95,7 @@ fn places(bytes: &[u8]) -> usize
 // The number of all digits without the zeros at their end, and how many those are, or none where
 // the number is too large.
 fn significant(bytes: &[u8]) -> Option<(u128, usize)>
-    ensures { result ≡ short_coefficient bytes.now }
+    ensures { result ≡ spec.short_coefficient bytes.now }
 {
     let mut number = 0;
     let mut zeros = 0;
@@ -131,7 +130,7 @@ fn extended(number: u128, zeros: usize, digit: u8) -> Option<u128>
 
 // The exponent that the bytes from the mark on write, or none where it is too large.
 fn exponent(text: &[u8]) -> Option<i128>
-    ensures { SomeIff result (exponent_size_of text.now ≤ most_exponent) (exponent_of text.now) }
+    ensures { SomeIff result (spec.exponent_size text.now ≤ spec.most_exponent) (spec.exponent_of text.now) }
 {
     let size = exponent_size(text)?;
     if has_minus(text) {
@@ -143,7 +142,7 @@ fn exponent(text: &[u8]) -> Option<i128>
 
 // Whether a minus is among the bytes.
 fn has_minus(bytes: &[u8]) -> bool
-    ensures { result ≡ list_any is_minus_byte bytes.now }
+    ensures { result ≡ list_any numerals.is_minus_byte bytes.now }
 {
     bytes.iter().any(|byte| *byte == b'-')
 }
@@ -151,8 +150,8 @@ fn has_minus(bytes: &[u8]) -> bool
 // The number that the digits among the bytes write, or none where it is too large.
 fn exponent_size(bytes: &[u8]) -> Option<u32>
     ensures { SomeIff result
-        (exponent_size_of bytes.now ≤ most_exponent)
-        (exponent_size_of bytes.now) }
+        (spec.exponent_size bytes.now ≤ spec.most_exponent)
+        (spec.exponent_size bytes.now) }
 {
     let mut number = 0;
     for &byte in bytes {

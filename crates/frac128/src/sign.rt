@@ -2,11 +2,11 @@
 
 ghost use Rattle.std.specs.Prelude.{◌≡◌, ◌≤◌};
 ghost use Rattle.frac128.specs.Fraction.{most};
-ghost use Rattle.frac128.specs.Sign.{signed as signed_of, differ as differ_of};
+ghost use Rattle.frac128.specs.Sign as spec;
 
 // Whether two signs differ.
 pub(crate) fn differ(a: bool, b: bool) -> bool
-    ensures { result ≡ differ_of a b }
+    ensures { result ≡ spec.differ a b }
 {
     a != b
 }
@@ -14,7 +14,7 @@ pub(crate) fn differ(a: bool, b: bool) -> bool
 // The number of this sign and magnitude.
 pub(crate) fn signed(negative: bool, magnitude: u128) -> i128
     requires { magnitude ≤ most }
-    ensures { result ≡ signed_of negative magnitude }
+    ensures { result ≡ spec.signed negative magnitude }
 {
     if negative {
         -(magnitude as i128)

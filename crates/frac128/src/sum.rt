@@ -1,9 +1,9 @@
 //! Sums and differences, over the least common multiple of the denominators.
 
 ghost use Rattle.std.specs.Prelude.{◌≡◌, ◌*◌, ◌+ℤ◌, ◌<ℤ◌, ◌≤◌, pos, unsigned_abs};
-ghost use Rattle.frac128.specs.Divisors.{gcd as gcd_of};
+ghost use Rattle.frac128.specs.Divisors as spec;
 ghost use Rattle.frac128.specs.Fraction.{most};
-ghost use Rattle.frac128.specs.Sign.{signed as signed_of};
+ghost use Rattle.frac128.specs.Sign as sign;
 ghost use Rattle.frac128.specs.Sums.{minus, plus, sum_over, within};
 
 use crate::divisors::{gcd, quotient};
@@ -42,8 +42,8 @@ impl Frac {
         requires multiple { unsigned_abs multiple ≤ most }
         requires left { unsigned_abs left ≤ most }
         requires right { unsigned_abs right ≤ most }
-        requires shared { gcd_of (unsigned_abs (left +ℤ right)) shared
-            ≡ gcd_of (unsigned_abs (left +ℤ right)) (unsigned_abs multiple) }
+        requires shared { spec.gcd (unsigned_abs (left +ℤ right)) shared
+            ≡ spec.gcd (unsigned_abs (left +ℤ right)) (unsigned_abs multiple) }
         ensures { result ≡ sum_over (unsigned_abs multiple) (left +ℤ right) }
     {
         match left.checked_add(right) {
@@ -58,7 +58,7 @@ impl Frac {
 
 // The product with this sign, or overflow where it is out of range.
 fn product(negative: bool, a: u128, b: u128) -> Result<i128, FracFault>
-    ensures { result ≡ within (signed_of negative (a * b)) }
+    ensures { result ≡ within (sign.signed negative (a * b)) }
 {
     match a.checked_mul(b) {
         Some(size) if size <= MOST => Ok(signed(negative, size)),

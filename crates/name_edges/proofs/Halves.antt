@@ -5,12 +5,15 @@ use Rattle.std.proofs.lemmas.Bool.{cases_eq, eq-eqb, ne_eqb}
 use Rattle.std.proofs.lemmas.Nat.{div-add-mod', div-mul-add, mod-mul-add}
 use Rattle.std.specs.Prelude.{◌&&◌}
 
+-- the name of a node
 pub node_name : (n r : ℕ) → r < 2 → (n * 2 + r) / 2 ≡ n
 node_name n r l = div-mul-add n 2 r l
 
+-- which of the two nodes of its name it is
 pub node_kind : (n r : ℕ) → r < 2 → (n * 2 + r) % 2 ≡ r
 node_kind n r l = mod-mul-add n 2 r l
 
+-- each node is one of its name
 pub node_of : (x : ℕ) → x / 2 * 2 + x % 2 ≡ x
 node_of x = div-add-mod' x 2
 

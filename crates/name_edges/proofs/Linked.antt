@@ -9,6 +9,7 @@ use Rattle.edge_links.specs.Edges.{Edge, edge, edge_count, SameEdges}
 use Rattle.edge_links.specs.Reach.{HasEdge}
 use Rattle.name_edges.specs.Nodes.{edge_to}
 
+-- edges of two lists are counted together
 pub count_append : (es ds : List Edge) (x y : ℕ) → edge_count (es ++ ds) x y ≡ edge_count es x y + edge_count ds x y
 count_append [] ds x y = omega arith
 count_append (e ∷ es) ds x y =
@@ -17,15 +18,18 @@ count_append (e ∷ es) ds x y =
     sums : (a b d f : ℕ) → b ≡ d + f → a + b ≡ (a + d) + f
     sums a b d f h = omega (arith, h)
 
+-- two tests that hold hold together
 and_both : (a b : Bool) → a ≡ true → b ≡ true → a && b ≡ true
 and_both true true e f = refl
 and_both true false e f = f
 and_both false b e f = e
 
+-- they do not where the first does not
 and_left : (a b : Bool) → a ≡ false → a && b ≡ false
 and_left true b e = cc
 and_left false b e = refl
 
+-- nor where the second does not
 and_right : (a b : Bool) → b ≡ false → a && b ≡ false
 and_right true b e = e
 and_right false b e = refl
@@ -34,24 +38,31 @@ and_right false b e = refl
 abbrev pub one_count : ℕ → ℕ → ℕ → ℕ → ℕ
 one_count a b x y = cond (nat_eq a x && nat_eq b y) 1 0
 
+-- an edge is counted once between its own nodes
 pub one_self : (a b x y : ℕ) → a ≡ x → b ≡ y → one_count a b x y ≡ 1
 one_self a b x y e f = cond-true (nat_eq a x && nat_eq b y) 1 0 (and_both _ _ (eq-eqb a x e) (eq-eqb b y f))
 
+-- and never from another user
 pub one_other_user : (a b x y : ℕ) → (a ≡ x → ⊥) → one_count a b x y ≡ 0
 one_other_user a b x y ne = cond-false (nat_eq a x && nat_eq b y) 1 0 (and_left _ _ (ne_eqb a x ne))
 
+-- nor to another key
 pub one_other_key : (a b x y : ℕ) → (b ≡ y → ⊥) → one_count a b x y ≡ 0
 one_other_key a b x y ne = cond-false (nat_eq a x && nat_eq b y) 1 0 (and_right _ _ (ne_eqb b y ne))
 
+-- nothing is in an empty list
 no_member : (x : ℕ) → Contains [] x → ⊥
 no_member x (i, l, e) = omega (arith, l)
 
+-- the first member is in a list
 member_first : (x y : ℕ) (xs : List ℕ) → x ≡ y → Contains (y ∷ xs) x
 member_first x y xs e = (0, omega arith, sym e)
 
+-- so is one of the others
 member_later : (x y : ℕ) (xs : List ℕ) → Contains xs x → Contains (y ∷ xs) x
 member_later x y xs (i, l, e) = (suc i, omega (arith, l), e)
 
+-- and a member is one of these
 member_cases : (x y : ℕ) (xs : List ℕ) → Contains (y ∷ xs) x → (x ≡ y) ⊎ Contains xs x
 member_cases x y xs (i, l, e) = at i l e
   where
@@ -77,6 +88,7 @@ edges_from user (k ∷ keys) x y h = elim (cases_eq (one_count user k x y) 0) [
     rest : (a b : ℕ) → a ≡ 0 → 0 < a + b → 0 < b
     rest a b e l = omega (arith, e, l)
 
+-- there is an edge to each of the keys
 edges_to : (user : ℕ) (keys : List ℕ) (y : ℕ) → Contains keys y → HasEdge (map (edge user) keys) user y
 edges_to user [] y i = absurd (no_member y i)
 edges_to user (k ∷ keys) y i = elim (member_cases y k keys i) [
@@ -114,9 +126,11 @@ item_at [] n l = absurd (omega (arith, l))
 item_at (x ∷ keys) zero l = refl
 item_at (x ∷ keys) (suc n) l = item_at keys n (omega (arith, l))
 
+-- what stands at a place is a member
 pub item_in : (keys : List ℕ) (n : ℕ) → n < length keys → Contains keys (get_or keys n 0)
 item_in keys n l = (n, l, item_at keys n l)
 
+-- one place more takes what stands there
 take_next : (keys : List ℕ) (n k : ℕ) → n < length keys → get_or keys n k ≡ k
     → take (n + 1) keys ≡ take n keys ++ k ∷ []
 take_next [] n k l e = absurd (omega (arith, l))
@@ -127,10 +141,12 @@ take_next (x ∷ keys) (suc n) k l e =
     one_later : (n : ℕ) → suc n + 1 ≡ suc (n + 1)
     one_later n = omega arith
 
+-- the images of a list with one more
 map_behind : (f : ℕ → Edge) (keys : List ℕ) (k : ℕ) → map f (keys ++ k ∷ []) ≡ map f keys ++ f k ∷ []
 map_behind f [] k = refl
 map_behind f (x ∷ keys) k = ap (λ es. f x ∷ es) (map_behind f keys k)
 
+-- where edges to the first n keys are added, and then one to the next, edges to n + 1 are
 pub one_linked : (r user : ℕ) (keys : List ℕ) (n : ℕ) → n < length keys → (old before now : List Edge) (x y : ℕ)
     → edge_count before x y ≡ edge_count (map (edge_to r user) (take n keys)) x y + edge_count old x y
     → edge_count now x y ≡ edge_count (edge_to r user (get_or keys n 0) ∷ before) x y
@@ -144,6 +160,7 @@ one_linked r user keys n l old before now x y was is =
     sums : (a b d f g h : ℕ) → a ≡ b + d → d ≡ f + g → h ≡ f + (b + 0) → a ≡ h + g
     sums a b d f g h i j k = omega (arith, i, j, k)
 
+-- where edges to as many as there are were added, edges to all were
 pub all_linked : (r user : ℕ) (keys : List ℕ) (n : ℕ) → length keys ≤ n → (old now : List Edge) (x y : ℕ)
     → edge_count now x y ≡ edge_count (map (edge_to r user) (take n keys)) x y + edge_count old x y
     → edge_count now x y ≡ edge_count (map (edge_to r user) keys ++ old) x y

@@ -9,13 +9,15 @@ use Rattle.edge_links.specs.Reach.{HasEdge, IsCleared, Reaches, at_once, further
 use Rattle.edge_links.specs.Reach as node
 use Rattle.name_edges.specs.Affected.{Forgets, IsAffected, IsCut, Needs}
 use Rattle.name_edges.specs.NameGraphs.{NameGraph}
-use Rattle.name_edges.specs.Nodes.{AreNodes, edges_to, shown}
+use Rattle.name_edges.specs.Nodes.{AreNodes, edges_to, name_graph}
 use Rattle.name_edges.proofs.Cutting.{IsBoth, cleared_on, cut_on, reached_before, reached_still, was_there}
 use Rattle.name_edges.proofs.Halves.{is_node, node_kind, node_name, node_of}
 
+-- a first node has no 1 behind it
 plain : (n : ℕ) → n * 2 + 0 ≡ n * 2
 plain n = omega arith
 
+-- none and n are n
 none_more : (n : ℕ) → n ≡ 0 + n
 none_more n = omega arith
 
@@ -43,12 +45,13 @@ counted r l (e ∷ es) u k =
     (ap (λ z. nat_eq e.user z) (sym (plain u)) ∙ is_node e.user u 0 (omega arith)) (is_node e.key k r l)
     (edge (e.user / 2) (e.key / 2)) (edges_to r es) u k refl refl (counted r l es u k)
 
+-- a name uses another as often as there are edges between their first nodes
 pub counted_uses : (es : List Edge) (u k : ℕ) → edge_count (edges_to 0 es) u k ≡ edge_count es (u * 2) (k * 2)
 counted_uses es u k = counted 0 (omega arith) es u k ∙ ap (edge_count es (u * 2)) (plain k)
 
 module _ (g : Graph) (nodes : AreNodes g) where
   abbrev names : NameGraph
-  names = shown g
+  names = name_graph g
 
   -- the user of an edge is the first node of a name
   pub user_is : (x y : ℕ) → HasEdge g.edges x y → x ≡ x / 2 * 2
@@ -188,7 +191,7 @@ module _ (g : Graph) (nodes : AreNodes g) (key : ℕ) (mid new : List Edge)
         absurd (let z = nodes.users x y in omega (arith, h, z))
   ]
 
-  between : (r : ℕ) → r < 2 → IsCut (IsAffected (shown g) key) (edges_to r g.edges) (edges_to r new)
+  between : (r : ℕ) → r < 2 → IsCut (IsAffected (name_graph g) key) (edges_to r g.edges) (edges_to r new)
   between r l = record {
     gone = λ x y i. counted r l new x y ∙ cut_both.gone (x * 2) (y * 2 + r) (affected_there g nodes key x i);
     kept = λ x y free. counted r l new x y
@@ -196,13 +199,14 @@ module _ (g : Graph) (nodes : AreNodes g) (key : ℕ) (mid new : List Edge)
         ∙ sym (counted r l g.edges x y));
   }
 
-  pub forgotten : (h : Graph) → h.nodes ≡ g.nodes → h.edges ≡ new → Forgets (IsAffected (shown g) key) (shown g)
-      (shown h)
+  pub forgotten : (h : Graph) → h.nodes ≡ g.nodes → h.edges ≡ new
+      → Forgets (IsAffected (name_graph g) key) (name_graph g)
+      (name_graph h)
   forgotten h same is = record {
     names = ap (λ n. n / 2) same;
-    uses = subst (λ es. IsCut (IsAffected (shown g) key) (edges_to 0 g.edges) (edges_to 0 es)) (sym is)
+    uses = subst (λ es. IsCut (IsAffected (name_graph g) key) (edges_to 0 g.edges) (edges_to 0 es)) (sym is)
         (between 0 (omega arith));
-    looks = subst (λ es. IsCut (IsAffected (shown g) key) (edges_to 1 g.edges) (edges_to 1 es)) (sym is)
+    looks = subst (λ es. IsCut (IsAffected (name_graph g) key) (edges_to 1 g.edges) (edges_to 1 es)) (sym is)
         (between 1 (omega arith));
   }
 
@@ -213,13 +217,14 @@ module _ (g : Graph) (nodes : AreNodes g) (key : ℕ) (mid new : List Edge)
     clear_both : IsCleared Either marks now
     clear_both = cleared_on First Second Either both_nodes marks then now clear_first clear_second
 
-    pub cleared : IsCleared (IsAffected (shown g) key) old_names new_names
+    pub cleared : IsCleared (IsAffected (name_graph g) key) old_names new_names
     cleared = record {
       gone = λ n i. sym (new_is n) ∙ clear_both.gone (n * 2) (affected_there g nodes key n i);
       kept = λ n free. sym (new_is n)
           ∙ (clear_both.kept (n * 2) (λ i. free (affected_shown g nodes key n i)) ∙ old_is n);
     }
 
+-- the mark of a first node is that of its name
 pub marked_at : (names : ℕ → Bool) (n : ℕ) → (nat_eq (n * 2 % 2) 0 && names (n * 2 / 2)) ≡ names n
 marked_at names n = λ i. nat_eq (even i) 0 && names (half_is i)
   where

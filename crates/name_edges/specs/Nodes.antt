@@ -16,8 +16,8 @@ edges_to remainder (e ∷ es) =
     else edges_to remainder es
 
 -- a last node that stands alone belongs to no name yet
-abbrev pub shown : Graph → NameGraph
-shown g = record { names = g.nodes / 2; uses = edges_to 0 g.edges; looks = edges_to 1 g.edges }
+abbrev pub name_graph : Graph → NameGraph
+name_graph g = record { names = g.nodes / 2; uses = edges_to 0 g.edges; looks = edges_to 1 g.edges }
 
 -- no second node is a user
 pub record AreNodes (g : Graph) : Type 0 where

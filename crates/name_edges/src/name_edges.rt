@@ -22,11 +22,11 @@ pub struct NameEdges {
 
 impl Model for NameEdges {
     ghost use Rattle.name_edges.specs.NameGraphs.{NameGraph};
-    ghost use Rattle.name_edges.specs.Nodes.{shown, AreNodes};
+    ghost use Rattle.name_edges.specs.Nodes.{name_graph, AreNodes};
 
     ghost Value = { NameGraph };
 
-    ghost view = { λ e. shown e.links };
+    ghost view = { λ e. name_graph e.links };
 
     ghost invariant = { λ e. AreNodes e.links };
 }

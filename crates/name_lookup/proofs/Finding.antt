@@ -1,5 +1,6 @@
 -- A search of a whole word has found the targets.
-use Rattle.std.proofs.Common.{◌≡◌, ℕ, ◌+◌, ◌-◌, ◌≤◌, List, [], ◌++◌, length, drop, Result, Ok, Err, IfOk, Bool, ap, sym, ◌∙◌, arith, refl}
+use Rattle.std.proofs.Common.{◌≡◌, ℕ, ◌+◌, ◌-◌, ◌≤◌, List, [], ◌++◌, length, drop, Result, Ok, Err, IfOk, Bool, ap, sym}
+use Rattle.std.proofs.Common.{◌∙◌, arith, refl}
 use Rattle.std.proofs.Math.ListN.{drop_of_length-le}
 use Rattle.std.proofs.Math.Seq.{drop-append-add}
 use Rattle.std.proofs.lemmas.List.{append-nil, length-append, length-drop}
@@ -12,33 +13,40 @@ use Rattle.name_lookup.specs.Plans.{Found, Gives, run}
 use Rattle.name_lookup.specs.Steps.{IsTaken, behind, with_rest}
 use Rattle.name_lookup.specs.Targets.{AreFound, count, last_keys}
 
+-- no target, and no key that was looked at
 abbrev nothing : Found
 nothing = record { targets = []; looked = [] }
 
 -- the last keys of a list are those of its end, where that is long enough
-last_behind : (n : ℕ) (before looked : List Key) → n ≤ length looked → last_keys n (before ++ looked) ≡ last_keys n looked
+last_behind : (n : ℕ) (before looked : List Key) → n ≤ length looked
+    → last_keys n (before ++ looked) ≡ last_keys n looked
 last_behind n before looked h =
     let l = length-append before looked in
     let e : length (before ++ looked) - n ≡ length before + (length looked - n) = omega arith in
     ap (λ k. drop k (before ++ looked)) e ∙ drop-append-add before looked (length looked - n)
 
+-- so many last keys are so many where there are as many
 length_last : (n : ℕ) (keys : List Key) → n ≤ length keys → length (last_keys n keys) ≡ n
 length_last n keys h = let l = length-drop (length keys - n) keys in omega arith
 
+-- where the targets are the last of the keys that were looked at, they are found
 ended :
-    (which : Targets) (n : ℕ) (before after : List Key) (found : Found) → count which ≡ n → length before + n ≤ length after
+    (which : Targets) (n : ℕ) (before after : List Key) (found : Found) → count which ≡ n
+    → length before + n ≤ length after
     → found.targets ≡ last_keys n after → before ++ found.looked ≡ after → AreFound which before after found
 ended which n before after found c enough t l =
     let m = length-append before found.looked in
     let a = ap length l in
     let h : n ≤ length found.looked = omega arith in
-    let last : found.targets ≡ last_keys n found.looked = t ∙ (ap (last_keys n) (sym l) ∙ last_behind n before found.looked h) in
+    let last : found.targets ≡ last_keys n found.looked =
+    t ∙ (ap (last_keys n) (sym l) ∙ last_behind n before found.looked h) in
     record {
       looked = sym l;
       targets = last ∙ ap (λ k. last_keys k found.looked) (sym c);
       many = ap length last ∙ (length_last n found.looked h ∙ sym c);
     }
 
+-- so they are where a search ends in them
 found_by :
     (which : Targets) (before after : List Key) (found : Found) → behind before found ≡ with_rest which after nothing
     → length before + count which ≤ length after → AreFound which before after found
@@ -49,8 +57,10 @@ found_by Nowhere before after found runs enough =
 found_by Last before after found runs enough =
     ended Last 1 before after found refl enough (ap (λ (f : Found). f.targets) runs) (ap (λ (f : Found). f.looked) runs)
 found_by LastTwo before after found runs enough =
-    ended LastTwo 2 before after found refl enough (ap (λ (f : Found). f.targets) runs) (ap (λ (f : Found). f.looked) runs)
+    ended LastTwo 2 before after found refl enough (ap (λ (f : Found). f.targets) runs)
+    (ap (λ (f : Found). f.looked) runs)
 
+-- a search by the plan of a word finds what the plan leads to
 pub all_found :
     {E : Type 0} (has : Key → Bool) (kind : WordKind) (word : List ℕ) (before after : List Key) (r : Result Targets E)
     → IfOk r (λ which. IsTaken has (try_word kind word) before after which)

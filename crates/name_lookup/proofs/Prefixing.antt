@@ -1,5 +1,6 @@
 -- The prefixes of a word, the longest first.
-use Rattle.std.proofs.Common.{◌≡◌, ℕ, zero, suc, ◌+◌, ◌-◌, ◌<◌, ◌≤◌, Bool, true, false, List, length, take, drop, ap, subst, sym, ◌∙◌, arith}
+use Rattle.std.proofs.Common.{◌≡◌, ℕ, zero, suc, ◌-◌, ◌<◌, ◌≤◌, Bool, true, false, List, length, take, drop}
+use Rattle.std.proofs.Common.{subst, ◌∙◌, arith}
 use Rattle.def_entry.specs.declared.key.Key.{Key}
 use Rattle.def_entry.specs.declared.key.Kind.TheVariants as kind
 use Rattle.def_entry.specs.Keys.{key}
@@ -9,7 +10,6 @@ use Rattle.name_lookup.specs.Order.{try_prefix, try_prefixes, with_prefix}
 use Rattle.name_lookup.specs.Plans.{Plan, Asks, run}
 use Rattle.name_lookup.specs.Steps.{IsTaken, behind}
 use Rattle.name_lookup.specs.Targets.{are_some}
-use Rattle.name_lookup.proofs.Taking.{ended_there}
 
 -- a prefix with what is left of its word
 abbrev pub split_step : List ℕ → List ℕ → Plan → Plan
@@ -24,7 +24,8 @@ pub record AreTried (has : Key → Bool) (word : List ℕ) (before now : List Ke
 -- the step of a front and a rest is that of the prefix
 split_there :
     (has : Key → Bool) (word front rest : List ℕ) (k : ℕ) (old new : List Key) (targets : Targets) → front ≡ take k word
-    → rest ≡ drop k word → IsTaken has (split_step front rest) old new targets → IsTaken has (try_prefix k word) old new targets
+    → rest ≡ drop k word → IsTaken has (split_step front rest) old new targets
+    → IsTaken has (try_prefix k word) old new targets
 split_there has word front rest k old new targets f r h =
     subst (λ (x : List ℕ). IsTaken has (split_step (take k word) x) old new targets) r
     (subst (λ (x : List ℕ). IsTaken has (split_step x rest) old new targets) f h)
@@ -50,7 +51,8 @@ module _ (has : Key → Bool) (word front rest : List ℕ) where
       }
 
   pub went_on :
-      (k l : ℕ) (old mid new : List Key) (targets : Targets) → 0 < k → l ≡ k - 1 → AreTried has word old mid k → front ≡ take k word
+      (k l : ℕ) (old mid new : List Key) (targets : Targets) → 0 < k → l ≡ k - 1 → AreTried has word old mid k
+      → front ≡ take k word
       → rest ≡ drop k word → are_some targets ≡ false → IsTaken has (split_step front rest) mid new targets
       → AreTried has word old new l
   went_on zero l old mid new targets z m a f r s h = absurd (omega arith)

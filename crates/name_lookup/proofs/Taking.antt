@@ -1,5 +1,6 @@
 -- Steps of a search, one after another.
-use Rattle.std.proofs.Common.{◌≡◌, ℕ, ◌+◌, ◌-◌, ◌≤◌, Result, Ok, Err, IfOk, Bool, true, false, List, [], ◌∷◌, ◌++◌, length, drop, ap, sym, ◌∙◌, arith}
+use Rattle.std.proofs.Common.{◌≡◌, Result, Ok, Err, IfOk, Bool, true, false, List}
+use Rattle.std.proofs.Common.{◌∙◌, arith}
 use Rattle.def_entry.specs.declared.key.Key.{Key}
 use Rattle.name_lookup.specs.declared.targets.Targets.{Targets}
 use Rattle.name_lookup.specs.declared.targets.Targets.TheVariants.{Nowhere, Last, LastTwo}
@@ -20,14 +21,20 @@ pub went_on :
     (has : Key → Bool) (s t : Plan → Plan) (old mid new : List Key) (first second : Targets) → are_some first ≡ false
     → IsTaken has s old mid first → IsTaken has t mid new second → IsTaken has (λ next. s (t next)) old new second
 went_on has s t old mid new Nowhere second e h i =
-    record { runs = λ next. h.runs (t next) ∙ i.runs next; enough = let a = h.enough in let b = i.enough in omega arith }
+    record {
+      runs = λ next. h.runs (t next) ∙ i.runs next;
+      enough = let a = h.enough in let b =
+          i.enough in omega arith;
+    }
 went_on has s t old mid new Last second e h i = cc
 went_on has s t old mid new LastTwo second e h i = cc
 
 -- the last step may fail
 pub then_last :
-    {E : Type 0} (has : Key → Bool) (s t : Plan → Plan) (old mid new : List Key) (first : Targets) (r : Result Targets E)
+    {E : Type 0} (has : Key → Bool) (s t : Plan → Plan) (old mid new : List Key) (first : Targets)
+    (r : Result Targets E)
     → are_some first ≡ false → IsTaken has s old mid first
-    → IfOk r (λ targets. IsTaken has t mid new targets) → IfOk r (λ targets. IsTaken has (λ next. s (t next)) old new targets)
+    → IfOk r (λ targets. IsTaken has t mid new targets)
+    → IfOk r (λ targets. IsTaken has (λ next. s (t next)) old new targets)
 then_last has s t old mid new first (Ok second) e h i = went_on has s t old mid new first second e h i
 then_last has s t old mid new first (Err f) e h i = i

@@ -1,4 +1,5 @@
 pub mod Examples
+pub mod Keeping
 pub mod Laws
 pub mod Order
 pub mod Plans

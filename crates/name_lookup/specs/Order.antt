@@ -23,7 +23,8 @@ with_prefix prefix (b ∷ bs) next =
 
 -- the prefix of the first k bytes of a word
 abbrev pub try_prefix : ℕ → List ℕ → Plan → Plan
-try_prefix k word next = Asks (key kind.Prefix (take k word)) (with_prefix (key kind.Prefix (take k word)) (drop k word) next) next
+try_prefix k word next =
+    Asks (key kind.Prefix (take k word)) (with_prefix (key kind.Prefix (take k word)) (drop k word) next) next
 
 -- the prefixes of at most k bytes, the longest first
 abbrev pub try_prefixes : ℕ → List ℕ → Plan → Plan

@@ -4,6 +4,7 @@ ghost use Rattle.std.specs.Prelude.{◌≡◌, ◌++◌, ◌∷◌, [], IfOk, Li
 ghost use Rattle.def_entry.specs.Keys.{key};
 ghost use Rattle.def_entry.specs.declared.key.Key.{Key};
 ghost use Rattle.def_entry.specs.SameKeys.{is_among};
+ghost use Rattle.name_lookup.specs.Keeping.{StaysKept};
 
 use crate::present::Present;
 use def_entry::Kind;
@@ -32,6 +33,5 @@ pub trait Looking {
         ensures answer { IfOk result (λ present. present ≡ is_among (P.keys table.now) (key kind name.now)) }
         ensures looked { IfOk result (λ _. looked self.new ≡ looked self.old ++ key kind name.now ∷ []) }
         ensures ready { can_look (P.keys table.now) self.new }
-        ensures kept { (start : Self) → is_kept (P.keys table.now) start self.old
-            → is_kept (P.keys table.now) start self.new };
+        ensures kept { StaysKept (is_kept (P.keys table.now)) self.old self.new };
 }

@@ -2,8 +2,8 @@
 
 ghost use Rattle.std.specs.Prelude.{◌≡◌, ◌++◌, codes, IfOk, length};
 ghost use Rattle.def_entry.specs.SameKeys.{is_among};
-ghost use Rattle.name_lookup.specs.Order.{has_ending, plan, try_kinds as kinds_step, try_parts as parts_step};
-ghost use Rattle.name_lookup.specs.Order.{try_stem_if, try_stems as stems_step, try_word as word_step, without};
+ghost use Rattle.name_lookup.specs.Keeping.{StaysKept};
+ghost use Rattle.name_lookup.specs.Order as spec;
 ghost use Rattle.name_lookup.specs.Plans.{run};
 ghost use Rattle.name_lookup.specs.Steps.{IsTaken};
 ghost use Rattle.name_lookup.specs.Targets.{AreFound};
@@ -32,10 +32,9 @@ pub fn resolve<P: Present, L: Looking>(
 ) -> Result<Targets, AllocError>
     requires { L.can_look (P.keys table.now) looking.old }
     ensures found { IfOk result (λ targets. AreFound targets (L.looked looking.old) (L.looked looking.new)
-        (run (is_among (P.keys table.now)) (plan kind word.now))) }
+        (run (is_among (P.keys table.now)) (spec.plan kind word.now))) }
     ensures ready { L.can_look (P.keys table.now) looking.new }
-    ensures kept { (start : L) → L.is_kept (P.keys table.now) start looking.old
-        → L.is_kept (P.keys table.now) start looking.new }
+    ensures kept { StaysKept (L.is_kept (P.keys table.now)) looking.old looking.new }
 {
     let search = Search { alloc, table };
     search.try_word(looking, word, kind)
@@ -51,10 +50,9 @@ impl<'a, P: Present> Search<'a, P> {
     ) -> Result<Targets, AllocError>
         requires { L.can_look (P.keys self.now.table.now) looking.old }
         ensures taken { IfOk result (λ targets. IsTaken (is_among (P.keys self.now.table.now))
-            (word_step kind word.now) (L.looked looking.old) (L.looked looking.new) targets) }
+            (spec.try_word kind word.now) (L.looked looking.old) (L.looked looking.new) targets) }
         ensures ready { L.can_look (P.keys self.now.table.now) looking.new }
-        ensures kept { (start : L) → L.is_kept (P.keys self.now.table.now) start looking.old
-            → L.is_kept (P.keys self.now.table.now) start looking.new }
+        ensures kept { StaysKept (L.is_kept (P.keys self.now.table.now)) looking.old looking.new }
     {
         match kind {
             WordKind::Plain => self.try_kinds(looking, word, Kind::Unit, Kind::Func),
@@ -73,10 +71,9 @@ impl<'a, P: Present> Search<'a, P> {
     ) -> Result<Targets, AllocError>
         requires { L.can_look (P.keys self.now.table.now) looking.old }
         ensures taken { IfOk result (λ targets. IsTaken (is_among (P.keys self.now.table.now))
-            (kinds_step first second word.now) (L.looked looking.old) (L.looked looking.new) targets) }
+            (spec.try_kinds first second word.now) (L.looked looking.old) (L.looked looking.new) targets) }
         ensures ready { L.can_look (P.keys self.now.table.now) looking.new }
-        ensures kept { (start : L) → L.is_kept (P.keys self.now.table.now) start looking.old
-            → L.is_kept (P.keys self.now.table.now) start looking.new }
+        ensures kept { StaysKept (L.is_kept (P.keys self.now.table.now)) looking.old looking.new }
     {
         let targets = self.try_key(looking, first, word)?;
         if targets.are_some() {
@@ -93,10 +90,9 @@ impl<'a, P: Present> Search<'a, P> {
     fn try_parts<L: Looking>(&self, looking: &mut L, word: &[u8]) -> Result<Targets, AllocError>
         requires { L.can_look (P.keys self.now.table.now) looking.old }
         ensures taken { IfOk result (λ targets. IsTaken (is_among (P.keys self.now.table.now))
-            (parts_step word.now) (L.looked looking.old) (L.looked looking.new) targets) }
+            (spec.try_parts word.now) (L.looked looking.old) (L.looked looking.new) targets) }
         ensures ready { L.can_look (P.keys self.now.table.now) looking.new }
-        ensures kept { (start : L) → L.is_kept (P.keys self.now.table.now) start looking.old
-            → L.is_kept (P.keys self.now.table.now) start looking.new }
+        ensures kept { StaysKept (L.is_kept (P.keys self.now.table.now)) looking.old looking.new }
     {
         let targets = self.try_stems(looking, word)?;
         if targets.are_some() {
@@ -109,10 +105,9 @@ impl<'a, P: Present> Search<'a, P> {
     fn try_stems<L: Looking>(&self, looking: &mut L, word: &[u8]) -> Result<Targets, AllocError>
         requires { L.can_look (P.keys self.now.table.now) looking.old }
         ensures taken { IfOk result (λ targets. IsTaken (is_among (P.keys self.now.table.now))
-            (stems_step word.now) (L.looked looking.old) (L.looked looking.new) targets) }
+            (spec.try_stems word.now) (L.looked looking.old) (L.looked looking.new) targets) }
         ensures ready { L.can_look (P.keys self.now.table.now) looking.new }
-        ensures kept { (start : L) → L.is_kept (P.keys self.now.table.now) start looking.old
-            → L.is_kept (P.keys self.now.table.now) start looking.new }
+        ensures kept { StaysKept (L.is_kept (P.keys self.now.table.now)) looking.old looking.new }
     {
         let targets = self.try_without(looking, word, 2, b"s")?;
         if targets.are_some() {
@@ -135,11 +130,10 @@ impl<'a, P: Present> Search<'a, P> {
     ) -> Result<Targets, AllocError>
         requires { L.can_look (P.keys self.now.table.now) looking.old }
         ensures taken { IfOk result (λ targets. IsTaken (is_among (P.keys self.now.table.now))
-            (try_stem_if (has_ending more ending.now word.now) (without (length ending.now) word.now))
+            (spec.try_stem_if (spec.has_ending more ending.now word.now) (spec.without (length ending.now) word.now))
             (L.looked looking.old) (L.looked looking.new) targets) }
         ensures ready { L.can_look (P.keys self.now.table.now) looking.new }
-        ensures kept { (start : L) → L.is_kept (P.keys self.now.table.now) start looking.old
-            → L.is_kept (P.keys self.now.table.now) start looking.new }
+        ensures kept { StaysKept (L.is_kept (P.keys self.now.table.now)) looking.old looking.new }
     {
         match without_ending(word, more, ending) {
             Some(stem) => self.try_stem(looking, stem),
@@ -151,11 +145,10 @@ impl<'a, P: Present> Search<'a, P> {
     fn try_with_y<L: Looking>(&self, looking: &mut L, word: &[u8]) -> Result<Targets, AllocError>
         requires { L.can_look (P.keys self.now.table.now) looking.old }
         ensures taken { IfOk result (λ targets. IsTaken (is_among (P.keys self.now.table.now))
-            (try_stem_if (has_ending 4 (codes "ies") word.now) (without 3 word.now ++ codes "y"))
+            (spec.try_stem_if (spec.has_ending 4 (codes "ies") word.now) (spec.without 3 word.now ++ codes "y"))
             (L.looked looking.old) (L.looked looking.new) targets) }
         ensures ready { L.can_look (P.keys self.now.table.now) looking.new }
-        ensures kept { (start : L) → L.is_kept (P.keys self.now.table.now) start looking.old
-            → L.is_kept (P.keys self.now.table.now) start looking.new }
+        ensures kept { StaysKept (L.is_kept (P.keys self.now.table.now)) looking.old looking.new }
     {
         let Some(front) = without_ending(word, 4, b"ies") else {
             return Ok(Targets::Nowhere);

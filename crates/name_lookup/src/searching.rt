@@ -4,8 +4,8 @@ ghost use Rattle.std.specs.Prelude.{◌≡◌, ◌++◌, ◌∷◌, [], ◌<◌,
 ghost use Rattle.def_entry.specs.Keys.{key};
 ghost use Rattle.def_entry.specs.SameKeys.{is_among};
 ghost use Rattle.def_entry.specs.declared.key.Kind.TheVariants as kinds;
-ghost use Rattle.name_lookup.specs.Order.{try_key as key_step, try_prefixes as prefix_steps};
-ghost use Rattle.name_lookup.specs.Order.{try_stem as stem_step, with_prefix};
+ghost use Rattle.name_lookup.specs.Keeping.{StaysKept};
+ghost use Rattle.name_lookup.specs.Order as spec;
 ghost use Rattle.name_lookup.specs.Plans.{Asks};
 ghost use Rattle.name_lookup.specs.Steps.{IsTaken};
 
@@ -32,10 +32,9 @@ impl<'a, P: Present> Search<'a, P> {
     ) -> Result<Targets, AllocError>
         requires { L.can_look (P.keys self.now.table.now) looking.old }
         ensures taken { IfOk result (λ targets. IsTaken (is_among (P.keys self.now.table.now))
-            (key_step (key kind name.now)) (L.looked looking.old) (L.looked looking.new) targets) }
+            (spec.try_key (key kind name.now)) (L.looked looking.old) (L.looked looking.new) targets) }
         ensures ready { L.can_look (P.keys self.now.table.now) looking.new }
-        ensures kept { (start : L) → L.is_kept (P.keys self.now.table.now) start looking.old
-            → L.is_kept (P.keys self.now.table.now) start looking.new }
+        ensures kept { StaysKept (L.is_kept (P.keys self.now.table.now)) looking.old looking.new }
     {
         if looking.look(self.alloc, self.table, kind, name)? {
             return Ok(Targets::Last);
@@ -51,10 +50,9 @@ impl<'a, P: Present> Search<'a, P> {
     ) -> Result<Targets, AllocError>
         requires { L.can_look (P.keys self.now.table.now) looking.old }
         ensures taken { IfOk result (λ targets. IsTaken (is_among (P.keys self.now.table.now))
-            (prefix_steps (length word.now) word.now) (L.looked looking.old) (L.looked looking.new) targets) }
+            (spec.try_prefixes (length word.now) word.now) (L.looked looking.old) (L.looked looking.new) targets) }
         ensures ready { L.can_look (P.keys self.now.table.now) looking.new }
-        ensures kept { (start : L) → L.is_kept (P.keys self.now.table.now) start looking.old
-            → L.is_kept (P.keys self.now.table.now) start looking.new }
+        ensures kept { StaysKept (L.is_kept (P.keys self.now.table.now)) looking.old looking.new }
     {
         let mut len = word.len();
         while len > 0 {
@@ -77,11 +75,11 @@ impl<'a, P: Present> Search<'a, P> {
     ) -> Result<Targets, AllocError>
         requires { L.can_look (P.keys self.now.table.now) looking.old }
         ensures taken { IfOk result (λ targets. IsTaken (is_among (P.keys self.now.table.now))
-            (λ next. Asks (key kinds.Prefix front.now) (with_prefix (key kinds.Prefix front.now) rest.now next) next)
+            (λ next. Asks (key kinds.Prefix front.now)
+            (spec.with_prefix (key kinds.Prefix front.now) rest.now next) next)
             (L.looked looking.old) (L.looked looking.new) targets) }
         ensures ready { L.can_look (P.keys self.now.table.now) looking.new }
-        ensures kept { (start : L) → L.is_kept (P.keys self.now.table.now) start looking.old
-            → L.is_kept (P.keys self.now.table.now) start looking.new }
+        ensures kept { StaysKept (L.is_kept (P.keys self.now.table.now)) looking.old looking.new }
     {
         if !looking.look(self.alloc, self.table, Kind::Prefix, front)? {
             return Ok(Targets::Nowhere);
@@ -103,10 +101,9 @@ impl<'a, P: Present> Search<'a, P> {
     ) -> Result<Targets, AllocError>
         requires { L.can_look (P.keys self.now.table.now) looking.old }
         ensures taken { IfOk result (λ targets. IsTaken (is_among (P.keys self.now.table.now))
-            (stem_step stem.now) (L.looked looking.old) (L.looked looking.new) targets) }
+            (spec.try_stem stem.now) (L.looked looking.old) (L.looked looking.new) targets) }
         ensures ready { L.can_look (P.keys self.now.table.now) looking.new }
-        ensures kept { (start : L) → L.is_kept (P.keys self.now.table.now) start looking.old
-            → L.is_kept (P.keys self.now.table.now) start looking.new }
+        ensures kept { StaysKept (L.is_kept (P.keys self.now.table.now)) looking.old looking.new }
     {
         let targets = self.try_key(looking, Kind::Unit, stem)?;
         if targets.are_some() {

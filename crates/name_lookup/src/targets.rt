@@ -1,7 +1,7 @@
 //! What a word stands for.
 
 ghost use Rattle.std.specs.Prelude.{◌≡◌};
-ghost use Rattle.name_lookup.specs.Targets.{are_some as are_some_of, count as count_of};
+ghost use Rattle.name_lookup.specs.Targets as spec;
 
 /// What a word stands for, by the keys that were looked at.
 #[derive(Clone, Copy, Debug, PartialEq, Eq, Drop)]
@@ -17,7 +17,7 @@ pub enum Targets {
 impl Targets {
     /// How many keys these are.
     pub fn count(self) -> usize
-        ensures { result ≡ count_of self }
+        ensures { result ≡ spec.count self }
     {
         match self {
             Targets::Nowhere => 0,
@@ -28,7 +28,7 @@ impl Targets {
 
     // Whether there are any.
     pub(crate) fn are_some(self) -> bool
-        ensures { result ≡ are_some_of self }
+        ensures { result ≡ spec.are_some self }
     {
         match self {
             Targets::Nowhere => false,

@@ -86,6 +86,7 @@ module _ (table : Table) (key : ℕ → Key) (size : ℕ) (settled : ℕ → Boo
       let w = way_up r n s refl in
       by_look n w.0 (inr w.1) (ends w.1) (subst (λ (x : Key). HasLooked table keys x) w.2 h)
 
+-- the law of what edges affect
 pub affected_numbers_law : AffectedNumbersLaw
 affected_numbers_law table key size settled g are keys numbers of n s = (
   λ a. by_words table key size settled g are keys numbers of n a.0 a.1 a.2,

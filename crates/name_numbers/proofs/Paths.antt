@@ -16,19 +16,23 @@ use Rattle.table_names.specs.Faults.{chain}
 abbrev pub AllKnown : (ℕ → Bool) → List ℕ → Type 0
 AllKnown known p = AllByRecursion (λ n. known n ≡ true) p
 
+-- known numbers with one more that is known are known
 pub known_push :
     (known : ℕ → Bool) (p : List ℕ) (n : ℕ) → AllKnown known p → known n ≡ true → AllKnown known (p ++ n ∷ [])
 known_push known [] n ks k = (k, tt)
 known_push known (m ∷ p) n ks k = (ks.0, known_push known p n ks.1 k)
 
+-- the keys of numbers with one more behind them
 pub map_push : (key : ℕ → Key) (p : List ℕ) (n : ℕ) → map key (p ++ n ∷ []) ≡ map key p ++ key n ∷ []
 map_push key p n = map-append key p (n ∷ [])
 
+-- the last key of a path is that of its last number
 pub same_last : (key : ℕ → Key) (p : List ℕ) → names.last (map key p) ≡ option_map key (walk.last p)
 same_last key [] = refl
 same_last key (n ∷ []) = refl
 same_last key (n ∷ m ∷ p) = same_last key (m ∷ p)
 
+-- a test of equality may be turned
 turned : (n m : ℕ) → nat_eq n m ≡ nat_eq m n
 turned n m = elim (cases_eq n m) [
   | inl e ↦ eq-eqb n m e ∙ sym (eq-eqb m n (sym e))

@@ -17,11 +17,13 @@ use Rattle.name_numbers.specs.RankLaws.{RankLaw}
 abbrev IsWithin : ℕ → Meaning → Type 0
 IsWithin depth m = rank_of_meaning m ≤ depth
 
+-- an alias has a rank one above that of its target
 alias_within : (depth : ℕ) (name : List ℕ) (m : Meaning) → IsWithin depth m → IsWithin (suc depth) (alias name m)
 alias_within depth name (One x) h = omega arith
 alias_within depth name (Two x y) h = omega arith
 alias_within depth name (Callee f) h = omega (arith, h)
 
+-- where no word has a rank above a bound, the greatest of their ranks is within it
 greatest_within :
     (depth : ℕ) (means : WordUse → Meaning) (words : List WordUse) → ((u : WordUse) → IsWithin depth (means u))
     → greatest_rank means words ≤ depth
@@ -31,6 +33,7 @@ greatest_within depth means (u ∷ us) h =
     let b : greatest_rank means us ≤ depth = greatest_within depth means us h in
     omega arith
 
+-- what is said of a key has a rank at most one above that of its words
 said_within :
     (depth : ℕ) (means : WordUse → Meaning) (name : List ℕ) (w : What) → ((u : WordUse) → IsWithin depth (means u))
     → IsWithin (suc depth) (meaning_of means name w)
@@ -43,6 +46,7 @@ said_within depth means name (what.Alias target) h =
 said_within depth means name (what.Table d) h = omega (arith, greatest_within depth means (words_in d.unit) h)
 said_within depth means name (what.ListOf parts) h = omega arith
 
+-- so has an entry, if there is one
 entry_within :
     (depth : ℕ) (means : WordUse → Meaning) (name : List ℕ) (o : Option Entry)
     → ((u : WordUse) → IsWithin depth (means u)) → IsWithin (suc depth) (entry_meaning means name o)
@@ -72,5 +76,6 @@ module _ (table : Table) where
       entry_within depth (word_meaning_by table (meaning_within table depth)) n.name (entry_at table n)
       (λ u. targets_within depth (meaning_within table depth) (targets table u) (key_within depth))
 
+-- the law of ranks
 pub rank_law : RankLaw
 rank_law table n = key_within table (length table) n

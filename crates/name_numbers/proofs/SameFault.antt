@@ -31,6 +31,7 @@ use Rattle.name_numbers.specs.Numbered.{AreNumbered, AreWords, LeadToKnown, name
 use Rattle.name_numbers.specs.Numbered.{ForOne, ForRefused, ForTwo, ForUnknown, IsWord}
 use Rattle.name_numbers.proofs.Paths.{AllKnown, known_push, map_push, same_chain, same_last, same_on}
 
+-- nothing or else nothing adds nothing
 or_none : {A : Type 0} (o : Option A) → option_or o None ≡ o
 or_none None = refl
 or_none (Some x) = refl
@@ -186,6 +187,7 @@ module _ (same_keys : SameKeysLaw) (table : Table) (key : ℕ → Key) (dead_end
         there m (inl e) = let q : m ≡ n = cc in subst (λ (x : ℕ). x < length g) (sym q) (numbered.within n k)
         there m (inr i) = absurd i
 
+-- the law of faults by number
 pub numbered_fault_law : SameKeysLaw → WalkFaultLaw → WalkPathLaw → FaultLaw → PathLaw → NumberedFaultLaw
 numbered_fault_law same_keys walk_fault walk_path name_fault name_path = record {
   words = λ table key dead_end g known numbered range.

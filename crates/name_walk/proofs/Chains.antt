@@ -1,24 +1,29 @@
 -- The chain of a cycle, as it is built.
-use Rattle.std.proofs.Common.{◌≡◌, ℕ, Bool, true, false, cond, ◌||◌, List, [], ◌∷◌, ◌++◌, refl, sym, ◌∙◌, ap, subst, inl, inr, nat_eq, append_assoc}
+use Rattle.std.proofs.Common.{◌≡◌, ℕ, Bool, true, false, cond, ◌||◌, List, [], ◌∷◌, ◌++◌, refl, sym, ◌∙◌, ap, subst}
+use Rattle.std.proofs.Common.{inl, inr, nat_eq, append_assoc}
 use Rattle.std.proofs.lemmas.Bool.{eqb-true, eq-eqb, or_cases}
 use Rattle.name_walk.specs.declared.traces.Frame.{Frame}
 use Rattle.name_walk.specs.Faults.{from_name, on}
 use Rattle.name_walk.specs.Traces.{path}
 
+-- where one of two tests holds, the first value is taken
 chosen : {A : Type 0} (b e : Bool) (x y : A) → (b || e) ≡ true → cond b x (cond e x y) ≡ x
 chosen true e x y h = refl
 chosen false true x y h = refl
 chosen false false x y h = cc
 
+-- where neither does, the second is
 passed : {A : Type 0} (b e : Bool) (x y : A) → (b || e) ≡ false → cond b x (cond e x y) ≡ y
 passed true e x y h = cc
 passed false true x y h = cc
 passed false false x y h = refl
 
+-- where neither holds, the first does not
 false_left : (b e : Bool) → (b || e) ≡ false → b ≡ false
 false_left true e h = h
 false_left false e h = refl
 
+-- nor does the second
 false_right : (b e : Bool) → (b || e) ≡ false → e ≡ false
 false_right true e h = cc
 false_right false e h = h
@@ -30,24 +35,30 @@ module _ (again last : ℕ) where
     pub whole : names ++ cond is_below (path rest last) (from_name again (path rest last)) ≡ all
     pub ahead : (is_below || on (path rest last) again) ≡ true
 
-  pub chaining_keep : (all names more : List ℕ) (b : Bool) (f : Frame) (rest : List Frame) → IsChaining all names b (f ∷ rest)
-      → (b || nat_eq f.name again) ≡ true → more ≡ names ++ f.name ∷ [] → IsChaining all more (b || nat_eq f.name again) rest
+  pub chaining_keep : (all names more : List ℕ) (b : Bool) (f : Frame) (rest : List Frame)
+      → IsChaining all names b (f ∷ rest)
+      → (b || nat_eq f.name again) ≡ true → more ≡ names ++ f.name ∷ []
+      → IsChaining all more (b || nat_eq f.name again) rest
   chaining_keep all names more b f rest h met e = subst (λ (x : Bool). IsChaining all more x rest) (sym met) (record {
     whole = ap (λ xs. xs ++ path rest last) e
         ∙ (append_assoc names (f.name ∷ []) (path rest last)
-        ∙ (ap (λ xs. names ++ xs) (sym (chosen b (nat_eq f.name again) (f.name ∷ path rest last) (from_name again (path rest last)) met))
+        ∙ (ap (λ xs. names ++ xs)
+        (sym (chosen b (nat_eq f.name again) (f.name ∷ path rest last) (from_name again (path rest last)) met))
         ∙ h.whole));
     ahead = refl;
   })
 
-  pub chaining_pass : (all names more : List ℕ) (b : Bool) (f : Frame) (rest : List Frame) → IsChaining all names b (f ∷ rest)
+  pub chaining_pass : (all names more : List ℕ) (b : Bool) (f : Frame) (rest : List Frame)
+      → IsChaining all names b (f ∷ rest)
       → (b || nat_eq f.name again) ≡ false → more ≡ names → IsChaining all more (b || nat_eq f.name again) rest
-  chaining_pass all names more b f rest h unmet e = subst (λ (x : Bool). IsChaining all more x rest) (sym unmet) (record {
-    whole = ap (λ xs. xs ++ from_name again (path rest last)) e
-        ∙ (ap (λ xs. names ++ xs) (sym (passed b (nat_eq f.name again) (f.name ∷ path rest last) (from_name again (path rest last)) unmet))
-        ∙ h.whole);
-    ahead = still_ahead;
-  })
+  chaining_pass all names more b f rest h unmet e =
+      subst (λ (x : Bool). IsChaining all more x rest) (sym unmet) (record {
+        whole = ap (λ xs. xs ++ from_name again (path rest last)) e
+            ∙ (ap (λ xs. names ++ xs)
+            (sym (passed b (nat_eq f.name again) (f.name ∷ path rest last) (from_name again (path rest last)) unmet))
+            ∙ h.whole);
+        ahead = still_ahead;
+      })
     where
       other : nat_eq again f.name ≡ true → ⊥
       other q =
@@ -58,7 +69,8 @@ module _ (again last : ℕ) where
       still_ahead : on (path rest last) again ≡ true
       still_ahead = elim (or_cases b (on (path (f ∷ rest) last) again) h.ahead) [
         | inl q ↦ absurd (let n : b ≡ false = false_left b (nat_eq f.name again) unmet in cc)
-        | inr q ↦ elim (or_cases (nat_eq again f.name) (on (path rest last) again) q) [ inl o ↦ absurd (other o) | inr o ↦ o ]
+        | inr q ↦ elim (or_cases (nat_eq again f.name) (on (path rest last) again) q)
+            [ inl o ↦ absurd (other o) | inr o ↦ o ]
       ]
 
   pub chaining_end : (all names : List ℕ) (b : Bool) → IsChaining all names b [] → names ++ last ∷ [] ≡ all

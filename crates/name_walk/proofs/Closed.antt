@@ -1,5 +1,6 @@
 -- Closed names, and the paths to them.
-use Rattle.std.proofs.Common.{◌≡◌, ◌↔◌, ℕ, zero, suc, ◌+◌, ◌-◌, ◌<◌, ◌≤◌, false, List, [], ◌∷◌, ◌++◌, length, None, refl, sym, ◌∙◌, subst, arith, length-append}
+use Rattle.std.proofs.Common.{◌≡◌, ◌↔◌, ℕ, zero, suc, ◌+◌, ◌-◌, ◌<◌, ◌≤◌, false, List, [], ◌∷◌, ◌++◌, length, None}
+use Rattle.std.proofs.Common.{refl, sym, ◌∙◌, subst, arith, length-append}
 use Rattle.std.proofs.lemmas.Bool.{cond-false, false_from_ne_true}
 use Rattle.name_walk.specs.declared.step.Step.{Step}
 use Rattle.name_walk.specs.declared.step.Step.TheVariants.{Nowhere, To}
@@ -12,10 +13,12 @@ use Rattle.name_walk.specs.Steps.{Graph, InRange, LeadsTo, Reaches, at_once, fur
 use Rattle.name_walk.proofs.Faults.{empty_path, path_length, path_push}
 use Rattle.name_walk.proofs.Lists.{all_at, all_map, all_none, none_from, not_chosen, on-In, on-push_false, or_none}
 
+-- what a reached name reaches is reached
 pub onward : {g : Graph} {n x m : ℕ} → Reaches g n x → Reaches g x m → Reaches g n m
 onward (at_once l) r = further l r
 onward (further l q) r = further l (onward q r)
 
+-- a step that leads into some names leads into more
 pub into_map : (P Q : ℕ → Type 0) → ((n : ℕ) → P n → Q n) → (s : Step) → LeadsInto P s → LeadsInto Q s
 into_map P Q f (Nowhere w) h = h
 into_map P Q f (To n) h = f n h
@@ -29,7 +32,8 @@ module _ (g : Graph) where
   ends_from_none : (k : ℕ) (p : List ℕ) (n : ℕ) → fault_within g k p n ≡ None → EndsWithin g k n
   ends_from_none zero p n e = cc
   ends_from_none (suc k) p n e =
-      all_map (λ s. at_step (fault_within g k) p s ≡ None) (LeadsInto (EndsWithin g k)) (ends_step k p (ends_from_none k)) (steps g n)
+      all_map (λ s. at_step (fault_within g k) p s ≡ None) (LeadsInto (EndsWithin g k))
+      (ends_step k p (ends_from_none k)) (steps g n)
       (all_none (at_step (fault_within g k) p) (steps g n) e)
 
   ends_more : (k n : ℕ) → EndsWithin g k n → EndsWithin g (suc k) n
@@ -63,23 +67,29 @@ module _ (g : Graph) where
   step_below : (j k : ℕ) (p : List ℕ) (n : ℕ) → EndsWithin g (suc j) n → ((m : ℕ) → Reaches g n m → on p m ≡ false)
       → ((m : ℕ) → EndsWithin g j m → LeadsTo g n m → fault_within g k (p ++ m ∷ []) m ≡ None)
       → (s : Step) → In s (steps g n) → at_step (fault_within g k) p s ≡ None
-  step_below j k p n ends clear deeper (Nowhere w) i = absurd (all_at (LeadsInto (EndsWithin g j)) (steps g n) (Nowhere w) ends i)
-  step_below j k p n ends clear deeper (To m) i = cond-false (on p m) _ _ (clear m (at_once i)) ∙ deeper m (ends_next j n m ends i) i
+  step_below j k p n ends clear deeper (Nowhere w) i =
+      absurd (all_at (LeadsInto (EndsWithin g j)) (steps g n) (Nowhere w) ends i)
+  step_below j k p n ends clear deeper (To m) i = cond-false (on p m) _ _ (clear m (at_once i))
+      ∙ deeper m (ends_next j n m ends i) i
 
   module _ (range : InRange g) where
-    none_below : (j k : ℕ) (p : List ℕ) (n : ℕ) → EndsWithin g j n → IsPath g p → ((m : ℕ) → Reaches g n m → on p m ≡ false)
+    none_below : (j k : ℕ) (p : List ℕ) (n : ℕ) → EndsWithin g j n → IsPath g p
+        → ((m : ℕ) → Reaches g n m → on p m ≡ false)
         → length p + k ≡ length g + 1 → fault_within g k p n ≡ None
     none_below zero k p n ends path clear room = absurd ends
-    none_below (suc j) zero p n ends path clear room = absurd (let l : length p ≤ length g = path_length g p path in omega arith)
+    none_below (suc j) zero p n ends path clear room =
+        absurd (let l : length p ≤ length g = path_length g p path in omega arith)
     none_below (suc j) (suc k) p n ends path clear room =
         none_from (at_step (fault_within g k) p) (steps g n)
         (step_below j k p n ends clear (λ m ends' i.
         none_below j k (p ++ m ∷ []) m ends' (path_push g p m path (clear m (at_once i)) (range n m i))
-        (λ q r. on-push_false p m q (clear q (further i r)) (λ e. no_loop j m ends' (subst (λ (x : ℕ). Reaches g m x) e r)))
+        (λ q r. on-push_false p m q (clear q (further i r))
+        (λ e. no_loop j m ends' (subst (λ (x : ℕ). Reaches g m x) e r)))
         (omega (arith, length-append p (m ∷ [])))))
 
     -- closed on one path, closed on every path
-    pub name_closed : (j : ℕ) (p : List ℕ) (n : ℕ) → EndsWithin g j n → n < length g → IsPath g p → ((q : ℕ) → In q p → Reaches g q n)
+    pub name_closed : (j : ℕ) (p : List ℕ) (n : ℕ) → EndsWithin g j n → n < length g → IsPath g p
+        → ((q : ℕ) → In q p → Reaches g q n)
         → at_name (fault_within g (length g - length p)) p n ≡ None
     name_closed j p n ends there path leads =
         let clear : (m : ℕ) → Reaches g n m → on p m ≡ false =
@@ -99,10 +109,12 @@ module _ (g : Graph) where
 
     closed_from_none : (n : ℕ) → n < length g → fault g [] (To n ∷ []) ≡ None → IsClosed g n
     closed_from_none n there e =
-        let none : fault_within g (length g - 0) (n ∷ []) n ≡ None = sym (or_none (fault_within g (length g - 0) (n ∷ []) n)) ∙ e in
+        let none : fault_within g (length g - 0) (n ∷ []) n ≡ None =
+        sym (or_none (fault_within g (length g - 0) (n ∷ []) n)) ∙ e in
         any_depth (length g - 0) n there (ends_from_none (length g - 0) (n ∷ []) n none)
 
-    any_path : (j n : ℕ) → n < length g → EndsWithin g j n → (p : List ℕ) → IsPath g p → ((q : ℕ) → In q p → Reaches g q n)
+    any_path : (j n : ℕ) → n < length g → EndsWithin g j n → (p : List ℕ) → IsPath g p
+        → ((q : ℕ) → In q p → Reaches g q n)
         → fault g p (To n ∷ []) ≡ None
     any_path j n there ends p path leads = or_none _ ∙ name_closed j p n ends there path leads
 
@@ -110,6 +122,7 @@ module _ (g : Graph) where
     faultless n there =
         (λ h. any_path (length g) n there h [] (empty_path g) (λ q i. absurd i), λ e. closed_from_none n there e)
 
+-- the law of closed names
 pub closed_law_holds : ClosedLaw
 closed_law_holds = record {
   faultless = faultless;

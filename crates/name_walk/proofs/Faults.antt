@@ -1,5 +1,6 @@
 -- Paths, and the fault behind them.
-use Rattle.std.proofs.Common.{◌≡◌, ℕ, zero, suc, ◌+◌, ◌-◌, ◌<◌, ◌≤◌, false, List, [], ◌∷◌, ◌++◌, length, Option, Some, refl, sym, ◌∙◌, ap, subst, inl, inr, arith, length-append}
+use Rattle.std.proofs.Common.{◌≡◌, ℕ, zero, suc, ◌+◌, ◌-◌, ◌<◌, ◌≤◌, false, List, [], ◌∷◌, ◌++◌, length, Option, Some}
+use Rattle.std.proofs.Common.{refl, sym, ◌∙◌, ap, subst, inl, inr, arith, length-append}
 use Rattle.std.proofs.lemmas.Bool.{cond-true, cond-false, cases_Bool}
 use Rattle.std.proofs.lemmas.Cmp.{nat_eq_equiv}
 use Rattle.std.proofs.lemmas.Map.Keys.{IsDistinct-push}
@@ -13,12 +14,15 @@ use Rattle.name_walk.specs.Lists.{In, first}
 use Rattle.name_walk.specs.Steps.{AreKnown, Graph, InRange, steps}
 use Rattle.name_walk.proofs.Lists.{In-on, In-push, first_same, nothing_twice, on-In}
 
+-- a path has no more names than the graph
 pub path_length : (g : Graph) (p : List ℕ) → IsPath g p → length p ≤ length g
 path_length g p h = length-le_from_distinct_below p (length g) h.once h.there
 
+-- the empty path is one
 pub empty_path : (g : Graph) → IsPath g []
 empty_path g = record { once = nothing_twice; there = λ q e. cc }
 
+-- so is a path with one more name that is not on it
 pub path_push : (g : Graph) (p : List ℕ) (n : ℕ) → IsPath g p → on p n ≡ false → n < length g → IsPath g (p ++ n ∷ [])
 path_push g p n h new there = record {
   once = IsDistinct-push nat_eq_equiv p n h.once new;
@@ -40,12 +44,14 @@ pub deeper_is : (g : Graph) (p : List ℕ) (n : ℕ) → IsPath g p → on p n �
     → fault_within g (length g - length p) (p ++ n ∷ []) n ≡ fault g (p ++ n ∷ []) (steps g n)
 deeper_is g p n path new there = ap (λ k. fault_within g k (p ++ n ∷ []) n) (room_left g p n path new there)
 
+-- the fault at a name is that of its steps behind the path with it
 pub name_is : (g : Graph) (p : List ℕ) (n : ℕ) → IsPath g p → on p n ≡ false → n < length g
     → at_name (fault_within g (length g - length p)) p n ≡ fault g (p ++ n ∷ []) (steps g n)
 name_is g p n path new there = cond-false (on p n) _ _ new ∙ deeper_is g p n path new there
 
 -- two faults of a name are the same where what stands deeper is the same
-same_name : (f h : List ℕ → ℕ → Option NameFault) (p : List ℕ) (n : ℕ) → (on p n ≡ false → f (p ++ n ∷ []) n ≡ h (p ++ n ∷ []) n)
+same_name : (f h : List ℕ → ℕ → Option NameFault) (p : List ℕ) (n : ℕ)
+    → (on p n ≡ false → f (p ++ n ∷ []) n ≡ h (p ++ n ∷ []) n)
     → at_name f p n ≡ at_name h p n
 same_name f h p n same =
     elim (cases_Bool (on p n)) [
@@ -71,8 +77,10 @@ module _ (g : Graph) (range : InRange g) where
       (λ n new there. deeper_is g p n path new there)
 
   one_by_room : (f : List ℕ → List Step → Option NameFault) → IsFault g f
-      → (k : ℕ) (p : List ℕ) (xs : List Step) → IsPath g p → AreKnown g xs → length p + k ≡ length g + 1 → f p xs ≡ fault g p xs
-  one_by_room f is zero p xs path known room = absurd (let l : length p ≤ length g = path_length g p path in omega arith)
+      → (k : ℕ) (p : List ℕ) (xs : List Step) → IsPath g p → AreKnown g xs → length p + k ≡ length g + 1
+      → f p xs ≡ fault g p xs
+  one_by_room f is zero p xs path known room =
+      absurd (let l : length p ≤ length g = path_length g p path in omega arith)
   one_by_room f is (suc k) p xs path known room =
       is p xs path known
       ∙ (same_steps (λ longer n. f longer (steps g n)) (λ longer n. fault g longer (steps g n)) p xs known
@@ -87,8 +95,10 @@ module _ (g : Graph) (range : InRange g) where
       let room : length p + (length g + 1 - length p) ≡ length g + 1 = omega arith in
       one_by_room f is (length g + 1 - length p) p xs path known room
 
+-- the law of paths
 pub path_law_holds : PathLaw
 path_law_holds = record { empty = empty_path; longer = path_push; short = path_length }
 
+-- the law of the first fault
 pub fault_law_holds : FaultLaw
 fault_law_holds = record { is = fault_is; one = one_is }

@@ -1,5 +1,6 @@
 -- A visit on its way, and what each of its moves keeps.
-use Rattle.std.proofs.Common.{◌≡◌, ◌⊎◌, ℕ, suc, ◌+◌, ◌-◌, ◌^◌, ◌<◌, ◌≤◌, Bool, true, false, List, [], ◌∷◌, ◌++◌, length, take, drop, set, Some, None, refl, sym, ◌∙◌, ap, subst, inl, inr, arith, nat_eq}
+use Rattle.std.proofs.Common.{◌≡◌, ◌⊎◌, ℕ, suc, ◌+◌, ◌-◌, ◌^◌, ◌<◌, ◌≤◌, Bool, true, false, List, [], ◌∷◌, ◌++◌, length}
+use Rattle.std.proofs.Common.{take, drop, set, Some, None, refl, sym, ◌∙◌, ap, subst, inl, inr, arith, nat_eq}
 use Rattle.std.specs.List.{AllByRecursion, IsDistinct, slice_get}
 use Rattle.std.proofs.lemmas.Bool.{cond-true, false_from_ne_true}
 use Rattle.std.proofs.lemmas.List.{take_all, drop_all}
@@ -19,8 +20,10 @@ use Rattle.name_walk.specs.Traces.{Trace, path}
 use Rattle.name_walk.specs.Visits.{AreOrdering, IsBelow, IsFaultless}
 use Rattle.name_walk.proofs.Closed.{any_depth, into_map, name_closed, onward}
 use Rattle.name_walk.proofs.Faults.{empty_path, name_is, path_push}
-use Rattle.name_walk.proofs.Links.{AreDone, AreLinked, are_done_more, head, head_more, frame, last_path, linked_more, linked_pop, linked_push, linked_reach, name_In, path_more}
-use Rattle.name_walk.proofs.Lists.{In-last, In-left, In-on, all_append, all_at, all_front, all_map, distinct_front, distinct_last, get_In, on-In, or_none, take_at}
+use Rattle.name_walk.proofs.Links.{AreDone, AreLinked, are_done_more, head, head_more, frame, last_path, linked_more}
+use Rattle.name_walk.proofs.Links.{linked_pop, linked_push, linked_reach, name_In, path_more}
+use Rattle.name_walk.proofs.Lists.{In-last, In-left, In-on, all_append, all_at, all_front, all_map, distinct_front}
+use Rattle.name_walk.proofs.Lists.{distinct_last, get_In, on-In, or_none, take_at}
 use Rattle.name_walk.proofs.Marks.{AreMarked, marked_pop, marked_push, other_mark}
 use Rattle.name_walk.proofs.Ordering.{either_new, ordering_close, ordering_enter}
 use Rattle.name_walk.proofs.Pending.{enter_pending, fault_pending, leave_pending, pass_pending, pending}
@@ -31,7 +34,8 @@ abbrev pub HaveRoom : List Frame → Type 0
 HaveRoom fs = AllByRecursion (λ (f : Frame). f.place + 1 < 2 ^ 64) fs
 
 -- the frames, and the place of the name that is being gone through
-pub record IsOnWay (g : Graph) (s : List Bool) (start : ℕ) (ms : List Mark) (os : List ℕ) (fs : List Frame) (name place : ℕ) : Type 0 where
+pub record IsOnWay (g : Graph) (s : List Bool) (start : ℕ) (ms : List Mark) (os : List ℕ) (fs : List Frame)
+    (name place : ℕ) : Type 0 where
   pub answer : pending g [] fs name place ≡ fault g [] (To start ∷ [])
   pub is_path : IsPath g (path fs name)
   pub begins : head fs name ≡ start
@@ -52,7 +56,8 @@ pub record IsGoing (g : Graph) (s : List Bool) (start : ℕ) (before : List ℕ)
 
 module _ (g : Graph) (s : List Bool) (net : IsNet g s) (start : ℕ) (before : List ℕ) where
   -- ---- the start
-  pub begin : (ms : List Mark) (es : List ℕ) → AreOrdering g s ms es before → ((n : ℕ) → slice_get ms n ≡ Some OnPath → ⊥)
+  pub begin : (ms : List Mark) (es : List ℕ) → AreOrdering g s ms es before
+      → ((n : ℕ) → slice_get ms n ≡ Some OnPath → ⊥)
       → slice_get s start ≡ Some false → slice_get ms start ≡ Some Open
       → IsGoing g s start before (set ms start OnPath) (es ++ start ∷ []) before [] start 0
   begin ms es h off unsettled is_open =
@@ -78,7 +83,8 @@ module _ (g : Graph) (s : List Bool) (net : IsNet g s) (start : ℕ) (before : L
         kept = λ n i. i;
       }
 
-  module _ (ms : List Mark) (es os : List ℕ) (fs : List Frame) (name place : ℕ) (go : IsGoing g s start before ms es os fs name place) where
+  module _ (ms : List Mark) (es os : List ℕ) (fs : List Frame) (name place : ℕ)
+      (go : IsGoing g s start before ms es os fs name place) where
     pub name_there : name < length g
     name_there = go.way.is_path.there name (In-on (path fs name) name (name_In fs name))
 
@@ -128,21 +134,25 @@ module _ (g : Graph) (s : List Bool) (net : IsNet g s) (start : ℕ) (before : L
         }
 
     -- ---- an open name is gone into
-    pub enter : (m : ℕ) → slice_get (steps g name) place ≡ Some (To m) → slice_get ms m ≡ Some Open → slice_get s m ≡ Some false
+    pub enter : (m : ℕ) → slice_get (steps g name) place ≡ Some (To m) → slice_get ms m ≡ Some Open
+        → slice_get s m ≡ Some false
         → place + 1 < 2 ^ 64
         → IsGoing g s start before (set ms m OnPath) (es ++ m ∷ []) os (fs ++ frame name place ∷ []) m 0
     enter m e is_open unsettled fits =
         let leads : LeadsTo g name m = get_In _ _ _ e in
         let there : m < length g = net.range name m leads in
         let here : m < length ms = slice_get_within ms m Open is_open in
-        let apart : In m (path fs name) → ⊥ = other_mark OnPath Open ms (path fs name) go.way.on_path (λ q. cc) m is_open in
+        let apart : In m (path fs name)
+        → ⊥ = other_mark OnPath Open ms (path fs name) go.way.on_path (λ q. cc) m is_open in
         let new : on (path fs name) m ≡ false = false_from_ne_true _ (λ f. apart (on-In (path fs name) m f)) in
         let p : path (fs ++ frame name place ∷ []) m ≡ path fs name ++ m ∷ [] = path_more fs (frame name place) m in
         record {
           way = record {
-            answer = sym (enter_pending g [] (path fs name) fs name place m refl e (name_is g (path fs name) m go.way.is_path new there))
+            answer = sym (enter_pending g [] (path fs name) fs name place m refl e
+                (name_is g (path fs name) m go.way.is_path new there))
                 ∙ go.way.answer;
-            is_path = subst (λ (q : List ℕ). IsPath g q) (sym p) (path_push g (path fs name) m go.way.is_path new there);
+            is_path = subst (λ (q : List ℕ). IsPath g q) (sym p)
+                (path_push g (path fs name) m go.way.is_path new there);
             begins = head_more fs (frame name place) m ∙ go.way.begins;
             linked = linked_push g s os fs (frame name place) m go.way.linked e go.way.passed;
             passed = tt;
@@ -159,7 +169,8 @@ module _ (g : Graph) (s : List Bool) (net : IsNet g s) (start : ℕ) (before : L
         }
 
     -- ---- a fault is met
-    pub dead_end : (w : ℕ) → slice_get (steps g name) place ≡ Some (Nowhere w) → fault g [] (To start ∷ []) ≡ Some (DeadEnd w (Some name))
+    pub dead_end : (w : ℕ) → slice_get (steps g name) place ≡ Some (Nowhere w)
+        → fault g [] (To start ∷ []) ≡ Some (DeadEnd w (Some name))
     dead_end w e =
         sym go.way.answer
         ∙ fault_pending g [] (path fs name) fs name place (Nowhere w) (DeadEnd w (Some name)) refl e
@@ -184,11 +195,13 @@ module _ (g : Graph) (s : List Bool) (net : IsNet g s) (start : ℕ) (before : L
       name_closes =
           any_depth g net.range (suc (length g)) name name_there
           (all_map (LeadsInto (IsDone s os)) (LeadsInto (IsClosed g))
-          (into_map (IsDone s os) (IsClosed g) (done_closed g s net.settled os go.ordering.closed)) (steps g name) all_done)
+          (into_map (IsDone s os) (IsClosed g) (done_closed g s net.settled os go.ordering.closed))
+          (steps g name) all_done)
 
       pub ordering_after : AreOrdering g s (set ms name Closed) es (os ++ name ∷ [])
       ordering_after =
-          ordering_close g s ms es os name go.ordering name_marked name_closes (go.way.fresh_path name (name_In fs name))
+          ordering_close g s ms es os name go.ordering name_marked name_closes
+          (go.way.fresh_path name (name_In fs name))
           (λ m l. all_at (LeadsInto (IsDone s os)) (steps g name) (To m) all_done l)
 
       from_after : (n : ℕ) → In n (os ++ name ∷ []) → In n before ⊎ IsBelow g start n
@@ -207,22 +220,26 @@ module _ (g : Graph) (s : List Bool) (net : IsNet g s) (start : ℕ) (before : L
   leave ms es os fs f name place go full =
       let pop = linked_pop g s os fs f name go.way.linked in
       let p : path (fs ++ f ∷ []) name ≡ path fs f.name ++ name ∷ [] = path_more fs f name in
-      let once : IsDistinct nat_eq (path fs f.name ++ name ∷ []) = subst (λ (q : List ℕ). IsDistinct nat_eq q) p go.way.is_path.once in
+      let once : IsDistinct nat_eq (path fs f.name ++ name ∷ []) =
+      subst (λ (q : List ℕ). IsDistinct nat_eq q) p go.way.is_path.once in
       let apart : In name (path fs f.name) → ⊥ = distinct_last (path fs f.name) name once in
-      let here : name < length ms = slice_get_within ms name OnPath (name_marked ms es os (fs ++ f ∷ []) name place go) in
+      let here : name < length ms =
+      slice_get_within ms name OnPath (name_marked ms es os (fs ++ f ∷ []) name place go) in
       let short : f.place < length (steps g f.name) = slice_get_within _ _ _ pop.1 in
       let up : (n : ℕ) → In n (path fs f.name) → In n (path (fs ++ f ∷ []) name) =
       λ n i. subst (λ (q : List ℕ). In n q) (sym p) (In-left (path fs f.name) (name ∷ []) n i) in
       record {
         way = record {
-          answer = sym (leave_pending g [] fs f name place (nothing_left ms es os (fs ++ f ∷ []) name place go full)) ∙ go.way.answer;
+          answer = sym (leave_pending g [] fs f name place (nothing_left ms es os (fs ++ f ∷ []) name place go full))
+              ∙ go.way.answer;
           is_path = record {
             once = distinct_front (path fs f.name) (name ∷ []) once;
             there = λ q e. go.way.is_path.there q (In-on _ q (up q (on-In _ q e)));
           };
           begins = sym (head_more fs f name) ∙ go.way.begins;
           linked = linked_more g s os name fs f.name pop.0;
-          passed = subst (λ (xs : List Step). AreDone s (os ++ name ∷ []) xs) (sym (take_at (steps g f.name) f.place (To name) pop.1))
+          passed = subst (λ (xs : List Step). AreDone s (os ++ name ∷ []) xs)
+              (sym (take_at (steps g f.name) f.place (To name) pop.1))
               (all_append (LeadsInto (IsDone s (os ++ name ∷ []))) (take f.place (steps g f.name)) (To name ∷ [])
               (are_done_more s os name _ pop.2) (inr (In-last os name), tt));
           within = omega arith;
@@ -239,10 +256,12 @@ module _ (g : Graph) (s : List Bool) (net : IsNet g s) (start : ℕ) (before : L
   -- ---- the first name is left
   pub finish : (ms : List Mark) (es os : List ℕ) (name place : ℕ) (old : Trace) → old.order ≡ before
       → IsGoing g s start before ms es os [] name place → length (steps g name) ≤ place
-      → IsFaultless g s start old (record { marks = set ms name Closed; entered = es; order = os ++ name ∷ []; frames = [] })
+      → IsFaultless g s start old
+      (record { marks = set ms name Closed; entered = es; order = os ++ name ∷ []; frames = [] })
   finish ms es os name place old same go full =
       let here : name < length ms = slice_get_within ms name OnPath (name_marked ms es os [] name place go) in
-      let off : AreMarked OnPath (set ms name Closed) [] = marked_pop ms name here OnPath Closed [] go.way.on_path (λ q. cc) (λ i. i) in
+      let off : AreMarked OnPath (set ms name Closed) [] =
+      marked_pop ms name here OnPath Closed [] go.way.on_path (λ q. cc) (λ i. i) in
       record {
         none = sym go.way.answer ∙ ap (λ xs. fault g (name ∷ []) xs) (nothing_left ms es os [] name place go full);
         between = record {

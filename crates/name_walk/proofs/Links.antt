@@ -17,17 +17,21 @@ abbrev pub head : List Frame → ℕ → ℕ
 head [] name = name
 head (f ∷ fs) name = f.name
 
+-- a name, and how many of its steps are done
 abbrev pub frame : ℕ → ℕ → Frame
 frame name place = record { name = name; place = place }
 
+-- one more frame makes the path one name longer
 pub path_more : (fs : List Frame) (f : Frame) (m : ℕ) → path (fs ++ f ∷ []) m ≡ path fs f.name ++ m ∷ []
 path_more [] f m = refl
 path_more (h ∷ fs) f m = ap (λ xs. h.name ∷ xs) (path_more fs f m)
 
+-- and leaves its first name
 pub head_more : (fs : List Frame) (f : Frame) (m : ℕ) → head (fs ++ f ∷ []) m ≡ head fs f.name
 head_more [] f m = refl
 head_more (h ∷ fs) f m = refl
 
+-- the last name of a path is the present one
 pub last_path : (p : List ℕ) (fs : List Frame) (name : ℕ) → last (p ++ path fs name) ≡ Some name
 last_path [] [] name = refl
 last_path [] (f ∷ []) name = refl
@@ -36,10 +40,12 @@ last_path (k ∷ []) [] name = refl
 last_path (k ∷ []) (f ∷ fs) name = last_path [] (f ∷ fs) name
 last_path (k ∷ l ∷ p) fs name = last_path (l ∷ p) fs name
 
+-- the first name is on the path
 head_In : (fs : List Frame) (name : ℕ) → In (head fs name) (path fs name)
 head_In [] name = inl refl
 head_In (f ∷ fs) name = inl refl
 
+-- so is the present one
 pub name_In : (fs : List Frame) (name : ℕ) → In name (path fs name)
 name_In [] name = inl refl
 name_In (f ∷ fs) name = inr (name_In fs name)
@@ -48,7 +54,9 @@ name_In (f ∷ fs) name = inr (name_In fs name)
 abbrev pub AreDone : List Bool → List ℕ → List Step → Type 0
 AreDone s order xs = AllByRecursion (LeadsInto (IsDone s order)) xs
 
-pub are_done_more : (s : List Bool) (order : List ℕ) (n : ℕ) (xs : List Step) → AreDone s order xs → AreDone s (order ++ n ∷ []) xs
+-- steps that are done stay done behind one more name
+pub are_done_more : (s : List Bool) (order : List ℕ) (n : ℕ) (xs : List Step) → AreDone s order xs
+    → AreDone s (order ++ n ∷ []) xs
 are_done_more s order n xs h =
     all_map (LeadsInto (IsDone s order)) (LeadsInto (IsDone s (order ++ n ∷ [])))
     (into_map (IsDone s order) (IsDone s (order ++ n ∷ [])) (done_more s order n)) xs h
@@ -64,15 +72,19 @@ module _ (g : Graph) (s : List Bool) where
       → slice_get (steps g f.name) f.place ≡ Some (To m) → AreDone s order (take f.place (steps g f.name))
       → AreLinked order (fs ++ f ∷ []) m
   linked_push order [] f m l e h = (e, h, tt)
-  linked_push order (h ∷ fs) f m l e d = (l.0 ∙ ap (λ k. Some (To k)) (sym (head_more fs f m)), l.1, linked_push order fs f m l.2 e d)
+  linked_push order (h ∷ fs) f m l e d =
+      (l.0 ∙ ap (λ k. Some (To k)) (sym (head_more fs f m)), l.1, linked_push order fs f m l.2 e d)
 
   pub linked_pop : (order : List ℕ) (fs : List Frame) (f : Frame) (name : ℕ) → AreLinked order (fs ++ f ∷ []) name
-      → AreLinked order fs f.name × (slice_get (steps g f.name) f.place ≡ Some (To name)) × AreDone s order (take f.place (steps g f.name))
+      → AreLinked order fs f.name × (slice_get (steps g f.name) f.place ≡ Some (To name))
+      × AreDone s order (take f.place (steps g f.name))
   linked_pop order [] f name l = (tt, l.0, l.1)
   linked_pop order (h ∷ fs) f name l =
-      let r = linked_pop order fs f name l.2 in ((l.0 ∙ ap (λ k. Some (To k)) (head_more fs f name), l.1, r.0), r.1, r.2)
+      let r = linked_pop order fs f name l.2
+      in ((l.0 ∙ ap (λ k. Some (To k)) (head_more fs f name), l.1, r.0), r.1, r.2)
 
-  pub linked_more : (order : List ℕ) (n : ℕ) (fs : List Frame) (name : ℕ) → AreLinked order fs name → AreLinked (order ++ n ∷ []) fs name
+  pub linked_more : (order : List ℕ) (n : ℕ) (fs : List Frame) (name : ℕ) → AreLinked order fs name
+      → AreLinked (order ++ n ∷ []) fs name
   linked_more order n [] name l = tt
   linked_more order n (f ∷ fs) name l = (l.0, are_done_more s order n _ l.1, linked_more order n fs name l.2)
 

@@ -1,5 +1,6 @@
 -- Marks, and the names that have one.
-use Rattle.std.proofs.Common.{◌≡◌, ◌⊎◌, ◌↔◌, ℕ, zero, suc, ◌<◌, List, [], ◌∷◌, ◌++◌, length, set, Some, refl, sym, ◌∙◌, ap, subst, inl, inr, arith, length-set}
+use Rattle.std.proofs.Common.{◌≡◌, ◌⊎◌, ◌↔◌, ℕ, zero, suc, ◌<◌, List, [], ◌∷◌, ◌++◌, length, set, Some, refl, sym, ◌∙◌}
+use Rattle.std.proofs.Common.{ap, subst, inl, inr, arith, length-set}
 use Rattle.std.specs.List.{slice_get}
 use Rattle.std.proofs.lemmas.Bool.{cases_eq}
 use Rattle.std.proofs.lemmas.Option.{slice_get_within}
@@ -9,12 +10,15 @@ use Rattle.name_walk.specs.Lists.{In}
 use Rattle.name_walk.specs.Traces.{AreEntered}
 use Rattle.name_walk.proofs.Lists.{In-last, In-left, In-push}
 
+-- what is put at a place stands there
 pub get_set_same : {A : Type 0} (xs : List A) (i : ℕ) (v : A) → i < length xs → slice_get (set xs i v) i ≡ Some v
 get_set_same [] i v h = absurd (omega arith)
 get_set_same (x ∷ xs) zero v h = refl
 get_set_same (x ∷ xs) (suc i) v h = get_set_same xs i v (omega arith)
 
-pub get_set_other : {A : Type 0} (xs : List A) (i j : ℕ) (v : A) → (j ≡ i → ⊥) → slice_get (set xs i v) j ≡ slice_get xs j
+-- and all other places stay
+pub get_set_other : {A : Type 0} (xs : List A) (i j : ℕ) (v : A) → (j ≡ i → ⊥)
+    → slice_get (set xs i v) j ≡ slice_get xs j
 get_set_other [] i j v h = refl
 get_set_other (x ∷ xs) zero zero v h = absurd (h refl)
 get_set_other (x ∷ xs) zero (suc j) v h = refl
@@ -46,11 +50,16 @@ module _ (ms : List Mark) (n : ℕ) (there : n < length ms) where
       ]
 
   -- a name without the mark gets another one
-  pub marked_same : (v w : Mark) (xs : List ℕ) → AreMarked v ms xs → (Some w ≡ Some v → ⊥) → (In n xs → ⊥) → AreMarked v (set ms n w) xs
+  pub marked_same : (v w : Mark) (xs : List ℕ) → AreMarked v ms xs → (Some w ≡ Some v → ⊥) → (In n xs → ⊥)
+      → AreMarked v (set ms n w) xs
   marked_same v w xs marked differ apart k =
       elim (cases_eq k n) [
         | inl e ↦ (λ h. absurd (differ (sym (now_at w k e) ∙ h)), λ i. absurd (apart (subst (λ (x : ℕ). In x xs) e i)))
-        | inr ne ↦ (λ h. (marked k).0 (sym (get_set_other ms n k w ne) ∙ h), λ i. get_set_other ms n k w ne ∙ (marked k).1 i)
+        | inr ne ↦ (
+          λ h. (marked k).0 (sym (get_set_other ms n k w ne) ∙ h),
+          λ i. get_set_other ms n k w ne
+              ∙ (marked k).1 i,
+        )
       ]
 
   -- the last name with the mark gets another one
@@ -60,7 +69,8 @@ module _ (ms : List Mark) (n : ℕ) (there : n < length ms) where
       elim (cases_eq k n) [
         | inl e ↦ (λ h. absurd (differ (sym (now_at w k e) ∙ h)), λ i. absurd (apart (subst (λ (x : ℕ). In x xs) e i)))
         | inr ne ↦ (
-          λ h. elim (In-push xs n k ((marked k).0 (sym (get_set_other ms n k w ne) ∙ h))) [ inl j ↦ j | inr e ↦ absurd (ne e) ],
+          λ h. elim (In-push xs n k ((marked k).0 (sym (get_set_other ms n k w ne) ∙ h)))
+              [ inl j ↦ j | inr e ↦ absurd (ne e) ],
           λ i. get_set_other ms n k w ne ∙ (marked k).1 (In-left xs (n ∷ []) k i),
         )
       ]
@@ -78,7 +88,8 @@ module _ (ms : List Mark) (n : ℕ) (there : n < length ms) where
 
   pub entered_push : (v : Mark) (names : List ℕ) → AreEntered ms names → AreEntered (set ms n v) (names ++ n ∷ [])
   entered_push v names h = entered_again v (names ++ n ∷ []) (In-last names n) (record {
-    within = λ k i. elim (In-push names n k i) [ inl j ↦ h.within k j | inr e ↦ subst (λ (x : ℕ). x < length ms) (sym e) there ];
+    within = λ k i. elim (In-push names n k i)
+        [ inl j ↦ h.within k j | inr e ↦ subst (λ (x : ℕ). x < length ms) (sym e) there ];
     among = λ k l. elim (h.among k l) [ inl e ↦ inl e | inr i ↦ inr (In-left names (n ∷ []) k i) ];
   })
 
@@ -98,4 +109,5 @@ module _ (ms : List Mark) (n : ℕ) (there : n < length ms) where
 -- a name with another mark than open is one of them
 pub entered_in : (v : Mark) → (Some v ≡ Some Open → ⊥) → (ms : List Mark) (names : List ℕ) (n : ℕ) → AreEntered ms names
     → slice_get ms n ≡ Some v → In n names
-entered_in v differ ms names n h e = elim (h.among n (slice_get_within ms n v e)) [ inl o ↦ absurd (differ (sym e ∙ o)) | inr i ↦ i ]
+entered_in v differ ms names n h e =
+    elim (h.among n (slice_get_within ms n v e)) [ inl o ↦ absurd (differ (sym e ∙ o)) | inr i ↦ i ]

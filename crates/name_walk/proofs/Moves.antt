@@ -1,5 +1,6 @@
 -- The moves of a visit, as they change what the walk leaves behind.
-use Rattle.std.proofs.Common.{◌≡◌, ℕ, ◌+◌, ◌^◌, ◌<◌, ◌≤◌, Bool, true, List, [], ◌∷◌, ◌++◌, length, set, Some, sym, ◌∙◌, ap, subst, inl, inr}
+use Rattle.std.proofs.Common.{◌≡◌, ℕ, ◌+◌, ◌^◌, ◌<◌, ◌≤◌, Bool, true, List, [], ◌∷◌, ◌++◌, length, set, Some, sym, ◌∙◌}
+use Rattle.std.proofs.Common.{ap, subst, inl, inr}
 use Rattle.std.specs.List.{slice_get}
 use Rattle.std.proofs.lemmas.Option.{slice_get_within}
 use Rattle.name_walk.specs.declared.mark.Mark.TheVariants.{Closed, OnPath, Open}
@@ -10,14 +11,17 @@ use Rattle.name_walk.specs.Nets.{IsNet}
 use Rattle.name_walk.specs.Steps.{Graph, steps}
 use Rattle.name_walk.specs.Traces.{AreEntered, Trace, path, with_closed, with_entered, with_frame}
 use Rattle.name_walk.specs.Visits.{IsBetween, IsFaultless, IsFound}
-use Rattle.name_walk.proofs.Going.{HaveRoom, IsGoing, begin, cycle, dead_end, enter, finish, is_on, leave, name_marked, name_there, ordering_after, pass}
+use Rattle.name_walk.proofs.Going.{HaveRoom, IsGoing, begin, cycle, dead_end, enter, finish, is_on, leave, name_marked}
+use Rattle.name_walk.proofs.Going.{name_there, ordering_after, pass}
 use Rattle.name_walk.proofs.Links.{frame}
 use Rattle.name_walk.proofs.Lists.{get_In}
 use Rattle.name_walk.proofs.Weights.{enter_less, leave_less, weight}
 
+-- a walk stands at a step of a name
 abbrev pub IsGoingAt : Graph → List Bool → ℕ → List ℕ → Trace → ℕ → ℕ → Type 0
 IsGoingAt g s start before t name place = IsGoing g s start before t.marks t.entered t.order t.frames name place
 
+-- how much is left of it
 abbrev pub weight_at : Graph → Trace → ℕ → ℕ → ℕ
 weight_at g t name place = weight g t.marks t.frames name place
 
@@ -41,7 +45,8 @@ module _ {g : Graph} {s : List Bool} (net : IsNet g s) {start : ℕ} where
     )
 
     -- a name to which a step leads is there
-    pub next_at : (m : ℕ) → slice_get (steps g name) place ≡ Some (To m) → (m < length g) × (m < length s) × (m < length t.marks)
+    pub next_at : (m : ℕ) → slice_get (steps g name) place ≡ Some (To m)
+        → (m < length g) × (m < length s) × (m < length t.marks)
     next_at m e =
         let there : m < length g = net.range name m (get_In _ _ _ e) in (
           there,
@@ -53,7 +58,8 @@ module _ {g : Graph} {s : List Bool} (net : IsNet g s) {start : ℕ} where
         → fault g [] (To start ∷ []) ≡ Some (DeadEnd w (Some name))
     dead_end_at w e = dead_end g s net start before t.marks t.entered t.order t.frames name place go w e
 
-    pub is_on_at : (m : ℕ) (fs : List Frame) → slice_get t.marks m ≡ Some OnPath → fs ≡ t.frames → on (path fs name) m ≡ true
+    pub is_on_at : (m : ℕ) (fs : List Frame) → slice_get t.marks m ≡ Some OnPath → fs ≡ t.frames
+        → on (path fs name) m ≡ true
     is_on_at m fs found e =
         subst (λ (hs : List Frame). on (path hs name) m ≡ true) (sym e)
         (is_on g s net start before t.marks t.entered t.order t.frames name place go m found)
@@ -63,7 +69,8 @@ module _ {g : Graph} {s : List Bool} (net : IsNet g s) {start : ℕ} where
         → fault g [] (To start ∷ []) ≡ Some (Cycle names)
     cycle_at m fs names e found same chain =
         cycle g s net start before t.marks t.entered t.order t.frames name place go m e found
-        ∙ ap (λ xs. Some (Cycle xs)) (ap (λ (hs : List Frame). from_name m (path hs name) ++ m ∷ []) (sym same) ∙ sym chain)
+        ∙ ap (λ xs. Some (Cycle xs))
+        (ap (λ (hs : List Frame). from_name m (path hs name) ++ m ∷ []) (sym same) ∙ sym chain)
 
     pub pass_at : (m : ℕ) → slice_get (steps g name) place ≡ Some (To m) → IsFound s t.marks m Closed
         → IsGoingAt g s start before t name (place + 1)
@@ -71,11 +78,13 @@ module _ {g : Graph} {s : List Bool} (net : IsNet g s) {start : ℕ} where
         pass g s net start before t.marks t.entered t.order t.frames name place go m e
         (elim found [ inl d ↦ inl d | inr d ↦ inr ((go.ordering.marked m).0 d) ])
 
-    pub enter_at : (m : ℕ) (pushed new : Trace) → slice_get (steps g name) place ≡ Some (To m) → IsFound s t.marks m Open
+    pub enter_at : (m : ℕ) (pushed new : Trace) → slice_get (steps g name) place ≡ Some (To m)
+        → IsFound s t.marks m Open
         → place + 1 < 2 ^ 64 → pushed ≡ with_frame t (frame name place) → new ≡ with_entered pushed m
         → IsGoingAt g s start before new m 0 × (weight_at g new m 0 < weight_at g t name place)
     enter_at m pushed new e found fits push entering =
-        let is : new ≡ with_entered (with_frame t (frame name place)) m = entering ∙ ap (λ (x : Trace). with_entered x m) push in (
+        let is : new ≡ with_entered (with_frame t (frame name place)) m =
+        entering ∙ ap (λ (x : Trace). with_entered x m) push in (
           subst (λ (x : Trace). IsGoingAt g s start before x m 0) (sym is)
               (enter g s net start before t.marks t.entered t.order t.frames name place go m e found.1 found.0 fits),
           subst (λ (x : Trace). weight_at g x m 0 < weight_at g t name place) (sym is)
@@ -88,13 +97,16 @@ module _ {g : Graph} {s : List Bool} (net : IsNet g s) {start : ℕ} where
           subst (λ (x : Trace). AreEntered x.marks x.entered) (sym (same ∙ close))
           (ordering_after g s net start before t.marks t.entered t.order t.frames name place go full).entered
 
-      pub finish_at : (old new : Trace) → old.order ≡ before → new ≡ closed → closed.frames ≡ [] → IsFaultless g s start old new
+      pub finish_at : (old new : Trace) → old.order ≡ before → new ≡ closed → closed.frames ≡ []
+          → IsFaultless g s start old new
       finish_at old new same popped none =
           let top : t.frames ≡ [] = sym (ap (λ (x : Trace). x.frames) close) ∙ none in
           let going : List Frame → Type 0 = λ fs. IsGoing g s start before t.marks t.entered t.order fs name place in
-          let ended : List Frame → Type 0 = λ fs. IsFaultless g s start old (record (with_closed t name) { frames = fs }) in
+          let ended : List Frame
+          → Type 0 = λ fs. IsFaultless g s start old (record (with_closed t name) { frames = fs }) in
           subst (λ (x : Trace). IsFaultless g s start old x) (sym (popped ∙ close))
-          (subst ended (sym top) (finish g s net start before t.marks t.entered t.order name place old same (subst going top go) full))
+          (subst ended (sym top)
+          (finish g s net start before t.marks t.entered t.order name place old same (subst going top go) full))
 
       module _ (f : Frame) (new : Trace) (pop : closed ≡ with_frame new f) where
         frames_are : t.frames ≡ new.frames ++ f ∷ []
@@ -107,7 +119,8 @@ module _ {g : Graph} {s : List Bool} (net : IsNet g s) {start : ℕ} where
         leave_at =
             let going : List Frame → Type 0 = λ fs. IsGoing g s start before t.marks t.entered t.order fs name place in
             subst (λ (x : Trace). IsGoingAt g s start before x f.name (f.place + 1)) new_is
-            (leave g s net start before t.marks t.entered t.order new.frames f name place (subst going frames_are go) full)
+            (leave g s net start before t.marks t.entered t.order new.frames f name place
+            (subst going frames_are go) full)
 
         pub leave_less_at : weight_at g new f.name (f.place + 1) < weight_at g t name place
         leave_less_at =

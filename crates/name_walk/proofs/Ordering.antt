@@ -1,5 +1,6 @@
 -- The names that a walk has closed.
-use Rattle.std.proofs.Common.{◌≡◌, ℕ, ◌<◌, Bool, List, [], ◌∷◌, ◌++◌, length, set, Some, sym, ◌∙◌, subst, inl, inr, length-set}
+use Rattle.std.proofs.Common.{◌≡◌, ℕ, ◌<◌, Bool, List, [], ◌∷◌, ◌++◌, length, set, Some, sym, ◌∙◌, subst, inl, inr}
+use Rattle.std.proofs.Common.{length-set}
 use Rattle.std.specs.List.{slice_get}
 use Rattle.std.proofs.lemmas.Bool.{false_from_ne_true}
 use Rattle.std.proofs.lemmas.Cmp.{nat_eq_equiv}
@@ -18,7 +19,8 @@ use Rattle.name_walk.proofs.Marks.{entered_again, entered_in, entered_push, mark
 use Rattle.name_walk.proofs.Settled.{ordered_push}
 
 -- what holds of a list's names and of one more holds of all
-pub either_new : {P : ℕ → Type 0} (xs : List ℕ) (x : ℕ) → ((n : ℕ) → In n xs → P n) → P x → (n : ℕ) → In n (xs ++ x ∷ []) → P n
+pub either_new : {P : ℕ → Type 0} (xs : List ℕ) (x : ℕ) → ((n : ℕ) → In n xs → P n) → P x → (n : ℕ)
+    → In n (xs ++ x ∷ []) → P n
 either_new {P} xs x f p n i = elim (In-push xs x n i) [ inl j ↦ f n j | inr e ↦ subst P (sym e) p ]
 
 module _ (g : Graph) (s : List Bool) where
@@ -26,7 +28,10 @@ module _ (g : Graph) (s : List Bool) where
   pub ordering_start : (ms : List Mark) → length ms ≡ length g → AreOpen ms → AreOrdering g s ms [] []
   ordering_start ms size are_open = record {
     size = size;
-    marked = λ n. (λ h. let o : slice_get ms n ≡ Some Open = are_open n (slice_get_within ms n Closed h) in absurd (cc), λ i. absurd i);
+    marked = λ n. (
+      λ h. let o : slice_get ms n ≡ Some Open = are_open n (slice_get_within ms n Closed h) in absurd (cc),
+      λ i. absurd i,
+    );
     closed = λ n i. absurd i;
     fresh = λ n i. absurd i;
     once = nothing_twice;
@@ -41,7 +46,8 @@ module _ (g : Graph) (s : List Bool) where
       let there : n < length ms = slice_get_within ms n Open is_open in
       record {
         size = length-set ms n OnPath ∙ h.size;
-        marked = marked_same ms n there Closed OnPath os h.marked (λ e. cc) (other_mark Closed Open ms os h.marked (λ e. cc) n is_open);
+        marked = marked_same ms n there Closed OnPath os h.marked (λ e. cc)
+            (other_mark Closed Open ms os h.marked (λ e. cc) n is_open);
         closed = h.closed;
         fresh = h.fresh;
         once = h.once;
@@ -50,7 +56,8 @@ module _ (g : Graph) (s : List Bool) where
       }
 
   -- a name on the path is closed
-  pub ordering_close : (ms : List Mark) (es os : List ℕ) (n : ℕ) → AreOrdering g s ms es os → slice_get ms n ≡ Some OnPath
+  pub ordering_close : (ms : List Mark) (es os : List ℕ) (n : ℕ) → AreOrdering g s ms es os
+      → slice_get ms n ≡ Some OnPath
       → IsClosed g n → (IsSettled s n → ⊥) → ((m : ℕ) → LeadsTo g n m → IsDone s os m)
       → AreOrdering g s (set ms n Closed) es (os ++ n ∷ [])
   ordering_close ms es os n h on_path closed fresh done =
@@ -61,7 +68,8 @@ module _ (g : Graph) (s : List Bool) where
         closed = either_new {P = λ m. IsClosed g m} os n h.closed closed;
         fresh = either_new {P = λ m. IsSettled s m → ⊥} os n h.fresh fresh;
         once = IsDistinct-push nat_eq_equiv os n h.once
-            (false_from_ne_true (on os n) (λ e. other_mark Closed OnPath ms os h.marked (λ q. cc) n on_path (on-In os n e)));
+            (false_from_ne_true (on os n)
+            (λ e. other_mark Closed OnPath ms os h.marked (λ q. cc) n on_path (on-In os n e)));
         ordered = ordered_push g s [] os n h.ordered done;
         entered = entered_again ms n there Closed es (entered_in OnPath (λ q. cc) ms es n h.entered on_path) h.entered;
       }

@@ -1,5 +1,6 @@
 -- The steps of a query that are passed.
-use Rattle.std.proofs.Common.{◌≡◌, ◌⊎◌, ℕ, zero, suc, ◌+◌, ◌-◌, ◌<◌, Bool, List, [], ◌∷◌, ◌++◌, length, take, replicate, ◌≤◌, Some, None, refl, sym, ◌∙◌, ap, subst, inl, inr, arith, length-append}
+use Rattle.std.proofs.Common.{◌≡◌, ◌⊎◌, ℕ, zero, suc, ◌+◌, ◌-◌, ◌<◌, Bool, List, [], ◌∷◌, ◌++◌, length, take, replicate}
+use Rattle.std.proofs.Common.{◌≤◌, Some, None, refl, sym, ◌∙◌, ap, subst, inl, inr, arith, length-append}
 use Rattle.std.specs.List.{slice_get}
 use Rattle.std.proofs.lemmas.List.{length-replicate, length-take, take_all}
 use Rattle.std.proofs.lemmas.Option.{slice_get_within}
@@ -28,8 +29,10 @@ pub record ArePassed (g : Graph) (s : List Bool) (query : List Step) (t : Trace)
   pub reached : (n : ℕ) → In n t.order → IsReached g query n
   pub done : (n : ℕ) → In (To n) query → IsDone s t.order n
 
+-- new marks behind open ones are open
 open_front : (n : ℕ) (marks : List Mark) (k : ℕ) → ((m : ℕ) → m < length marks → slice_get marks m ≡ Some Open)
-    → (m : ℕ) → m < length (take n marks ++ replicate k Open) → slice_get (take n marks ++ replicate k Open) m ≡ Some Open
+    → (m : ℕ) → m < length (take n marks ++ replicate k Open)
+    → slice_get (take n marks ++ replicate k Open) m ≡ Some Open
 open_front zero marks zero h m l = absurd (omega arith)
 open_front zero marks (suc k) h zero l = refl
 open_front zero marks (suc k) h (suc m) l = open_front zero marks k h m (omega arith)
@@ -39,6 +42,7 @@ open_front (suc n) [] (suc k) h (suc m) l = open_front (suc n) [] k h m (omega a
 open_front (suc n) (x ∷ marks) k h zero l = h 0 (omega arith)
 open_front (suc n) (x ∷ marks) k h (suc m) l = open_front n marks k (λ q j. h (suc q) (omega arith)) m (omega arith)
 
+-- marks that are cut or filled up have the wanted length
 cover_length : (n : ℕ) (marks : List Mark) → length (take n marks ++ replicate (n - length marks) Open) ≡ n
 cover_length n marks =
     let both = length-append (take n marks) (replicate (n - length marks) Open) in
@@ -55,19 +59,24 @@ covered_idle n t idle = record {
 }
 
 -- an idle walk that covers the names and forgets its order is between two steps
-pub between_idle : (g : Graph) (s : List Bool) (t covered new : Trace) → IsIdle t → covered ≡ with_names (length g) t → new ≡ without_order covered
+pub between_idle : (g : Graph) (s : List Bool) (t covered new : Trace) → IsIdle t → covered ≡ with_names (length g) t
+    → new ≡ without_order covered
     → IsBetween g s new
 between_idle g s t covered new idle c e =
     still_between g s covered new (subst IsIdle (sym c) (covered_idle (length g) t idle))
     (ap (λ (x : Trace). length x.marks) c ∙ cover_length (length g) t.marks) e
   where
-    still_between : (g : Graph) (s : List Bool) (t new : Trace) → IsIdle t → length t.marks ≡ length g → new ≡ without_order t → IsBetween g s new
+    still_between : (g : Graph) (s : List Bool) (t new : Trace) → IsIdle t → length t.marks ≡ length g
+        → new ≡ without_order t → IsBetween g s new
     still_between g s t new idle size e = subst (λ (x : Trace). IsBetween g s x) (sym e) (record {
-      ordering = subst (λ (es : List ℕ). AreOrdering g s t.marks es []) (sym idle.entered) (ordering_start g s t.marks size idle.are_open);
-      off_path = λ n h. let o : slice_get t.marks n ≡ Some Open = idle.are_open n (slice_get_within t.marks n OnPath h) in absurd (cc);
+      ordering = subst (λ (es : List ℕ). AreOrdering g s t.marks es []) (sym idle.entered)
+          (ordering_start g s t.marks size idle.are_open);
+      off_path = λ n h. let o : slice_get t.marks n ≡ Some Open =
+          idle.are_open n (slice_get_within t.marks n OnPath h) in absurd (cc);
       frames = idle.frames;
     })
 
+-- at the start no step is passed
 pub passed_start : (g : Graph) (s : List Bool) (t : Trace) → IsBetween g s t → t.order ≡ [] → ArePassed g s [] t
 passed_start g s t b e = record {
   between = b;
@@ -85,7 +94,8 @@ module _ (g : Graph) (s : List Bool) (query : List Step) where
 
   none_push : (x : Step) → fault g [] query ≡ None → fault g [] (x ∷ []) ≡ None → fault g [] (query ++ x ∷ []) ≡ None
   none_push x e h =
-      first_push (at_step (fault_within g (length g - 0)) []) query x e ∙ (sym (or_none (at_step (fault_within g (length g - 0)) [] x)) ∙ h)
+      first_push (at_step (fault_within g (length g - 0)) []) query x e
+      ∙ (sym (or_none (at_step (fault_within g (length g - 0)) [] x)) ∙ h)
 
   -- a name that is done already
   pub passed_done : (net : IsNet g s) (t : Trace) (n : ℕ) → ArePassed g s query t → n < length g → IsDone s t.order n
@@ -95,7 +105,8 @@ module _ (g : Graph) (s : List Bool) (query : List Step) where
     none = none_push (To n) p.none (or_none _ ∙ name_closed g net.range (length g) [] n
         (done_closed g s net.settled t.order p.between.ordering.closed n d) there (empty_path g) (λ q i. absurd i));
     reached = λ m i. reached_push (To n) m (p.reached m i);
-    done = λ r i. elim (last_step n r i) [ inl j ↦ p.done r j | inr e ↦ subst (λ (x : ℕ). IsDone s t.order x) (sym e) d ];
+    done = λ r i. elim (last_step n r i)
+        [ inl j ↦ p.done r j | inr e ↦ subst (λ (x : ℕ). IsDone s t.order x) (sym e) d ];
   }
 
   -- a name that was visited
@@ -171,7 +182,9 @@ module _ {g : Graph} {s : List Bool} (net : IsNet g s) (query : List Step) (i : 
       subst (λ (xs : List Step). ArePassed g s xs new) (sym (take_at query i (To n) here))
       (passed_visit g s (take i query) t new n passed v)
 
-pub all_passed : (g : Graph) (s : List Bool) → IsNet g s → (query : List Step) (i : ℕ) (t : Trace) → ArePassed g s (take i query) t
+-- where all steps are passed, they have no fault and the order is of the newly closed names
+pub all_passed : (g : Graph) (s : List Bool) → IsNet g s → (query : List Step) (i : ℕ) (t : Trace)
+    → ArePassed g s (take i query) t
     → length query ≤ i → (fault g [] query ≡ None) × AreNewlyClosed g s query t.order
 all_passed g s net query i t p end =
     let q : ArePassed g s query t = subst (λ (xs : List Step). ArePassed g s xs t) (take_all i query end) p in

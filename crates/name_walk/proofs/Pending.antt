@@ -1,5 +1,6 @@
 -- The fault that is still to be met: of the name that is being gone through, and of each frame above it.
-use Rattle.std.proofs.Common.{◌≡◌, ℕ, ◌+◌, ◌-◌, List, [], ◌∷◌, ◌++◌, length, drop, Option, Some, None, sym, ◌∙◌, ap, subst, append_assoc}
+use Rattle.std.proofs.Common.{◌≡◌, ℕ, ◌+◌, ◌-◌, List, [], ◌∷◌, ◌++◌, length, drop, Option, Some, None, sym, ◌∙◌, ap}
+use Rattle.std.proofs.Common.{subst, append_assoc}
 use Rattle.std.specs.List.{slice_get}
 use Rattle.std.specs.Option.{option_or}
 use Rattle.name_walk.specs.declared.step.Step.{Step}
@@ -14,7 +15,8 @@ module _ (g : Graph) where
   abbrev pub pending : List ℕ → List Frame → ℕ → ℕ → Option NameFault
   pending p [] name place = fault g (p ++ name ∷ []) (drop place (steps g name))
   pending p (f ∷ fs) name place =
-      option_or (pending (p ++ f.name ∷ []) fs name place) (fault g (p ++ f.name ∷ []) (drop (f.place + 1) (steps g f.name)))
+      option_or (pending (p ++ f.name ∷ []) fs name place)
+      (fault g (p ++ f.name ∷ []) (drop (f.place + 1) (steps g f.name)))
 
   -- what a frame adds
   abbrev above : List ℕ → Frame → Option NameFault → Option NameFault
@@ -28,7 +30,8 @@ module _ (g : Graph) where
       ≡ option_or (at_step (fault_within g (length g - length p)) p s) (fault g p (drop (place + 1) (steps g name)))
   at_here p name place s e = ap (λ xs. fault g p xs) (drop_at (steps g name) place s e)
 
-  longer : (p P : List ℕ) (f : Frame) (fs : List Frame) (name : ℕ) → P ≡ p ++ path (f ∷ fs) name → P ≡ (p ++ f.name ∷ []) ++ path fs name
+  longer : (p P : List ℕ) (f : Frame) (fs : List Frame) (name : ℕ) → P ≡ p ++ path (f ∷ fs) name
+      → P ≡ (p ++ f.name ∷ []) ++ path fs name
   longer p P f fs name q = q ∙ sym (append_assoc p (f.name ∷ []) (path fs name))
 
   -- P is the whole path
@@ -41,7 +44,8 @@ module _ (g : Graph) where
   pass_pending p P (f ∷ fs) name place s q e h =
       ap (above p f) (pass_pending (p ++ f.name ∷ []) P fs name place s (longer p P f fs name q) e h)
 
-  pub fault_pending : (p P : List ℕ) (fs : List Frame) (name place : ℕ) (s : Step) (x : NameFault) → P ≡ p ++ path fs name
+  pub fault_pending : (p P : List ℕ) (fs : List Frame) (name place : ℕ) (s : Step) (x : NameFault)
+      → P ≡ p ++ path fs name
       → slice_get (steps g name) place ≡ Some s → at_step (fault_within g (length g - length P)) P s ≡ Some x
       → pending p fs name place ≡ Some x
   fault_pending p P [] name place s x q e h =
@@ -57,7 +61,8 @@ module _ (g : Graph) where
   enter_pending p P [] name place m q e h =
       at_here (p ++ name ∷ []) name place (To m) e
       ∙ ap (rest p name place)
-      (subst (λ (r : List ℕ). at_name (fault_within g (length g - length r)) r m ≡ fault g (r ++ m ∷ []) (steps g m)) q h)
+      (subst (λ (r : List ℕ). at_name (fault_within g (length g - length r)) r m ≡ fault g (r ++ m ∷ []) (steps g m)) q
+      h)
   enter_pending p P (f ∷ fs) name place m q e h =
       ap (above p f) (enter_pending (p ++ f.name ∷ []) P fs name place m (longer p P f fs name q) e h)
 

@@ -1,5 +1,6 @@
 -- Names that are done: settled, or closed before.
-use Rattle.std.proofs.Common.{◌≡◌, ◌⊎◌, ◌↔◌, ℕ, zero, suc, ◌+◌, ◌-◌, ◌≤◌, Bool, true, false, List, [], ◌∷◌, ◌++◌, length, Option, Some, None, sym, subst, inl, inr, arith, append_assoc, append-nil}
+use Rattle.std.proofs.Common.{◌≡◌, ◌⊎◌, ◌↔◌, ℕ, zero, suc, ◌+◌, ◌-◌, ◌≤◌, Bool, true, false, List, [], ◌∷◌, ◌++◌}
+use Rattle.std.proofs.Common.{length, Option, Some, None, sym, subst, inl, inr, arith, append_assoc, append-nil}
 use Rattle.std.specs.List.{AllByRecursion, slice_get}
 use Rattle.name_walk.specs.declared.step.Step.{Step}
 use Rattle.name_walk.specs.declared.step.Step.TheVariants.{Nowhere, To}
@@ -11,10 +12,12 @@ use Rattle.name_walk.specs.Steps.{Graph, LeadsTo, Reaches, at_once, further, ste
 use Rattle.name_walk.proofs.Closed.{ends_longer}
 use Rattle.name_walk.proofs.Lists.{In-left, all_map_in}
 
+-- what is done stays done behind one more name
 pub done_more : (s : List Bool) (names : List ℕ) (n m : ℕ) → IsDone s names m → IsDone s (names ++ n ∷ []) m
 done_more s names n m (inl e) = inl e
 done_more s names n m (inr i) = inr (In-left names (n ∷ []) m i)
 
+-- a name is settled or it is not
 pub or_settled : (s : List Bool) (n : ℕ) → IsSettled s n ⊎ (IsSettled s n → ⊥)
 or_settled s n = at_place (slice_get s n)
   where
@@ -24,7 +27,8 @@ or_settled s n = at_place (slice_get s n)
     at_place (Some false) = inr (λ e. cc)
 
 module _ (g : Graph) (s : List Bool) where
-  pub ordered_push : (before ns : List ℕ) (n : ℕ) → AreOrdered g s before ns → ((m : ℕ) → LeadsTo g n m → IsDone s (before ++ ns) m)
+  pub ordered_push : (before ns : List ℕ) (n : ℕ) → AreOrdered g s before ns
+      → ((m : ℕ) → LeadsTo g n m → IsDone s (before ++ ns) m)
       → AreOrdered g s before (ns ++ n ∷ [])
   ordered_push before [] n o h = (λ m l. subst (λ (xs : List ℕ). IsDone s xs m) (append-nil before) (h m l), tt)
   ordered_push before (k ∷ ns) n o h = (
@@ -33,27 +37,32 @@ module _ (g : Graph) (s : List Bool) where
         (λ m l. subst (λ (xs : List ℕ). IsDone s xs m) (sym (append_assoc before (k ∷ []) ns)) (h m l)),
   )
 
-  ordered_done : (before ns : List ℕ) → AreOrdered g s before ns → (n : ℕ) → In n ns → (m : ℕ) → LeadsTo g n m → IsDone s (before ++ ns) m
+  ordered_done : (before ns : List ℕ) → AreOrdered g s before ns → (n : ℕ) → In n ns → (m : ℕ) → LeadsTo g n m
+      → IsDone s (before ++ ns) m
   ordered_done before [] o n i m l = absurd i
   ordered_done before (k ∷ ns) o n (inl e) m l =
       elim (o.0 m (subst (λ (x : ℕ). LeadsTo g x m) e l)) [ inl d ↦ inl d | inr d ↦ inr (In-left before (k ∷ ns) m d) ]
   ordered_done before (k ∷ ns) o n (inr i) m l =
-      subst (λ (xs : List ℕ). IsDone s xs m) (append_assoc before (k ∷ []) ns) (ordered_done (before ++ k ∷ []) ns o.1 n i m l)
+      subst (λ (xs : List ℕ). IsDone s xs m) (append_assoc before (k ∷ []) ns)
+      (ordered_done (before ++ k ∷ []) ns o.1 n i m l)
 
   module _ (settled : AreSettled g s) where
     settled_below : (n m : ℕ) → IsSettled s n → Reaches g n m → IsSettled s m
     settled_below n m h (at_once l) = (settled n h).1 m l
     settled_below n m h (further {x = x} l r) = settled_below x m ((settled n h).1 x l) r
 
-    done_next : (names : List ℕ) → AreOrdered g s [] names → (n m : ℕ) → IsDone s names n → LeadsTo g n m → IsDone s names m
+    done_next : (names : List ℕ) → AreOrdered g s [] names → (n m : ℕ) → IsDone s names n → LeadsTo g n m
+        → IsDone s names m
     done_next names o n m (inl e) l = inl ((settled n e).1 m l)
     done_next names o n m (inr i) l = ordered_done [] names o n i m l
 
-    pub done_below : (names : List ℕ) → AreOrdered g s [] names → {n m : ℕ} → IsDone s names n → Reaches g n m → IsDone s names m
+    pub done_below : (names : List ℕ) → AreOrdered g s [] names → {n m : ℕ} → IsDone s names n → Reaches g n m
+        → IsDone s names m
     done_below names o d (at_once l) = done_next names o _ _ d l
     done_below names o d (further l r) = done_below names o (done_next names o _ _ d l) r
 
-    pub done_closed : (names : List ℕ) → ((n : ℕ) → In n names → IsClosed g n) → (n : ℕ) → IsDone s names n → IsClosed g n
+    pub done_closed : (names : List ℕ) → ((n : ℕ) → In n names → IsClosed g n) → (n : ℕ) → IsDone s names n
+        → IsClosed g n
     done_closed names closed n (inl e) = (settled n e).0
     done_closed names closed n (inr i) = closed n i
 
@@ -64,11 +73,13 @@ module _ (g : Graph) (s : List Bool) where
       λ m l. (same m).1 (done_next names newly.ordered n m ((same n).0 h) l),
     )
 
-  asked : (query : List Step) (names : List ℕ) → AreNewlyClosed g s query names → (n : ℕ) → IsReached g query n → IsDone s names n
+  asked : (query : List Step) (names : List ℕ) → AreNewlyClosed g s query names → (n : ℕ) → IsReached g query n
+      → IsDone s names n
   asked query names newly n r = elim (or_settled s n) [ inl e ↦ inl e | inr ne ↦ inr ((newly.exactly n).1 (r, ne)) ]
 
 -- a graph where the steps of settled names are the same
-module _ (g h : Graph) (s : List Bool) (settled : AreSettled g s) (same : (n : ℕ) → IsSettled s n → steps h n ≡ steps g n) where
+module _ (g h : Graph) (s : List Bool) (settled : AreSettled g s)
+    (same : (n : ℕ) → IsSettled s n → steps h n ≡ steps g n) where
   ends_there : (k n : ℕ) → IsSettled s n → EndsWithin g k n → EndsWithin h k n
   ends_there zero n t e = absurd e
   ends_there (suc k) n t e =
@@ -76,7 +87,8 @@ module _ (g h : Graph) (s : List Bool) (settled : AreSettled g s) (same : (n : �
       (all_map_in (LeadsInto (EndsWithin g k)) (LeadsInto (EndsWithin h k)) (steps g n)
       (into_there k (λ m l f. ends_there k m ((settled n t).1 m l) f)) e)
     where
-      into_there : (j : ℕ) → ((m : ℕ) → LeadsTo g n m → EndsWithin g j m → EndsWithin h j m) → (x : Step) → In x (steps g n)
+      into_there : (j : ℕ) → ((m : ℕ) → LeadsTo g n m → EndsWithin g j m → EndsWithin h j m) → (x : Step)
+          → In x (steps g n)
           → LeadsInto (EndsWithin g j) x → LeadsInto (EndsWithin h j) x
       into_there j f (Nowhere w) i q = q
       into_there j f (To m) i q = f m i q
@@ -90,6 +102,7 @@ module _ (g h : Graph) (s : List Bool) (settled : AreSettled g s) (same : (n : �
         λ m l. (alike m).1 ((settled n before).1 m (subst (λ (xs : List Step). In (To m) xs) (same n before) l)),
       )
 
+-- the law of settled names
 pub settled_law_holds : SettledLaw
 settled_law_holds = record {
   below = settled_below;

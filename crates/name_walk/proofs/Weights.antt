@@ -1,11 +1,13 @@
 -- What is left of a walk: the steps of open names, and those behind each frame.
-use Rattle.std.proofs.Common.{◌≡◌, ℕ, zero, suc, ◌+◌, ◌-◌, ◌<◌, ◌≤◌, List, [], ◌∷◌, ◌++◌, length, set, Some, refl, arith}
+use Rattle.std.proofs.Common.{◌≡◌, ℕ, zero, suc, ◌+◌, ◌-◌, ◌<◌, ◌≤◌, List, [], ◌∷◌, ◌++◌, length, set, Some, refl}
+use Rattle.std.proofs.Common.{arith}
 use Rattle.std.specs.List.{slice_get}
 use Rattle.name_walk.specs.declared.mark.Mark.{Mark}
 use Rattle.name_walk.specs.declared.mark.Mark.TheVariants.{Closed, OnPath, Open}
 use Rattle.name_walk.specs.declared.traces.Frame.{Frame}
 use Rattle.name_walk.specs.Steps.{Graph, steps}
 
+-- the steps of all names that are open
 abbrev pub open_weight : List Mark → Graph → ℕ
 open_weight [] h = 0
 open_weight (m ∷ ms) [] = 0
@@ -13,6 +15,7 @@ open_weight (Open ∷ ms) (w ∷ ws) = 2 + length w.items + open_weight ms ws
 open_weight (OnPath ∷ ms) (w ∷ ws) = open_weight ms ws
 open_weight (Closed ∷ ms) (w ∷ ws) = open_weight ms ws
 
+-- a name that goes onto the path takes its steps off
 open_less : (ms : List Mark) (h : Graph) (n : ℕ) → slice_get ms n ≡ Some Open → n < length h
     → open_weight (set ms n OnPath) h + (2 + length (steps h n)) ≡ open_weight ms h
 open_less [] h n e l = cc
@@ -24,7 +27,9 @@ open_less (Open ∷ ms) (w ∷ ws) (suc n) e l = omega (arith, open_less ms ws n
 open_less (OnPath ∷ ms) (w ∷ ws) (suc n) e l = open_less ms ws n e (omega arith)
 open_less (Closed ∷ ms) (w ∷ ws) (suc n) e l = open_less ms ws n e (omega arith)
 
-open_same : (ms : List Mark) (h : Graph) (n : ℕ) → slice_get ms n ≡ Some OnPath → open_weight (set ms n Closed) h ≡ open_weight ms h
+-- one that is closed changes nothing
+open_same : (ms : List Mark) (h : Graph) (n : ℕ) → slice_get ms n ≡ Some OnPath
+    → open_weight (set ms n Closed) h ≡ open_weight ms h
 open_same [] h n e = cc
 open_same (m ∷ ms) [] zero e = refl
 open_same (m ∷ ms) [] (suc n) e = refl
@@ -46,7 +51,8 @@ module _ (g : Graph) where
   abbrev pub weight : List Mark → List Frame → ℕ → ℕ → ℕ
   weight ms fs name place = open_weight ms g + frames_weight fs + frame_weight name place
 
-  frames_more : (fs : List Frame) (f : Frame) → frames_weight (fs ++ f ∷ []) ≡ frames_weight fs + frame_weight f.name f.place
+  frames_more : (fs : List Frame) (f : Frame)
+      → frames_weight (fs ++ f ∷ []) ≡ frames_weight fs + frame_weight f.name f.place
   frames_more [] f = omega arith
   frames_more (h ∷ fs) f = omega (arith, frames_more fs f)
 

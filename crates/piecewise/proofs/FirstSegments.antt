@@ -1,5 +1,6 @@
 -- The first segment that holds a number.
-use Rattle.std.proofs.Common.{◌≡◌, ◌+◌, ◌-◌, ◌<◌, ◌≤◌, ℕ, suc, zero, List, [], ◌∷◌, length, get_or, drop, take, arith, refl, sym, ap, ◌∙◌}
+use Rattle.std.proofs.Common.{◌≡◌, ◌+◌, ◌-◌, ◌<◌, ◌≤◌, ℕ, suc, zero, List, [], ◌∷◌, length, get_or, drop, take, arith}
+use Rattle.std.proofs.Common.{refl, sym, ap, ◌∙◌}
 use Rattle.std.specs.Prelude.{◌&&◌, Bool, true, false, not, cond, max, IsTrue, Some, None, Err, find, All}
 use Rattle.std.specs.declared.cmp.Ordering.{Ordering}
 use Rattle.std.specs.declared.cmp.Ordering.TheVariants.{Less, Equal, Greater}
@@ -9,7 +10,7 @@ use Rattle.std.proofs.lemmas.List.Elements.{All-get_or, All-head, All-more, All-
 use Rattle.frac128.specs.Fraction.{Fraction}
 use Rattle.frac128.specs.Order.{OrderLaw, compared}
 use Rattle.piecewise.specs.Lines.{Point}
-use Rattle.piecewise.specs.Points.{AreKept, rises}
+use Rattle.piecewise.specs.Points.{ArePoints, rises}
 use Rattle.piecewise.specs.Tables.{are_around, holds_x, holds_y, segments, x_at, x_on, y_at, y_on, given_by, numbered}
 use Rattle.piecewise.specs.declared.fault.TableFault.TheVariants.{OutsideTable}
 use Rattle.std.proofs.lemmas.List.{get_or_default, get_or_read}
@@ -19,7 +20,8 @@ use Rattle.piecewise.proofs.Neighbours.{AreNeighbours, both, between-around, com
 pub segments-left : (points : List Point) (i : ℕ) (p q : Point) → AreNeighbours points i p q
     → segments (drop (i - 1) points) ≡ record { left = p; right = q } ∷ segments (drop i points)
 segments-left points i p q are =
-    ap segments (drop-left points i p q are) ∙ sym (ap (λ xs. record { left = p; right = q } ∷ segments xs) (drop-right points i p q are))
+    ap segments (drop-left points i p q are)
+    ∙ sym (ap (λ xs. record { left = p; right = q } ∷ segments xs) (drop-right points i p q are))
 
 -- one point has no segment
 pub segments-last : (points : List Point) (i : ℕ) → length points ≡ i + 1 → segments (drop i points) ≡ []
@@ -35,7 +37,8 @@ pub find-y_more : (points : List Point) (i : ℕ) (p q : Point) (y : Fraction) �
     → find (holds_y y) (segments (drop (i - 1) points)) ≡ find (holds_y y) (segments (drop i points))
 find-y_more points i p q y are other =
     ap (find (holds_y y)) (segments-left points i p q are)
-    ∙ ap (λ b. cond b (Some (record { left = p; right = q })) (find (holds_y y) (segments (drop i points)))) (between-around p.1 q.1 y ∙ other)
+    ∙ ap (λ b. cond b (Some (record { left = p; right = q })) (find (holds_y y) (segments (drop i points))))
+    (between-around p.1 q.1 y ∙ other)
 
 -- and ends at neighbours that are
 pub find-y_here : (points : List Point) (i : ℕ) (p q : Point) (y : Fraction) → AreNeighbours points i p q
@@ -43,7 +46,8 @@ pub find-y_here : (points : List Point) (i : ℕ) (p q : Point) (y : Fraction) �
     → find (holds_y y) (segments (drop (i - 1) points)) ≡ Some (record { left = p; right = q })
 find-y_here points i p q y are around =
     ap (find (holds_y y)) (segments-left points i p q are)
-    ∙ ap (λ b. cond b (Some (record { left = p; right = q })) (find (holds_y y) (segments (drop i points)))) (between-around p.1 q.1 y ∙ around)
+    ∙ ap (λ b. cond b (Some (record { left = p; right = q })) (find (holds_y y) (segments (drop i points))))
+    (between-around p.1 q.1 y ∙ around)
 
 -- the second test fails
 and-false : (a b : Bool) → b ≡ false → (a && b) ≡ false
@@ -73,13 +77,15 @@ abbrev pub IsKnown : Point → Type 0
 IsKnown p = 0 < p.0.den
 
 -- so it is of the points up to the right one of two neighbours, where it is of those before
-pub known_more : (points : List Point) (i : ℕ) (p q : Point) → AreNeighbours points i p q → (1 < i → All IsKnown (take i points))
+pub known_more : (points : List Point) (i : ℕ) (p q : Point) → AreNeighbours points i p q
+    → (1 < i → All IsKnown (take i points))
     → IsKnown (get_or points (i - 1) p) × IsKnown (get_or points i q) → All IsKnown (take (i + 1) points)
 known_more points zero p q are before known = let h = are.some in absurd (omega arith)
 known_more points (suc zero) p q are before known =
     let h = are.within in
     All-more IsKnown points 1 q h (All-more IsKnown points 0 p (omega arith) (All-nil IsKnown) known.0) known.1
-known_more points (suc (suc i)) p q are before known = All-more IsKnown points (suc (suc i)) q are.within (before (omega arith)) known.1
+known_more points (suc (suc i)) p q are before known =
+    All-more IsKnown points (suc (suc i)) q are.within (before (omega arith)) known.1
 
 -- the points rise, and their denominators are above 0
 pub record AreRising (points : List Point) : Type 0 where
@@ -87,14 +93,15 @@ pub record AreRising (points : List Point) : Type 0 where
   pub denominators : All IsKnown points
 
 -- so do those of a table
-pub kept_rising : (points : List Point) → AreKept points → AreRising points
+pub kept_rising : (points : List Point) → ArePoints points → AreRising points
 kept_rising points are = record { rise = (both _ (rises points) are.table).1; denominators = are.denominators }
 
 -- and those behind the first one
 rising-tail : (p : Point) (points : List Point) → AreRising (p ∷ points) → AreRising points
 unfolding rises
 rising-tail p [] are = record { rise = refl; denominators = All-tail IsKnown p [] are.denominators }
-rising-tail p (q ∷ points) are = record { rise = (both _ _ are.rise).1; denominators = All-tail IsKnown p (q ∷ points) are.denominators }
+rising-tail p (q ∷ points) are =
+    record { rise = (both _ _ are.rise).1; denominators = All-tail IsKnown p (q ∷ points) are.denominators }
 
 -- and the first is less than the second
 rising-next : (p q : Point) (points : List Point) → AreRising (p ∷ q ∷ points) → compared p.0 q.0 ≡ Less
@@ -102,7 +109,8 @@ unfolding rises
 rising-next p q points are = less_is _ (both _ _ are.rise).0
 
 -- and than each other one
-rising-first : OrderLaw → (p : Point) (points : List Point) → AreRising (p ∷ points) → (j : ℕ) (d : Point) → j < length points
+rising-first : OrderLaw → (p : Point) (points : List Point) → AreRising (p ∷ points) → (j : ℕ) (d : Point)
+    → j < length points
     → compared p.0 (get_or points j d).0 ≡ Less
 rising-first law p [] are j d h = absurd (omega arith)
 rising-first law p (q ∷ points) are zero d h = rising-next p q points are
@@ -142,8 +150,10 @@ find-x_before law x some p (q ∷ points) are h =
     let rest = rising-tail p (q ∷ points) are in
     let low : is_le (compared p.0 x) ≡ false = le-less p.0 x false (ap is_lt h) in
     let next =
-    law.1 x p.0 q.0 some (All-head IsKnown p (q ∷ points) are.denominators) (All-head IsKnown q points rest.denominators) h (rising-next p q points are) in
-    ap (λ b. cond (b && is_le (compared x q.0)) (Some (record { left = p; right = q })) (find (holds_x x) (segments (q ∷ points)))) low
+    law.1 x p.0 q.0 some (All-head IsKnown p (q ∷ points) are.denominators)
+    (All-head IsKnown q points rest.denominators) h (rising-next p q points are) in
+    ap (λ b. cond (b && is_le (compared x q.0)) (Some (record { left = p; right = q }))
+    (find (holds_x x) (segments (q ∷ points)))) low
     ∙ find-x_before law x some q points rest next
 
 -- a segment whose right end is less does not hold the number
@@ -155,7 +165,8 @@ find-x_more x p q points left =
 
 -- no segment holds a number above all x but the first
 find-x_past : (x : Fraction) (d : Point) (points : List Point)
-    → ((k : ℕ) → 0 < k → k < length points → is_left x (get_or points k d) ≡ true) → find (holds_x x) (segments points) ≡ None
+    → ((k : ℕ) → 0 < k → k < length points → is_left x (get_or points k d) ≡ true)
+    → find (holds_x x) (segments points) ≡ None
 find-x_past x d [] left = refl
 find-x_past x d (p ∷ []) left = refl
 find-x_past x d (p ∷ q ∷ points) left =
@@ -169,13 +180,16 @@ record IsFirst (x : Fraction) (d : Point) (points : List Point) (r : ℕ) : Type
   low : is_lt (compared x (get_or points r d).0) ≡ false
   high : is_left x (get_or points (suc r) d) ≡ false
 
+-- where r is the first place from which on a segment holds x, the segment that is found has the points r and r + 1
 find-x_here : (x : Fraction) (d : Point) (points : List Point) (r : ℕ) → IsFirst x d points r
     → find (holds_x x) (segments points) ≡ Some (record { left = get_or points r d; right = get_or points (suc r) d })
 find-x_here x d [] r is = let h = is.within in absurd (omega arith)
 find-x_here x d (p ∷ []) r is = let h = is.within in absurd (omega arith)
 find-x_here x d (p ∷ q ∷ points) zero is =
-    ap (λ b. cond (b && is_le (compared x q.0)) (Some (record { left = p; right = q })) (find (holds_x x) (segments (q ∷ points)))) (le-less p.0 x true is.low)
-    ∙ ap (λ b. cond b (Some (record { left = p; right = q })) (find (holds_x x) (segments (q ∷ points)))) (le-less x q.0 true is.high)
+    ap (λ b. cond (b && is_le (compared x q.0)) (Some (record { left = p; right = q }))
+    (find (holds_x x) (segments (q ∷ points)))) (le-less p.0 x true is.low)
+    ∙ ap (λ b. cond b (Some (record { left = p; right = q })) (find (holds_x x) (segments (q ∷ points))))
+    (le-less x q.0 true is.high)
 find-x_here x d (p ∷ q ∷ points) (suc r) is =
     let h = is.within in
     find-x_more x p q points (is.left 1 (omega arith) (omega arith))
@@ -193,34 +207,40 @@ pub record IsPlace (x : Fraction) (points : List Point) (count place : ℕ) : Ty
   pub place_is : place ≡ max count 1
 
 -- no point stands behind those that are less
-pub y_at-past : (x : Fraction) (points : List Point) (count place : ℕ) → IsPlace x points count place → place ≡ length points
+pub y_at-past : (x : Fraction) (points : List Point) (count place : ℕ) → IsPlace x points count place
+    → place ≡ length points
     → Err OutsideTable ≡ y_at points x
 unfolding y_at
 y_at-past x [] count place is last = absurd (omega arith)
 y_at-past x (p ∷ points) count place is last =
-    sym (ap (given_by (y_on x)) (find-x_past x p (p ∷ points) (λ k some within. is.parted.0 k p (omega arith) (omega arith))))
+    sym (ap (given_by (y_on x))
+    (find-x_past x p (p ∷ points) (λ k some within. is.parted.0 k p (omega arith) (omega arith))))
 
 -- the number is less than the x of the left point
 pub y_at-before : OrderLaw → (x : Fraction) → 0 < x.den → (points : List Point) (count place : ℕ) (left : Point)
     → AreRising points → IsPlace x points count place
-    → left ≡ get_or points (place - 1) left → is_lt (compared x left.0) ≡ true → place ≤ length points → Err OutsideTable ≡ y_at points x
+    → left ≡ get_or points (place - 1) left → is_lt (compared x left.0) ≡ true → place ≤ length points
+    → Err OutsideTable ≡ y_at points x
 unfolding y_at
 y_at-before law x some [] count place left are is left_is h within = absurd (omega arith)
 y_at-before law x some (p ∷ points) zero place left are is left_is h within =
     let first : left ≡ p = left_is ∙ ap (λ k. get_or (p ∷ points) k left) (zero_is place is.place_is) in
-    sym (ap (given_by (y_on x)) (find-x_before law x some p points are (ap (λ q. compared x q.0) (sym first) ∙ less_is _ h)))
+    sym (ap (given_by (y_on x))
+    (find-x_before law x some p points are (ap (λ q. compared x q.0) (sym first) ∙ less_is _ h)))
   where
     zero_is : (place : ℕ) → place ≡ max 0 1 → place - 1 ≡ 0
     zero_is place e = omega arith
 y_at-before law x some (p ∷ points) (suc count) place left are is left_is h within =
-    let at : is_left x left ≡ true = ap (is_left x) left_is ∙ is.parted.0 (place - 1) left (omega arith) (omega arith) in
+    let at : is_left x left ≡ true = ap (is_left x) left_is
+    ∙ is.parted.0 (place - 1) left (omega arith) (omega arith) in
     absurd (clash (compared x left.0) (less_is _ h) (compared-reverse x left.0 ∙ ap ordering_reverse (less_is _ at)))
   where
     clash : (o : Ordering) → o ≡ Less → o ≡ Greater → ⊥
     clash o a b = cc
 
 -- the segment at the place holds the number
-pub y_at-here : (x : Fraction) (points : List Point) (count place : ℕ) (left right : Point) → IsPlace x points count place
+pub y_at-here : (x : Fraction) (points : List Point) (count place : ℕ) (left right : Point)
+    → IsPlace x points count place
     → AreNeighbours points place left right
     → is_lt (compared x left.0) ≡ false → y_at points x ≡ numbered (y_on x (record { left = left; right = right }))
 unfolding y_at
@@ -228,14 +248,17 @@ y_at-here x points count place left right is are low =
     let shift : suc (place - 1) ≡ place = shifted place are.some in
     let left_is : left ≡ get_or points (place - 1) right =
     get_or_read points (place - 1) left (before place (length points) are.within) are.left right in
-    let right_is : right ≡ get_or points (suc (place - 1)) right = are.right ∙ ap (λ k. get_or points k right) (sym shift) in
+    let right_is : right ≡ get_or points (suc (place - 1)) right =
+    are.right ∙ ap (λ k. get_or points k right) (sym shift) in
     let found = find-x_here x right points (place - 1) (record {
       within = rw shift are.within;
       left = λ k some within. is.parted.0 k right (omega arith) (omega arith);
       low = ap (λ p. is_lt (compared x p.0)) (sym left_is) ∙ low;
-      high = ap (is_left x) (sym right_is) ∙ ap (is_left x) are.right ∙ is.parted.1 place right (omega arith) (omega arith);
+      high = ap (is_left x) (sym right_is) ∙ ap (is_left x) are.right
+          ∙ is.parted.1 place right (omega arith) (omega arith);
     }) in
-    ap (given_by (y_on x)) (found ∙ ap (λ p. Some (record { left = p; right = get_or points (suc (place - 1)) right })) (sym left_is)
+    ap (given_by (y_on x))
+    (found ∙ ap (λ p. Some (record { left = p; right = get_or points (suc (place - 1)) right })) (sym left_is)
     ∙ ap (λ p. Some (record { left = left; right = p })) (sym right_is))
   where
     shifted : (place : ℕ) → 0 < place → suc (place - 1) ≡ place
@@ -252,7 +275,8 @@ pub record IsSearched (points : List Point) (y : Fraction) (i : ℕ) (before : O
 -- and goes on
 pub x_at-more : (points : List Point) (y : Fraction) (i : ℕ) (before after : Ordering) (right : Point)
     → IsSearched points y i before → 0 < i → i < length points
-    → right ≡ get_or points i right → after ≡ compared right.1 y → are_around before after ≡ false → IsSearched points y (i + 1) after
+    → right ≡ get_or points i right → after ≡ compared right.1 y → are_around before after ≡ false
+    → IsSearched points y (i + 1) after
 x_at-more points y i before after right is some within right_is after_is other =
     let left = get_or points (i - 1) right in
     let are : AreNeighbours points i left right = record {
@@ -264,8 +288,10 @@ x_at-more points y i before after right is some within right_is after_is other =
     let same : are_around before after ≡ are_around (compared left.1 y) (compared right.1 y) =
     ap (λ o. are_around o after) (is.before_is right) ∙ ap (are_around (compared left.1 y)) after_is in
     record {
-      before_is = λ p. after_is ∙ ap (λ r. compared r.1 y) (get_or_read points i right within right_is p) ∙ ap (λ k. compared (get_or points k p).1 y) (sym (back i));
-      rest = ap (λ k. find (holds_y y) (segments (drop k points))) (back i) ∙ sym (find-y_more points i left right y are (sym same ∙ other)) ∙ is.rest;
+      before_is = λ p. after_is ∙ ap (λ r. compared r.1 y) (get_or_read points i right within right_is p)
+          ∙ ap (λ k. compared (get_or points k p).1 y) (sym (back i));
+      rest = ap (λ k. find (holds_y y) (segments (drop k points))) (back i)
+          ∙ sym (find-y_more points i left right y are (sym same ∙ other)) ∙ is.rest;
     }
   where
     before_within : (i n : ℕ) → i < n → i - 1 < n
@@ -282,11 +308,13 @@ pub x_at-here : (points : List Point) (y : Fraction) (i : ℕ) (before after : O
 unfolding x_at
 x_at-here points y i before after left right is are after_is around =
     let same : are_around before after ≡ are_around (compared left.1 y) (compared right.1 y) =
-    ap (λ o. are_around o after) (is.before_is left ∙ ap (λ p. compared p.1 y) (sym are.left)) ∙ ap (are_around (compared left.1 y)) after_is in
+    ap (λ o. are_around o after) (is.before_is left ∙ ap (λ p. compared p.1 y) (sym are.left))
+    ∙ ap (are_around (compared left.1 y)) after_is in
     ap (given_by (x_on y)) (sym is.rest ∙ find-y_here points i left right y are (sym same ∙ around))
 
 -- or behind the last point
 pub x_at-past : (points : List Point) (y : Fraction) (i : ℕ) (before : Ordering) → IsSearched points y i before
     → length points ≡ i - 1 + 1 → Err OutsideTable ≡ x_at points y
 unfolding x_at
-x_at-past points y i before is last = ap (given_by (x_on y)) (ap (find (holds_y y)) (sym (segments-last points (i - 1) last)) ∙ is.rest)
+x_at-past points y i before is last =
+    ap (given_by (x_on y)) (ap (find (holds_y y)) (sym (segments-last points (i - 1) last)) ∙ is.rest)

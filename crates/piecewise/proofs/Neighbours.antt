@@ -1,5 +1,6 @@
 -- Neighbouring points.
-use Rattle.std.proofs.Common.{◌≡◌, ◌+◌, ◌-◌, ◌<◌, ◌≤◌, ◌*ℤ◌, ℕ, pos, suc, zero, List, [], ◌∷◌, length, get_or, drop, arith, refl, sym, ap, ◌∙◌}
+use Rattle.std.proofs.Common.{◌≡◌, ◌+◌, ◌-◌, ◌<◌, ◌≤◌, ◌*ℤ◌, ℕ, pos, suc, zero, List, [], ◌∷◌, length, get_or, drop}
+use Rattle.std.proofs.Common.{arith, refl, sym, ap, ◌∙◌}
 use Rattle.std.specs.Prelude.{◌&&◌, ◌||◌, Bool, true, false, IsTrue, nat_le}
 use Rattle.std.specs.declared.cmp.Ordering.{Ordering}
 use Rattle.std.specs.declared.cmp.Ordering.TheVariants.{Less, Equal, Greater}
@@ -26,11 +27,13 @@ pub record AreNeighbours (points : List Point) (i : ℕ) (p q : Point) : Type 0 
   pub right : q ≡ get_or points i q
 
 -- the points from the right one on
-pub drop-right : (points : List Point) (i : ℕ) (p q : Point) → AreNeighbours points i p q → drop i points ≡ q ∷ drop (i + 1) points
+pub drop-right : (points : List Point) (i : ℕ) (p q : Point) → AreNeighbours points i p q
+    → drop i points ≡ q ∷ drop (i + 1) points
 drop-right points i p q are = drop_more points i q are.within ∙ ap (λ x. x ∷ drop (i + 1) points) (sym are.right)
 
 -- the points from the left one on
-pub drop-left : (points : List Point) (i : ℕ) (p q : Point) → AreNeighbours points i p q → drop (i - 1) points ≡ p ∷ q ∷ drop (i + 1) points
+pub drop-left : (points : List Point) (i : ℕ) (p q : Point) → AreNeighbours points i p q
+    → drop (i - 1) points ≡ p ∷ q ∷ drop (i + 1) points
 drop-left points i p q are =
     let before : i - 1 < length points = before_within i (length points) are.within in
     let next : i - 1 + 1 ≡ i = next_is i are.some in
@@ -48,26 +51,30 @@ pub rises-left : (points : List Point) (i : ℕ) (p q : Point) → AreNeighbours
     → rises (drop (i - 1) points) ≡ (is_lt (compared p.0 q.0) && rises (drop i points))
 unfolding rises
 rises-left points i p q are =
-    ap rises (drop-left points i p q are) ∙ sym (ap (λ xs. is_lt (compared p.0 q.0) && rises xs) (drop-right points i p q are))
+    ap rises (drop-left points i p q are)
+    ∙ sym (ap (λ xs. is_lt (compared p.0 q.0) && rises xs) (drop-right points i p q are))
 
 -- how they stand to each other
 same_order : {points : List Point} {i : ℕ} {p q : Point} → AreNeighbours points i p q
     → compared p.0 q.0 ≡ compared (get_or points (i - 1) p).0 (get_or points i q).0
-same_order {points} {i} {p} {q} are = ap (λ r. compared r.0 q.0) are.left ∙ ap (λ r. compared (get_or points (i - 1) p).0 r.0) are.right
+same_order {points} {i} {p} {q} are = ap (λ r. compared r.0 q.0) are.left
+    ∙ ap (λ r. compared (get_or points (i - 1) p).0 r.0) are.right
 
 -- a point that is not less than the next one
 pub rises-stop : (points : List Point) (i : ℕ) (p q : Point) (less : Bool) → AreNeighbours points i p q
     → less ≡ is_lt (compared (get_or points (i - 1) p).0 (get_or points i q).0)
     → less ≡ false → rises (drop (i - 1) points) ≡ rises points → false ≡ rises points
 rises-stop points i p q less are less_is none rest =
-    ap (λ b. b && rises (drop i points)) (sym none ∙ less_is ∙ sym (ap is_lt (same_order are))) ∙ sym (rises-left points i p q are) ∙ rest
+    ap (λ b. b && rises (drop i points)) (sym none ∙ less_is ∙ sym (ap is_lt (same_order are)))
+    ∙ sym (rises-left points i p q are) ∙ rest
 
 -- a point that is less
 pub rises-on : (points : List Point) (i : ℕ) (p q : Point) (less : Bool) → AreNeighbours points i p q
     → less ≡ is_lt (compared (get_or points (i - 1) p).0 (get_or points i q).0)
     → less ≡ true → rises (drop (i - 1) points) ≡ rises points → rises (drop (i + 1 - 1) points) ≡ rises points
 rises-on points i p q less are less_is some rest =
-    ap (λ k. rises (drop k points)) (back i) ∙ ap (λ b. b && rises (drop i points)) (sym some ∙ less_is ∙ sym (ap is_lt (same_order are)))
+    ap (λ k. rises (drop k points)) (back i)
+    ∙ ap (λ b. b && rises (drop i points)) (sym some ∙ less_is ∙ sym (ap is_lt (same_order are)))
     ∙ sym (rises-left points i p q are) ∙ rest
   where
     back : (i : ℕ) → i + 1 - 1 ≡ i
@@ -87,11 +94,13 @@ pub compared-reverse : (a b : Fraction) → compared a b ≡ ordering_reverse (c
 compared-reverse a b = int_cmp_total.antisymm (a.num *ℤ pos b.den) (b.num *ℤ pos a.den)
 
 -- a number is between two others where they are around it
-pub between-around : (a b y : Fraction) → (is_from_to a b y || is_from_to b a y) ≡ are_around (compared a y) (compared b y)
+pub between-around : (a b y : Fraction)
+    → (is_from_to a b y || is_from_to b a y) ≡ are_around (compared a y) (compared b y)
 between-around a b y = rw (compared-reverse y b, compared-reverse y a) (by_order (compared a y) (compared b y))
   where
     by_order : (left right : Ordering)
-        → (is_le left && is_le (ordering_reverse right) || is_le right && is_le (ordering_reverse left)) ≡ are_around left right
+        → (is_le left && is_le (ordering_reverse right) || is_le right && is_le (ordering_reverse left))
+        ≡ are_around left right
     by_order Less Less = refl
     by_order Less Equal = refl
     by_order Less Greater = refl
@@ -104,7 +113,8 @@ between-around a b y = rw (compared-reverse y b, compared-reverse y a) (by_order
 
 -- a table has two points or more
 pub table_many : (points : List Point) → IsTrue (is_table points) → 2 ≤ length points
-table_many points h = least (length points) (both (nat_le 2 (length points)) (nat_le (length points) 1000) (both _ (rises points) h).0).0
+table_many points h =
+    least (length points) (both (nat_le 2 (length points)) (nat_le (length points) 1000) (both _ (rises points) h).0).0
   where
     least : (n : ℕ) → nat_le 2 n ≡ true → 2 ≤ n
     least n e = grind (arith, nat_tests)

@@ -17,7 +17,7 @@ abbrev pub is_table : List Point → Bool
 is_table points = nat_le 2 (length points) && nat_le (length points) 1000 && rises points
 
 -- what is known of the points of each table of the program
-pub record AreKept (points : List Point) : Type 0 where
+pub record ArePoints (points : List Point) : Type 0 where
   pub table : IsTrue (is_table points)
   pub denominators : All (λ p. 0 < p.0.den) points
 

@@ -1,7 +1,7 @@
 //! Straight lines through two points.
 
 ghost use Rattle.std.specs.Prelude.{◌≡◌};
-ghost use Rattle.piecewise.specs.Lines.{on_line as on_line_of};
+ghost use Rattle.piecewise.specs.Lines as spec;
 
 use frac128::{Frac, FracFault};
 
@@ -14,7 +14,7 @@ pub(crate) fn on_line(
     y1: &Frac,
     x: &Frac,
 ) -> Result<Frac, FracFault>
-    ensures { result ≡ on_line_of (x0.now, y0.now) (x1.now, y1.now) x.now }
+    ensures { result ≡ spec.on_line (x0.now, y0.now) (x1.now, y1.now) x.now }
 {
     let rise = y1.sub(y0)?;
     let run = x.sub(x0)?;

@@ -4,8 +4,8 @@ ghost use Rattle.std.specs.Prelude.{◌≡◌, ◌<◌, IfOk, All, length};
 ghost use Rattle.std.specs.Bool.{OnTrue};
 ghost use Rattle.std.specs.Ordering.{is_lt};
 ghost use Rattle.frac128.specs.Order.{compared};
-ghost use Rattle.piecewise.specs.Points.{IsMade, rises as rises_of};
-ghost use Rattle.piecewise.specs.Tables.{are_around, numbered, x_at, x_on as x_on_of, y_at, y_on as y_on_of};
+ghost use Rattle.piecewise.specs.Points as point_spec;
+ghost use Rattle.piecewise.specs.Tables as spec;
 
 use crate::fault::{PointsFault, TableFault};
 use crate::line::on_line;
@@ -34,18 +34,18 @@ impl Model for Points {
 
     ghost Value = { List Point };
 
-    ghost use Rattle.piecewise.specs.Points.{AreKept};
+    ghost use Rattle.piecewise.specs.Points.{ArePoints};
 
     ghost view = { λ table. table.points.items };
 
-    ghost invariant = { λ table. AreKept table.points.items };
+    ghost invariant = { λ table. ArePoints table.points.items };
 }
 
 impl Points {
     /// The table of these points, each an x and its y. `BadPoints` where there are fewer than 2
     /// or more than 1,000, or where the x do not rise strictly.
     pub fn new(alloc: Global, pairs: &[(Frac, Frac)]) -> Result<Points, PointsFault>
-        ensures { IsMade pairs.now result }
+        ensures { point_spec.IsMade pairs.now result }
     {
         if pairs.len() < FEWEST || pairs.len() > MOST || !rises(pairs) {
             return Err(PointsFault::BadPoints);
@@ -58,7 +58,7 @@ impl Points {
     /// The y at x, on the line of the first segment between neighbours that holds x. `OutsideTable`
     /// where none does, and `Number` with the fault of the first step that has one.
     pub fn at(&self, x: &Frac) -> Result<Frac, TableFault>
-        ensures { result ≡ y_at self.now x.now }
+        ensures { result ≡ spec.y_at self.now x.now }
     {
         order_law();
         let place = self
@@ -76,7 +76,7 @@ impl Points {
     /// falling, or the x of its left end where it is flat. `OutsideTable` where none does, and
     /// `Number` with the fault of the first step that has one.
     pub fn back(&self, y: &Frac) -> Result<Frac, TableFault>
-        ensures { result ≡ x_at self.now y.now }
+        ensures { result ≡ spec.x_at self.now y.now }
     {
         let mut before = self.points[0].1.cmp(y);
         for i in 1..self.points.len() {
@@ -103,7 +103,7 @@ impl Points {
 // Whether each x is less than the next one. The denominators are those of fractions.
 fn rises(points: &[Point]) -> bool
     requires { 1 < length points.now }
-    ensures value { result ≡ rises_of points.now }
+    ensures value { result ≡ point_spec.rises points.now }
     ensures denominators { OnTrue result (All (λ p. 0 < p.0.den) points.now) }
 {
     for i in 1..points.len() {
@@ -124,7 +124,7 @@ fn is_less(left: &Frac, right: &Frac) -> bool
 
 // Whether a number is between two others, both included, by how they stand to it.
 fn encloses(left: Ordering, right: Ordering) -> bool
-    ensures { result ≡ are_around left right }
+    ensures { result ≡ spec.are_around left right }
 {
     !matches!(
         (left, right),
@@ -134,14 +134,14 @@ fn encloses(left: Ordering, right: Ordering) -> bool
 
 // The y at x on the segment.
 fn y_on(left: &Point, right: &Point, x: &Frac) -> Result<Frac, TableFault>
-    ensures { result ≡ numbered (y_on_of x.now (record { left = left.now; right = right.now })) }
+    ensures { result ≡ spec.numbered (spec.y_on x.now (record { left = left.now; right = right.now })) }
 {
     on_line(&left.0, &left.1, &right.0, &right.1, x).map_err(TableFault::Number)
 }
 
 // The x at y on the segment, or that of its left end where it is flat.
 fn x_on(left: &Point, right: &Point, y: &Frac) -> Result<Frac, TableFault>
-    ensures { result ≡ numbered (x_on_of y.now (record { left = left.now; right = right.now })) }
+    ensures { result ≡ spec.numbered (spec.x_on y.now (record { left = left.now; right = right.now })) }
 {
     if left.1.cmp(&right.1).is_eq() {
         return Ok(left.0);

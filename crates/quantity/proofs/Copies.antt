@@ -1,5 +1,6 @@
 -- Merges with nothing, and copies.
-use Rattle.std.proofs.Common.{◌≡◌, ◌==◌, refl, sym, ap, ap₂, ◌∙◌, ◌&&◌, true, ℕ, [], ◌∷◌, All, IsTrue, arith, length, map, Ok, Some}
+use Rattle.std.proofs.Common.{◌≡◌, ◌==◌, refl, sym, ap, ap₂, ◌∙◌, ◌&&◌, true, ℕ, [], ◌∷◌, All, IsTrue, arith, length}
+use Rattle.std.proofs.Common.{map, Ok, Some}
 use Rattle.std.specs.FinMap as map_of
 use Rattle.std.proofs.lemmas.Bool.Decides.{nat_tests}
 use Rattle.std.proofs.lemmas.List.Elements.{All-from_recursion, All-head, All-tail}
@@ -7,28 +8,34 @@ use Rattle.frac128.specs.Fraction.{Fraction}
 use Rattle.frac128.specs.Steps.{ReducedLaw}
 use Rattle.quantity.specs.Exponents.{Exponents, IsPower}
 use Rattle.quantity.specs.Factors.{exponent_in, exponents_with}
-use Rattle.quantity.specs.Merges.{AreInOrder, IsListed, Powers, are_exponents, exponents_in, merged, taken}
+use Rattle.quantity.specs.Merges.{AreInOrder, IsListed, Powers, are_exponents, exponents_in, merged, power_by}
 use Rattle.quantity.specs.Products.{product_exponents}
 use Rattle.quantity.specs.declared.factor.Factor.{Factor}
 use Rattle.quantity.specs.declared.factor.Factor.TheVariants.{Plain}
 use Rattle.quantity.proofs.Merged.{IsStep}
 use Rattle.quantity.proofs.MergeSteps.{exponent_passes}
-use Rattle.quantity.proofs.Single.{IsListOf, list_of, no_power}
+use Rattle.quantity.proofs.Single.{list_of, no_power}
 use Rattle.quantity.proofs.Steps.{factor_step, product_ok}
 
+-- powers of the program have exponents in range
 pub all_fit : (ps : Powers) → All IsPower ps → are_exponents ps ≡ true
 all_fit [] all = refl
 all_fit (p ∷ ps) all =
-    ap₂ (λ a b. a && b) (exponent_passes p.1 (All-head IsPower p ps all).exponent) (all_fit ps (All-tail IsPower p ps all))
+    ap₂ (λ a b. a && b) (exponent_passes p.1 (All-head IsPower p ps all).exponent)
+    (all_fit ps (All-tail IsPower p ps all))
 
-pub taken_fit : (step : Fraction → Fraction) → IsStep step → (os : Powers) → are_exponents (map (taken step) os) ≡ are_exponents os
+-- a step leaves whether all exponents are in range
+pub taken_fit : (step : Fraction → Fraction) → IsStep step → (os : Powers)
+    → are_exponents (map (power_by step) os) ≡ are_exponents os
 taken_fit step is [] = refl
 taken_fit step is (o ∷ os) = ap₂ (λ a b. a && b) (is.fits o.1) (taken_fit step is os)
 
-pub taken_plain : (os : Powers) → map (taken (λ e. e)) os ≡ os
+-- as they are, powers are taken unchanged
+pub taken_plain : (os : Powers) → map (power_by (λ e. e)) os ≡ os
 taken_plain [] = refl
 taken_plain (o ∷ os) = ap (λ es. o ∷ es) (taken_plain os)
 
+-- nothing merged behind powers leaves them
 pub merged_nothing : (step : Fraction → Fraction) (ps : Powers) → merged step ps [] ≡ ps
 merged_nothing step [] = refl
 merged_nothing step (p ∷ ps) = ap (λ es. p ∷ es) (merged_nothing step ps)
@@ -42,13 +49,14 @@ left_alone step ps os capacity all none =
 
 -- a list that is merged into nothing
 pub right_alone : (factor : Factor) (ps os es : Powers) (capacity : ℕ) → All IsPower os → ps ≡ []
-    → es ≡ map (taken (exponent_in factor)) os
+    → es ≡ map (power_by (exponent_in factor)) os
     → IsListed (Ok (record { items = es; capacity = capacity })) (merged (exponent_in factor) ps os)
 right_alone factor ps os es capacity all none copied =
-    let is : merged (exponent_in factor) ps os ≡ map (taken (exponent_in factor)) os =
+    let is : merged (exponent_in factor) ps os ≡ map (power_by (exponent_in factor)) os =
     ap (λ ds. merged (exponent_in factor) ds os) none in
     (copied ∙ sym is, ap are_exponents is ∙ taken_fit (exponent_in factor) (factor_step factor) os ∙ all_fit os all)
 
+-- no powers are in order
 no_order : AreInOrder []
 no_order = record { sorted = tt; kept = All-from_recursion IsPower [] tt }
 
@@ -58,16 +66,21 @@ pub with_number : ReducedLaw → (factor : Factor) (p : Exponents) (ps : Powers)
 with_number law factor p ps order is =
     let left = list_of ps ps p order is refl in
     let right = list_of [] [] map_of.empty no_order no_power refl in
-    sym (product_ok law factor p map_of.empty ps [] ps left right (left_alone (exponent_in factor) ps [] 0 order.kept refl)) ∙ ap Some is
+    sym (product_ok law factor p map_of.empty ps [] ps left right
+    (left_alone (exponent_in factor) ps [] 0 order.kept refl)) ∙ ap Some is
 
 -- a product whose first factor is a number
-pub of_number : ReducedLaw → (p o : Exponents) (ps os : Powers) → AreInOrder ps → exponents_in ps ≡ p → AreInOrder os → exponents_in os ≡ o
+pub of_number : ReducedLaw → (p o : Exponents) (ps os : Powers) → AreInOrder ps → exponents_in ps ≡ p → AreInOrder os
+    → exponents_in os ≡ o
     → ps ≡ [] → Some o ≡ product_exponents p o
 of_number law p o ps os order is others also none =
     let left = list_of ps ps p order is refl in
     let right = list_of os os o others also refl in
-    sym (ap Some also) ∙ product_ok law Plain p o ps os os left right (right_alone Plain ps os os 0 others.kept none (sym (taken_plain os)))
+    sym (ap Some also)
+    ∙ product_ok law Plain p o ps os os left right
+    (right_alone Plain ps os os 0 others.kept none (sym (taken_plain os)))
 
+-- a list of length 0 is empty
 pub none_in : (es : Powers) → IsTrue (length es == 0) → es ≡ []
 none_in [] h = refl
 none_in (e ∷ es) h = let n : length (e ∷ es) ≡ 0 = grind (arith, nat_tests) in absurd (omega (arith, n))

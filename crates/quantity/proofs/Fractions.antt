@@ -1,5 +1,6 @@
 -- Exponents in lowest terms.
-use Rattle.std.proofs.Common.{◌≡◌, refl, sym, ap, subst, ◌∙◌, arith, ◌<◌, ◌*◌, Bool, true, false, cond, ℕ, ℤ, pos, negsuc, suc, zero, neg_ℤ, ◌+ℤ◌, ◌*ℤ◌, unsigned_abs, Option, Some, None, IsFalse, ◌==◌}
+use Rattle.std.proofs.Common.{◌≡◌, refl, sym, ap, subst, ◌∙◌, arith, ◌<◌, ◌*◌, Bool, true, false, cond, ℕ, ℤ, pos}
+use Rattle.std.proofs.Common.{negsuc, suc, zero, neg_ℤ, ◌+ℤ◌, ◌*ℤ◌, unsigned_abs, Option, Some, None, IsFalse, ◌==◌}
 use Rattle.std.specs.Int.{IsGcd}
 use Rattle.std.specs.Prelude.{unwrap_or}
 use Rattle.std.proofs.lemmas.Bool.Decides.{nat_tests}
@@ -10,6 +11,7 @@ use Rattle.frac128.specs.Steps.{ReducedLaw, reduced}
 use Rattle.frac128.specs.Sign.{is_zero}
 use Rattle.quantity.specs.Exponents.{exponent_product, exponent_sum}
 
+-- the exponent of a name that is absent
 abbrev pub nothing : Fraction
 nothing = whole (pos 0)
 
@@ -17,20 +19,26 @@ nothing = whole (pos 0)
 abbrev pub kept : Fraction → Option Fraction
 kept e = cond (is_zero e) None (Some e)
 
+-- it is in lowest terms
 pub nothing_reduced : IsReduced nothing
 nothing_reduced = record { positive = omega arith; lowest = (dvd-zero 1, dvd_refl 1, λ d p q. q) }
 
+-- so is each whole number
 pub whole_reduced : (n : ℤ) → IsReduced (whole n)
 whole_reduced n = record { positive = omega arith; lowest = (one-dvd (unsigned_abs n), dvd_refl 1, λ d p q. q) }
 
+-- the magnitude of a number with the other sign
 pub abs-neg : (n : ℤ) → unsigned_abs (neg_ℤ n) ≡ unsigned_abs n
 abs-neg (pos zero) = refl
 abs-neg (pos (suc n)) = refl
 abs-neg (negsuc n) = refl
 
+-- the other sign leaves lowest terms
 pub negated_reduced : (e : Fraction) → IsReduced e → IsReduced (negated e)
-negated_reduced e is = record { positive = is.positive; lowest = subst (λ n. IsGcd n e.den 1) (sym (abs-neg e.num)) is.lowest }
+negated_reduced e is =
+    record { positive = is.positive; lowest = subst (λ n. IsGcd n e.den 1) (sym (abs-neg e.num)) is.lowest }
 
+-- and whether the exponent is 0
 pub negated_zero : (e : Fraction) → is_zero (negated e) ≡ is_zero e
 negated_zero e = ap (λ n. n == 0) (abs-neg e.num)
 
@@ -44,7 +52,8 @@ zero_is e is none = go e.num e.den is.lowest none
     not_zero : (n : ℕ) → (suc n == 0) ≡ true → ⊥
     not_zero n e = grind (arith, nat_tests)
 
-    go : (n : ℤ) (d : ℕ) → IsGcd (unsigned_abs n) d 1 → (unsigned_abs n == 0) ≡ true → record { num = n; den = d } ≡ nothing
+    go : (n : ℤ) (d : ℕ) → IsGcd (unsigned_abs n) d 1 → (unsigned_abs n == 0) ≡ true
+        → record { num = n; den = d } ≡ nothing
     go (pos zero) d h e = ap (λ d. record { num = pos 0; den = d }) (den_one d h)
     go (pos (suc n)) d h e = absurd (not_zero n e)
     go (negsuc n) d h e = absurd (not_zero n e)
@@ -57,6 +66,7 @@ unwrap_kept e is = go (is_zero e) refl
     go true none = sym (zero_is e is none)
     go false some = refl
 
+-- an exponent that is not 0 is kept
 pub some_kept : (e : Fraction) → IsFalse (is_zero e) → kept e ≡ Some e
 some_kept e some = ap (λ z. cond z None (Some e)) some
 
@@ -94,4 +104,5 @@ module _ (law : ReducedLaw) where
       let num : pos 0 *ℤ by.num ≡ pos 0 = zero-*ℤ by.num in
       let den : 1 * by.den ≡ by.den = omega arith in
       let same : SameValue nothing (record { num = pos 0; den = by.den }) = zero-*ℤ (pos by.den) in
-      ap (λ z. reduced z (1 * by.den)) num ∙ ap (reduced (pos 0)) den ∙ sym ((law (pos 0) by.den some).2 nothing nothing_reduced same)
+      ap (λ z. reduced z (1 * by.den)) num ∙ ap (reduced (pos 0)) den
+      ∙ sym ((law (pos 0) by.den some).2 nothing nothing_reduced same)

@@ -1,5 +1,6 @@
 -- Lists in order as the exponents that a function gives names.
-use Rattle.std.proofs.Common.{◌≡◌, refl, sym, ap, subst, ◌∙◌, Bool, true, false, cond, not, ◌&&◌, ◌||◌, T, ℕ, List, [], ◌∷◌, map, inl, inr, Option, None, Some, filter, ◌≤◌, unsigned_abs, nat_le, arith}
+use Rattle.std.proofs.Common.{◌≡◌, refl, sym, ap, subst, ◌∙◌, Bool, true, false, cond, not, ◌&&◌, ◌||◌, T, ℕ, List, []}
+use Rattle.std.proofs.Common.{◌∷◌, map, inl, inr, Option, None, Some, filter, ◌≤◌, unsigned_abs, nat_le, arith}
 use Rattle.std.specs.Prelude.{unwrap_or}
 use Rattle.std.specs.Cmp.{first_so, second_so}
 use Rattle.std.specs.Cmp.Lexicographic.{nat_list_cmp_total}
@@ -23,12 +24,15 @@ abbrev given : (Name → Fraction) → List Name → Powers
 given f names = filter (λ e. not (is_zero e.1)) (map (λ n. (n, f n)) names)
 
 -- a look-up passes over another name, and ends at its own
-pub past : (q n : Name) (v : Fraction) (es : Powers) → is_name q n ≡ false → find by_bytes q ((n, v) ∷ es) ≡ find by_bytes q es
+pub past : (q n : Name) (v : Fraction) (es : Powers) → is_name q n ≡ false
+    → find by_bytes q ((n, v) ∷ es) ≡ find by_bytes q es
 past q n v es other = ap (λ b. cond b (Some v) (find by_bytes q es)) other
 
+-- a name is found where it stands first
 pub here : (q : Name) (v : Fraction) (es : Powers) → find by_bytes q ((q, v) ∷ es) ≡ Some v
 here q v es = ap (λ b. cond b (Some v) (find by_bytes q es)) (is_itself q)
 
+-- a choice between nothing and nothing is nothing
 none_at : (b : Bool) (v : Option Fraction) → v ≡ None → cond b v None ≡ None
 none_at true v e = e
 none_at false v e = refl
@@ -40,12 +44,17 @@ find-given f [] q = refl
 find-given f (n ∷ ns) q =
     let rest = find-given f ns q in
     elim (one_or_two q n) [
-      | inl same ↦ subst (λ m. find by_bytes q (cond (not (is_zero (f m))) ((m, f m) ∷ given f ns) (given f ns)) ≡ cond (is_name q m || list_any (is_name q) ns) (kept (f q)) None) same (own (is_zero (f q)) refl rest)
-      | inr other ↦ another (is_zero (f n)) other ∙ rest ∙ ap (λ b. cond (b || list_any (is_name q) ns) (kept (f q)) None) (sym other)
+      | inl same ↦ subst
+          (λ m. find by_bytes q (cond (not (is_zero (f m))) ((m, f m) ∷ given f ns) (given f ns))
+          ≡ cond (is_name q m || list_any (is_name q) ns) (kept (f q)) None) same (own (is_zero (f q)) refl rest)
+      | inr other ↦ another (is_zero (f n)) other ∙ rest
+          ∙ ap (λ b. cond (b || list_any (is_name q) ns) (kept (f q)) None) (sym other)
     ]
   where
-    own : (z : Bool) → is_zero (f q) ≡ z → find by_bytes q (given f ns) ≡ cond (list_any (is_name q) ns) (kept (f q)) None
-        → find by_bytes q (cond (not (is_zero (f q))) ((q, f q) ∷ given f ns) (given f ns)) ≡ cond (is_name q q || list_any (is_name q) ns) (kept (f q)) None
+    own : (z : Bool) → is_zero (f q) ≡ z
+        → find by_bytes q (given f ns) ≡ cond (list_any (is_name q) ns) (kept (f q)) None
+        → find by_bytes q (cond (not (is_zero (f q))) ((q, f q) ∷ given f ns) (given f ns))
+        ≡ cond (is_name q q || list_any (is_name q) ns) (kept (f q)) None
     own true e rest =
         let gone : kept (f q) ≡ None = ap (λ z. cond z None (Some (f q))) e in
         ap (λ z. find by_bytes q (cond (not z) ((q, f q) ∷ given f ns) (given f ns))) e
@@ -71,15 +80,18 @@ pub get-exponents_by : (f : Name → Fraction) (names : List Name) (q : Name) �
     → map_of.get (exponents_by f names) q ≡ kept (f q)
 unfolding exponents_by
 get-exponents_by f names q is =
-    map_of.get-from_entries nat_list_cmp_total (given f names) q ∙ find-given f names q ∙ go (list_any (is_name q) names) refl
+    map_of.get-from_entries nat_list_cmp_total (given f names) q ∙ find-given f names q
+    ∙ go (list_any (is_name q) names) refl
   where
     go : (b : Bool) → list_any (is_name q) names ≡ b → cond b (kept (f q)) None ≡ kept (f q)
     go true e = refl
     go false e = sym (ap kept (is.others q e))
 
+-- the exponent of a name in the map of a function is the function's
 pub exponent_of-exponents_by : (f : Name → Fraction) (names : List Name) (q : Name) → GivesNames f names
     → exponent_of (exponents_by f names) q ≡ f q
-exponent_of-exponents_by f names q is = ap (λ o. unwrap_or o nothing) (get-exponents_by f names q is) ∙ unwrap_kept (f q) (is.reduced q)
+exponent_of-exponents_by f names q is = ap (λ o. unwrap_or o nothing) (get-exponents_by f names q is)
+    ∙ unwrap_kept (f q) (is.reduced q)
 
 -- a list in order has what a function gives
 pub record Lists (f : Name → Fraction) (es : Powers) : Type 0 where
@@ -94,9 +106,11 @@ listed_map f names es is lists = map_of.same_map nat_list_cmp_total same_name _ 
 
 -- ---- and one has an exponent out of range where the other has
 
+-- what is there twice is one
 some_same : (x v : Fraction) → Some x ≡ Some v → x ≡ v
 some_same x v e = cc
 
+-- what is kept of an exponent is the exponent
 kept_value : (e v : Fraction) → kept e ≡ Some v → e ≡ v
 kept_value e v = go (is_zero e)
   where
@@ -104,11 +118,14 @@ kept_value e v = go (is_zero e)
     go true h = absurd (cc)
     go false h = some_same e v h
 
+-- a test that each name passes all pass
 all_pass : (g : Name → Bool) (names : List Name) → ((q : Name) → g q ≡ true) → list_all g names ≡ true
 all_pass g [] h = refl
 all_pass g (n ∷ ns) h = ap (λ b. b && list_all g ns) (h n) ∙ all_pass g ns h
 
-one_fails : (g : Name → Bool) (names : List Name) (q : Name) → list_any (is_name q) names ≡ true → g q ≡ false → list_all g names ≡ false
+-- where one of them fails it, not all do
+one_fails : (g : Name → Bool) (names : List Name) (q : Name) → list_any (is_name q) names ≡ true → g q ≡ false
+    → list_all g names ≡ false
 one_fails g [] q there fails = absurd (cc)
 one_fails g (n ∷ ns) q there fails = elim (one_or_two q n) [
   | inl same ↦ ap (λ b. b && list_all g ns) (ap g (sym same) ∙ fails)
@@ -120,11 +137,14 @@ one_fails g (n ∷ ns) q there fails = elim (one_or_two q n) [
     none_left false h = refl
 
 -- what is found in a list of exponents is one
-found_exponent : (es : Powers) (q : Name) (v : Fraction) → are_exponents es ≡ true → find by_bytes q es ≡ Some v → is_exponent v ≡ true
+found_exponent : (es : Powers) (q : Name) (v : Fraction) → are_exponents es ≡ true → find by_bytes q es ≡ Some v
+    → is_exponent v ≡ true
 found_exponent [] q v all is = absurd (cc)
-found_exponent (e ∷ es) q v all is = go (is_name q e.0) is (λ rest. found_exponent es q v (second_so (is_exponent e.1) _ all) rest)
+found_exponent (e ∷ es) q v all is =
+    go (is_name q e.0) is (λ rest. found_exponent es q v (second_so (is_exponent e.1) _ all) rest)
   where
-    go : (b : Bool) → cond b (Some e.1) (find by_bytes q es) ≡ Some v → (find by_bytes q es ≡ Some v → is_exponent v ≡ true)
+    go : (b : Bool) → cond b (Some e.1) (find by_bytes q es) ≡ Some v
+        → (find by_bytes q es ≡ Some v → is_exponent v ≡ true)
         → is_exponent v ≡ true
     go true is rest = subst (λ x. is_exponent x ≡ true) (some_same e.1 v is) (first_so _ _ all)
     go false is rest = rest is
@@ -133,7 +153,8 @@ found_exponent (e ∷ es) q v all is = go (is_name q e.0) is (λ rest. found_exp
 found_behind : (e : Name × Fraction) (es : Powers) → T (is_sorted by_bytes (e ∷ es)) → (q : Name) (v : Fraction)
     → find by_bytes q es ≡ Some v → find by_bytes q (e ∷ es) ≡ Some v
 found_behind e es sorted q v found = elim (one_or_two q e.0) [
-  | inl same ↦ (let gone : find by_bytes q es ≡ None = ap (λ k. find by_bytes k es) same ∙ find_below e.0 es (first _ _ sorted) in absurd (cc))
+  | inl same ↦ (let gone : find by_bytes q es ≡ None = ap (λ k. find by_bytes k es) same
+      ∙ find_below e.0 es (first _ _ sorted) in absurd (cc))
   | inr other ↦ past q e.0 e.1 es other ∙ found
 ]
 
@@ -144,7 +165,8 @@ found_fault [] sorted some = absurd (cc)
 found_fault (e ∷ es) sorted some = go (is_exponent e.1) refl some (λ rest. found_fault es (second _ _ sorted) rest)
   where
     go : (b : Bool) → is_exponent e.1 ≡ b → (b && are_exponents es) ≡ false
-        → (are_exponents es ≡ false → (q : Name) × (v : Fraction) × (find by_bytes q es ≡ Some v) × (is_exponent v ≡ false))
+        → (are_exponents es ≡ false → (q : Name) × (v : Fraction) × (find by_bytes q es ≡ Some v)
+        × (is_exponent v ≡ false))
         → (q : Name) × (v : Fraction) × (find by_bytes q (e ∷ es) ≡ Some v) × (is_exponent v ≡ false)
     go true is some rest =
         let fault = rest some in
@@ -165,11 +187,14 @@ listed_range f names es is lists = go (are_exponents es) refl
     outside q v found fails =
         let same : kept (f q) ≡ Some v = sym (lists.found q) ∙ found in
         let value : f q ≡ v = kept_value (f q) v same in
-        one_fails (λ q. is_exponent (f q)) names q (there (list_any (is_name q) names) refl value fails) (ap is_exponent value ∙ fails)
+        one_fails (λ q. is_exponent (f q)) names q (there (list_any (is_name q) names) refl value fails)
+        (ap is_exponent value ∙ fails)
       where
-        there : (b : Bool) → list_any (is_name q) names ≡ b → f q ≡ v → is_exponent v ≡ false → list_any (is_name q) names ≡ true
+        there : (b : Bool) → list_any (is_name q) names ≡ b → f q ≡ v → is_exponent v ≡ false
+            → list_any (is_name q) names ≡ true
         there true e value fails = e
-        there false e value fails = let zero : v ≡ nothing = sym value ∙ is.others q e in absurd (cc (ap is_exponent zero))
+        there false e value fails = let zero : v ≡ nothing =
+            sym value ∙ is.others q e in absurd (cc (ap is_exponent zero))
 
     go : (b : Bool) → are_exponents es ≡ b → are_exponents es ≡ list_all (λ q. is_exponent (f q)) names
     go true all = all ∙ sym (all_pass (λ q. is_exponent (f q)) names (λ q. inside all q (is_zero (f q)) refl))
@@ -179,6 +204,7 @@ listed_range f names es is lists = go (are_exponents es) refl
 
 -- ---- each of its powers is one of the program
 
+-- what follows from a property of each holds of each
 weaker : (P Q : Name × Fraction → Type 0) (es : Powers) → ((e : Name × Fraction) → P e → Q e) → Each P es → Each Q es
 weaker P Q [] h all = tt
 weaker P Q (e ∷ es) h all = (h e all.0, weaker P Q es h all.1)
@@ -186,11 +212,16 @@ weaker P Q (e ∷ es) h all = (h e all.0, weaker P Q es h all.1)
 -- each power of a list in order is found under its name
 all_found : (es : Powers) → T (is_sorted by_bytes es) → Each (λ e. find by_bytes e.0 es ≡ Some e.1) es
 all_found [] sorted = tt
-all_found (e ∷ es) sorted = (here e.0 e.1 es, weaker _ _ es (λ d found. found_behind e es sorted d.0 d.1 found) (all_found es (second _ _ sorted)))
+all_found (e ∷ es) sorted = (
+  here e.0 e.1 es,
+  weaker _ _ es (λ d found. found_behind e es sorted d.0 d.1 found) (all_found es (second _ _ sorted)),
+)
 
+-- a number that is found to be at most another is
 within : (m n : ℕ) → nat_le m n ≡ true → m ≤ n
 within m n h = grind (arith, nat_tests)
 
+-- a fraction in lowest terms that is found to be in range is an exponent
 exponent_fits : (e : Fraction) → IsReduced e → is_exponent e ≡ true → IsExponent e
 exponent_fits e is h = record {
   reduced = is;
@@ -198,11 +229,14 @@ exponent_fits e is h = record {
   den_fits = within _ _ (second_so (nat_le (unsigned_abs e.num) 32767) (nat_le e.den 60) h);
 }
 
-pub all_kept : (f : Name → Fraction) (names : List Name) (es : Powers) → GivesNames f names → Lists f es → are_exponents es ≡ true
+-- powers that list the exponents of names are powers of the program where they are in range
+pub all_kept : (f : Name → Fraction) (names : List Name) (es : Powers) → GivesNames f names → Lists f es
+    → are_exponents es ≡ true
     → Each IsPower es
 all_kept f names es is lists all = go es (all_found es lists.sorted) all
   where
-    some_is : (q : Name) (v : Fraction) (z : Bool) → is_zero (f q) ≡ z → cond z None (Some (f q)) ≡ Some v → is_zero v ≡ false
+    some_is : (q : Name) (v : Fraction) (z : Bool) → is_zero (f q) ≡ z → cond z None (Some (f q)) ≡ Some v
+        → is_zero v ≡ false
     some_is q v true e h = absurd (cc)
     some_is q v false e h = ap is_zero (sym (some_same (f q) v h)) ∙ e
 

@@ -1,5 +1,6 @@
 -- Lists of powers that match.
-use Rattle.std.proofs.Common.{◌≡◌, refl, sym, ap, ap₂, subst, ◌∙◌, arith, Bool, true, false, cond, ◌&&◌, ◌==◌, T, ℕ, [], ◌∷◌, map, Some, nat_eq, ◌↔◌}
+use Rattle.std.proofs.Common.{◌≡◌, refl, sym, ap, ap₂, subst, ◌∙◌, arith, Bool, true, false, cond, ◌&&◌, ◌==◌, T, ℕ, []}
+use Rattle.std.proofs.Common.{◌∷◌, map, Some, nat_eq, ◌↔◌}
 use Rattle.std.specs.Prelude.{unwrap_or}
 use Rattle.std.specs.Cmp.{first_so, second_so}
 use Rattle.std.specs.Cmp.Lexicographic.{bytes_decides, nat_list_cmp_total, pointwise}
@@ -11,37 +12,45 @@ use Rattle.std.proofs.lemmas.Bool.Decides.{Decides-int_eq, nat_tests}
 use Rattle.std.proofs.lemmas.List.Elements.{recursion_from_All}
 use Rattle.frac128.specs.Fraction.{Fraction, negated}
 use Rattle.quantity.specs.Amount.{ConformLaw, conform, matches, same}
-use Rattle.quantity.specs.Exponents.{AreKept, Exponents, IsPower, SameExponentsLaw, exponent_of}
-use Rattle.quantity.specs.Merges.{Powers, taken}
+use Rattle.quantity.specs.Exponents.{AreExponents, Exponents, IsPower, SameExponentsLaw, exponent_of}
+use Rattle.quantity.specs.Merges.{Powers, power_by}
 use Rattle.quantity.proofs.Fractions.{kept, negated_zero, nothing, some_kept}
 use Rattle.quantity.proofs.Listed.{at}
 use Rattle.quantity.proofs.Merged.{find-at, sorted-map}
 use Rattle.quantity.proofs.Names.{Name, by_bytes, is_name, same_name}
 
+-- a number is found to be itself
 num_self : (n : ℕ) → (n == n) ≡ true
 num_self n = grind (arith, nat_tests)
 
+-- numbers that are found equal are one
 num_is : (m n : ℕ) → (m == n) ≡ true → m ≡ n
 num_is m n h = grind (arith, nat_tests)
 
+-- so are fractions
 same_is : (x y : Fraction) → same x y ≡ true → x ≡ y
 same_is x y h =
     let num : x.num ≡ y.num = (Decides-int_eq x.num y.num).0 (first_so _ _ h) in
     let den : x.den ≡ y.den = num_is x.den y.den (second_so (int_eq x.num y.num) _ h) in
     ap (λ n. record { num = n; den = x.den }) num ∙ ap (λ d. record { num = y.num; den = d }) den
 
+-- a fraction is found to be itself
 same_self : (x : Fraction) → same x x ≡ true
 same_self x = ap (λ b. b && (x.den == x.den)) ((Decides-int_eq x.num x.num).1 refl) ∙ num_self x.den
 
+-- so is a name
 name_self : (n : Name) → pointwise nat_eq n n ≡ true
 name_self n = (bytes_decides n n).1 refl
 
 -- ---- equal lists
 
+-- powers match themselves
 matches_self : (es : Powers) → matches (λ e. e) es es ≡ true
 matches_self [] = refl
-matches_self (e ∷ es) = ap₂ (λ a b. (a && b) && matches (λ e. e) es es) (name_self e.0) (same_self e.1) ∙ matches_self es
+matches_self (e ∷ es) = ap₂ (λ a b. (a && b) && matches (λ e. e) es es) (name_self e.0) (same_self e.1)
+    ∙ matches_self es
 
+-- powers that match are equal
 matches_is : (es fs : Powers) → matches (λ e. e) es fs ≡ true → es ≡ fs
 matches_is [] [] h = refl
 matches_is [] (f ∷ fs) h = absurd (cc)
@@ -62,6 +71,7 @@ conform_is p o = (
 
 -- ---- opposite lists
 
+-- where powers match with the other sign, each exponent has it
 opposite_at : (ps os : Powers) (q : Name) → matches negated ps os ≡ true → at ps q ≡ negated (at os q)
 opposite_at [] [] q h = refl
 opposite_at [] (o ∷ os) q h = absurd (cc)
@@ -71,68 +81,85 @@ opposite_at (p ∷ ps) (o ∷ os) q h =
     let name : p.0 ≡ o.0 = (bytes_decides p.0 o.0).0 (first_so _ _ front) in
     let value : p.1 ≡ negated o.1 = same_is p.1 (negated o.1) (second_so (pointwise nat_eq p.0 o.0) _ front) in
     let rest = opposite_at ps os q (second_so (pointwise nat_eq p.0 o.0 && same p.1 (negated o.1)) _ h) in
-    subst (λ n. at (p ∷ ps) q ≡ negated (unwrap_or (cond (is_name q n) (Some o.1) (find by_bytes q os)) nothing)) name (go (is_name q p.0) value rest)
+    subst (λ n. at (p ∷ ps) q ≡ negated (unwrap_or (cond (is_name q n) (Some o.1) (find by_bytes q os)) nothing)) name
+    (go (is_name q p.0) value rest)
   where
     go : (b : Bool) → p.1 ≡ negated o.1 → at ps q ≡ negated (at os q)
-        → unwrap_or (cond b (Some p.1) (find by_bytes q ps)) nothing ≡ negated (unwrap_or (cond b (Some o.1) (find by_bytes q os)) nothing)
+        → unwrap_or (cond b (Some p.1) (find by_bytes q ps)) nothing
+        ≡ negated (unwrap_or (cond b (Some o.1) (find by_bytes q os)) nothing)
     go true value rest = value
     go false value rest = rest
 
-find-negated : (os : Powers) (q : Name) → Each IsPower os → find by_bytes q (map (taken negated) os) ≡ kept (negated (at os q))
+-- what is found among powers with the other sign
+find-negated : (os : Powers) (q : Name) → Each IsPower os
+    → find by_bytes q (map (power_by negated) os) ≡ kept (negated (at os q))
 find-negated [] q all = refl
 find-negated (o ∷ os) q all = go (is_name q o.0) (find-negated os q all.1)
   where
-    go : (b : Bool) → find by_bytes q (map (taken negated) os) ≡ kept (negated (at os q))
-        → cond b (Some (negated o.1)) (find by_bytes q (map (taken negated) os)) ≡ kept (negated (unwrap_or (cond b (Some o.1) (find by_bytes q os)) nothing))
+    go : (b : Bool) → find by_bytes q (map (power_by negated) os) ≡ kept (negated (at os q))
+        → cond b (Some (negated o.1)) (find by_bytes q (map (power_by negated) os))
+        ≡ kept (negated (unwrap_or (cond b (Some o.1) (find by_bytes q os)) nothing))
     go true rest = sym (some_kept (negated o.1) (negated_zero o.1 ∙ all.0.some))
     go false rest = rest
 
-matches_negated : (os : Powers) → matches negated (map (taken negated) os) os ≡ true
+-- powers with the other sign match so
+matches_negated : (os : Powers) → matches negated (map (power_by negated) os) os ≡ true
 matches_negated [] = refl
 matches_negated (o ∷ os) =
-    ap₂ (λ a b. (a && b) && matches negated (map (taken negated) os) os) (name_self o.0) (same_self (negated o.1))
+    ap₂ (λ a b. (a && b) && matches negated (map (power_by negated) os) os) (name_self o.0) (same_self (negated o.1))
     ∙ matches_negated os
 
 -- lists in order match by the negative of each exponent where the maps give them so
-pub opposite_is : (ps os : Powers) → T (is_sorted by_bytes ps) → T (is_sorted by_bytes os) → Each IsPower ps → Each IsPower os
+pub opposite_is : (ps os : Powers) → T (is_sorted by_bytes ps) → T (is_sorted by_bytes os) → Each IsPower ps
+    → Each IsPower os
     → (matches negated ps os ≡ true) ↔ ((q : Name) → at ps q ≡ negated (at os q))
 opposite_is ps os sorted sorted_os all all_os = (
   λ h q. opposite_at ps os q h,
-  λ h. (let same : ps ≡ map (taken negated) os =
-      same_entries by_bytes nat_list_cmp_total same_name ps (map (taken negated) os) sorted (sorted-map negated os sorted_os)
+  λ h. (let same : ps ≡ map (power_by negated) os =
+      same_entries by_bytes nat_list_cmp_total same_name ps (map (power_by negated) os) sorted
+      (sorted-map negated os sorted_os)
       (λ q. find-at ps q all ∙ ap kept (h q) ∙ sym (find-negated os q all_os)) in
       subst (λ es. matches negated es os ≡ true) (sym same) (matches_negated os)),
 )
 
 -- ---- maps with the same exponents
 
+-- the exponent of a name is the one at it in the entries
 pub exponent_at : (m : Exponents) (q : Name) → exponent_of m q ≡ at (map_of.entries m) q
 exponent_at m q = ap (λ o. unwrap_or o nothing) (map_of.get-entries m q)
 
+-- what a map has for a name is its exponent where that is not 0
 get_kept : (m : Exponents) (q : Name) → Each IsPower (map_of.entries m) → map_of.get m q ≡ kept (exponent_of m q)
 get_kept m q all = map_of.get-entries m q ∙ find-at (map_of.entries m) q all ∙ ap kept (sym (exponent_at m q))
 
+-- the law of equal exponents
 pub same_exponents_law : SameExponentsLaw
 same_exponents_law p o all all_o same =
     map_of.same_map nat_list_cmp_total same_name p o (λ q.
-    get_kept p q (recursion_from_All IsPower _ all) ∙ ap kept (same q) ∙ sym (get_kept o q (recursion_from_All IsPower _ all_o)))
+    get_kept p q (recursion_from_All IsPower _ all) ∙ ap kept (same q)
+    ∙ sym (get_kept o q (recursion_from_All IsPower _ all_o)))
 
 -- each exponent of a map is the negative of the other's where the lists match so
-pub reciprocal_is : (p o : Exponents) → AreKept p → AreKept o
-    → (matches negated (map_of.entries p) (map_of.entries o) ≡ true) ↔ ((q : Name) → exponent_of p q ≡ negated (exponent_of o q))
+pub reciprocal_is : (p o : Exponents) → AreExponents p → AreExponents o
+    → (matches negated (map_of.entries p) (map_of.entries o) ≡ true)
+    ↔ ((q : Name) → exponent_of p q ≡ negated (exponent_of o q))
 reciprocal_is p o all all_o =
     let both =
-    opposite_is (map_of.entries p) (map_of.entries o) (map_of.entries_sorted p) (map_of.entries_sorted o) (recursion_from_All IsPower _ all) (recursion_from_All IsPower _ all_o) in (
+    opposite_is (map_of.entries p) (map_of.entries o) (map_of.entries_sorted p) (map_of.entries_sorted o)
+    (recursion_from_All IsPower _ all) (recursion_from_All IsPower _ all_o) in (
       λ h q. exponent_at p q ∙ both.0 h q ∙ ap negated (sym (exponent_at o q)),
       λ h. both.1 (λ q. sym (exponent_at p q) ∙ h q ∙ ap negated (exponent_at o q)),
     )
 
 -- maps conform where each name has one exponent in both
-pub conform_names : (p o : Exponents) → AreKept p → AreKept o → (conform p o ≡ true) ↔ ((q : Name) → exponent_of p q ≡ exponent_of o q)
+pub conform_names : (p o : Exponents) → AreExponents p → AreExponents o
+    → (conform p o ≡ true) ↔ ((q : Name) → exponent_of p q ≡ exponent_of o q)
 conform_names p o all all_o = (
   λ h q. ap (λ m. exponent_of m q) ((conform_is p o).0 h),
   λ h. (conform_is p o).1 (same_exponents_law p o all all_o h),
 )
 
+-- the law of what conforms
 pub conform_law : ConformLaw
-conform_law p o all all_o = record { conforming = conform_names p o all all_o; reciprocal = reciprocal_is p o all all_o }
+conform_law p o all all_o =
+    record { conforming = conform_names p o all all_o; reciprocal = reciprocal_is p o all all_o }

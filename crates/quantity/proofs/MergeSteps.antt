@@ -1,5 +1,6 @@
 -- The merge step by step.
-use Rattle.std.proofs.Common.{◌≡◌, refl, sym, ap, ap₂, subst, ◌∙◌, arith, append_assoc, Bool, true, false, cond, ◌&&◌, ℕ, [], ◌∷◌, ◌++◌, ◌≤◌, All, IsTrue, IsFalse, unsigned_abs, nat_le, Err}
+use Rattle.std.proofs.Common.{◌≡◌, refl, sym, ap, ap₂, subst, ◌∙◌, arith, append_assoc, Bool, true, false, cond, ◌&&◌}
+use Rattle.std.proofs.Common.{ℕ, [], ◌∷◌, ◌++◌, ◌≤◌, All, IsTrue, IsFalse, unsigned_abs, nat_le, Err}
 use Rattle.std.specs.Cmp.{first_so, second_so}
 use Rattle.std.specs.Ordering.{match_ordering}
 use Rattle.std.specs.declared.cmp.Ordering.{Ordering}
@@ -11,7 +12,7 @@ use Rattle.frac128.specs.Fraction.{Fraction, IsReduced}
 use Rattle.frac128.specs.Steps.{ReducedLaw}
 use Rattle.frac128.specs.Sign.{is_zero}
 use Rattle.quantity.specs.Exponents.{IsExponent, IsPower, exponent_sum, is_exponent}
-use Rattle.quantity.specs.Merges.{IsListed, IsPut, Powers, are_exponents, first_of, merged, put_some, taken}
+use Rattle.quantity.specs.Merges.{IsListed, IsPut, Powers, are_exponents, first_of, merged, put_some, power_by}
 use Rattle.quantity.specs.declared.fault.ExponentFault.{ExponentFault}
 use Rattle.quantity.specs.declared.fault.ExponentFault.TheVariants.{Range, OutOfMemory}
 use Rattle.quantity.specs.declared.merging.First.TheVariants.{Neither, Left, Right, Both}
@@ -21,38 +22,48 @@ use Rattle.quantity.proofs.Names.{Name, by_bytes}
 
 -- ---- what stands at the front of a merge
 
+-- where the first of the left comes first, it stands first
 merged_left : (step : Fraction → Fraction) (p : Name × Fraction) (ps os : Powers) → first_of (p ∷ ps) os ≡ Left
     → merged step (p ∷ ps) os ≡ p ∷ merged step ps os
 merged_left step p ps [] h = refl
 merged_left step p ps (o ∷ os) h = go (by_bytes p.0 o.0) h
   where
     go : (r : Ordering) → match_ordering r Left Both Right ≡ Left
-        → match_ordering r (p ∷ merged step ps (o ∷ os)) (put_some (p.0, exponent_sum p.1 (step o.1)) (merged step ps os)) (taken step o ∷ merged step (p ∷ ps) os) ≡ p ∷ merged step ps (o ∷ os)
+        → match_ordering r (p ∷ merged step ps (o ∷ os))
+        (put_some (p.0, exponent_sum p.1 (step o.1)) (merged step ps os)) (power_by step o ∷ merged step (p ∷ ps) os)
+        ≡ p ∷ merged step ps (o ∷ os)
     go Less h = refl
     go Equal h = cc
     go Greater h = cc
 
+-- where the first of the right does, it stands first as the step takes it
 merged_right : (step : Fraction → Fraction) (o : Name × Fraction) (ps os : Powers) → first_of ps (o ∷ os) ≡ Right
-    → merged step ps (o ∷ os) ≡ taken step o ∷ merged step ps os
+    → merged step ps (o ∷ os) ≡ power_by step o ∷ merged step ps os
 merged_right step o [] os h = refl
 merged_right step o (p ∷ ps) os h = go (by_bytes p.0 o.0) h
   where
     go : (r : Ordering) → match_ordering r Left Both Right ≡ Right
-        → match_ordering r (p ∷ merged step ps (o ∷ os)) (put_some (p.0, exponent_sum p.1 (step o.1)) (merged step ps os)) (taken step o ∷ merged step (p ∷ ps) os) ≡ taken step o ∷ merged step (p ∷ ps) os
+        → match_ordering r (p ∷ merged step ps (o ∷ os))
+        (put_some (p.0, exponent_sum p.1 (step o.1)) (merged step ps os)) (power_by step o ∷ merged step (p ∷ ps) os)
+        ≡ power_by step o ∷ merged step (p ∷ ps) os
     go Less h = cc
     go Equal h = cc
     go Greater h = refl
 
+-- where both have one name, the sum of their exponents does, unless it is 0
 merged_both : (step : Fraction → Fraction) (p o : Name × Fraction) (ps os : Powers) → first_of (p ∷ ps) (o ∷ os) ≡ Both
     → merged step (p ∷ ps) (o ∷ os) ≡ put_some (p.0, exponent_sum p.1 (step o.1)) (merged step ps os)
 merged_both step p o ps os h = go (by_bytes p.0 o.0) h
   where
     go : (r : Ordering) → match_ordering r Left Both Right ≡ Both
-        → match_ordering r (p ∷ merged step ps (o ∷ os)) (put_some (p.0, exponent_sum p.1 (step o.1)) (merged step ps os)) (taken step o ∷ merged step (p ∷ ps) os) ≡ put_some (p.0, exponent_sum p.1 (step o.1)) (merged step ps os)
+        → match_ordering r (p ∷ merged step ps (o ∷ os))
+        (put_some (p.0, exponent_sum p.1 (step o.1)) (merged step ps os)) (power_by step o ∷ merged step (p ∷ ps) os)
+        ≡ put_some (p.0, exponent_sum p.1 (step o.1)) (merged step ps os)
     go Less h = cc
     go Equal h = refl
     go Greater h = cc
 
+-- where both are empty, nothing is left
 merged_none : (step : Fraction → Fraction) (ps os : Powers) → first_of ps os ≡ Neither → merged step ps os ≡ []
 merged_none step [] [] h = refl
 merged_none step [] (o ∷ os) h = cc
@@ -66,18 +77,22 @@ merged_none step (p ∷ ps) (o ∷ os) h = go (by_bytes p.0 o.0) h
 
 -- ---- exponents in range
 
+-- a number that is at most another is found to be
 within : (m n : ℕ) → m ≤ n → nat_le m n ≡ true
 within m n h = grind (arith, nat_tests)
 
+-- an exponent is found to be in range
 pub exponent_passes : (e : Fraction) → IsExponent e → is_exponent e ≡ true
 exponent_passes e is = ap₂ (λ a b. a && b) (within (unsigned_abs e.num) 32767 is.num_fits) (within e.den 60 is.den_fits)
 
+-- one more exponent in range leaves all in range
 pub all_push : (out : Powers) (p : Name × Fraction) → are_exponents out ≡ true → is_exponent p.1 ≡ true
     → are_exponents (out ++ p ∷ []) ≡ true
 all_push [] p all fits = ap (λ b. b && true) fits
 all_push (e ∷ out) p all fits =
     ap₂ (λ a b. a && b) (first_so _ _ all) (all_push out p (second_so (is_exponent e.1) _ all) fits)
 
+-- so it does where it is 0 and not put
 pub all_put : (out : Powers) (p : Name × Fraction) → are_exponents out ≡ true → is_exponent p.1 ≡ true
     → are_exponents (out ++ put_some p []) ≡ true
 all_put out p all fits = go (is_zero p.1)
@@ -87,7 +102,8 @@ all_put out p all fits = go (is_zero p.1)
     go false = all_push out p all fits
 
 -- a list that goes on with a power out of range
-pub fault_after : (out : Powers) (p : Name × Fraction) (rest : Powers) → is_exponent p.1 ≡ false → are_exponents (out ++ p ∷ rest) ≡ false
+pub fault_after : (out : Powers) (p : Name × Fraction) (rest : Powers) → is_exponent p.1 ≡ false
+    → are_exponents (out ++ p ∷ rest) ≡ false
 fault_after [] p rest fails = ap (λ b. b && are_exponents rest) fails
 fault_after (e ∷ out) p rest fails = go (is_exponent e.1) (fault_after out p rest fails)
   where
@@ -124,42 +140,55 @@ pub record IsMerging (step : Fraction → Fraction) (ps os out left right : Powe
   pub left_kept : All IsPower left
   pub right_kept : All IsPower right
 
-pub merging_start : (step : Fraction → Fraction) (ps os : Powers) → All IsPower ps → All IsPower os → IsMerging step ps os [] ps os
+-- at the start nothing is merged, and both lists are left
+pub merging_start : (step : Fraction → Fraction) (ps os : Powers) → All IsPower ps → All IsPower os
+    → IsMerging step ps os [] ps os
 merging_start step ps os all all_os = record { done = refl; fits = refl; left_kept = all; right_kept = all_os }
 
+-- where nothing is left, all is merged
 pub merging_end : (step : Fraction → Fraction) (ps os out left right : Powers) → IsMerging step ps os out left right
     → first_of left right ≡ Neither
     → (out ≡ merged step ps os) × IsTrue (are_exponents (merged step ps os))
 merging_end step ps os out left right is none =
-    let all : out ≡ merged step ps os = sym (append-nil out) ∙ ap (λ es. out ++ es) (sym (merged_none step left right none)) ∙ is.done in
+    let all : out ≡ merged step ps os = sym (append-nil out)
+    ∙ ap (λ es. out ++ es) (sym (merged_none step left right none)) ∙ is.done in
     (all, ap are_exponents (sym all) ∙ is.fits)
 
+-- a power of the left goes behind what is merged
 pub merging_left : (step : Fraction → Fraction) (ps os out left right new rest : Powers) (p power : Name × Fraction)
     → IsMerging step ps os out left right
-    → Left ≡ first_of left right → left ≡ p ∷ rest → power ≡ p → new ≡ out ++ power ∷ [] → IsMerging step ps os new rest right
+    → Left ≡ first_of left right → left ≡ p ∷ rest → power ≡ p → new ≡ out ++ power ∷ []
+    → IsMerging step ps os new rest right
 merging_left step ps os out left right new rest p power is front parts same pushed =
     let order : first_of (p ∷ rest) right ≡ Left = ap (λ es. first_of es right) (sym parts) ∙ sym front in
     let all : All IsPower (p ∷ rest) = subst (All IsPower) parts is.left_kept in
     let now : new ≡ out ++ p ∷ [] = pushed ∙ ap (λ e. out ++ e ∷ []) same in
     record {
       done = ap (λ es. es ++ merged step rest right) now ∙ append_assoc out (p ∷ []) (merged step rest right)
-          ∙ ap (λ es. out ++ es) (sym (merged_left step p rest right order) ∙ ap (λ es. merged step es right) (sym parts)) ∙ is.done;
+          ∙ ap (λ es. out ++ es)
+          (sym (merged_left step p rest right order) ∙ ap (λ es. merged step es right) (sym parts)) ∙ is.done;
       fits = ap are_exponents now ∙ all_push out p is.fits (exponent_passes p.1 (All-head IsPower p rest all).exponent);
       left_kept = All-tail IsPower p rest all;
       right_kept = is.right_kept;
     }
 
+-- so does one of the right, as the step takes it
 pub merging_right : (step : Fraction → Fraction) (ps os out left right new rest : Powers) (o power : Name × Fraction)
     → IsStep step → IsMerging step ps os out left right
-    → Right ≡ first_of left right → right ≡ o ∷ rest → power ≡ taken step o → new ≡ out ++ power ∷ [] → IsMerging step ps os new left rest
+    → Right ≡ first_of left right → right ≡ o ∷ rest → power ≡ power_by step o → new ≡ out ++ power ∷ []
+    → IsMerging step ps os new left rest
 merging_right step ps os out left right new rest o power known is front parts same pushed =
     let order : first_of left (o ∷ rest) ≡ Right = ap (λ es. first_of left es) (sym parts) ∙ sym front in
     let all : All IsPower (o ∷ rest) = subst (All IsPower) parts is.right_kept in
-    let now : new ≡ out ++ taken step o ∷ [] = pushed ∙ ap (λ e. out ++ e ∷ []) same in
+    let now : new ≡ out ++ power_by step o ∷ [] = pushed ∙ ap (λ e. out ++ e ∷ []) same in
     record {
-      done = ap (λ es. es ++ merged step left rest) now ∙ append_assoc out (taken step o ∷ []) (merged step left rest)
-          ∙ ap (λ es. out ++ es) (sym (merged_right step o left rest order) ∙ ap (λ es. merged step left es) (sym parts)) ∙ is.done;
-      fits = ap are_exponents now ∙ all_push out (taken step o) is.fits (known.fits o.1 ∙ exponent_passes o.1 (All-head IsPower o rest all).exponent);
+      done = ap (λ es. es ++ merged step left rest) now
+          ∙ append_assoc out (power_by step o ∷ []) (merged step left rest)
+          ∙ ap (λ es. out ++ es)
+          (sym (merged_right step o left rest order) ∙ ap (λ es. merged step left es) (sym parts)) ∙ is.done;
+      fits = ap are_exponents now
+          ∙ all_push out (power_by step o) is.fits
+          (known.fits o.1 ∙ exponent_passes o.1 (All-head IsPower o rest all).exponent);
       left_kept = is.left_kept;
       right_kept = All-tail IsPower o rest all;
     }
@@ -170,10 +199,15 @@ both_next : (step : Fraction → Fraction) (ps os out left right left_rest right
     → Both ≡ first_of left right → left ≡ p ∷ left_rest → right ≡ o ∷ right_rest
     → out ++ put_some (p.0, exponent_sum p.1 (step o.1)) (merged step left_rest right_rest) ≡ merged step ps os
 both_next step ps os out left right left_rest right_rest p o is front left_parts right_parts =
-    let order : first_of (p ∷ left_rest) (o ∷ right_rest) ≡ Both = ap₂ first_of (sym left_parts) (sym right_parts) ∙ sym front in
-    ap (λ es. out ++ es) (sym (merged_both step p o left_rest right_rest order) ∙ ap₂ (merged step) (sym left_parts) (sym right_parts)) ∙ is.done
+    let order : first_of (p ∷ left_rest) (o ∷ right_rest) ≡ Both = ap₂ first_of (sym left_parts) (sym right_parts)
+    ∙ sym front in
+    ap (λ es. out ++ es)
+    (sym (merged_both step p o left_rest right_rest order) ∙ ap₂ (merged step) (sym left_parts) (sym right_parts))
+    ∙ is.done
 
-pub merging_both : (step : Fraction → Fraction) (ps os out left right new left_rest right_rest : Powers) (p o : Name × Fraction) (e : Fraction) → IsMerging step ps os out left right
+-- so does the sum of two
+pub merging_both : (step : Fraction → Fraction) (ps os out left right new left_rest right_rest : Powers)
+    (p o : Name × Fraction) (e : Fraction) → IsMerging step ps os out left right
     → Both ≡ first_of left right → left ≡ p ∷ left_rest → right ≡ o ∷ right_rest → e ≡ step o.1
     → (new ≡ out ++ put_some (p.0, exponent_sum p.1 e) []) × IsTrue (is_exponent (exponent_sum p.1 e))
     → IsMerging step ps os new left_rest right_rest
@@ -190,21 +224,29 @@ merging_both step ps os out left right new left_rest right_rest p o e is front l
       right_kept = All-tail IsPower o right_rest (subst (All IsPower) right_parts is.right_kept);
     }
 
+-- a sum out of range is one of all
 pub merging_fault : ReducedLaw
-    → (step : Fraction → Fraction) (ps os out left right left_rest right_rest : Powers) (p o : Name × Fraction) (e : Fraction)
+    → (step : Fraction → Fraction) (ps os out left right left_rest right_rest : Powers) (p o : Name × Fraction)
+    (e : Fraction)
     → IsStep step → IsMerging step ps os out left right
     → Both ≡ first_of left right → left ≡ p ∷ left_rest → right ≡ o ∷ right_rest → e ≡ step o.1
     → IsFalse (is_exponent (exponent_sum p.1 e)) → IsFalse (are_exponents (merged step ps os))
-merging_fault law step ps os out left right left_rest right_rest p o e known is front left_parts right_parts same fails =
+merging_fault law step ps os out left right left_rest right_rest p o e known is front left_parts right_parts same
+    fails =
     let p_kept = All-head IsPower p left_rest (subst (All IsPower) left_parts is.left_kept) in
     let o_kept = All-head IsPower o right_rest (subst (All IsPower) right_parts is.right_kept) in
-    let reduced = sum_reduced law p.1 (step o.1) p_kept.exponent.reduced.positive (known.reduced o.1 o_kept.exponent.reduced).positive in
-    ap are_exponents (sym (both_next step ps os out left right left_rest right_rest p o is front left_parts right_parts))
-    ∙ fault_stays out (p.0, exponent_sum p.1 (step o.1)) (merged step left_rest right_rest) reduced (ap (λ v. is_exponent (exponent_sum p.1 v)) (sym same) ∙ fails)
+    let reduced = sum_reduced law p.1 (step o.1) p_kept.exponent.reduced.positive
+    (known.reduced o.1 o_kept.exponent.reduced).positive in
+    ap are_exponents
+    (sym (both_next step ps os out left right left_rest right_rest p o is front left_parts right_parts))
+    ∙ fault_stays out (p.0, exponent_sum p.1 (step o.1)) (merged step left_rest right_rest) reduced
+    (ap (λ v. is_exponent (exponent_sum p.1 v)) (sym same) ∙ fails)
 
 -- ---- a refusal that is handed on
 
-pub handed_on : (out new expected : Powers) (power : Name × Fraction) (fault : ExponentFault) → IsPut (Err fault) out new power
+-- a fault of a put is that of the list
+pub handed_on : (out new expected : Powers) (power : Name × Fraction) (fault : ExponentFault)
+    → IsPut (Err fault) out new power
     → (IsFalse (is_exponent power.1) → IsFalse (are_exponents expected)) → IsListed (Err fault) expected
 handed_on out new expected power Range h show = show h
 handed_on out new expected power OutOfMemory h show = tt

@@ -1,5 +1,6 @@
 -- The byte order of names, and lists of powers in it.
-use Rattle.std.proofs.Common.{◌≡◌, refl, sym, ap, subst, ◌∙◌, Bool, true, false, cond, ◌&&◌, T, ℕ, List, [], ◌∷◌, ◌⊎◌, inl, inr, None, Some}
+use Rattle.std.proofs.Common.{◌≡◌, refl, sym, ap, subst, ◌∙◌, Bool, true, false, cond, ◌&&◌, T, ℕ, List, [], ◌∷◌, ◌⊎◌}
+use Rattle.std.proofs.Common.{inl, inr, None, Some}
 use Rattle.std.specs.Cmp.{tied_itself}
 use Rattle.std.specs.Cmp.Lexicographic.{slice_cmp, nat_list_cmp_total}
 use Rattle.std.specs.FinMap.{slice_cmp-IsAntisymmetric, nat_cmp-IsAntisymmetric}
@@ -9,18 +10,23 @@ use Rattle.std.specs.declared.cmp.Ordering.{Ordering}
 use Rattle.std.specs.declared.cmp.Ordering.TheVariants.{Less, Equal, Greater}
 use Rattle.quantity.specs.Merges.{Powers}
 
+-- a name, as its bytes
 abbrev pub Name : Type 0
 Name = List ℕ
 
+-- the order of bytes
 abbrev pub by_bytes : Name → Name → Ordering
 by_bytes = slice_cmp nat_cmp
 
+-- names that are equal by that order
 abbrev pub is_name : Name → Name → Bool
 is_name = eq_by_cmp by_bytes
 
+-- they are one
 pub same_name : (x y : Name) → by_bytes x y ≡ Equal → x ≡ y
 same_name = slice_cmp-IsAntisymmetric nat_cmp-IsAntisymmetric
 
+-- a name is equal to itself
 pub is_itself : (x : Name) → is_name x x ≡ true
 is_itself x = ap is_eq (tied_itself nat_list_cmp_total x)
 
@@ -32,23 +38,28 @@ one_or_two x y = elim (by_bytes x y) as (λ r. by_bytes x y ≡ r → (x ≡ y) 
   | Greater ↦ λ e. inr (ap is_eq e)
 ] refl
 
+-- two tests that hold hold together
 pub both : (a b : Bool) → T a → T b → T (a && b)
 both true b p q = q
 both false b p q = p
 
+-- and then the first does
 pub first : (a b : Bool) → T (a && b) → T a
 first true b p = tt
 first false b p = p
 
+-- and the second
 pub second : (a b : Bool) → T (a && b) → T b
 second true b p = p
 second false b p = absurd p
 
+-- an order that is found to be less is
 pub less : (r : Ordering) → T (is_lt r) → r ≡ Less
 less Less p = refl
 less Equal p = absurd p
 less Greater p = absurd p
 
+-- and the other way round
 pub is_less : (x y : Name) → by_bytes x y ≡ Less → T (is_lt (by_bytes x y))
 is_less x y e = subst (λ r. T (is_lt r)) (sym e) tt
 
@@ -57,12 +68,15 @@ pub turned : (x y : Name) → by_bytes x y ≡ Greater → by_bytes y x ≡ Less
 turned x y e = nat_list_cmp_total.antisymm y x ∙ ap ordering_reverse e
 
 -- a name below a name that is below all of a list
-pub below_less : (x y : Name) (es : Powers) → by_bytes x y ≡ Less → T (below_all by_bytes y es) → T (below_all by_bytes x es)
+pub below_less : (x y : Name) (es : Powers) → by_bytes x y ≡ Less → T (below_all by_bytes y es)
+    → T (below_all by_bytes x es)
 below_less x y [] p h = tt
 below_less x y (e ∷ es) p h =
-    both _ _ (is_less x e.0 (nat_list_cmp_total.trans x y e.0 p (less _ (first _ _ h)))) (below_less x y es p (second _ _ h))
+    both _ _ (is_less x e.0 (nat_list_cmp_total.trans x y e.0 p (less _ (first _ _ h))))
+    (below_less x y es p (second _ _ h))
 
 -- no name of a list is one below them all
 pub find_below : (q : Name) (es : Powers) → T (below_all by_bytes q es) → find by_bytes q es ≡ None
 find_below q [] h = refl
-find_below q (e ∷ es) h = ap (λ r. cond (is_eq r) (Some e.1) (find by_bytes q es)) (less _ (first _ _ h)) ∙ find_below q es (second _ _ h)
+find_below q (e ∷ es) h = ap (λ r. cond (is_eq r) (Some e.1) (find by_bytes q es)) (less _ (first _ _ h))
+    ∙ find_below q es (second _ _ h)

@@ -16,23 +16,31 @@ pub record IsScaling (by : Fraction) (all out rest : Powers) : Type 0 where
   pub kept : All IsPower rest
 
 -- the products of a power and of those behind it
-scaling_next : (by : Fraction) (all out rest more : Powers) (p : Name × Fraction) → IsScaling by all out rest → rest ≡ p ∷ more
+scaling_next : (by : Fraction) (all out rest more : Powers) (p : Name × Fraction) → IsScaling by all out rest
+    → rest ≡ p ∷ more
     → out ++ put_some (p.0, exponent_product p.1 by) (scaled by more) ≡ scaled by all
 scaling_next by all out rest more p is parts = ap (λ es. out ++ scaled by es) (sym parts) ∙ is.done
 
-pub scaling_more : (by : Fraction) (all out rest new more : Powers) (p : Name × Fraction) → IsScaling by all out rest → rest ≡ p ∷ more
-    → (new ≡ out ++ put_some (p.0, exponent_product p.1 by) []) × IsTrue (is_exponent (exponent_product p.1 by)) → IsScaling by all new more
+-- one more power goes behind what is scaled, unless its exponent becomes 0
+pub scaling_more : (by : Fraction) (all out rest new more : Powers) (p : Name × Fraction) → IsScaling by all out rest
+    → rest ≡ p ∷ more
+    → (new ≡ out ++ put_some (p.0, exponent_product p.1 by) []) × IsTrue (is_exponent (exponent_product p.1 by))
+    → IsScaling by all new more
 scaling_more by all out rest new more p is parts put = record {
-  done = ap (λ es. es ++ scaled by more) put.0 ∙ append_assoc out (put_some (p.0, exponent_product p.1 by) []) (scaled by more)
-      ∙ ap (λ es. out ++ es) (put_then (p.0, exponent_product p.1 by) (scaled by more)) ∙ scaling_next by all out rest more p is parts;
+  done = ap (λ es. es ++ scaled by more) put.0
+      ∙ append_assoc out (put_some (p.0, exponent_product p.1 by) []) (scaled by more)
+      ∙ ap (λ es. out ++ es) (put_then (p.0, exponent_product p.1 by) (scaled by more))
+      ∙ scaling_next by all out rest more p is parts;
   fits = ap are_exponents put.0 ∙ all_put out (p.0, exponent_product p.1 by) is.fits put.1;
   kept = All-tail IsPower p more (subst (All IsPower) parts is.kept);
 }
 
+-- a product out of range is one of all
 pub scaling_fault : ReducedLaw → (by : Fraction) (all out rest more : Powers) (p : Name × Fraction) → 0 < by.den
     → IsScaling by all out rest → rest ≡ p ∷ more
     → IsFalse (is_exponent (exponent_product p.1 by)) → IsFalse (are_exponents (scaled by all))
 scaling_fault law by all out rest more p some is parts fails =
     let kept = All-head IsPower p more (subst (All IsPower) parts is.kept) in
     ap are_exponents (sym (scaling_next by all out rest more p is parts))
-    ∙ fault_stays out (p.0, exponent_product p.1 by) (scaled by more) (product_reduced law p.1 by kept.exponent.reduced.positive some) fails
+    ∙ fault_stays out (p.0, exponent_product p.1 by) (scaled by more)
+    (product_reduced law p.1 by kept.exponent.reduced.positive some) fails

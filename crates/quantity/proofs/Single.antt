@@ -6,19 +6,23 @@ use Rattle.std.specs.FinMap.Entries.{put}
 use Rattle.std.proofs.Math.Nat.{dvd_refl}
 use Rattle.std.proofs.lemmas.List.Elements.{All-from_recursion}
 use Rattle.frac128.specs.Fraction.{Fraction, whole}
-use Rattle.quantity.specs.Exponents.{AreKept, Exponents, IsExponent, IsPower, exponent_of}
+use Rattle.quantity.specs.Exponents.{AreExponents, Exponents, IsExponent, IsPower, exponent_of}
 use Rattle.quantity.specs.Merges.{AreInOrder, Powers, exponents_in}
 use Rattle.quantity.proofs.Listed.{at}
 use Rattle.quantity.proofs.Matched.{exponent_at}
 use Rattle.quantity.proofs.Names.{Name, by_bytes, same_name}
 
+-- no powers are the empty map
 pub no_power : exponents_in [] ≡ map_of.empty
 no_power =
-    map_of.same_map nat_list_cmp_total same_name _ _ (λ q. map_of.get-from_sorted by_bytes [] q tt ∙ sym (map_of.get-empty by_bytes q))
+    map_of.same_map nat_list_cmp_total same_name _ _
+    (λ q. map_of.get-from_sorted by_bytes [] q tt ∙ sym (map_of.get-empty by_bytes q))
 
+-- the exponent of a name alone
 abbrev one : Fraction
 one = whole (pos 1)
 
+-- it is an exponent
 one_exponent : IsExponent one
 one_exponent = record {
   reduced = record { positive = omega arith; lowest = (dvd_refl 1, dvd_refl 1, λ d p q. p) };
@@ -26,12 +30,14 @@ one_exponent = record {
   den_fits = omega arith;
 }
 
+-- one power is in order
 pub one_in_order : (name : Name) → AreInOrder ((name, one) ∷ [])
 one_in_order name = record {
   sorted = tt;
   kept = All-from_recursion IsPower ((name, one) ∷ []) (record { exponent = one_exponent; some = refl }, tt);
 }
 
+-- the empty map has no entries
 no_entries : map_of.entries (map_of.empty {X = Fraction} {R = by_bytes}) ≡ []
 no_entries = nothing_in _ (sym (map_of.len-entries map_of.empty) ∙ map_of.len-empty by_bytes Fraction)
   where
@@ -39,6 +45,7 @@ no_entries = nothing_in _ (sym (map_of.len-entries map_of.empty) ∙ map_of.len-
     nothing_in [] h = refl
     nothing_in (e ∷ es) h = absurd (omega arith)
 
+-- one power is the map of one name
 pub one_power : (name : Name) → exponents_in ((name, one) ∷ []) ≡ map_of.insert map_of.empty name one
 one_power name = map_of.same_entries_map _ _ (
     map_of.entries-from_sorted by_bytes ((name, one) ∷ []) tt
@@ -46,19 +53,22 @@ one_power name = map_of.same_entries_map _ _ (
 
 -- ---- the list of a map
 
+-- powers in order are the entries of their map
 pub entries_in : (items : Powers) (m : Exponents) → AreInOrder items → exponents_in items ≡ m → map_of.entries m ≡ items
 entries_in items m order is = ap map_of.entries (sym is) ∙ map_of.entries-from_sorted by_bytes items order.sorted
 
+-- and as many
 pub len_in : (items : Powers) (m : Exponents) → AreInOrder items → exponents_in items ≡ m → length items ≡ map_of.len m
 len_in items m order is = ap length (sym (entries_in items m order is)) ∙ sym (map_of.len-entries m)
 
 -- a list in order is that of a map of the program
 pub record IsListOf (m : Exponents) (powers : Powers) : Type 0 where
   pub same : powers ≡ map_of.entries m
-  pub kept : AreKept m
+  pub kept : AreExponents m
 
 -- also behind a slice of it
-pub list_of : (items powers : Powers) (m : Exponents) → AreInOrder items → exponents_in items ≡ m → powers ≡ items → IsListOf m powers
+pub list_of : (items powers : Powers) (m : Exponents) → AreInOrder items → exponents_in items ≡ m → powers ≡ items
+    → IsListOf m powers
 list_of items powers m order is slice = record {
   same = slice ∙ sym (entries_in items m order is);
   kept = subst (All IsPower) (sym (entries_in items m order is)) order.kept;

@@ -1,27 +1,33 @@
 -- The names behind the slash.
-use Rattle.std.proofs.Common.{◌≡◌, refl, sym, ap, ◌∙◌, Bool, true, false, cond, ◌||◌, ◌++◌, ℕ, List, [], ◌∷◌, filter, flat_map, codes, append_assoc}
+use Rattle.std.proofs.Common.{◌≡◌, refl, sym, ap, ◌∙◌, Bool, true, false, cond, ◌||◌, ◌++◌, ℕ, List, [], ◌∷◌, filter}
+use Rattle.std.proofs.Common.{flat_map, codes, append_assoc}
 use Rattle.std.specs.List.{list_any}
 use Rattle.std.proofs.lemmas.List.{append-nil}
 use Rattle.quantity.specs.Merges.{Powers}
 use Rattle.quantity.specs.Text.{divisor_text, is_negative, is_positive, listed_text, power_text}
 
+-- where no exponent is negative, none is left
 filter_none : (es : Powers) → list_any is_negative es ≡ false → filter is_negative es ≡ []
 filter_none [] h = refl
 filter_none (e ∷ es) h = go (is_negative e) h (λ rest. filter_none es rest)
   where
-    go : (b : Bool) → (b || list_any is_negative es) ≡ false → (list_any is_negative es ≡ false → filter is_negative es ≡ [])
+    go : (b : Bool) → (b || list_any is_negative es) ≡ false
+        → (list_any is_negative es ≡ false → filter is_negative es ≡ [])
         → cond b (e ∷ filter is_negative es) (filter is_negative es) ≡ []
     go true h rest = cc
     go false h rest = rest h
 
+-- where one is, the names with such ones stand behind a slash
 filter_some : (es : Powers) → list_any is_negative es ≡ true
     → divisor_text (filter is_negative es) ≡ codes " /" ++ flat_map power_text (filter is_negative es)
 filter_some [] h = cc
 filter_some (e ∷ es) h = go (is_negative e) h (λ rest. filter_some es rest)
   where
     go : (b : Bool) → (b || list_any is_negative es) ≡ true
-        → (list_any is_negative es ≡ true → divisor_text (filter is_negative es) ≡ codes " /" ++ flat_map power_text (filter is_negative es))
-        → divisor_text (cond b (e ∷ filter is_negative es) (filter is_negative es)) ≡ codes " /" ++ flat_map power_text (cond b (e ∷ filter is_negative es) (filter is_negative es))
+        → (list_any is_negative es ≡ true
+        → divisor_text (filter is_negative es) ≡ codes " /" ++ flat_map power_text (filter is_negative es))
+        → divisor_text (cond b (e ∷ filter is_negative es) (filter is_negative es))
+        ≡ codes " /" ++ flat_map power_text (cond b (e ∷ filter is_negative es) (filter is_negative es))
     go true h rest = refl
     go false h rest = rest h
 
@@ -29,11 +35,14 @@ filter_some (e ∷ es) h = go (is_negative e) h (λ rest. filter_some es rest)
 pub listed_above : (text : List ℕ) (es : Powers) → list_any is_negative es ≡ false
     → text ++ flat_map power_text (filter is_positive es) ≡ text ++ listed_text es
 listed_above text es none =
-    ap (λ t. text ++ t) (sym (ap (λ ds. flat_map power_text (filter is_positive es) ++ divisor_text ds) (filter_none es none) ∙ append-nil _))
+    ap (λ t. text ++ t)
+    (sym (ap (λ ds. flat_map power_text (filter is_positive es) ++ divisor_text ds) (filter_none es none)
+    ∙ append-nil _))
 
 -- some do
 pub listed_below : (text : List ℕ) (es : Powers) → list_any is_negative es ≡ true
-    → ((text ++ flat_map power_text (filter is_positive es)) ++ codes " /") ++ flat_map power_text (filter is_negative es) ≡ text ++ listed_text es
+    → ((text ++ flat_map power_text (filter is_positive es)) ++ codes " /")
+    ++ flat_map power_text (filter is_negative es) ≡ text ++ listed_text es
 listed_below text es some =
     let above = flat_map power_text (filter is_positive es) in
     append_assoc (text ++ above) (codes " /") _ ∙ append_assoc text above _

@@ -1,5 +1,6 @@
 -- The exponents of products, quotients and powers.
-use Rattle.std.proofs.Common.{◌≡◌, refl, sym, ap, ap₂, subst, ◌∙◌, Bool, true, false, cond, ◌||◌, ◌&&◌, nat_le, List, [], ◌∷◌, ◌++◌, ◌<◌, Option, None, Some, is_some, Ok, Err, IsTrue, IsFalse}
+use Rattle.std.proofs.Common.{◌≡◌, refl, sym, ap, ap₂, subst, ◌∙◌, Bool, true, false, cond, ◌||◌, ◌&&◌, nat_le, List}
+use Rattle.std.proofs.Common.{[], ◌∷◌, ◌++◌, ◌<◌, Option, None, Some, is_some, Ok, Err, IsTrue, IsFalse}
 use Rattle.std.specs.Prelude.{unwrap_or}
 use Rattle.std.specs.FinMap as map_of
 use Rattle.std.specs.List.{list_all, list_any}
@@ -7,7 +8,8 @@ use Rattle.std.proofs.lemmas.List.Elements.{All-from_recursion, recursion_from_A
 use Rattle.frac128.specs.Fraction.{Fraction, IsReduced, negated}
 use Rattle.frac128.specs.Steps.{ReducedLaw}
 use Rattle.quantity.specs.Answers.{AreThose, ranged}
-use Rattle.quantity.specs.Exponents.{AreKept, Exponents, IsPower, exponent_of, exponent_product, exponent_sum, exponents_by, is_exponent, names_of}
+use Rattle.quantity.specs.Exponents.{AreExponents, Exponents, IsPower, exponent_of, exponent_product, exponent_sum}
+use Rattle.quantity.specs.Exponents.{exponents_by, is_exponent, names_of}
 use Rattle.quantity.specs.Factors.{exponent_in, exponents_with}
 use Rattle.quantity.specs.Merges.{AreInOrder, IsListed, Powers, are_exponents, exponents_in, merged, scaled}
 use Rattle.quantity.specs.Powers.{power_exponents}
@@ -16,7 +18,8 @@ use Rattle.quantity.specs.declared.factor.Factor.{Factor}
 use Rattle.quantity.specs.declared.factor.Factor.TheVariants.{Plain, Inverse}
 use Rattle.quantity.specs.declared.fault.ExponentFault.{ExponentFault}
 use Rattle.quantity.specs.declared.fault.ExponentFault.TheVariants.{Range, OutOfMemory}
-use Rattle.quantity.proofs.Fractions.{abs-neg, kept, negated_reduced, negated_zero, nothing, product_reduced, product_zero, sum_left, sum_reduced, nothing_reduced}
+use Rattle.quantity.proofs.Fractions.{abs-neg, kept, negated_reduced, negated_zero, nothing, product_reduced}
+use Rattle.quantity.proofs.Fractions.{product_zero, sum_left, sum_reduced, nothing_reduced}
 use Rattle.quantity.proofs.Listed.{GivesNames, Lists, all_kept, exponent_of-exponents_by, listed_map, listed_range}
 use Rattle.quantity.proofs.Matched.{exponent_at}
 use Rattle.quantity.proofs.Merged.{IsStep, at_reduced, find-merged, sorted-merged}
@@ -26,15 +29,19 @@ use Rattle.quantity.proofs.Scaled.{find-scaled, sorted-scaled}
 
 -- ---- what `ranged` answers
 
+-- exponents of which each is in range are a map
 ranged_ok : (f : Name → Fraction) (names : List Name) → list_all (λ q. is_exponent (f q)) names ≡ true
     → ranged f names ≡ Some (exponents_by f names)
 unfolding ranged
 ranged_ok f names h = ap (λ b. cond b (Some (exponents_by f names)) None) h
 
-ranged_none : (f : Name → Fraction) (names : List Name) → list_all (λ q. is_exponent (f q)) names ≡ false → ranged f names ≡ None
+-- where one is not, there is none
+ranged_none : (f : Name → Fraction) (names : List Name) → list_all (λ q. is_exponent (f q)) names ≡ false
+    → ranged f names ≡ None
 unfolding ranged
 ranged_none f names h = ap (λ b. cond b (Some (exponents_by f names)) None) h
 
+-- a map in range is the map of the function
 some_is : (f : Name → Fraction) (names : List Name) (r : Exponents) → ranged f names ≡ Some r → exponents_by f names ≡ r
 unfolding ranged
 some_is f names r h = go (list_all (λ q. is_exponent (f q)) names) h
@@ -48,18 +55,31 @@ pub record IsRanged (f : Name → Fraction) (names : List Name) (es : Powers) : 
   pub gives : GivesNames f names
   pub lists : Lists f es
 
-pub listed_order : (f : Name → Fraction) (names : List Name) (es : Powers) → IsRanged f names es → IsTrue (are_exponents es) → AreInOrder es
-listed_order f names es is all = record { sorted = is.lists.sorted; kept = All-from_recursion IsPower es (all_kept f names es is.gives is.lists all) }
+-- powers that list a function's exponents, all in range, are in order
+pub listed_order : (f : Name → Fraction) (names : List Name) (es : Powers) → IsRanged f names es
+    → IsTrue (are_exponents es) → AreInOrder es
+listed_order f names es is all =
+    record {
+      sorted = is.lists.sorted;
+      kept =
+          All-from_recursion IsPower es (all_kept f names es is.gives is.lists all);
+    }
 
-pub listed_ok : (f : Name → Fraction) (names : List Name) (es : Powers) → IsRanged f names es → IsTrue (are_exponents es)
+-- and are its map
+pub listed_ok : (f : Name → Fraction) (names : List Name) (es : Powers) → IsRanged f names es
+    → IsTrue (are_exponents es)
     → Some (exponents_in es) ≡ ranged f names
 listed_ok f names es is all =
-    ap Some (listed_map f names es is.gives is.lists) ∙ sym (ranged_ok f names (sym (listed_range f names es is.gives is.lists) ∙ all))
+    ap Some (listed_map f names es is.gives is.lists)
+    ∙ sym (ranged_ok f names (sym (listed_range f names es is.gives is.lists) ∙ all))
 
-pub listed_none : (f : Name → Fraction) (names : List Name) (es : Powers) → IsRanged f names es → IsFalse (are_exponents es)
+-- where not all are in range there is none
+pub listed_none : (f : Name → Fraction) (names : List Name) (es : Powers) → IsRanged f names es
+    → IsFalse (are_exponents es)
     → None ≡ ranged f names
 listed_none f names es is some = sym (ranged_none f names (sym (listed_range f names es is.gives is.lists) ∙ some))
 
+-- a fault of the list is that of the map
 pub listed_fault : (f : Name → Fraction) (names : List Name) (es : Powers) (fault : ExponentFault) → IsRanged f names es
     → IsListed (Err fault) es → AreThose (Err fault) (ranged f names)
 listed_fault f names es Range is listed = listed_none f names es is listed
@@ -67,6 +87,7 @@ listed_fault f names es OutOfMemory is listed = tt
 
 -- ---- the names of maps
 
+-- a name that is not among the keys has the exponent 0
 absent : (m : Exponents) (q : Name) → list_any (is_name q) (map_of.keys m) ≡ false → exponent_of m q ≡ nothing
 absent m q none = go (map_of.get m q) (map_of.contains_key-keys m q ∙ none)
   where
@@ -74,7 +95,9 @@ absent m q none = go (map_of.get m q) (map_of.contains_key-keys m q ∙ none)
     go None h = refl
     go (Some v) h = absurd (cc)
 
-any-append : (test : Name → Bool) (xs ys : List Name) → list_any test (xs ++ ys) ≡ (list_any test xs || list_any test ys)
+-- one of two lists passes where one of either does
+any-append : (test : Name → Bool) (xs ys : List Name)
+    → list_any test (xs ++ ys) ≡ (list_any test xs || list_any test ys)
 any-append test [] ys = refl
 any-append test (x ∷ xs) ys = go (test x) (any-append test xs ys)
   where
@@ -83,64 +106,89 @@ any-append test (x ∷ xs) ys = go (test x) (any-append test xs ys)
     go true h = refl
     go false h = h
 
+-- where neither holds, the first does not
 or_first : (a b : Bool) → (a || b) ≡ false → a ≡ false
 or_first true b h = absurd (cc)
 or_first false b h = refl
 
+-- nor does the second
 or_second : (a b : Bool) → (a || b) ≡ false → b ≡ false
 or_second true b h = absurd (cc)
 or_second false b h = h
 
-pub exponent_reduced : (m : Exponents) (q : Name) → AreKept m → IsReduced (exponent_of m q)
-exponent_reduced m q all = subst IsReduced (sym (exponent_at m q)) (at_reduced (map_of.entries m) q (recursion_from_All IsPower _ all))
+-- each exponent is in lowest terms
+pub exponent_reduced : (m : Exponents) (q : Name) → AreExponents m → IsReduced (exponent_of m q)
+exponent_reduced m q all =
+    subst IsReduced (sym (exponent_at m q)) (at_reduced (map_of.entries m) q (recursion_from_All IsPower _ all))
 
 -- ---- products and quotients
 
+-- an exponent as it is
 pub plain_step : IsStep (λ e. e)
 plain_step = record { reduced = λ e is. is; zero = λ e. refl; nothing = refl; fits = λ e. refl }
 
+-- an exponent with the other sign
 pub inverse_step : IsStep negated
-inverse_step = record { reduced = negated_reduced; zero = negated_zero; nothing = refl; fits = λ e. ap (λ n. nat_le n 32767 && nat_le e.den 60) (abs-neg e.num) }
+inverse_step = record {
+  reduced = negated_reduced;
+  zero = negated_zero;
+  nothing = refl;
+  fits =
+      λ e. ap (λ n. nat_le n 32767 && nat_le e.den 60) (abs-neg e.num);
+}
 
 -- either factor
 pub factor_step : (factor : Factor) → IsStep (exponent_in factor)
 factor_step Plain = plain_step
 factor_step Inverse = inverse_step
 
+-- the exponent of a name in a product or a quotient
 abbrev total : (Fraction → Fraction) → Exponents → Exponents → Name → Fraction
 total step p o q = exponent_sum (exponent_of p q) (step (exponent_of o q))
 
-total_gives : ReducedLaw → (step : Fraction → Fraction) (p o : Exponents) → IsStep step → AreKept p → AreKept o
+-- only names of the two have one that is not 0
+total_gives : ReducedLaw → (step : Fraction → Fraction) (p o : Exponents) → IsStep step → AreExponents p
+    → AreExponents o
     → GivesNames (total step p o) (names_of p o)
 total_gives law step p o is all all_o = record {
-  reduced = λ q. sum_reduced law (exponent_of p q) (step (exponent_of o q)) (exponent_reduced p q all).positive (is.reduced _ (exponent_reduced o q all_o)).positive;
+  reduced = λ q. sum_reduced law (exponent_of p q) (step (exponent_of o q)) (exponent_reduced p q all).positive
+      (is.reduced _ (exponent_reduced o q all_o)).positive;
   others = λ q none. others q (sym (any-append (is_name q) (map_of.keys p) (map_of.keys o)) ∙ none);
 }
   where
     others : (q : Name) → (list_any (is_name q) (map_of.keys p) || list_any (is_name q) (map_of.keys o)) ≡ false
         → total step p o q ≡ nothing
     others q none =
-        ap₂ (λ a b. exponent_sum a (step b)) (absent p q (or_first _ _ none)) (absent o q (or_second (list_any (is_name q) (map_of.keys p)) _ none))
+        ap₂ (λ a b. exponent_sum a (step b)) (absent p q (or_first _ _ none))
+        (absent o q (or_second (list_any (is_name q) (map_of.keys p)) _ none))
         ∙ ap (exponent_sum nothing) is.nothing ∙ sum_left law nothing nothing_reduced
 
-pub merged_ranged : ReducedLaw → (step : Fraction → Fraction) (p o : Exponents) → IsStep step → AreKept p → AreKept o
+-- merged powers list these exponents
+pub merged_ranged : ReducedLaw → (step : Fraction → Fraction) (p o : Exponents) → IsStep step → AreExponents p
+    → AreExponents o
     → IsRanged (total step p o) (names_of p o) (merged step (map_of.entries p) (map_of.entries o))
 merged_ranged law step p o is all all_o = record {
   gives = total_gives law step p o is all all_o;
   lists = record {
-    sorted = sorted-merged step (map_of.entries p) (map_of.entries o) (map_of.entries_sorted p) (map_of.entries_sorted o);
-    found = λ q. find-merged law step is (map_of.entries p) (map_of.entries o) q (recursion_from_All IsPower _ all) (recursion_from_All IsPower _ all_o) (map_of.entries_sorted p) (map_of.entries_sorted o)
+    sorted = sorted-merged step (map_of.entries p) (map_of.entries o) (map_of.entries_sorted p)
+        (map_of.entries_sorted o);
+    found = λ q. find-merged law step is (map_of.entries p) (map_of.entries o) q (recursion_from_All IsPower _ all)
+        (recursion_from_All IsPower _ all_o) (map_of.entries_sorted p) (map_of.entries_sorted o)
         ∙ ap₂ (λ a b. kept (exponent_sum a (step b))) (sym (exponent_at p q)) (sym (exponent_at o q));
   };
 }
 
+-- so do those of a factor
 factor_ranged : ReducedLaw → (factor : Factor) (p o : Exponents) (ps os : Powers) → IsListOf p ps → IsListOf o os
     → IsRanged (total (exponent_in factor) p o) (names_of p o) (merged (exponent_in factor) ps os)
 factor_ranged law factor p o ps os left right =
-    subst (IsRanged (total (exponent_in factor) p o) (names_of p o)) (ap₂ (merged (exponent_in factor)) (sym left.same) (sym right.same))
+    subst (IsRanged (total (exponent_in factor) p o) (names_of p o))
+    (ap₂ (merged (exponent_in factor)) (sym left.same) (sym right.same))
     (merged_ranged law (exponent_in factor) p o (factor_step factor) left.kept right.kept)
 
-with_is : (factor : Factor) (p o : Exponents) → ranged (total (exponent_in factor) p o) (names_of p o) ≡ exponents_with factor p o
+-- in range they are the exponents of the product or the quotient
+with_is : (factor : Factor) (p o : Exponents)
+    → ranged (total (exponent_in factor) p o) (names_of p o) ≡ exponents_with factor p o
 unfolding product_exponents quotient_exponents
 with_is Plain p o = refl
 with_is Inverse p o = refl
@@ -151,28 +199,37 @@ pub product_order : ReducedLaw → (factor : Factor) (p o : Exponents) (ps os es
 product_order law factor p o ps os es left right listed =
     subst AreInOrder (sym listed.0) (listed_order _ _ _ (factor_ranged law factor p o ps os left right) listed.1)
 
+-- a merge that answers gives the map of the product
 pub product_ok : ReducedLaw → (factor : Factor) (p o : Exponents) (ps os es : Powers) → IsListOf p ps → IsListOf o os
     → IsListed (Ok (record { items = es; capacity = 0 })) (merged (exponent_in factor) ps os)
     → Some (exponents_in es) ≡ exponents_with factor p o
 product_ok law factor p o ps os es left right listed =
-    ap (λ ds. Some (exponents_in ds)) listed.0 ∙ listed_ok _ _ _ (factor_ranged law factor p o ps os left right) listed.1 ∙ with_is factor p o
+    ap (λ ds. Some (exponents_in ds)) listed.0
+    ∙ listed_ok _ _ _ (factor_ranged law factor p o ps os left right) listed.1 ∙ with_is factor p o
 
-pub product_fault : ReducedLaw → (factor : Factor) (p o : Exponents) (ps os : Powers) (fault : ExponentFault) → IsListOf p ps
+-- and a fault of it is that of the product
+pub product_fault : ReducedLaw → (factor : Factor) (p o : Exponents) (ps os : Powers) (fault : ExponentFault)
+    → IsListOf p ps
     → IsListOf o os
     → IsListed (Err fault) (merged (exponent_in factor) ps os) → AreThose (Err fault) (exponents_with factor p o)
 product_fault law factor p o ps os fault left right listed =
-    subst (AreThose (Err fault)) (with_is factor p o) (listed_fault _ _ _ fault (factor_ranged law factor p o ps os left right) listed)
+    subst (AreThose (Err fault)) (with_is factor p o)
+    (listed_fault _ _ _ fault (factor_ranged law factor p o ps os left right) listed)
 
+-- the law of products
 pub product_law : ReducedLaw → ProductLaw
 unfolding product_exponents quotient_exponents
 product_law law p o r all all_o = (
-  λ h q. ap (λ m. exponent_of m q) (sym (some_is _ _ r h)) ∙ exponent_of-exponents_by _ _ q (total_gives law (λ e. e) p o plain_step all all_o),
-  λ h q. ap (λ m. exponent_of m q) (sym (some_is _ _ r h)) ∙ exponent_of-exponents_by _ _ q (total_gives law negated p o inverse_step all all_o),
+  λ h q. ap (λ m. exponent_of m q) (sym (some_is _ _ r h))
+      ∙ exponent_of-exponents_by _ _ q (total_gives law (λ e. e) p o plain_step all all_o),
+  λ h q. ap (λ m. exponent_of m q) (sym (some_is _ _ r h))
+      ∙ exponent_of-exponents_by _ _ q (total_gives law negated p o inverse_step all all_o),
 )
 
 -- ---- powers
 
-pub scaled_ranged : ReducedLaw → (p : Exponents) (by : Fraction) → 0 < by.den → AreKept p
+-- scaled powers list the exponents times a fraction
+pub scaled_ranged : ReducedLaw → (p : Exponents) (by : Fraction) → 0 < by.den → AreExponents p
     → IsRanged (λ q. exponent_product (exponent_of p q) by) (map_of.keys p) (scaled by (map_of.entries p))
 scaled_ranged law p by some all = record {
   gives = record {
@@ -181,26 +238,34 @@ scaled_ranged law p by some all = record {
   };
   lists = record {
     sorted = sorted-scaled by (map_of.entries p) (map_of.entries_sorted p);
-    found = λ q. find-scaled law by (map_of.entries p) q some (map_of.entries_sorted p) ∙ ap (λ e. kept (exponent_product e by)) (sym (exponent_at p q));
+    found = λ q. find-scaled law by (map_of.entries p) q some (map_of.entries_sorted p)
+        ∙ ap (λ e. kept (exponent_product e by)) (sym (exponent_at p q));
   };
 }
 
+-- so do those of a list of powers
 power_ranged : ReducedLaw → (p : Exponents) (by : Fraction) (ps : Powers) → 0 < by.den → IsListOf p ps
     → IsRanged (λ q. exponent_product (exponent_of p q) by) (map_of.keys p) (scaled by ps)
 power_ranged law p by ps some list =
-    subst (IsRanged (λ q. exponent_product (exponent_of p q) by) (map_of.keys p)) (ap (scaled by) (sym list.same)) (scaled_ranged law p by some list.kept)
+    subst (IsRanged (λ q. exponent_product (exponent_of p q) by) (map_of.keys p)) (ap (scaled by) (sym list.same))
+    (scaled_ranged law p by some list.kept)
 
+-- a list that answers is in order
 pub power_order : ReducedLaw → (p : Exponents) (by : Fraction) (ps es : Powers) → 0 < by.den → IsListOf p ps
     → IsListed (Ok (record { items = es; capacity = 0 })) (scaled by ps) → AreInOrder es
-power_order law p by ps es some list listed = subst AreInOrder (sym listed.0) (listed_order _ _ _ (power_ranged law p by ps some list) listed.1)
+power_order law p by ps es some list listed =
+    subst AreInOrder (sym listed.0) (listed_order _ _ _ (power_ranged law p by ps some list) listed.1)
 
+-- and gives the map of the power
 pub power_ok : ReducedLaw → (p : Exponents) (by : Fraction) (ps es : Powers) → 0 < by.den → IsListOf p ps
     → IsListed (Ok (record { items = es; capacity = 0 })) (scaled by ps) → Some (exponents_in es) ≡ power_exponents p by
 unfolding power_exponents
 power_ok law p by ps es some list listed =
     ap (λ ds. Some (exponents_in ds)) listed.0 ∙ listed_ok _ _ _ (power_ranged law p by ps some list) listed.1
 
-pub power_fault : ReducedLaw → (p : Exponents) (by : Fraction) (ps : Powers) (fault : ExponentFault) → 0 < by.den → IsListOf p ps
+-- and a fault of it is that of the power
+pub power_fault : ReducedLaw → (p : Exponents) (by : Fraction) (ps : Powers) (fault : ExponentFault) → 0 < by.den
+    → IsListOf p ps
     → IsListed (Err fault) (scaled by ps) → AreThose (Err fault) (power_exponents p by)
 unfolding power_exponents
 power_fault law p by ps fault some list listed = listed_fault _ _ _ fault (power_ranged law p by ps some list) listed

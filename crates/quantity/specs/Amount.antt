@@ -5,7 +5,7 @@ use Rattle.std.specs.Coded.{Coded, code_by, coded×, coded_list, coded_ℕ, code
 use Rattle.std.specs.FinMap as map_of
 use Rattle.std.specs.Ordering.{int_eq}
 use Rattle.frac128.specs.Fraction.{Fraction, negated}
-use Rattle.quantity.specs.Exponents.{AreKept, Exponents, exponent_of}
+use Rattle.quantity.specs.Exponents.{AreExponents, Exponents, exponent_of}
 
 -- a number with exponents
 pub record Amount : Type 0 where
@@ -13,7 +13,8 @@ pub record Amount : Type 0 where
   pub exponents : Exponents
 
 abbrev pub fraction_code : Coded Fraction
-fraction_code = code_by _ (coded× coded_ℤ coded_ℕ) (λ x. (x.num, x.den)) (λ p. record { num = p.0; den = p.1 }) (λ _. refl)
+fraction_code = code_by _ (coded× coded_ℤ coded_ℕ) (λ x. (x.num, x.den)) (λ p. record { num = p.0; den = p.1 })
+    (λ _. refl)
 
 abbrev pub power_code : Coded (List ℕ × Fraction)
 power_code = coded× (coded_list coded_ℕ) fraction_code
@@ -22,7 +23,8 @@ abbrev pub exponents_code : Coded Exponents
 exponents_code = map_of.code (coded_list coded_ℕ) fraction_code
 
 abbrev pub amount_code : Coded Amount
-amount_code = code_by _ (coded× fraction_code exponents_code) (λ x. (x.value, x.exponents)) (λ p. record { value = p.0; exponents = p.1 }) (λ _. refl)
+amount_code = code_by _ (coded× fraction_code exponents_code) (λ x. (x.value, x.exponents))
+    (λ p. record { value = p.0; exponents = p.1 }) (λ _. refl)
 
 -- no name has an exponent
 abbrev pub is_number : Amount → Bool
@@ -51,4 +53,4 @@ pub record AreCompared (p o : Exponents) : Type 0 where
   pub reciprocal : IsTrue (are_reciprocal p o) ↔ ((name : List ℕ) → exponent_of p name ≡ negated (exponent_of o name))
 
 abbrev pub ConformLaw : Type 0
-ConformLaw = (p o : Exponents) → AreKept p → AreKept o → AreCompared p o
+ConformLaw = (p o : Exponents) → AreExponents p → AreExponents o → AreCompared p o

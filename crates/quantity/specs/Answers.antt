@@ -40,7 +40,7 @@ ranged f names =
     else None
 
 -- a number and exponents together: the number's fault comes before exponents out of range
-abbrev pub joined : Result Fraction FracFault → Option Exponents → Result Amount QuantityFault
-joined (Err fault) exponents = Err (Number fault)
-joined (Ok value) None = Err ExponentRange
-joined (Ok value) (Some exponents) = Ok (record { value = value; exponents = exponents })
+abbrev pub amount_from : Result Fraction FracFault → Option Exponents → Result Amount QuantityFault
+amount_from (Err fault) exponents = Err (Number fault)
+amount_from (Ok value) None = Err ExponentRange
+amount_from (Ok value) (Some exponents) = Ok (record { value = value; exponents = exponents })

@@ -1,5 +1,6 @@
 -- Exponents of names: a finite map from the bytes of a name to a reduced fraction other than 0.
-use Rattle.std.specs.Prelude.{◌≡◌, ◌≤◌, ◌&&◌, ◌++◌, ℕ, List, Bool, IsFalse, All, map, not, pos, unsigned_abs, nat_le, unwrap_or}
+use Rattle.std.specs.Prelude.{◌≡◌, ◌≤◌, ◌&&◌, ◌++◌, ℕ, List, Bool, IsFalse, All, map, not, pos, unsigned_abs, nat_le}
+use Rattle.std.specs.Prelude.{unwrap_or}
 use Rattle.std.specs.Cmp.Lexicographic.{slice_cmp}
 use Rattle.std.specs.FinMap as map_of
 use Rattle.std.specs.List.{filter}
@@ -29,8 +30,8 @@ pub record IsPower (power : List ℕ × Fraction) : Type 0 where
   pub some : IsFalse (is_zero power.1)
 
 -- what is known of all exponents in the program
-abbrev pub AreKept : Exponents → Type 0
-AreKept exponents = All IsPower (map_of.entries exponents)
+abbrev pub AreExponents : Exponents → Type 0
+AreExponents exponents = All IsPower (map_of.entries exponents)
 
 -- the exponent of a name, 0 where it is absent
 abbrev pub exponent_of : Exponents → List ℕ → Fraction
@@ -42,7 +43,8 @@ names_of p o = map_of.keys p ++ map_of.keys o
 
 -- the exponents that f gives these names, but for those that are 0
 unfoldable pub exponents_by : (List ℕ → Fraction) → List (List ℕ) → Exponents
-exponents_by f names = map_of.from_entries (filter (λ power. not (is_zero power.1)) (map (λ name. (name, f name)) names))
+exponents_by f names =
+    map_of.from_entries (filter (λ power. not (is_zero power.1)) (map (λ name. (name, f name)) names))
 
 -- a fraction in lowest terms
 abbrev pub lowest : Fraction → Fraction
@@ -62,5 +64,5 @@ exponent_product e by = lowest (product e by)
 
 -- law: maps of the program that give each name one exponent are equal
 abbrev pub SameExponentsLaw : Type 0
-SameExponentsLaw = (p o : Exponents) → AreKept p → AreKept o
+SameExponentsLaw = (p o : Exponents) → AreExponents p → AreExponents o
     → ((name : List ℕ) → exponent_of p name ≡ exponent_of o name) → p ≡ o

@@ -1,5 +1,6 @@
 -- Lists of names with exponents, in the byte order of the names.
-use Rattle.std.specs.Prelude.{◌≡◌, ◌++◌, ℕ, List, [], ◌∷◌, All, Bool, IsTrue, IsFalse, T, ⊤, map, Option, Some, None, Result, Ok, Err, if◌then◌else◌}
+use Rattle.std.specs.Prelude.{◌≡◌, ◌++◌, ℕ, List, [], ◌∷◌, All, Bool, IsTrue, IsFalse, T, ⊤, map, Option, Some, None}
+use Rattle.std.specs.Prelude.{Result, Ok, Err, if◌then◌else◌}
 use Rattle.std.specs.Cmp.Lexicographic.{slice_cmp}
 use Rattle.std.specs.FinMap as map_of
 use Rattle.std.specs.List.{list_all}
@@ -26,8 +27,8 @@ abbrev pub exponents_in : Powers → Exponents
 exponents_in powers = map_of.from_sorted powers
 
 -- the powers of the second list as the step takes them
-abbrev pub taken : (Fraction → Fraction) → List ℕ × Fraction → List ℕ × Fraction
-taken step power = (power.0, step power.1)
+abbrev pub power_by : (Fraction → Fraction) → List ℕ × Fraction → List ℕ × Fraction
+power_by step power = (power.0, step power.1)
 
 -- a power in front of a list, where it is not 0
 abbrev pub put_some : List ℕ × Fraction → Powers → Powers
@@ -40,12 +41,12 @@ merged_into step p rest (o ∷ os) =
     match_ordering (slice_cmp nat_cmp p.0 o.0)
     (p ∷ rest (o ∷ os))
     (put_some (p.0, exponent_sum p.1 (step o.1)) (rest os))
-    (taken step o ∷ merged_into step p rest os)
+    (power_by step o ∷ merged_into step p rest os)
 
 -- two lists in order as one: the exponents of a name that both have are added, and those that
 -- cancel are left out
 abbrev pub merged : (Fraction → Fraction) → Powers → Powers → Powers
-merged step [] os = map (taken step) os
+merged step [] os = map (power_by step) os
 merged step (p ∷ ps) os = merged_into step p (merged step ps) os
 
 -- a reduced fraction as an exponent, where it is one

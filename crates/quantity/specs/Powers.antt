@@ -6,7 +6,7 @@ use Rattle.frac128.specs.Powers.{power}
 use Rattle.frac128.specs.Roots.{root_of}
 use Rattle.frac128.specs.declared.fault.FracFault.{FracFault}
 use Rattle.quantity.specs.Amount.{Amount, is_number}
-use Rattle.quantity.specs.Answers.{joined, ranged}
+use Rattle.quantity.specs.Answers.{amount_from, ranged}
 use Rattle.quantity.specs.Degrees.{is_degree}
 use Rattle.quantity.specs.Exponents.{Exponents, exponent_of, exponent_product}
 use Rattle.quantity.specs.declared.fault.QuantityFault.{QuantityFault}
@@ -29,4 +29,4 @@ abbrev pub power_of : Amount → Amount → Result Amount QuantityFault
 power_of x by =
     if not (is_number by) then Err ExponentNotNumber
     else (if not (is_degree by.value) then Err ExponentRange
-    else joined (powered x.value by.value) (power_exponents x.exponents by.value))
+    else amount_from (powered x.value by.value) (power_exponents x.exponents by.value))

@@ -4,8 +4,8 @@ use Rattle.std.specs.FinMap as map_of
 use Rattle.frac128.specs.Fraction.{Fraction}
 use Rattle.frac128.specs.Steps.{over, times}
 use Rattle.quantity.specs.Amount.{Amount}
-use Rattle.quantity.specs.Answers.{joined, ranged}
-use Rattle.quantity.specs.Exponents.{AreKept, Exponents, exponent_difference, exponent_of, exponent_sum, names_of}
+use Rattle.quantity.specs.Answers.{amount_from, ranged}
+use Rattle.quantity.specs.Exponents.{AreExponents, Exponents, exponent_difference, exponent_of, exponent_sum, names_of}
 use Rattle.quantity.specs.declared.fault.QuantityFault.{QuantityFault}
 
 -- the sum of the two exponents of each name
@@ -21,14 +21,16 @@ abbrev pub number : Fraction → Amount
 number x = record { value = x; exponents = map_of.empty }
 
 abbrev pub product_of : Amount → Amount → Result Amount QuantityFault
-product_of x y = joined (times x.value y.value) (product_exponents x.exponents y.exponents)
+product_of x y = amount_from (times x.value y.value) (product_exponents x.exponents y.exponents)
 
 abbrev pub quotient_of : Amount → Amount → Result Amount QuantityFault
-quotient_of x y = joined (over x.value y.value) (quotient_exponents x.exponents y.exponents)
+quotient_of x y = amount_from (over x.value y.value) (quotient_exponents x.exponents y.exponents)
 
 -- law: each exponent of a product is the sum of the two, and of a quotient the difference, also
 -- where it is 0
 abbrev pub ProductLaw : Type 0
-ProductLaw = (p o r : Exponents) → AreKept p → AreKept o
-    → (product_exponents p o ≡ Some r → (name : List ℕ) → exponent_of r name ≡ exponent_sum (exponent_of p name) (exponent_of o name))
-    × (quotient_exponents p o ≡ Some r → (name : List ℕ) → exponent_of r name ≡ exponent_difference (exponent_of p name) (exponent_of o name))
+ProductLaw = (p o r : Exponents) → AreExponents p → AreExponents o
+    → (product_exponents p o ≡ Some r → (name : List ℕ)
+    → exponent_of r name ≡ exponent_sum (exponent_of p name) (exponent_of o name))
+    × (quotient_exponents p o ≡ Some r → (name : List ℕ)
+    → exponent_of r name ≡ exponent_difference (exponent_of p name) (exponent_of o name))

@@ -4,7 +4,7 @@ use Rattle.frac128.specs.Fraction.{Fraction}
 use Rattle.frac128.specs.Sums.{minus, plus}
 use Rattle.frac128.specs.declared.fault.FracFault.{FracFault}
 use Rattle.quantity.specs.Amount.{Amount, conform}
-use Rattle.quantity.specs.Answers.{joined}
+use Rattle.quantity.specs.Answers.{amount_from}
 use Rattle.quantity.specs.declared.fault.QuantityFault.{QuantityFault}
 use Rattle.quantity.specs.declared.fault.QuantityFault.TheVariants.{NotConformable}
 
@@ -12,7 +12,7 @@ use Rattle.quantity.specs.declared.fault.QuantityFault.TheVariants.{NotConformab
 abbrev pub of_conforming : Result Fraction FracFault → Amount → Amount → Result Amount QuantityFault
 of_conforming number x y =
     if conform x.exponents y.exponents
-    then joined number (Some x.exponents)
+    then amount_from number (Some x.exponents)
     else Err (NotConformable x y)
 
 abbrev pub sum_of : Amount → Amount → Result Amount QuantityFault

@@ -1,5 +1,5 @@
 -- The reduced text of a quantity.
-use Rattle.std.specs.Prelude.{◌==◌, ◌++◌, ◌≤◌, ℕ, List, [], ◌∷◌, Bool, ⊤, unsigned_abs, if◌then◌else◌, codes}
+use Rattle.std.specs.Prelude.{◌==◌, ◌++◌, ℕ, List, [], ◌∷◌, Bool, unsigned_abs, if◌then◌else◌, codes}
 use Rattle.std.specs.FinMap as map_of
 use Rattle.std.specs.Fmt.{decimal}
 use Rattle.std.specs.List.{filter, flat_map}
@@ -49,5 +49,5 @@ abbrev pub powers_text : Exponents → List ℕ
 powers_text exponents = listed_text (map_of.entries exponents)
 
 -- the number and its names, in byte order
-abbrev pub shown : Style → Amount → List ℕ
-shown style x = number_text style x.value ++ powers_text x.exponents
+abbrev pub amount_text : Style → Amount → List ℕ
+amount_text style x = number_text style x.value ++ powers_text x.exponents

@@ -1,9 +1,9 @@
 //! Exponents of names.
 
 ghost use Rattle.std.specs.Prelude.{◌≡◌, ◌<◌, ◌≤◌, ◌*◌, ◌*ℤ◌, pos, unsigned_abs};
-ghost use Rattle.frac128.specs.Fraction.{negated, whole as whole_of};
+ghost use Rattle.frac128.specs.Fraction as fraction_spec;
 ghost use Rattle.frac128.specs.Steps.{reduced};
-ghost use Rattle.frac128.specs.Sign.{is_zero as is_zero_of};
+ghost use Rattle.frac128.specs.Sign as sign;
 ghost use Rattle.quantity.specs.Exponents.{IsExponent, exponent_product, exponent_sum};
 ghost use Rattle.quantity.specs.Merges.{as_exponent};
 
@@ -43,27 +43,27 @@ impl Model for Exponent {
 impl Exponent {
     // The exponent of a name that is absent.
     pub(crate) fn zero() -> Exponent
-        ensures { result ≡ whole_of (pos 0) }
+        ensures { result ≡ fraction_spec.whole (pos 0) }
     {
         Exponent { num: 0, den: 1 }
     }
 
     // The exponent of a name alone.
     pub(crate) fn one() -> Exponent
-        ensures { result ≡ whole_of (pos 1) }
+        ensures { result ≡ fraction_spec.whole (pos 1) }
     {
         Exponent { num: 1, den: 1 }
     }
 
     pub(crate) fn is_zero(&self) -> bool
-        ensures value { result ≡ is_zero_of self.now }
+        ensures value { result ≡ sign.is_zero self.now }
         ensures kept { IsExponent self.now }
     {
         self.num.unsigned_abs() == 0
     }
 
     pub(crate) fn negate(&self) -> Exponent
-        ensures { result ≡ negated self.now }
+        ensures { result ≡ fraction_spec.negated self.now }
     {
         Exponent {
             num: -self.num,
@@ -115,7 +115,7 @@ fn lowest(num: i32, den: u32) -> Option<Exponent>
 
 // The whole number as an exponent, or none where it is out of range.
 fn whole(num: i32) -> Option<Exponent>
-    ensures { result ≡ as_exponent (whole_of num) }
+    ensures { result ≡ as_exponent (fraction_spec.whole num) }
 {
     if u128::from(num.unsigned_abs()) <= MOST_NUM {
         Some(Exponent { num, den: 1 })

@@ -6,7 +6,7 @@ ghost use Rattle.std.specs.FinMap as map;
 ghost use Rattle.std.specs.Ordering.{nat_cmp};
 ghost use Rattle.frac128.specs.Fraction.{whole};
 ghost use Rattle.quantity.specs.Amount.{matches, same};
-ghost use Rattle.quantity.specs.Factors.{exponent_in as exponent_in_factor};
+ghost use Rattle.quantity.specs.Factors as spec;
 
 use crate::exponent::Exponent;
 use crate::factor::Factor;
@@ -27,7 +27,7 @@ pub(crate) fn exponent_in(powers: &[Power], name: &[u8]) -> Exponent
 // Whether two lists have the same names in order, and each exponent is the one that the factor
 // takes from the other list.
 pub(crate) fn same_powers(left: &[Power], right: &[Power], factor: Factor) -> bool
-    ensures { result ≡ matches (exponent_in_factor factor) left.now right.now }
+    ensures { result ≡ matches (spec.exponent_in factor) left.now right.now }
 {
     let (mut left, mut right) = (left, right);
     loop {
@@ -49,7 +49,7 @@ pub(crate) fn same_powers(left: &[Power], right: &[Power], factor: Factor) -> bo
 // second.
 fn same_power(left: &Power, right: &Power, factor: Factor) -> bool
     ensures { result ≡ (pointwise nat_eq left.now.0 right.now.0
-        && same left.now.1 (exponent_in_factor factor right.now.1)) }
+        && same left.now.1 (spec.exponent_in factor right.now.1)) }
 {
     left.name() == right.name() && left.exponent() == factor.exponent(right.exponent())
 }

@@ -2,7 +2,7 @@
 
 ghost use Rattle.std.specs.Prelude.{◌≡◌, ◌<◌, ◌∷◌, All, IfOk, length, map};
 ghost use Rattle.quantity.specs.Factors.{exponent_in};
-ghost use Rattle.quantity.specs.Merges.{IsListed, IsPut, first_of as first_of_lists, merged, taken};
+ghost use Rattle.quantity.specs.Merges as spec;
 ghost use Rattle.quantity.specs.Exponents.{IsPower, exponent_sum};
 
 use crate::exponent::Exponent;
@@ -34,7 +34,7 @@ pub(crate) fn merge(
 ) -> Result<SmallVec<Power, 1>, ExponentFault>
     requires left { All IsPower left.items }
     requires right { All IsPower right.now }
-    ensures { IsListed result (merged (exponent_in factor) left.items right.now) }
+    ensures { spec.IsListed result (spec.merged (exponent_in factor) left.items right.now) }
 {
     if right.is_empty() {
         return Ok(left);
@@ -51,7 +51,7 @@ pub(crate) fn copies(
     powers: &[Power],
     factor: Factor,
 ) -> Result<SmallVec<Power, 1>, AllocError>
-    ensures { IfOk result (λ copies. copies.items ≡ map (taken (exponent_in factor)) powers.now) }
+    ensures { IfOk result (λ copies. copies.items ≡ map (spec.power_by (exponent_in factor)) powers.now) }
 {
     let mut copies = SmallVec::with_capacity(alloc, powers.len())?;
     for power in powers {
@@ -69,7 +69,7 @@ fn merge_both(
 ) -> Result<SmallVec<Power, 1>, ExponentFault>
     requires left { All IsPower left.items }
     requires right { All IsPower right.now }
-    ensures { IsListed result (merged (exponent_in factor) left.items right.now) }
+    ensures { spec.IsListed result (spec.merged (exponent_in factor) left.items right.now) }
 {
     reduced_law();
     let mut powers = SmallVec::with_capacity(alloc, left.len())?;
@@ -111,7 +111,7 @@ fn parted(powers: &[Power]) -> (&Power, &[Power])
 
 // Where the first name of two lists stands.
 fn first_of(left: &[Power], right: &[Power]) -> First
-    ensures { result ≡ first_of_lists left.now right.now }
+    ensures { result ≡ spec.first_of left.now right.now }
 {
     match (left.first(), right.first()) {
         (None, None) => First::Neither,
@@ -131,7 +131,7 @@ fn put_sum(
     power: Power,
     exponent: Exponent,
 ) -> Result<(), ExponentFault>
-    ensures { IsPut result powers.old.items powers.new.items (power.0, exponent_sum power.1 exponent) }
+    ensures { spec.IsPut result powers.old.items powers.new.items (power.0, exponent_sum power.1 exponent) }
 {
     let sum = match power.exponent().add(&exponent) {
         Some(sum) => sum,

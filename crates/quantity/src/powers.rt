@@ -5,7 +5,7 @@ ghost use Rattle.std.specs.FinMap as map;
 ghost use Rattle.frac128.specs.Fraction.{negated, whole};
 ghost use Rattle.quantity.specs.Amount.{are_reciprocal, conform};
 ghost use Rattle.quantity.specs.Answers.{AreThose};
-ghost use Rattle.quantity.specs.Exponents.{AreKept, exponent_of};
+ghost use Rattle.quantity.specs.Exponents.{AreExponents, exponent_of};
 ghost use Rattle.quantity.specs.Factors.{exponents_with};
 ghost use Rattle.quantity.specs.Powers.{power_exponents};
 ghost use Rattle.quantity.specs.Products.{product_exponents, quotient_exponents};
@@ -87,7 +87,7 @@ impl Powers {
 
     // No exponent is 0, and each is in range.
     pub(crate) fn facts(&self)
-        ensures { AreKept self.now }
+        ensures { AreExponents self.now }
     {
         self.items.as_slice();
     }

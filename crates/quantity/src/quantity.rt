@@ -2,9 +2,9 @@
 
 ghost use Rattle.std.specs.Prelude.{◌≡◌, pos, IfOk};
 ghost use Rattle.std.specs.FinMap as map;
-ghost use Rattle.frac128.specs.Fraction.{IsKept, negated, whole};
-ghost use Rattle.quantity.specs.Amount.{is_number as is_number_of};
-ghost use Rattle.quantity.specs.Exponents.{AreKept, exponent_of};
+ghost use Rattle.frac128.specs.Fraction.{IsFrac, negated, whole};
+ghost use Rattle.quantity.specs.Amount as spec;
+ghost use Rattle.quantity.specs.Exponents.{AreExponents, exponent_of};
 
 use crate::exponent::Exponent;
 use crate::powers::Powers;
@@ -91,7 +91,7 @@ impl Quantity {
     /// The number, which is in lowest terms and fits.
     pub fn value(&self) -> Frac
         ensures value { result ≡ self.now.value }
-        ensures kept { IsKept self.now.value }
+        ensures kept { IsFrac self.now.value }
     {
         // It is kept.
         self.value.den();
@@ -108,14 +108,14 @@ impl Quantity {
     /// Tells what is known of the exponents: none is 0, and each is in lowest terms, its numerator
     /// from -32,767 to 32,767 and its denominator at most 60. The call does nothing.
     pub fn exponent_facts(&self)
-        ensures { AreKept self.now.exponents }
+        ensures { AreExponents self.now.exponents }
     {
         self.powers.facts();
     }
 
     /// Whether no name has an exponent.
     pub fn is_number(&self) -> bool
-        ensures { result ≡ is_number_of self.now }
+        ensures { result ≡ spec.is_number self.now }
     {
         self.powers.is_empty()
     }

@@ -1,8 +1,8 @@
 //! Powers with a fraction as exponent.
 
 ghost use Rattle.std.specs.Prelude.{◌≡◌};
-ghost use Rattle.quantity.specs.Answers.{IsAnswer, joined};
-ghost use Rattle.quantity.specs.Powers.{power_exponents, power_of, powered as powered_of};
+ghost use Rattle.quantity.specs.Answers.{IsAnswer, amount_from};
+ghost use Rattle.quantity.specs.Powers as spec;
 
 use crate::degree::Degree;
 use crate::fault::QuantityFault;
@@ -19,14 +19,14 @@ impl Quantity {
     /// no root q, and with the fault of the root's power p; `ExponentRange` where a product of an
     /// exponent and p/q is no exponent.
     pub fn pow(&self, alloc: Global, by: &Quantity) -> Result<Quantity, QuantityFault>
-        ensures { IsAnswer result (power_of self.now by.now) }
+        ensures { IsAnswer result (spec.power_of self.now by.now) }
     {
         self.copy(alloc)?.raised(alloc, by)
     }
 
     /// `pow` that takes the quantity over, of which it copies nothing.
     pub fn raised(self, alloc: Global, by: &Quantity) -> Result<Quantity, QuantityFault>
-        ensures { IsAnswer result (power_of self by.now) }
+        ensures { IsAnswer result (spec.power_of self by.now) }
     {
         if !by.is_number() {
             return Err(QuantityFault::ExponentNotNumber);
@@ -39,8 +39,8 @@ impl Quantity {
 
     // The power with this exponent.
     fn raised_to(self, alloc: Global, degree: &Degree) -> Result<Quantity, QuantityFault>
-        ensures { IsAnswer result (joined (powered_of self.value degree.now)
-            (power_exponents self.exponents degree.now)) }
+        ensures { IsAnswer result (amount_from (spec.powered self.value degree.now)
+            (spec.power_exponents self.exponents degree.now)) }
     {
         let value = powered(&self.value, degree)?;
         let powers = self.powers.raised(alloc, degree)?;
@@ -50,7 +50,7 @@ impl Quantity {
 
 // The power of the root of a number.
 fn powered(x: &Frac, degree: &Degree) -> Result<Frac, FracFault>
-    ensures { result ≡ powered_of x.now degree.now }
+    ensures { result ≡ spec.powered x.now degree.now }
 {
     x.root(degree.den())?.pow(degree.num())
 }

@@ -2,7 +2,7 @@
 
 ghost use Rattle.std.specs.Prelude.{◌≡◌, IfOk};
 ghost use Rattle.digits_print.specs.Styles.{IsStyle};
-ghost use Rattle.quantity.specs.Text.{shown};
+ghost use Rattle.quantity.specs.Text.{amount_text};
 
 use crate::quantity::Quantity;
 use digits_print::{Style, print_number};
@@ -16,7 +16,7 @@ impl Quantity {
     /// memory.
     pub fn show(&self, alloc: Global, style: Style) -> Result<Text, AllocError>
         requires { IsStyle style }
-        ensures { IfOk result (λ text. text ≡ shown style self.now) }
+        ensures { IfOk result (λ text. text ≡ amount_text style self.now) }
     {
         let mut text = print_number(alloc, &self.value, style)?.into_bytes();
         self.powers.put_text(alloc, &mut text)?;

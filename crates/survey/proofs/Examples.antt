@@ -5,6 +5,7 @@ use Rattle.frac128.specs.Divisors.{gcd, gcd_within}
 use Rattle.frac128.specs.Steps.{reduced}
 use Rattle.survey.specs.Examples.{CheckLaw, RowsLaw}
 
+-- the examples of checks
 pub checks : CheckLaw
 unfolding digits gcd gcd_within reduced
 checks = record {
@@ -24,6 +25,7 @@ checks = record {
   asked = refl;
 }
 
+-- the examples of rows
 pub rows : RowsLaw
 unfolding gcd gcd_within reduced
 rows = record {

@@ -14,7 +14,8 @@ use Rattle.table_names.specs.declared.fault.NameFault.{NameFault}
 use Rattle.table_names.specs.declared.fault.NameFault.TheVariants.{Unknown, Refused, Cycle}
 use Rattle.table_names.specs.Closed.{IsClosed}
 use Rattle.table_names.specs.FaultLaws.{IsPath}
-use Rattle.table_names.specs.Faults.{Deeper, chain, fault, fault_within, first, key_fault, last, target_fault, targets_fault, word_fault}
+use Rattle.table_names.specs.Faults.{Deeper, chain, fault, fault_within, first, key_fault, last, target_fault}
+use Rattle.table_names.specs.Faults.{targets_fault, word_fault}
 use Rattle.table_names.specs.Leads.{Reaches, targets}
 use Rattle.table_names.specs.Words.{entry_words, key_words}
 use Rattle.table_names.proofs.Closing.{closed_law}
@@ -41,7 +42,8 @@ module _ (table : Table) where
   open_present n h =
       elim (cases_Bool (is_present table n)) [
         | inl there ↦ there
-        | inr absent ↦ absurd (h (subst (λ ws. first (word_fault table (fault_within table (length table - 1)) (n ∷ [])) ws
+        | inr absent ↦ absurd
+            (h (subst (λ ws. first (word_fault table (fault_within table (length table - 1)) (n ∷ [])) ws
             ≡ None)
             (sym (no_words (entry_at table n) absent)) refl))
       ]

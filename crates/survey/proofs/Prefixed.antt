@@ -1,5 +1,6 @@
 -- The fault of the words of a key, told as that of the key.
-use Rattle.std.proofs.Common.{◌≡◌, ◌⊎◌, ◌∙◌, ◌+◌, ◌-◌, ◌≤◌, ◌||◌, ℕ, zero, suc, Bool, true, false, if◌then◌else◌, List, [], ◌∷◌, ◌++◌}
+use Rattle.std.proofs.Common.{◌≡◌, ◌⊎◌, ◌∙◌, ◌+◌, ◌-◌, ◌≤◌, ◌||◌, ℕ, zero, suc, Bool, true, false, if◌then◌else◌, List}
+use Rattle.std.proofs.Common.{[], ◌∷◌, ◌++◌}
 use Rattle.std.proofs.Common.{length, Option, Some, None, refl, sym, ap, subst, inl, inr, arith, length-append}
 use Rattle.std.specs.Option.{option_map}
 use Rattle.std.proofs.lemmas.Bool.{false_from_ne_true}
@@ -16,7 +17,8 @@ use Rattle.table_names.specs.Words.{key_words}
 use Rattle.table_names.proofs.KeyLists.{off_longer, on_longer, one_key, same_itself}
 use Rattle.table_names.proofs.Paths.{empty, key_words_closed, longer, short, words_closed_key}
 use Rattle.survey.specs.PrefixFaults.{PrefixLaw, prefix_fault}
-use Rattle.survey.proofs.Opening.{AreOpen, Barred, Fits, Lost, Open, Step, by_words, fits_words, never, open_present, step}
+use Rattle.survey.proofs.Opening.{AreOpen, Barred, Fits, Lost, Open, Step, by_words, fits_words, never, open_present}
+use Rattle.survey.proofs.Opening.{step}
 use Rattle.survey.proofs.Turning.{chain_off, turned_back, turned_here, turned_off}
 
 -- ---- where a word stands
@@ -25,16 +27,19 @@ unknown_last : (k : Key) (word : List ℕ) (x : Key) (path : List Key)
 unknown_last k word x [] = refl
 unknown_last k word x (y ∷ path) = unknown_last k word y path
 
+-- a refused word behind a path that is not empty is told with the last key of that path
 refused_last : (k : Key) (word : List ℕ) (x : Key) (path : List Key)
     → prefix_fault k (Refused word (last (x ∷ path))) ≡ Refused word (last (x ∷ path))
 refused_last k word x [] = refl
 refused_last k word x (y ∷ path) = refused_last k word y path
 
+-- an unknown word is told with the key of the prefix where no other key stands between
 unknown_behind : (k : Key) (word : List ℕ) (path : List Key)
     → prefix_fault k (Unknown word (last path)) ≡ Unknown word (last (k ∷ path))
 unknown_behind k word [] = refl
 unknown_behind k word (x ∷ path) = unknown_last k word x path
 
+-- so is a refused one
 refused_behind : (k : Key) (word : List ℕ) (path : List Key)
     → prefix_fault k (Refused word (last path)) ≡ Refused word (last (k ∷ path))
 refused_behind k word [] = refl
@@ -45,10 +50,12 @@ abbrev front : List Key → Option Key
 front [] = None
 front (x ∷ path) = Some x
 
+-- a key behind a path leaves its front
 front_longer : (path : List Key) (h x : Key) → front path ≡ Some x → front (path ++ h ∷ []) ≡ Some x
 front_longer [] h x e = cc
 front_longer (y ∷ path) h x e = e
 
+-- a test that does not hold is false
 off_from : (b : Bool) → (b ≡ true → ⊥) → b ≡ false
 off_from b h = false_from_ne_true b h
 
@@ -64,7 +71,8 @@ module _ (table : Table) (k : Key) (k_open : IsClosed table k → ⊥) where
   abbrev IsTold : List Key → List WordUse → NameFault → Type 0
   IsTold path words f = (g : NameFault) × (fault table path words ≡ Some g) × (prefix_fault k g ≡ f)
 
-  -- behind the key the chain comes back to it, and without it the words of the key are gone through behind the way to it
+  -- behind the key the chain comes back to it, and without it the words of the key are gone through behind the way to
+  -- it
   record IsBack (path : List Key) (words : List WordUse) (f : NameFault) : Type 0 where
     pub way : List Key
     pub begins : (x : Key) → front path ≡ Some x → front way ≡ Some x
@@ -295,6 +303,7 @@ module _ (table : Table) (k : Key) (k_open : IsClosed table k → ⊥) where
   at_step there (Some (Open h h_open)) some fits =
       at_key there h h_open (λ path is none. (fits path is none).0) (is_same h k) refl
 
+-- the law of faults behind a prefix
 pub prefix_law : PrefixLaw
 prefix_law table k there = go (key_fault table k) refl
   where

@@ -1,5 +1,6 @@
 -- A report over some items, as keys or places, one behind another.
-use Rattle.std.proofs.Common.{◌≡◌, ◌∙◌, ◌+◌, ◌++◌, ◌≤◌, ℕ, List, [], ◌∷◌, take, drop, length, Some, refl, sym, ap, subst}
+use Rattle.std.proofs.Common.{◌≡◌, ◌∙◌, ◌+◌, ◌++◌, ◌≤◌, ℕ, List, [], ◌∷◌, take, drop, length, Some, refl, sym, ap}
+use Rattle.std.proofs.Common.{subst}
 use Rattle.std.proofs.lemmas.Grind.{flat_map-append}
 use Rattle.std.proofs.lemmas.List.{append-nil, drop_all, flat_map_more, take-append-drop}
 use Rattle.std.specs.List.{flat_map, slice_get}
@@ -59,7 +60,8 @@ module _ {A : Type 0} (line : A → List ℕ) (asks : A → List Event) (items :
       pub underway-cut : IsCutOff (asks k) now later new last → IsCutOff (flat_map asks items) before later old last
       underway-cut f =
           subst (λ (es : List Event). IsCutOff es before later old last) (sym whole)
-          (cut_both (flat_map asks (take i items)) (asks k) (flat_map asks (drop (i + 1) items)) before now later old new
+          (cut_both (flat_map asks (take i items)) (asks k) (flat_map asks (drop (i + 1) items)) before now later old
+          new
           last u.deck u.follows f)
         where
           whole : flat_map asks items

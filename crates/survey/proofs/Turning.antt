@@ -10,6 +10,7 @@ use Rattle.table_names.specs.Faults.{chain}
 use Rattle.table_names.proofs.KeyLists.{off_longer, same_itself}
 use Rattle.survey.specs.PrefixFaults.{turned, turned_to}
 
+-- where not one of two holds, both are false
 neither : (b c : Bool) → (b || c) ≡ false → (b ≡ false) × (c ≡ false)
 neither true c e = cc
 neither false c e = (refl, e)

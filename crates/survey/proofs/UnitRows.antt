@@ -18,7 +18,8 @@ module _ {A : Type 0} (f : Key → List A) where
       go : (b : Bool) → flat_map f (of_kind kind.Unit keys) ≡ flat_map (if_unit f) keys
           → flat_map f (if b then k ∷ of_kind kind.Unit keys else of_kind kind.Unit keys)
           ≡ flat_map f (if b then k ∷ [] else []) ++ flat_map (if_unit f) keys
-      go true e = ap (λ (xs : List A). f k ++ xs) e ∙ ap (λ (xs : List A). xs ++ flat_map (if_unit f) keys) (sym (append-nil (f k)))
+      go true e = ap (λ (xs : List A). f k ++ xs) e
+          ∙ ap (λ (xs : List A). xs ++ flat_map (if_unit f) keys) (sym (append-nil (f k)))
       go false e = e
 
   -- that of a unit

@@ -30,6 +30,7 @@ pub record IsValuing (t : Table) (trees rest : List Syntax) (values : List Amoun
     pub deck : b.deck ≡ a.deck
     pub follows : Follows events a b n m
 
+-- at the start nothing is asked yet, and all trees are left
 pub valuing-start : (t : Table) (trees : List Syntax) (a : Shown) (n : ℕ) → IsRightTable a
     → IsValuing t trees trees [] a a n n
 valuing-start t trees a n right = record {

@@ -1,7 +1,7 @@
 //! What is asked of a live table.
 
 ghost use Rattle.std.specs.Prelude.{◌≡◌, ◌++◌, ◌∷◌, [], IfOk, OnOk};
-ghost use Rattle.deck.specs.Tables.{table as table_of};
+ghost use Rattle.deck.specs.Tables as tables;
 ghost use Rattle.expr_tree.specs.Trees.{syntax};
 ghost use Rattle.expr_tree.specs.Words.{words_in};
 ghost use Rattle.tree_eval.specs.Expansion.{called_word};
@@ -29,7 +29,7 @@ pub(crate) fn worths<L: Ledger>(
 ) -> Result<Vec<Quantity>, QueryFault>
     requires { IsRightTable table.old }
     ensures inquired { calls.IsInquired (λ values. values.items)
-        (inquiries.worths (table_of table.old.deck) (call.syntaxes_of trees.now)) result
+        (inquiries.worths (tables.table table.old.deck) (call.syntaxes_of trees.now)) result
         table.old table.new steps.old steps.new }
     ensures deck { table.new.deck ≡ table.old.deck }
 {
@@ -57,7 +57,7 @@ pub(crate) fn ask_function<L: Ledger>(
     steps: &mut Steps<L>,
 ) -> Result<(), QueryFault>
     requires { IsRightTable table.old }
-    ensures inquired { calls.IsInquired call.same (spec.names_of (table_of table.old.deck) key.now) result
+    ensures inquired { calls.IsInquired call.same (spec.names_of (tables.table table.old.deck) key.now) result
         table.old table.new steps.old steps.new }
     ensures deck { table.new.deck ≡ table.old.deck }
 {

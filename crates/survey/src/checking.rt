@@ -2,7 +2,7 @@
 
 ghost use Rattle.std.specs.Prelude.{◌≡◌, ◌++◌, IfOk, OnOk};
 ghost use Rattle.deck.specs.PlacedKeys.{key_there, keys_there};
-ghost use Rattle.deck.specs.Tables.{table as table_of};
+ghost use Rattle.deck.specs.Tables as tables;
 ghost use Rattle.def_entry.specs.declared.key.Kind.TheVariants as kinds;
 ghost use Rattle.live_table.specs.Shown.{IsRightTable};
 ghost use Rattle.reply.specs.Calls as call;
@@ -37,8 +37,8 @@ pub fn check_report<L: Ledger>(
 ) -> Result<Text, AllocError>
     requires { IsPrintable options.now }
     ensures report { IfOk result (λ text.
-        text ≡ spec.check_report (table_of table.old.deck) (style_of options.now)) }
-    ensures queries { call.AreMade (spec.check_queries (table_of table.old.deck)) result
+        text ≡ spec.check_report (tables.table table.old.deck) (style_of options.now)) }
+    ensures queries { call.AreMade (spec.check_queries (tables.table table.old.deck)) result
         table.old table.new steps.old steps.new }
     ensures deck { table.new.deck ≡ table.old.deck }
 {
@@ -62,10 +62,10 @@ fn put_checks<L: Ledger>(
     requires printable { IsPrintable options.now }
     requires right { IsRightTable table.old }
     ensures lines { OnOk result (lines.new.items ≡ lines.old.items
-        ++ spec.check_among (table_of table.old.deck) (style_of options.now)
+        ++ spec.check_among (tables.table table.old.deck) (style_of options.now)
         (keys_there table.old.deck.lines places.now)) }
     ensures queries { call.AreMade
-        (spec.queries_among (table_of table.old.deck) (keys_there table.old.deck.lines places.now)) result
+        (spec.queries_among (tables.table table.old.deck) (keys_there table.old.deck.lines places.now)) result
         table.old table.new steps.old steps.new }
     ensures deck { table.new.deck ≡ table.old.deck }
 {
@@ -87,9 +87,9 @@ fn put_check_at<L: Ledger>(
     requires printable { IsPrintable options.now }
     requires right { IsRightTable table.old }
     ensures line { OnOk result (lines.new.items ≡ lines.old.items
-        ++ given_by (spec.check_line (table_of table.old.deck) (style_of options.now))
+        ++ given_by (spec.check_line (tables.table table.old.deck) (style_of options.now))
         (key_there table.old.deck.lines place)) }
-    ensures queries { call.AreMade (given_by (λ k. (spec.checked (table_of table.old.deck) k).events)
+    ensures queries { call.AreMade (given_by (λ k. (spec.checked (tables.table table.old.deck) k).events)
         (key_there table.old.deck.lines place)) result table.old table.new steps.old steps.new }
     ensures deck { table.new.deck ≡ table.old.deck }
 {
@@ -112,8 +112,8 @@ fn put_check<L: Ledger>(
     requires printable { IsPrintable options.now }
     requires right { IsRightTable table.old }
     ensures line { OnOk result (lines.new.items ≡ lines.old.items
-        ++ spec.check_line (table_of table.old.deck) (style_of options.now) key.now) }
-    ensures queries { call.AreMade (spec.checked (table_of table.old.deck) key.now).events result
+        ++ spec.check_line (tables.table table.old.deck) (style_of options.now) key.now) }
+    ensures queries { call.AreMade (spec.checked (tables.table table.old.deck) key.now).events result
         table.old table.new steps.old steps.new }
     ensures deck { table.new.deck ≡ table.old.deck }
 {
@@ -129,7 +129,7 @@ fn checked<L: Ledger>(
     steps: &mut Steps<L>,
 ) -> Result<Finding, QueryFault>
     requires { IsRightTable table.old }
-    ensures inquired { calls.IsInquired call.same (spec.checked (table_of table.old.deck) key.now) result
+    ensures inquired { calls.IsInquired call.same (spec.checked (tables.table table.old.deck) key.now) result
         table.old table.new steps.old steps.new }
     ensures deck { table.new.deck ≡ table.old.deck }
 {
@@ -152,7 +152,7 @@ fn unit_checked<L: Ledger>(
 ) -> Result<Finding, QueryFault>
     requires { IsRightTable table.old }
     ensures inquired { calls.IsInquired call.same (spec.sound
-        (inquiries.worths (table_of table.old.deck) (call.syntaxes_of trees.now))) result
+        (inquiries.worths (tables.table table.old.deck) (call.syntaxes_of trees.now))) result
         table.old table.new steps.old steps.new }
     ensures deck { table.new.deck ≡ table.old.deck }
 {
@@ -169,8 +169,8 @@ fn prefix_checked<L: Ledger>(
     steps: &mut Steps<L>,
 ) -> Result<Finding, QueryFault>
     requires { IsRightTable table.old }
-    ensures inquired { calls.IsInquired call.same (spec.checked_by (table_of table.old.deck) kinds.Prefix key.now
-        (inquiries.worths (table_of table.old.deck) (call.syntaxes_of trees.now))) result
+    ensures inquired { calls.IsInquired call.same (spec.checked_by (tables.table table.old.deck) kinds.Prefix key.now
+        (inquiries.worths (tables.table table.old.deck) (call.syntaxes_of trees.now))) result
         table.old table.new steps.old steps.new }
     ensures deck { table.new.deck ≡ table.old.deck }
 {
@@ -190,8 +190,8 @@ fn function_checked<L: Ledger>(
     steps: &mut Steps<L>,
 ) -> Result<Finding, QueryFault>
     requires { IsRightTable table.old }
-    ensures inquired { calls.IsInquired call.same (spec.checked_by (table_of table.old.deck) kinds.Func key.now
-        (inquiries.worths (table_of table.old.deck) (call.syntaxes_of trees.now))) result
+    ensures inquired { calls.IsInquired call.same (spec.checked_by (tables.table table.old.deck) kinds.Func key.now
+        (inquiries.worths (tables.table table.old.deck) (call.syntaxes_of trees.now))) result
         table.old table.new steps.old steps.new }
     ensures deck { table.new.deck ≡ table.old.deck }
 {
@@ -209,7 +209,7 @@ fn list_checked<L: Ledger>(
 ) -> Result<Finding, QueryFault>
     requires { IsRightTable table.old }
     ensures inquired { calls.IsInquired call.same (spec.parted
-        (inquiries.worths (table_of table.old.deck) (call.syntaxes_of trees.now))) result
+        (inquiries.worths (tables.table table.old.deck) (call.syntaxes_of trees.now))) result
         table.old table.new steps.old steps.new }
     ensures deck { table.new.deck ≡ table.old.deck }
 {

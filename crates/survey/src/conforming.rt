@@ -6,7 +6,7 @@ ghost use Rattle.def_entry.specs.declared.key.Kind.TheVariants as kinds;
 ghost use Rattle.def_entry.specs.Tables.{entry_at};
 ghost use Rattle.deck.specs.KeyLists.{of_kind};
 ghost use Rattle.deck.specs.PlacedKeys.{key_there, keys_there};
-ghost use Rattle.deck.specs.Tables.{table as table_of};
+ghost use Rattle.deck.specs.Tables as tables;
 ghost use Rattle.live_table.specs.Shown.{IsRightTable};
 ghost use Rattle.live_table.specs.declared.fault.QueryFault.TheVariants.{OutOfMemory};
 ghost use Rattle.reply.specs.Calls as call;
@@ -35,8 +35,8 @@ pub fn conformable_report<L: Ledger>(
     from: &Quantity,
     steps: &mut Steps<L>,
 ) -> Result<Text, AllocError>
-    ensures report { IfOk result (λ text. text ≡ spec.conformable_report (table_of table.old.deck) from.now) }
-    ensures queries { call.AreMade (spec.conformable_queries (table_of table.old.deck)) result
+    ensures report { IfOk result (λ text. text ≡ spec.conformable_report (tables.table table.old.deck) from.now) }
+    ensures queries { call.AreMade (spec.conformable_queries (tables.table table.old.deck)) result
         table.old table.new steps.old steps.new }
     ensures deck { table.new.deck ≡ table.old.deck }
 {
@@ -58,10 +58,10 @@ fn put_conforming_rows<L: Ledger>(
 ) -> Result<(), AllocError>
     requires { IsRightTable table.old }
     ensures rows { OnOk result (rows.new.items ≡ rows.old.items
-        ++ flat_map (spec.conforming_row (table_of table.old.deck) from.now)
+        ++ flat_map (spec.conforming_row (tables.table table.old.deck) from.now)
         (of_kind kinds.Unit (keys_there table.old.deck.lines places.now))) }
     ensures queries { call.AreMade
-        (spec.unit_queries (table_of table.old.deck) (keys_there table.old.deck.lines places.now)) result
+        (spec.unit_queries (tables.table table.old.deck) (keys_there table.old.deck.lines places.now)) result
         table.old table.new steps.old steps.new }
     ensures deck { table.new.deck ≡ table.old.deck }
 {
@@ -82,9 +82,9 @@ fn put_row_at<L: Ledger>(
 ) -> Result<(), AllocError>
     requires { IsRightTable table.old }
     ensures rows { OnOk result (rows.new.items ≡ rows.old.items
-        ++ given_by (if_unit (spec.conforming_row (table_of table.old.deck) from.now))
+        ++ given_by (if_unit (spec.conforming_row (tables.table table.old.deck) from.now))
         (key_there table.old.deck.lines place)) }
-    ensures queries { call.AreMade (given_by (if_unit (λ k. (spec.unit_worth (table_of table.old.deck) k).events))
+    ensures queries { call.AreMade (given_by (if_unit (λ k. (spec.unit_worth (tables.table table.old.deck) k).events))
         (key_there table.old.deck.lines place)) result table.old table.new steps.old steps.new }
     ensures deck { table.new.deck ≡ table.old.deck }
 {
@@ -106,8 +106,9 @@ fn put_if_unit<L: Ledger>(
 ) -> Result<(), AllocError>
     requires { IsRightTable table.old }
     ensures rows { OnOk result (rows.new.items ≡ rows.old.items
-        ++ if_unit (spec.conforming_row (table_of table.old.deck) from.now) key.now) }
-    ensures queries { call.AreMade (if_unit (λ k. (spec.unit_worth (table_of table.old.deck) k).events) key.now) result
+        ++ if_unit (spec.conforming_row (tables.table table.old.deck) from.now) key.now) }
+    ensures queries { call.AreMade
+        (if_unit (λ k. (spec.unit_worth (tables.table table.old.deck) k).events) key.now) result
         table.old table.new steps.old steps.new }
     ensures deck { table.new.deck ≡ table.old.deck }
 {
@@ -128,8 +129,8 @@ fn put_unit<L: Ledger>(
 ) -> Result<(), AllocError>
     requires { IsRightTable table.old }
     ensures rows { OnOk result (rows.new.items
-        ≡ rows.old.items ++ spec.conforming_row (table_of table.old.deck) from.now key.now) }
-    ensures queries { call.AreMade (spec.unit_worth (table_of table.old.deck) key.now).events result
+        ≡ rows.old.items ++ spec.conforming_row (tables.table table.old.deck) from.now key.now) }
+    ensures queries { call.AreMade (spec.unit_worth (tables.table table.old.deck) key.now).events result
         table.old table.new steps.old steps.new }
     ensures deck { table.new.deck ≡ table.old.deck }
 {
@@ -145,7 +146,7 @@ fn unit_worth<L: Ledger>(
     steps: &mut Steps<L>,
 ) -> Result<Quantity, QueryFault>
     requires { IsRightTable table.old }
-    ensures inquired { calls.IsInquired call.same (spec.unit_worth (table_of table.old.deck) key.now) result
+    ensures inquired { calls.IsInquired call.same (spec.unit_worth (tables.table table.old.deck) key.now) result
         table.old table.new steps.old steps.new }
     ensures deck { table.new.deck ≡ table.old.deck }
 {
@@ -163,7 +164,7 @@ fn put_if_conforming(
 ) -> Result<(), AllocError>
     ensures row { OnOk result (rows.new.items ≡ rows.old.items
         ++ (if spec.is_conforming from.now (as_answer found.now)
-        then entry_row key.now.name (entry_at (table_of deck.now) key.now)
+        then entry_row key.now.name (entry_at (tables.table deck.now) key.now)
         else [])) }
     ensures memory { OnOk result (found.now ≡ Err OutOfMemory → ⊥) }
 {
@@ -177,7 +178,7 @@ fn put_if_conforming(
 // Puts the row of a unit, where that is wanted.
 fn put_row_if(rows: &mut Vec<u8>, wanted: bool, deck: &Deck, key: &Key) -> Result<(), AllocError>
     ensures { OnOk result (rows.new.items ≡ rows.old.items
-        ++ (if wanted then entry_row key.now.name (entry_at (table_of deck.now) key.now) else [])) }
+        ++ (if wanted then entry_row key.now.name (entry_at (tables.table deck.now) key.now) else [])) }
 {
     if !wanted {
         return Ok(());

@@ -2,7 +2,7 @@
 
 ghost use Rattle.std.specs.Prelude.{◌≡◌, position};
 ghost use Rattle.std.specs.List.{list_any};
-ghost use Rattle.frac128.specs.Sign.{is_positive as is_positive_of};
+ghost use Rattle.frac128.specs.Sign as sign;
 ghost use Rattle.unit_list.specs.Amounts.{is_not_positive, is_unlike};
 ghost use Rattle.survey.specs.Checks as spec;
 
@@ -51,7 +51,7 @@ fn first_not_positive(parts: &[Quantity]) -> Option<usize>
 
 // Whether the number of a part is above 0.
 fn is_positive(part: &Quantity) -> bool
-    ensures { result ≡ is_positive_of part.now.value }
+    ensures { result ≡ sign.is_positive part.now.value }
 {
     part.value().num() > 0
 }

@@ -2,7 +2,7 @@
 
 ghost use Rattle.std.specs.Prelude.{◌≡◌, ◌++◌, Err, OnOk, true};
 ghost use Rattle.live_table.specs.declared.fault.QueryFault.TheVariants.{OutOfMemory};
-ghost use Rattle.reply.specs.Faults.{fault_text as fault_text_of, is_told};
+ghost use Rattle.reply.specs.Faults as faults;
 ghost use Rattle.reply.specs.Inquiries.{as_answer};
 ghost use Rattle.reply.specs.Options.{IsPrintable, style_of};
 ghost use Rattle.survey.specs.Checks as spec;
@@ -52,9 +52,9 @@ fn put_fault(
     fault: &ReplyFault,
 ) -> Result<(), AllocError>
     requires printable { IsPrintable options.now }
-    requires told { is_told fault.now ≡ true }
+    requires told { faults.is_told fault.now ≡ true }
     ensures { OnOk result (text.new.items
-        ≡ text.old.items ++ spec.told_line key.now (fault_text_of (style_of options.now) fault.now)) }
+        ≡ text.old.items ++ spec.told_line key.now (faults.fault_text (style_of options.now) fault.now)) }
 {
     let fault = fault_text(alloc, fault, options)?;
     put_told(text, key, fault.as_bytes())

@@ -1,7 +1,7 @@
 //! Keys that a deck lends, copied and written.
 
 ghost use Rattle.std.specs.Prelude.{◌≡◌, ◌++◌, IfOk, OnOk};
-ghost use Rattle.def_entry.specs.Keys.{key as key_named, written};
+ghost use Rattle.def_entry.specs.Keys as keys;
 
 use def_entry::{Key, Kind};
 use std::alloc::{AllocError, Global};
@@ -9,7 +9,7 @@ use units_io::Text;
 
 /// A key of its own.
 pub(crate) fn copied(alloc: Global, kind: Kind, name: &[u8]) -> Result<Key, AllocError>
-    ensures { IfOk result (λ copy. copy ≡ key_named kind name.now) }
+    ensures { IfOk result (λ copy. copy ≡ keys.key kind name.now) }
 {
     let name = Text::from_bytes(alloc, name)?;
     Ok(Key { kind, name })
@@ -17,7 +17,7 @@ pub(crate) fn copied(alloc: Global, kind: Kind, name: &[u8]) -> Result<Key, Allo
 
 /// Puts a key as it is written.
 pub(crate) fn put_key(text: &mut Vec<u8>, kind: Kind, name: &[u8]) -> Result<(), AllocError>
-    ensures { OnOk result (text.new.items ≡ text.old.items ++ written kind name.now) }
+    ensures { OnOk result (text.new.items ≡ text.old.items ++ keys.written kind name.now) }
 {
     match kind {
         Kind::Unit => {

@@ -1,7 +1,7 @@
 //! The name faults of the bodies of prefixes.
 
 ghost use Rattle.std.specs.Prelude.{◌≡◌, ◌++◌, ◌<◌, IfOk, OnOk, drop, length, position, take};
-ghost use Rattle.def_entry.specs.SameKeys.{is_same as is_same_key};
+ghost use Rattle.def_entry.specs.SameKeys as same_keys;
 ghost use Rattle.survey.specs.PrefixFaults as spec;
 
 use crate::keys::copied;
@@ -65,14 +65,14 @@ fn put_copies(alloc: Global, keys: &mut Keys, further: &[Key]) -> Result<(), All
 
 // The first place of a key.
 fn place_of(key: &Key, chain: &[Key]) -> Option<usize>
-    ensures { result ≡ position (is_same_key key.now) chain.now }
+    ensures { result ≡ position (same_keys.is_same key.now) chain.now }
 {
     chain.iter().position(|other| is_same(key, other))
 }
 
 // One kind and one name.
 fn is_same(key: &Key, other: &Key) -> bool
-    ensures { result ≡ is_same_key key.now other.now }
+    ensures { result ≡ same_keys.is_same key.now other.now }
 {
     key.kind == other.kind && key.name.as_bytes() == other.name.as_bytes()
 }

@@ -1,9 +1,9 @@
 //! The rows of reports.
 
 ghost use Rattle.std.specs.Prelude.{◌≡◌, ◌++◌, IfOk, OnOk};
-ghost use Rattle.def_entry.specs.Keys.{key as key_named};
+ghost use Rattle.def_entry.specs.Keys as keys;
 ghost use Rattle.def_entry.specs.Tables.{entry_at};
-ghost use Rattle.deck.specs.Tables.{table as table_of};
+ghost use Rattle.deck.specs.Tables as tables;
 ghost use Rattle.survey.specs.Rows as spec;
 
 use deck::Deck;
@@ -20,7 +20,7 @@ pub(crate) fn put_entry_row(
     shown: &[u8],
 ) -> Result<(), AllocError>
     ensures { OnOk result (text.new.items
-        ≡ text.old.items ++ spec.entry_row shown.now (entry_at (table_of deck.now) (key_named kind name.now))) }
+        ≡ text.old.items ++ spec.entry_row shown.now (entry_at (tables.table deck.now) (keys.key kind name.now))) }
 {
     match deck.entry(kind, name) {
         Some(entry) => put_row(text, shown, entry.text()),

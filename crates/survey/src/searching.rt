@@ -3,7 +3,7 @@
 ghost use Rattle.std.specs.Prelude.{◌≡◌, ◌++◌, IfOk, OnOk};
 ghost use Rattle.std.specs.List.{flat_map};
 ghost use Rattle.deck.specs.PlacedKeys.{key_there, keys_there, lent_key};
-ghost use Rattle.deck.specs.Tables.{table as table_of};
+ghost use Rattle.deck.specs.Tables as tables;
 ghost use Rattle.survey.specs.Places.{given_by};
 ghost use Rattle.survey.specs.Searches as spec;
 
@@ -17,7 +17,7 @@ use units_io::Text;
 /// A row for each key whose name holds the text, in the order of keys, or one line where there is none. The only
 /// error is want of memory.
 pub fn search_report(alloc: Global, table: &LiveTable, text: &[u8]) -> Result<Text, AllocError>
-    ensures { IfOk result (λ report. report ≡ spec.search_report (table_of table.now.deck) text.now) }
+    ensures { IfOk result (λ report. report ≡ spec.search_report (tables.table table.now.deck) text.now) }
 {
     key_lists_are_one();
     let deck = table.deck();
@@ -36,7 +36,7 @@ fn put_found_rows(
     text: &[u8],
 ) -> Result<(), AllocError>
     ensures { OnOk result (rows.new.items ≡ rows.old.items
-        ++ flat_map (spec.found_row (table_of deck.now) text.now) (keys_there deck.now.lines places.now)) }
+        ++ flat_map (spec.found_row (tables.table deck.now) text.now) (keys_there deck.now.lines places.now)) }
 {
     for place in places {
         put_row_at(alloc, rows, deck, *place, text)?;
@@ -53,7 +53,7 @@ fn put_row_at(
     text: &[u8],
 ) -> Result<(), AllocError>
     ensures { OnOk result (rows.new.items ≡ rows.old.items
-        ++ given_by (spec.found_row (table_of deck.now) text.now) (key_there deck.now.lines place)) }
+        ++ given_by (spec.found_row (tables.table deck.now) text.now) (key_there deck.now.lines place)) }
 {
     match deck.key_at(place) {
         Some(key) => put_found_row(alloc, rows, deck, key, text),
@@ -70,7 +70,7 @@ fn put_found_row(
     text: &[u8],
 ) -> Result<(), AllocError>
     ensures { OnOk result (rows.new.items
-        ≡ rows.old.items ++ spec.found_row (table_of deck.now) text.now (lent_key key.entry)) }
+        ≡ rows.old.items ++ spec.found_row (tables.table deck.now) text.now (lent_key key.entry)) }
 {
     if !holds(key.name, text) {
         return Ok(());

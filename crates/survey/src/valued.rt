@@ -4,7 +4,7 @@ ghost use Rattle.std.specs.Prelude.{◌≡◌, ◌++◌, ◌∷◌, [], IfOk, On
 ghost use Rattle.std.specs.Option.{option_map};
 ghost use Rattle.def_entry.specs.Tables.{entry_at};
 ghost use Rattle.def_entry.specs.Views.{what_view};
-ghost use Rattle.deck.specs.Tables.{table as table_of};
+ghost use Rattle.deck.specs.Tables as tables;
 ghost use Rattle.expr_tree.specs.Trees.{syntax};
 ghost use Rattle.reply.specs.Calls.{syntaxes_of};
 ghost use Rattle.survey.specs.Checks as spec;
@@ -18,7 +18,7 @@ use std::alloc::{AllocError, Global};
 /// function, the parts of a list.
 pub(crate) fn valued_trees(alloc: Global, deck: &Deck, key: &Key) -> Result<Vec<Tree>, AllocError>
     ensures { IfOk result (λ trees. syntaxes_of trees.items
-        ≡ spec.valued key.now key.now.kind (entry_at (table_of deck.now) key.now)) }
+        ≡ spec.valued key.now key.now.kind (entry_at (tables.table deck.now) key.now)) }
 {
     let mut trees = Vec::new(alloc);
     match key.kind {
@@ -36,7 +36,7 @@ fn put_entry_trees(
     key: &Key,
 ) -> Result<(), AllocError>
     ensures { OnOk result (syntaxes_of trees.new.items
-        ≡ syntaxes_of trees.old.items ++ spec.trees_at (entry_at (table_of deck.now) key.now)) }
+        ≡ syntaxes_of trees.old.items ++ spec.trees_at (entry_at (tables.table deck.now) key.now)) }
 {
     match deck.entry(key.kind, key.name.as_bytes()) {
         Some(entry) => put_trees_of(alloc, trees, entry.what),

@@ -13,14 +13,16 @@ use Rattle.table_names.specs.Reach.{key_looked_keys, key_reach}
 use Rattle.table_names.specs.Words.{key_words}
 use Rattle.table_names.proofs.KeyLists.{among_member, member_among}
 use Rattle.table_names.proofs.Lookups.{target_looked}
-use Rattle.table_names.proofs.Members.{any_cases, any_member, flat_cases, flat_member, member_cases, member_first, member_later}
+use Rattle.table_names.proofs.Members.{any_cases, any_member, flat_cases, flat_member, member_cases, member_first}
+use Rattle.table_names.proofs.Members.{member_later}
 use Rattle.table_names.proofs.Paths.{key_words_closed}
 use Rattle.table_names.proofs.Reaching.{onward, reach_law}
 
 -- a reached key was looked at by the words, or by a key that they reach
 reached_looked :
     {table : Table} {words : List WordUse} {m : Key} → WordsReach table words m
-    → ((u : WordUse) × Contains words u × Contains (looked_keys table u) m) ⊎ ((x : Key) × WordsReach table words x × LooksAt table x m)
+    → ((u : WordUse) × Contains words u × Contains (looked_keys table u) m)
+    ⊎ ((x : Key) × WordsReach table words x × LooksAt table x m)
 reached_looked {table} (at_once l) = inl (l.0, l.1, target_looked table l.0 _ l.2)
 reached_looked (further {n = n} l r) =
     elim (reached_looked r) [ inl h ↦ inr (n, at_once l, h) | inr h ↦ inr (h.0, further l h.1, h.2) ]
@@ -64,11 +66,13 @@ module _ (table : Table) (keys : List Key) where
     tells (inl c) = or_left (is_among keys n) _ (among_member keys n c)
     tells (inr (inl h)) =
         or_right (is_among keys n) _
-        (any_member (has_looked table keys) (n ∷ key_reach table n) n (member_first n n (key_reach table n) refl) (looked_told n h))
+        (any_member (has_looked table keys) (n ∷ key_reach table n) n (member_first n n (key_reach table n) refl)
+        (looked_told n h))
     tells (inr (inr (m, r, h))) =
         or_right (is_among keys n) _
         (any_member (has_looked table keys) (n ∷ key_reach table n) m
         (member_later m n (key_reach table n) ((listed m).1 r)) (looked_told m h))
 
+-- the law of affected keys
 pub affected_law : AffectedLaw
 affected_law = record { computed = λ table keys n e. (told table keys n e, tells table keys n e); users = users }

@@ -18,7 +18,8 @@ use Rattle.table_names.proofs.Paths.{key_words_closed, longer, no_fault, words_c
 use Rattle.table_names.proofs.Reaching.{onward}
 
 module _ (table : Table) where
-  closed_words_lead : (words : List WordUse) → AreClosed table words → (u : WordUse) → Contains words u → LeadsInto table (IsClosed table) u
+  closed_words_lead : (words : List WordUse) → AreClosed table words → (u : WordUse) → Contains words u
+      → LeadsInto table (IsClosed table) u
   closed_words_lead words e u i =
       into_others table (EndsWithin table (length table)) (IsClosed table) u
       (λ n t. ending_key_closed table (length table) n) (closed_ending table words e u i)
@@ -28,10 +29,12 @@ module _ (table : Table) where
       → AreClosed table words
   leading_words_close words h =
       ending_closed table (suc (length table)) words (λ u i.
-      into_others table (IsClosed table) (EndsWithin table (suc (length table))) u (λ n t. closed_key_ending table n) (h u i))
+      into_others table (IsClosed table) (EndsWithin table (suc (length table))) u (λ n t. closed_key_ending table n)
+      (h u i))
 
   below : (words : List WordUse) → AreClosed table words → (n : Key) → WordsReach table words n → IsClosed table n
-  below words e n r = ending_key_closed table (length table) n (ends_reached table r (length table) (closed_ending table words e))
+  below words e n r =
+      ending_key_closed table (length table) n (ends_reached table r (length table) (closed_ending table words e))
 
   pub no_cycle : (n : Key) → IsClosed table n → Reaches table n n → ⊥
   no_cycle n e r = no_loop table (suc (length table)) n (closed_key_ending table n e) r
@@ -43,12 +46,14 @@ module _ (table : Table) where
       no_fault table (length table) (path ++ n ∷ []) (key_words table n)
       (closed_ending table (key_words table n) (key_words_closed table n e))
       (longer table path n is (off n (λ i. leads n i)) there)
-      (λ m r. off_longer path n m (off m (λ i. onward r (leads m i))) (λ q. no_cycle n e (subst (λ (x : Key). Reaches table n x) q r)))
+      (λ m r. off_longer path n m (off m (λ i. onward r (leads m i)))
+      (λ q. no_cycle n e (subst (λ (x : Key). Reaches table n x) q r)))
     where
       -- what leads back to the key would close a cycle
       off : (m : Key) → (Contains path m → Reaches table n n) → is_among path m ≡ false
       off m back = false_from_ne_true (is_among path m) (λ on. no_cycle n e (back (member_among path m on)))
 
+-- the law of closed names
 pub closed_law : ClosedLaw
 closed_law = record {
   words = λ table words. (closed_words_lead table words, leading_words_close table words);

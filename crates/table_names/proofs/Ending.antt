@@ -39,10 +39,12 @@ module _ (table : Table) where
   pub words_more : (k : ℕ) (words : List WordUse) → AreEnding k words → AreEnding (suc k) words
   words_more k words h u i = into_others (EndsWithin k) (EndsWithin (suc k)) u (λ m t. ends_more k m) (h u i)
 
-  pub ends_below : (k : ℕ) (words : List WordUse) (n : Key) → AreEnding k words → WordsLeadTo table words n → EndsWithin k n
+  pub ends_below : (k : ℕ) (words : List WordUse) (n : Key) → AreEnding k words → WordsLeadTo table words n
+      → EndsWithin k n
   ends_below k words n h l = (h l.0 l.1).into n l.2
 
-  pub ends_reached : {words : List WordUse} {m : Key} → WordsReach table words m → (k : ℕ) → AreEnding k words → EndsWithin k m
+  pub ends_reached : {words : List WordUse} {m : Key} → WordsReach table words m → (k : ℕ) → AreEnding k words
+      → EndsWithin k m
   ends_reached (at_once l) k h = ends_below k _ _ h l
   ends_reached (further l r) zero h = absurd (ends_below 0 _ _ h l)
   ends_reached (further l r) (suc k) h = ends_more k _ (ends_reached r k (ends_below (suc k) _ _ h l))
@@ -57,7 +59,8 @@ module _ (table : Table) where
       (k : ℕ) (path : List Key)
       → ((longer : List Key) (n : Key) → fault_within table k longer n ≡ None → EndsWithin k n)
       → (u : WordUse) → word_fault table (fault_within table k) path u ≡ None → LeadsInto table (EndsWithin k) u
-  word_ends k path deeper u e = record { accepted = h.0; known = known (targets table u) h.1; into = into (targets table u) h.1 }
+  word_ends k path deeper u e =
+      record { accepted = h.0; known = known (targets table u) h.1; into = into (targets table u) h.1 }
     where
       h : (is_refused u.text ≡ false) × (targets_fault table (fault_within table k) path u (targets table u) ≡ None)
       h = not_chosen (is_refused u.text) _ _ e
@@ -66,16 +69,19 @@ module _ (table : Table) where
       known [] q = cc
       known (n ∷ ns) q = λ r. cc
 
-      into : (ns : List Key) → targets_fault table (fault_within table k) path u ns ≡ None → (n : Key) → Contains ns n → EndsWithin k n
+      into : (ns : List Key) → targets_fault table (fault_within table k) path u ns ≡ None → (n : Key) → Contains ns n
+          → EndsWithin k n
       into [] q = cc
       into (m ∷ ms) q = λ n i.
           deeper (path ++ n ∷ []) n
-          (not_chosen (is_among path n) _ _ (first_none (target_fault table (fault_within table k) path) (m ∷ ms) q n i)).1
+          (not_chosen (is_among path n) _ _
+          (first_none (target_fault table (fault_within table k) path) (m ∷ ms) q n i)).1
 
   key_ends : (k : ℕ) (path : List Key) (n : Key) → fault_within table k path n ≡ None → EndsWithin k n
   key_ends zero path n e = cc
   key_ends (suc k) path n e = λ u i.
-      word_ends k path (key_ends k) u (first_none (word_fault table (fault_within table k) path) (key_words table n) e u i)
+      word_ends k path (key_ends k) u
+      (first_none (word_fault table (fault_within table k) path) (key_words table n) e u i)
 
   pub words_end :
       (k : ℕ) (path : List Key) (words : List WordUse)

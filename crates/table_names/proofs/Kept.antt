@@ -30,9 +30,11 @@ module _ (before after : Table) (keys : List Key) (changed : AreChanged before a
   words_kept : (n : Key) → IsUnaffected n → key_words before n ≡ key_words after n
   words_kept n free = ap entry_words (entry_kept n free)
 
-  lookup_kept : (n : Key) → IsUnaffected n → (u : WordUse) → Contains (key_words before n) u → word_lookup before u ≡ word_lookup after u
+  lookup_kept : (n : Key) → IsUnaffected n → (u : WordUse) → Contains (key_words before n) u
+      → word_lookup before u ≡ word_lookup after u
   lookup_kept n free u i =
-      same_lookup before after u (λ k l. ap is_some ((changed k).0 (λ e. free (inr (inl (k, member_among keys k e, (u, i, l)))))))
+      same_lookup before after u
+      (λ k l. ap is_some ((changed k).0 (λ e. free (inr (inl (k, member_among keys k e, (u, i, l)))))))
 
   target_unaffected :
       (n : Key) → IsUnaffected n → (u : WordUse) → Contains (key_words before n) u
@@ -55,7 +57,8 @@ module _ (before after : Table) (keys : List Key) (changed : AreChanged before a
       })
 
   -- and stands for the same
-  meaning_kept : (k : ℕ) (n : Key) → EndsWithin before k n → IsUnaffected n → meaning_within before k n ≡ meaning_within after k n
+  meaning_kept : (k : ℕ) (n : Key) → EndsWithin before k n → IsUnaffected n
+      → meaning_within before k n ≡ meaning_within after k n
   meaning_kept zero n e free = absurd e
   meaning_kept (suc k) n e free =
       entry_same (word_meaning_by before (meaning_within before k)) (word_meaning_by after (meaning_within after k))
@@ -76,18 +79,22 @@ module _ (before after : Table) (keys : List Key) (changed : AreChanged before a
   key_unaffected n free u i = (lookup_kept n free u i, target_unaffected n free u i)
 
   -- such words reach the same
-  leads_still : (words : List WordUse) (m : Key) → AreUnaffected words → WordsLeadTo before words m → WordsLeadTo after words m
+  leads_still : (words : List WordUse) (m : Key) → AreUnaffected words → WordsLeadTo before words m
+      → WordsLeadTo after words m
   leads_still words m free (u, i, t) = (u, i, subst (λ (f : Found). Contains f.targets m) (free u i).0 t)
 
-  led_before : (words : List WordUse) (m : Key) → AreUnaffected words → WordsLeadTo after words m → WordsLeadTo before words m
+  led_before : (words : List WordUse) (m : Key) → AreUnaffected words → WordsLeadTo after words m
+      → WordsLeadTo before words m
   led_before words m free (u, i, t) = (u, i, subst (λ (f : Found). Contains f.targets m) (sym (free u i).0) t)
 
-  reaches_still : {words : List WordUse} {m : Key} → WordsReach before words m → AreUnaffected words → WordsReach after words m
+  reaches_still : {words : List WordUse} {m : Key} → WordsReach before words m → AreUnaffected words
+      → WordsReach after words m
   reaches_still (at_once l) free = at_once (leads_still _ _ free l)
   reaches_still {m = m} (further {n = n} l r) free =
       let below : IsUnaffected n = (free l.0 l.1).1 n l.2 in
       further (leads_still _ n free l)
-      (subst (λ (ws : List WordUse). WordsReach after ws m) (words_kept n below) (reaches_still r (key_unaffected n below)))
+      (subst (λ (ws : List WordUse). WordsReach after ws m) (words_kept n below)
+      (reaches_still r (key_unaffected n below)))
 
   reached_before :
       {others : List WordUse} {m : Key} → WordsReach after others m
@@ -95,7 +102,8 @@ module _ (before after : Table) (keys : List Key) (changed : AreChanged before a
   reached_before {m = m} (at_once l) words e free =
       at_once (led_before words m free (subst (λ (ws : List WordUse). WordsLeadTo after ws m) e l))
   reached_before (further {n = n} l r) words e free =
-      let was : WordsLeadTo before words n = led_before words n free (subst (λ (ws : List WordUse). WordsLeadTo after ws n) e l) in
+      let was : WordsLeadTo before words n =
+      led_before words n free (subst (λ (ws : List WordUse). WordsLeadTo after ws n) e l) in
       let below : IsUnaffected n = (free was.0 was.1).1 n was.2 in
       further was (reached_before r (key_words before n) (sym (words_kept n below)) (key_unaffected n below))
 
@@ -110,12 +118,14 @@ module _ (before after : Table) (keys : List Key) (changed : AreChanged before a
     meaning_after =
         sym (enough before n closed)
         ∙ (meaning_kept (suc (length before)) n (closed_key_ending before n closed) free
-        ∙ (meaning_at after (suc (length before)) (suc (length after)) n ends_after (closed_key_ending after n closed_after)
+        ∙ (meaning_at after (suc (length before)) (suc (length after)) n ends_after
+        (closed_key_ending after n closed_after)
         ∙ enough after n closed_after))
 
     reach_after : (m : Key) → Reaches before n m ↔ Reaches after n m
     reach_after m = (
-      λ r. subst (λ (ws : List WordUse). WordsReach after ws m) (words_kept n free) (reaches_still r (key_unaffected n free)),
+      λ r. subst (λ (ws : List WordUse). WordsReach after ws m) (words_kept n free)
+          (reaches_still r (key_unaffected n free)),
       λ r. reached_before r (key_words before n) (sym (words_kept n free)) (key_unaffected n free),
     )
 
@@ -129,5 +139,6 @@ module _ (before after : Table) (keys : List Key) (changed : AreChanged before a
       reach = reach_after;
     }
 
+-- the law of unaffected keys
 pub unaffected_law : UnaffectedLaw
 unaffected_law before after keys changed n closed free = as_before before after keys changed n closed free

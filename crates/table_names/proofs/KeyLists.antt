@@ -8,15 +8,19 @@ use Rattle.def_entry.specs.declared.key.Key.{Key}
 use Rattle.def_entry.specs.SameKeys.{is_among, is_same}
 use Rattle.def_entry.proofs.SameKeys.{same_keys}
 
+-- keys that are found to be the same are one
 pub one_key : (a b : Key) → is_same a b ≡ true → a ≡ b
 one_key a b e = (same_keys a b).0 e
 
+-- a key is the same as itself
 pub same_itself : (a : Key) → is_same a a ≡ true
 same_itself a = (same_keys a a).1 refl
 
+-- the test may be turned
 turned : (a b : Key) → is_same a b ≡ true → is_same b a ≡ true
 turned a b e = (same_keys b a).1 (sym (one_key a b e))
 
+-- to be the same is an equivalence
 pub same_laws : IsEquivalence is_same
 same_laws = record {
   refl = same_itself;
@@ -24,9 +28,11 @@ same_laws = record {
   congr = λ a b c e. ap (λ (k : Key). is_same k c) (one_key a b e);
 }
 
+-- a key that a list contains is found in it
 pub among_member : (keys : List Key) (k : Key) → Contains keys k → is_among keys k ≡ true
 among_member keys k i = list_any-from_Contains same_laws k keys i
 
+-- and one that is found is contained
 pub member_among : (keys : List Key) (k : Key) → is_among keys k ≡ true → Contains keys k
 member_among keys k e = Contains-from_any one_key k keys e
 
@@ -38,7 +44,9 @@ on_longer path n k e =
       | inr q ↦ elim (or_cases (is_same k n) false q) [ inl r ↦ inr (one_key k n r) | inr r ↦ absurd (cc r) ]
     ]
 
-pub off_longer : (path : List Key) (n k : Key) → is_among path k ≡ false → (k ≡ n → ⊥) → is_among (path ++ n ∷ []) k ≡ false
+-- a key that is not on a path, and no other key, is not on the path with that other one
+pub off_longer : (path : List Key) (n k : Key) → is_among path k ≡ false → (k ≡ n → ⊥)
+    → is_among (path ++ n ∷ []) k ≡ false
 off_longer path n k off other =
     list_any-append (is_same k) path (n ∷ [])
     ∙ or_from (is_among path k) _ off

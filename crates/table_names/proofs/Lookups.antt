@@ -24,6 +24,8 @@ pub same_lookup :
     → word_lookup before u ≡ word_lookup after u
 same_lookup before after u h = same_answers (is_present before) (is_present after) u.kind u.text h
 
+-- the law of lookup by the keys of the entries
 pub lookup_law : LookupLaw
 lookup_law table u =
-    same_answers (is_among (keys_of table)) (is_present table) u.kind u.text (λ k i. sym (is_some-lookup (is_same k) table))
+    same_answers (is_among (keys_of table)) (is_present table) u.kind u.text
+    (λ k i. sym (is_some-lookup (is_same k) table))

@@ -16,7 +16,8 @@ use Rattle.tree_eval.specs.Expansion.{inverted_word}
 use Rattle.table_names.specs.Closed.{IsClosed, LeadsInto}
 use Rattle.table_names.specs.Kinds.{FitsKinds, ForOne, ForTwo, KindLaw, StandsForTargets, may_mean, may_say}
 use Rattle.table_names.specs.Leads.{targets}
-use Rattle.table_names.specs.Meanings.{entry_meaning, key_meaning, meaning_within, targets_meaning, word_meaning, word_meaning_by}
+use Rattle.table_names.specs.Meanings.{entry_meaning, key_meaning, meaning_within, targets_meaning, word_meaning}
+use Rattle.table_names.specs.Meanings.{word_meaning_by}
 use Rattle.table_names.specs.Words.{entry_words, key_words, what_words}
 use Rattle.table_names.proofs.Ending.{EndsWithin, into_others}
 use Rattle.table_names.proofs.LineKinds.{line_says}
@@ -25,18 +26,22 @@ use Rattle.table_names.proofs.Members.{member_first, member_later}
 use Rattle.table_names.proofs.Paths.{present_key_ending}
 use Rattle.table_names.proofs.TargetKinds.{AreTargets, are_targets, inverse_target}
 
-no_function : (k : Kind) → (is_same_kind k kind.Unit || is_same_kind k kind.Prefix) ≡ true → not (is_same_kind k kind.Func) ≡ true
+-- a unit or a prefix is no function
+no_function : (k : Kind) → (is_same_kind k kind.Unit || is_same_kind k kind.Prefix) ≡ true
+    → not (is_same_kind k kind.Func) ≡ true
 no_function kind.Unit e = refl
 no_function kind.Prefix e = refl
 no_function kind.Func e = cc
 no_function kind.List e = cc
 
+-- a unit is none
 unit_no_function : (k : Kind) → is_same_kind k kind.Unit ≡ true → not (is_same_kind k kind.Func) ≡ true
 unit_no_function kind.Unit e = refl
 unit_no_function kind.Prefix e = cc
 unit_no_function kind.Func e = cc
 unit_no_function kind.List e = cc
 
+-- nor is a list
 list_no_function : (k : Kind) → is_same_kind k kind.List ≡ true → not (is_same_kind k kind.Func) ≡ true
 list_no_function kind.Unit e = cc
 list_no_function kind.Prefix e = cc
@@ -65,7 +70,8 @@ says_means means k name (what.Table d) e h = e
 says_means means k name (what.ListOf parts) e h = list_no_function k e
 
 -- what is no function stands for an expression
-one_expression : (k : Kind) (m : Meaning) → is_same_kind k kind.Func ≡ false → may_mean k m ≡ true → (x : Expanded) × (m ≡ One x)
+one_expression : (k : Kind) (m : Meaning) → is_same_kind k kind.Func ≡ false → may_mean k m ≡ true
+    → (x : Expanded) × (m ≡ One x)
 one_expression k (One x) e h = (x, refl)
 one_expression k (Two x y) e h = cc
 one_expression k (Callee f) e h = cc
@@ -78,7 +84,8 @@ module _ (table : Table) (fits : FitsKinds table) where
   inverse_means mean w h =
       let f : Key = key kind.Func w in
       let is : targets table (inverted_word w) ≡ f ∷ [] = inverse_target table w h.known in
-      let t : Contains (targets table (inverted_word w)) f = subst (λ ks. Contains ks f) (sym is) (member_first f f [] refl) in
+      let t : Contains (targets table (inverted_word w)) f =
+      subst (λ ks. Contains ks f) (sym is) (member_first f f [] refl) in
       subst (λ ks. may_mean kind.Func (targets_meaning (map mean ks)) ≡ true) (sym is) (h.into f t)
 
   -- where the targets of its words mean what they may, so does a key
@@ -102,9 +109,11 @@ module _ (table : Table) (fits : FitsKinds table) where
       by None q some = cc
       by (Some e) q some =
           says_means (word_meaning_by table mean) n.kind n.name e.what (fits n e q)
-          (λ target a. inverse_means mean target (leads (inverted_word target) (alias_word (entry_at table n) e target q a)))
+          (λ target a. inverse_means mean target
+          (leads (inverted_word target) (alias_word (entry_at table n) e target q a)))
 
-  keys_mean : (k : ℕ) (n : Key) → EndsWithin table k n → is_present table n ≡ true → may_mean n.kind (meaning_within table k n) ≡ true
+  keys_mean : (k : ℕ) (n : Key) → EndsWithin table k n → is_present table n ≡ true
+      → may_mean n.kind (meaning_within table k n) ≡ true
   keys_mean zero n ends there = absurd ends
   keys_mean (suc k) n ends there =
       entry_means (meaning_within table k) n there (λ u i.
@@ -120,7 +129,8 @@ module _ (table : Table) (fits : FitsKinds table) where
   target_means u h n t = key_means n (target_present table u n t) (h.into n t)
 
   closed_inverse :
-      (w : List ℕ) → LeadsInto table (IsClosed table) (inverted_word w) → may_mean kind.Func (word_meaning table (inverted_word w)) ≡ true
+      (w : List ℕ) → LeadsInto table (IsClosed table) (inverted_word w)
+      → may_mean kind.Func (word_meaning table (inverted_word w)) ≡ true
   closed_inverse w h =
       inverse_means (key_meaning table) w
       (into_others table (IsClosed table) (λ m. may_mean m.kind (key_meaning table m) ≡ true) (inverted_word w)
@@ -136,16 +146,20 @@ module _ (table : Table) (fits : FitsKinds table) where
       by [] q a = absurd (h.known q)
       by (n ∷ []) q a = ForOne n q (ap of_targets q)
       by (n ∷ m ∷ []) q a =
-          let first_in : Contains (targets table u) n = subst (λ ks. Contains ks n) (sym q) (member_first n n (m ∷ []) refl) in
+          let first_in : Contains (targets table u) n =
+          subst (λ ks. Contains ks n) (sym q) (member_first n n (m ∷ []) refl) in
           let second_in : Contains (targets table u) m =
           subst (λ ks. Contains ks m) (sym q) (member_later m n (m ∷ []) (member_first m m [] refl)) in
           let x : (x : Expanded) × (key_meaning table n ≡ One x) =
-          one_expression n.kind (key_meaning table n) (ap (λ k. is_same_kind k kind.Func) a.0) (target_means u h n first_in) in
+          one_expression n.kind (key_meaning table n) (ap (λ k. is_same_kind k kind.Func) a.0)
+          (target_means u h n first_in) in
           let y : (y : Expanded) × (key_meaning table m ≡ One y) =
-          one_expression m.kind (key_meaning table m) (ap (λ k. is_same_kind k kind.Func) a.1) (target_means u h m second_in) in
+          one_expression m.kind (key_meaning table m) (ap (λ k. is_same_kind k kind.Func) a.1)
+          (target_means u h m second_in) in
           let both : of_targets (n ∷ m ∷ []) ≡ Two x.0 y.0 = λ i. targets_meaning (x.1 i ∷ y.1 i ∷ []) in
           ForTwo n m x.0 y.0 q a.0 a.1 x.1 y.1 (ap of_targets q ∙ both)
       by (n ∷ m ∷ o ∷ ks) q a = absurd a
 
+-- the law of kinds
 pub kind_law : KindLaw
 kind_law = record { lines = line_says; keys = key_means; words = word_stands; inverses = closed_inverse }

@@ -32,7 +32,8 @@ module _ (d : FunctionDef) (u : WordUse) where
   upto_forward = upto_out ++ words_in d.forward
 
   from_out : Contains upto_out u → Contains (function_words d) u
-  from_out i = Contains-append_left upto_forward (words_if d.inverse) u (Contains-append_left upto_out (words_in d.forward) u i)
+  from_out i = Contains-append_left upto_forward (words_if d.inverse) u
+      (Contains-append_left upto_out (words_in d.forward) u i)
 
   function_word : (p : Part) → Contains (part_words (what.Function d) p) u → Contains (function_words d) u
   function_word part.InUnit i = from_out (Contains-append_left (words_if d.in_unit) (words_if d.out_unit) u i)
@@ -71,28 +72,35 @@ part_word (what.ListOf parts) p u i = absurd (no_member u i)
 -- equal meanings of the words of an entry give its key equal meanings
 pub entry_same :
     (means other : WordUse → Meaning) (name : List ℕ) (o : Option Entry)
-    → ((u : WordUse) → Contains (entry_words o) u → means u ≡ other u) → entry_meaning means name o ≡ entry_meaning other name o
+    → ((u : WordUse) → Contains (entry_words o) u → means u ≡ other u)
+    → entry_meaning means name o ≡ entry_meaning other name o
 entry_same means other name None h = refl
 entry_same means other name (Some e) h =
-    meaning_same means other name e.what (λ p k u at. h u (part_word e.what p u (member_at (part_words e.what p) k u at)))
+    meaning_same means other name e.what
+    (λ p k u at. h u (part_word e.what p u (member_at (part_words e.what p) k u at)))
 
-absent_meaning : (means : WordUse → Meaning) (name : List ℕ) (o : Option Entry) → is_some o ≡ false → entry_meaning means name o ≡ nothing
+-- where there is no entry, a key stands for nothing
+absent_meaning : (means : WordUse → Meaning) (name : List ℕ) (o : Option Entry) → is_some o ≡ false
+    → entry_meaning means name o ≡ nothing
 absent_meaning means name None e = refl
 absent_meaning means name (Some x) e = cc
 
 module _ (table : Table) where
   -- two depths that are enough give the same
-  pub meaning_at : (j k : ℕ) (n : Key) → EndsWithin table j n → EndsWithin table k n → meaning_within table j n ≡ meaning_within table k n
+  pub meaning_at : (j k : ℕ) (n : Key) → EndsWithin table j n → EndsWithin table k n
+      → meaning_within table j n ≡ meaning_within table k n
   meaning_at zero k n f g = absurd f
   meaning_at (suc j) zero n f g = absurd g
   meaning_at (suc j) (suc k) n f g =
-      entry_same (word_meaning_by table (meaning_within table j)) (word_meaning_by table (meaning_within table k)) n.name (entry_at table n)
+      entry_same (word_meaning_by table (meaning_within table j))
+      (word_meaning_by table (meaning_within table k)) n.name (entry_at table n)
       (λ u i. ap targets_meaning (map_same (meaning_within table j) (meaning_within table k) (targets table u)
       (λ m t. meaning_at j k m ((f u i).into m t) ((g u i).into m t))))
 
   absent_within : (k : ℕ) (n : Key) → is_present table n ≡ false → meaning_within table k n ≡ nothing
   absent_within zero n e = refl
-  absent_within (suc k) n e = absent_meaning (word_meaning_by table (meaning_within table k)) n.name (entry_at table n) e
+  absent_within (suc k) n e =
+      absent_meaning (word_meaning_by table (meaning_within table k)) n.name (entry_at table n) e
 
   -- the number of keys is depth enough: one more gives the same
   pub enough : (n : Key) → IsClosed table n → meaning_within table (suc (length table)) n ≡ key_meaning table n
@@ -104,5 +112,6 @@ module _ (table : Table) where
         | inr absent ↦ absent_within (suc (length table)) n absent ∙ sym (absent_within (length table) n absent)
       ]
 
+-- the law of what closed keys stand for
 pub closed_meaning_law : ClosedMeaningLaw
 closed_meaning_law table n closed = sym (enough table n closed)

@@ -53,7 +53,8 @@ module _ {A B : Type 0} where
       let r : map f ys ≡ map g ys = map_same f g ys (λ x i. h x (member_later x y ys i)) in
       λ i. e i ∷ r i
 
-  pub flat_member : (f : A → List B) (xs : List A) (x : A) (b : B) → Contains xs x → Contains (f x) b → Contains (flat_map f xs) b
+  pub flat_member : (f : A → List B) (xs : List A) (x : A) (b : B) → Contains xs x → Contains (f x) b
+      → Contains (flat_map f xs) b
   flat_member f [] x b i j = absurd (no_member x i)
   flat_member f (y ∷ ys) x b i j =
       elim (member_cases x y ys i) [
@@ -61,7 +62,8 @@ module _ {A B : Type 0} where
         | inr k ↦ Contains-append_right (f y) (flat_map f ys) b (flat_member f ys x b k j)
       ]
 
-  pub flat_cases : (f : A → List B) (xs : List A) (b : B) → Contains (flat_map f xs) b → (x : A) × Contains xs x × Contains (f x) b
+  pub flat_cases : (f : A → List B) (xs : List A) (b : B) → Contains (flat_map f xs) b
+      → (x : A) × Contains xs x × Contains (f x) b
   flat_cases f [] b i = absurd (no_member b i)
   flat_cases f (y ∷ ys) b i =
       elim (Contains-append_cases (f y) (flat_map f ys) b i) [

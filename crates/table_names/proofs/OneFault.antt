@@ -20,6 +20,7 @@ use Rattle.table_names.proofs.Paths.{longer, short}
 abbrev by_words : Table → (List Key → List WordUse → Option NameFault) → Deeper
 by_words table f path n = f path (key_words table n)
 
+-- two choices are equal where their second parts are, whenever those are taken
 unless : {A : Type 0} (b : Bool) (x y z : A) → (b ≡ false → y ≡ z) → cond b x y ≡ cond b x z
 unless true x y z h = refl
 unless false x y z h = h refl
@@ -28,26 +29,31 @@ module _ (table : Table) where
   -- a word's fault depends on what stands deeper only in the entries of targets that are not on the path
   word_same :
       (f g : Deeper) (path : List Key) (u : WordUse)
-      → ((n : Key) → Contains (targets table u) n → is_among path n ≡ false → f (path ++ n ∷ []) n ≡ g (path ++ n ∷ []) n)
+      → ((n : Key) → Contains (targets table u) n → is_among path n ≡ false
+      → f (path ++ n ∷ []) n ≡ g (path ++ n ∷ []) n)
       → word_fault table f path u ≡ word_fault table g path u
   word_same f g path u h =
       ap (λ o. cond (is_refused u.text) (Some (Refused u.text (last path))) o) (targets_same (targets table u) h)
     where
       targets_same :
-          (ns : List Key) → ((n : Key) → Contains ns n → is_among path n ≡ false → f (path ++ n ∷ []) n ≡ g (path ++ n ∷ []) n)
+          (ns : List Key) → ((n : Key) → Contains ns n → is_among path n ≡ false
+          → f (path ++ n ∷ []) n ≡ g (path ++ n ∷ []) n)
           → targets_fault table f path u ns ≡ targets_fault table g path u ns
       targets_same [] e = refl
       targets_same (n ∷ ns) e =
           first_same (target_fault table f path) (target_fault table g path) (n ∷ ns)
-          (λ m i. unless (is_among path m) (Some (Cycle (chain m path))) (f (path ++ m ∷ []) m) (g (path ++ m ∷ []) m) (e m i))
+          (λ m i. unless (is_among path m) (Some (Cycle (chain m path))) (f (path ++ m ∷ []) m) (g (path ++ m ∷ []) m)
+          (e m i))
 
   -- room for the keys that are not on the path is room for all that follows
   room_left :
       (path : List Key) (n : Key) → IsPath table (path ++ n ∷ [])
-      → fault_within table (length table - length path) (path ++ n ∷ []) n ≡ fault table (path ++ n ∷ []) (key_words table n)
+      → fault_within table (length table - length path) (path ++ n ∷ []) n
+      ≡ fault table (path ++ n ∷ []) (key_words table n)
   room_left path n is =
       let l : length (path ++ n ∷ []) ≤ length table = short table (path ++ n ∷ []) is in
-      let left : length table - length path ≡ suc (length table - length (path ++ n ∷ [])) = omega (arith, length-append path (n ∷ [])) in
+      let left : length table - length path ≡ suc (length table - length (path ++ n ∷ [])) =
+      omega (arith, length-append path (n ∷ [])) in
       ap (λ k. fault_within table k (path ++ n ∷ []) n) left
 
   fault_is : IsFault table (fault table)
@@ -65,9 +71,11 @@ module _ (table : Table) where
   one_by f is zero path words p room = absurd (let l : length path ≤ length table = short table path p in omega arith)
   one_by f is (suc k) path words p room =
       is path words p
-      ∙ (first_same (word_fault table (by_words table f) path) (word_fault table (by_words table (fault table)) path) words
+      ∙ (first_same (word_fault table (by_words table f) path)
+      (word_fault table (by_words table (fault table)) path) words
       (λ u i. word_same (by_words table f) (by_words table (fault table)) path u
-      (λ n t off. one_by f is k (path ++ n ∷ []) (key_words table n) (longer table path n p off (target_present table u n t))
+      (λ n t off. one_by f is k (path ++ n ∷ []) (key_words table n)
+      (longer table path n p off (target_present table u n t))
       (omega (arith, length-append path (n ∷ [])))))
       ∙ sym (fault_is path words p))
 
@@ -79,5 +87,6 @@ module _ (table : Table) where
       let e : length path + (length table + 1 - length path) ≡ length table + 1 = omega arith in
       one_by f is (length table + 1 - length path) path words p e
 
+-- the law of the fault of names
 pub fault_law : FaultLaw
 fault_law = record { is = fault_is; one = one_is }

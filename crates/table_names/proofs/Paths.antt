@@ -22,10 +22,12 @@ use Rattle.table_names.proofs.KeyLists.{off_longer, on_longer, same_laws}
 use Rattle.table_names.proofs.Lookups.{target_present}
 use Rattle.table_names.proofs.Members.{none_first}
 
+-- no key stands twice in an empty path
 nothing_twice : IsDistinct is_same []
 unfolding IsDistinct
 nothing_twice = tt
 
+-- where there is no entry, there are no words
 no_words : (o : Option Entry) → is_some o ≡ false → entry_words o ≡ []
 no_words None e = refl
 no_words (Some x) e = cc
@@ -54,9 +56,11 @@ module _ (table : Table) where
 
   clear_below :
       (j : ℕ) (path : List Key) (words : List WordUse) (m : Key)
-      → EndsWithin table j m → IsClear path words → WordsLeadTo table words m → IsClear (path ++ m ∷ []) (key_words table m)
+      → EndsWithin table j m → IsClear path words → WordsLeadTo table words m
+      → IsClear (path ++ m ∷ []) (key_words table m)
   clear_below j path words m ends clear l q r =
-      off_longer path m q (clear q (further l r)) (λ e. no_loop table j m ends (subst (λ (x : Key). Reaches table m x) e r))
+      off_longer path m q (clear q (further l r))
+      (λ e. no_loop table j m ends (subst (λ (x : Key). Reaches table m x) e r))
 
   -- no fault at words whose ways end off the path, where none is met in the entries of their targets
   words_pass :
@@ -87,7 +91,8 @@ module _ (table : Table) where
       → EndsWithin table j n → IsPath table path → IsClear path (key_words table n)
       → length path + k ≡ length table + 1 → fault_within table k path n ≡ None
   key_passes zero k path n ends is clear room = absurd ends
-  key_passes (suc j) zero path n ends is clear room = absurd (let l : length path ≤ length table = short path is in omega arith)
+  key_passes (suc j) zero path n ends is clear room =
+      absurd (let l : length path ≤ length table = short path is in omega arith)
   key_passes (suc j) (suc k) path n ends is clear room =
       words_pass j k path (key_words table n) ends is clear (λ m e p c.
       key_passes j k (path ++ m ∷ []) m e p c (omega (arith, length-append path (m ∷ []))))
@@ -106,7 +111,8 @@ module _ (table : Table) where
   pub closed_ending : (words : List WordUse) → AreClosed table words → AreEnding table (length table) words
   closed_ending words e =
       let z : length table - 0 ≡ length table = omega arith in
-      words_end table (length table) [] words (subst (λ k. first (word_fault table (fault_within table k) []) words ≡ None) z e)
+      words_end table (length table) [] words
+      (subst (λ k. first (word_fault table (fault_within table k) []) words ≡ None) z e)
 
   pub ending_closed : (j : ℕ) (words : List WordUse) → AreEnding table j words → AreClosed table words
   ending_closed j words ends = no_fault j [] words ends empty (λ m r. refl)
@@ -114,7 +120,8 @@ module _ (table : Table) where
   -- so is a key exactly where its words are
   pub key_words_closed : (n : Key) → IsClosed table n → AreClosed table (key_words table n)
   key_words_closed n e =
-      ending_closed (length table - 1) (key_words table n) (words_end table (length table - 1) (n ∷ []) (key_words table n) e)
+      ending_closed (length table - 1) (key_words table n)
+      (words_end table (length table - 1) (n ∷ []) (key_words table n) e)
 
   alone_clear : (j : ℕ) (n : Key) → EndsWithin table j n → IsClear (n ∷ []) (key_words table n)
   alone_clear j n ends m r =
@@ -127,7 +134,8 @@ module _ (table : Table) where
             (longer [] n empty refl there) (alone_clear (suc (length table)) n (closed_ending (key_words table n) e))
         | inr absent ↦
             let none : key_words table n ≡ [] = no_words (entry_at table n) absent in
-            subst (λ ws. first (word_fault table (fault_within table (length table - 1)) (n ∷ [])) ws ≡ None) (sym none) refl
+            subst (λ ws. first (word_fault table (fault_within table (length table - 1)) (n ∷ [])) ws ≡ None)
+            (sym none) refl
       ]
 
   pub closed_key_ending : (n : Key) → IsClosed table n → EndsWithin table (suc (length table)) n
@@ -144,5 +152,6 @@ module _ (table : Table) where
   ending_key_closed zero n ends = absurd ends
   ending_key_closed (suc j) n ends = words_closed_key n (ending_closed j (key_words table n) ends)
 
+-- the law of paths
 pub path_law : PathLaw
 path_law = record { empty = empty; longer = longer; short = short }

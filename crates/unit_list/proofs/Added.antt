@@ -1,5 +1,6 @@
 -- The counts of a number with a sign.
-use Rattle.std.proofs.Common.{◌≡◌, ◌<◌, ◌*◌, ◌*ℤ◌, ◌+ℤ◌, ℕ, ℤ, pos, negsuc, neg_ℤ, suc, zero, unsigned_abs, arith, refl, sym, ap, subst, ◌∙◌}
+use Rattle.std.proofs.Common.{◌≡◌, ◌<◌, ◌*◌, ◌*ℤ◌, ◌+ℤ◌, ℕ, ℤ, pos, negsuc, neg_ℤ, suc, zero, unsigned_abs, arith, refl}
+use Rattle.std.proofs.Common.{sym, ap, subst, ◌∙◌}
 use Rattle.std.specs.Prelude.{Bool, true, false, List, [], ◌∷◌, length, map, All, int_lt}
 use Rattle.std.proofs.lemmas.Int.{ints}
 use Rattle.std.proofs.lemmas.List.{length-map}
@@ -30,18 +31,22 @@ abs-neg (pos (suc n)) = refl
 abs-neg (negsuc n) = refl
 
 -- the sum of negated counts
-pub total-negated : (counts units : List Fraction) → All IsUnit units → total (map negated counts) units ≡ negated (total counts units)
+pub total-negated : (counts units : List Fraction) → All IsUnit units
+    → total (map negated counts) units ≡ negated (total counts units)
 total-negated [] units are = refl
 total-negated (count ∷ counts) [] are = refl
 total-negated (count ∷ counts) (unit ∷ units) are =
     let natural = unit_natural unit (All-head IsUnit unit units are) in
     ap (sum (product (negated count) unit)) (total-negated counts units (All-tail IsUnit unit units are))
     ∙ ap (λ z. record { num = z; den = count.den * unit.den * (total counts units).den })
-    (ap (λ u. neg_ℤ count.num *ℤ u *ℤ pos (total counts units).den +ℤ neg_ℤ (total counts units).num *ℤ pos (count.den * unit.den)) natural.num_is
+    (ap (λ u. neg_ℤ count.num *ℤ u *ℤ pos (total counts units).den +ℤ neg_ℤ (total counts units).num
+    *ℤ pos (count.den * unit.den)) natural.num_is
     ∙ turned count.num (total counts units).num natural.num (total counts units).den (count.den * unit.den)
-    ∙ sym (ap (λ u. neg_ℤ (count.num *ℤ u *ℤ pos (total counts units).den +ℤ (total counts units).num *ℤ pos (count.den * unit.den))) natural.num_is))
+    ∙ sym (ap (λ u. neg_ℤ (count.num *ℤ u *ℤ pos (total counts units).den +ℤ (total counts units).num
+    *ℤ pos (count.den * unit.den))) natural.num_is))
   where
-    turned : (z t : ℤ) (n d k : ℕ) → neg_ℤ z *ℤ pos n *ℤ pos d +ℤ neg_ℤ t *ℤ pos k ≡ neg_ℤ (z *ℤ pos n *ℤ pos d +ℤ t *ℤ pos k)
+    turned : (z t : ℤ) (n d k : ℕ)
+        → neg_ℤ z *ℤ pos n *ℤ pos d +ℤ neg_ℤ t *ℤ pos k ≡ neg_ℤ (z *ℤ pos n *ℤ pos d +ℤ t *ℤ pos k)
     turned z t n d k =
         ap (λ u. u *ℤ pos d +ℤ neg_ℤ t *ℤ pos k) (sym (neg-times z n))
         ∙ ap (λ u. u +ℤ neg_ℤ t *ℤ pos k) (sym (neg-times (z *ℤ pos n) d))
@@ -61,7 +66,8 @@ magnitudes-negated (count ∷ counts) =
       num =
           pos n;
       den = count.den;
-    } ∷ map magnitude (map (negated_if true) counts)) (abs-neg count.num) ∙ ap (λ xs. magnitude count ∷ xs) (magnitudes-negated counts)
+    } ∷ map magnitude (map (negated_if true) counts)) (abs-neg count.num)
+    ∙ ap (λ xs. magnitude count ∷ xs) (magnitudes-negated counts)
 
 -- a number is its magnitude with its sign
 sign_back : (x : Fraction) → negated_if (is_negative x) (magnitude x) ≡ x
@@ -70,13 +76,15 @@ sign_back x = by_num x.num x.den
     plus : (n : ℕ) → int_lt (pos n) (pos 0) ≡ false
     plus n = grind (arith, ints)
 
-    by_num : (z : ℤ) (d : ℕ) → negated_if (int_lt z (pos 0)) (record { num = pos (unsigned_abs z); den = d }) ≡ record { num = z; den = d }
+    by_num : (z : ℤ) (d : ℕ) → negated_if (int_lt z (pos 0)) (record { num = pos (unsigned_abs z); den = d })
+        ≡ record { num = z; den = d }
     by_num (pos n) d = ap (λ s. negated_if s (record { num = pos n; den = d })) (plus n)
     by_num (negsuc n) d = refl
 
 -- a fraction in lowest terms with the other sign
 negated_lowest : (x : Fraction) → IsReduced x → IsReduced (negated x)
-negated_lowest x is = record { positive = is.positive; lowest = subst (λ n. IsGcd n x.den 1) (sym (abs-neg x.num)) is.lowest }
+negated_lowest x is =
+    record { positive = is.positive; lowest = subst (λ n. IsGcd n x.den 1) (sym (abs-neg x.num)) is.lowest }
 
 -- counts with a sign are those of a split of y
 record AreSigned (negative : Bool) (y : Fraction) (units counts : List Fraction) : Type 0 where
@@ -87,24 +95,32 @@ record AreSigned (negative : Bool) (y : Fraction) (units counts : List Fraction)
   lowest : All IsReduced counts
 
 -- the counts of a / b, with a sign, are those of a / b with the sign
-signed_split : (negative : Bool) (a b : ℕ) (units counts : List Fraction) → 0 < b → All IsUnit units → AreCounts a b units counts
-    → AreSigned negative (negated_if negative (record { num = pos a; den = b })) units (map (negated_if negative) counts)
+signed_split : (negative : Bool) (a b : ℕ) (units counts : List Fraction) → 0 < b → All IsUnit units
+    → AreCounts a b units counts
+    → AreSigned negative (negated_if negative (record { num = pos a; den = b })) units
+    (map (negated_if negative) counts)
 signed_split false a b units counts some units_are are =
     subst (AreSigned false (record { num = pos a; den = b }) units) (sym (map-plain counts)) (record {
       one_each = are.one_each;
       sum = ap (λ z. z *ℤ pos b) are.sum.num_is ∙ ap pos are.sum.same;
-      greatest = subst (AreGreatest (record { num = pos a; den = b }) units) (sym are.plain) (are.greatest (record { num = pos a; den = b }) (own_value (record { num = pos a; den = b }) a refl some));
+      greatest = subst (AreGreatest (record { num = pos a; den = b }) units) (sym are.plain)
+          (are.greatest (record { num = pos a; den = b }) (own_value (record { num = pos a; den = b }) a refl some));
       signs = sym (map-plain (map magnitude counts) ∙ are.plain);
       lowest = are.lowest;
     })
 signed_split true a b units counts some units_are are = record {
   one_each = length-map counts (negated_if true) ∙ are.one_each;
-  sum = subst (λ t. SameValue t (negated (record { num = pos a; den = b }))) (sym (total-negated counts units units_are))
-      (sym (neg-times (total counts units).num b) ∙ ap (λ z. neg_ℤ (z *ℤ pos b)) are.sum.num_is ∙ ap (λ n. neg_ℤ (pos n)) are.sum.same ∙ neg-times (pos a) (total counts units).den);
-  greatest = subst (λ n. AreGreatest (record { num = pos n; den = b }) units (map magnitude (map (negated_if true) counts))) (sym (abs-neg (pos a)))
-      (subst (AreGreatest (record { num = pos a; den = b }) units) (sym (magnitudes-negated counts ∙ are.plain)) (are.greatest (record { num = pos a; den = b }) (own_value (record { num = pos a; den = b }) a refl some)));
+  sum = subst (λ t. SameValue t (negated (record { num = pos a; den = b })))
+      (sym (total-negated counts units units_are))
+      (sym (neg-times (total counts units).num b) ∙ ap (λ z. neg_ℤ (z *ℤ pos b)) are.sum.num_is
+      ∙ ap (λ n. neg_ℤ (pos n)) are.sum.same ∙ neg-times (pos a) (total counts units).den);
+  greatest = subst (λ n. AreGreatest (record { num = pos n; den = b }) units
+      (map magnitude (map (negated_if true) counts))) (sym (abs-neg (pos a)))
+      (subst (AreGreatest (record { num = pos a; den = b }) units) (sym (magnitudes-negated counts ∙ are.plain))
+      (are.greatest (record { num = pos a; den = b }) (own_value (record { num = pos a; den = b }) a refl some)));
   signs = ap (map (negated_if true)) (sym (magnitudes-negated counts ∙ are.plain));
-  lowest = All-map IsReduced (negated_if true) counts (All-weaker IsReduced (λ x. IsReduced (negated x)) negated_lowest counts are.lowest);
+  lowest = All-map IsReduced (negated_if true) counts
+      (All-weaker IsReduced (λ x. IsReduced (negated x)) negated_lowest counts are.lowest);
 }
 
 -- they are those of a split of x, where y is the number that is split
@@ -124,16 +140,19 @@ pub last_unit : (units : List Fraction) → 0 < length units → All IsUnit unit
 unfolding last_of
 last_unit [] some are = absurd (omega arith)
 last_unit (unit ∷ []) some are = All-head IsUnit unit [] are
-last_unit (unit ∷ next ∷ units) some are = last_unit (next ∷ units) (omega arith) (All-tail IsUnit unit (next ∷ units) are)
+last_unit (unit ∷ next ∷ units) some are =
+    last_unit (next ∷ units) (omega arith) (All-tail IsUnit unit (next ∷ units) are)
 
 -- the counts add up
 pub split_law : ReducedLaw → LcmLaw → SplitLaw
 split_law law multiples false x units counts some many units_are h =
     let inner = goes (counts_of (magnitude x) units) _ counts h in
     let are =
-    counts_are law multiples units inner.value (magnitude x) (unsigned_abs x.num) x.den (own_value (magnitude x) (unsigned_abs x.num) refl some) some units_are many inner.first_is in
+    counts_are law multiples units inner.value (magnitude x) (unsigned_abs x.num) x.den
+    (own_value (magnitude x) (unsigned_abs x.num) refl some) some units_are many inner.first_is in
     subst (IsSplitOf false x units) (ok_same _ _ _ refl inner.step_is)
-    (split_of false x _ units _ (sign_back x) (signed_split (is_negative x) (unsigned_abs x.num) x.den units inner.value some units_are are))
+    (split_of false x _ units _ (sign_back x)
+    (signed_split (is_negative x) (unsigned_abs x.num) x.den units inner.value some units_are are))
 split_law law multiples true x units counts some many units_are h =
     let unit = last_of units in
     let unit_is = last_unit units many units_are in
@@ -144,11 +163,14 @@ split_law law multiples true x units counts some many units_are h =
     let n = nearest_to quotient.value in
     let value = times_value law n natural.num unit amount.value natural.num_is unit_is.denominator quotient.step_is in
     let are =
-    counts_are law multiples units inner.value amount.value (n * natural.num) unit.den value unit_is.denominator units_are many inner.first_is in
+    counts_are law multiples units inner.value amount.value
+    (n * natural.num) unit.den value unit_is.denominator units_are many inner.first_is in
     let quotient_is : quotient.value ≡ quotient_of x unit =
-    over_reduced (magnitude x) unit quotient.value (unsigned_abs x.num) natural.num refl natural.num_is some natural.some quotient.first_is
+    over_reduced (magnitude x) unit quotient.value (unsigned_abs x.num) natural.num refl natural.num_is some
+    natural.some quotient.first_is
     ∙ ap (λ z. reduced (pos (unsigned_abs x.num * unit.den)) (x.den * unsigned_abs z)) (sym natural.num_is) in
-    let number_is : record { num = pos (n * natural.num); den = unit.den } ≡ product (whole (pos (nearest_to (quotient_of x unit)))) unit =
+    let number_is : record { num = pos (n * natural.num); den = unit.den }
+    ≡ product (whole (pos (nearest_to (quotient_of x unit)))) unit =
     ap (λ z. record { num = pos n *ℤ z; den = unit.den }) (sym natural.num_is)
     ∙ ap (λ d. record { num = pos n *ℤ unit.num; den = d }) (once unit.den)
     ∙ ap (λ q. product (whole (pos (nearest_to q))) unit) quotient_is in

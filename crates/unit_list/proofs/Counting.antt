@@ -1,6 +1,7 @@
 -- Counting unit by unit.
 use Rattle.std.proofs.Common.{◌≡◌, ◌<◌, ◌≤◌, ◌+◌, ◌-◌, ℕ, suc, zero, arith, refl, sym, ap, ◌∙◌}
-use Rattle.std.specs.Prelude.{◌⊎◌, Bool, not, cond, All, int_lt, nat_lt, true, false, List, [], ◌∷◌, ◌++◌, length, map, drop, position, IsErrAnd, Some, None, Option, Result, Ok, Err}
+use Rattle.std.specs.Prelude.{◌⊎◌, Bool, not, cond, All, int_lt, nat_lt, true, false, List, [], ◌∷◌, ◌++◌, length, map}
+use Rattle.std.specs.Prelude.{drop, position, IsErrAnd, Some, None, Option, Result, Ok, Err}
 use Rattle.std.specs.List.{AllByRecursion as Each}
 use Rattle.units_io.specs.Outcomes.{Gives}
 use Rattle.std.proofs.Common.{append_assoc, get_or, inl, inr, ◌<ℤ◌, ℤ, pos}
@@ -18,7 +19,8 @@ use Rattle.quantity.specs.Amount.{Amount}
 use Rattle.unit_list.specs.declared.part.Part.{Part}
 use Rattle.unit_list.specs.declared.fault.SplitFault.{SplitFault}
 use Rattle.unit_list.specs.declared.fault.SplitFault.TheVariants.{Number, OutOfMemory}
-use Rattle.unit_list.specs.Amounts.{HasDenominator, checked, counts_in, is_not_positive, is_unlike, number_of, numbered, numbers_of, place_fault, unit_fault}
+use Rattle.unit_list.specs.Amounts.{HasDenominator, checked, counts_in, is_not_positive, is_unlike, number_of, numbered}
+use Rattle.unit_list.specs.Amounts.{numbers_of, place_fault, unit_fault}
 use Rattle.frac128.specs.Sign.{is_negative, magnitude, negated_if}
 use Rattle.unit_list.specs.Splits.{counts_of, last_of, number_counts, part_of, rounded_if, signed_counts}
 
@@ -27,7 +29,8 @@ abbrev pub behind : List Fraction → Result (List Fraction) FracFault → Resul
 behind done counts = counts >>= (λ cs. Ok (done ++ cs))
 
 -- behind the counts so far stand those that the rest has of the units from the place i on
-pub record IsCounting (negative : Bool) (units : List Amount) (all : Result (List Fraction) FracFault) (i : ℕ) (rest : Fraction) (done : List Fraction) : Type 0 where
+pub record IsCounting (negative : Bool) (units : List Amount) (all : Result (List Fraction) FracFault) (i : ℕ)
+    (rest : Fraction) (done : List Fraction) : Type 0 where
   pub same : behind done (signed_counts negative (counts_of rest (map number_of (drop i units)))) ≡ all
 
 -- nothing is done at the start
@@ -35,59 +38,82 @@ behind_none : (counts : Result (List Fraction) FracFault) → behind [] counts �
 behind_none (Ok counts) = refl
 behind_none (Err fault) = refl
 
+-- at the start no count is done, and the whole number is left
 pub counting_start : (negative : Bool) (units : List Amount) (x : Fraction)
     → IsCounting negative units (signed_counts negative (counts_of x (map number_of units))) 0 x []
-counting_start negative units x = record { same = behind_none (signed_counts negative (counts_of x (map number_of units))) }
+counting_start negative units x =
+    record { same = behind_none (signed_counts negative (counts_of x (map number_of units))) }
 
 -- the units from a place on that is not the last
 more_units : (units : List Amount) (i : ℕ) (d : Amount) → i + 1 < length units
-    → map number_of (drop i units) ≡ number_of (get_or units i d) ∷ number_of (get_or units (i + 1) d) ∷ map number_of (drop (i + 1 + 1) units)
+    → map number_of (drop i units) ≡ number_of (get_or units i d) ∷ number_of (get_or units (i + 1) d)
+    ∷ map number_of (drop (i + 1 + 1) units)
 more_units units i d h =
-    ap (map number_of) (drop_more units i d (omega arith) ∙ ap (λ xs. get_or units i d ∷ xs) (drop_more units (i + 1) d h))
+    ap (map number_of)
+    (drop_more units i d (omega arith) ∙ ap (λ xs. get_or units i d ∷ xs) (drop_more units (i + 1) d h))
 
+-- the units behind a place begin with the next one
 next_units : (units : List Amount) (i : ℕ) (d : Amount) → i + 1 < length units
     → map number_of (drop (i + 1) units) ≡ number_of (get_or units (i + 1) d) ∷ map number_of (drop (i + 1 + 1) units)
 next_units units i d h = ap (map number_of) (drop_more units (i + 1) d h)
 
 -- a part that is done goes before the others
 put_before : (negative : Bool) (done : List Fraction) (count : Fraction) (others : Result (List Fraction) FracFault)
-    → behind done (signed_counts negative (others >>= (λ counts. Ok (count ∷ counts)))) ≡ behind (done ++ negated_if negative count ∷ []) (signed_counts negative others)
-put_before negative done count (Ok others) = ap Ok (sym (append_assoc done (negated_if negative count ∷ []) (map (negated_if negative) others)))
+    → behind done (signed_counts negative (others >>= (λ counts. Ok (count ∷ counts))))
+    ≡ behind (done ++ negated_if negative count ∷ []) (signed_counts negative others)
+put_before negative done count (Ok others) =
+    ap Ok (sym (append_assoc done (negated_if negative count ∷ []) (map (negated_if negative) others)))
 put_before negative done count (Err fault) = refl
 
-pub counting_more : (negative : Bool) (units : List Amount) (all : Result (List Fraction) FracFault) (i : ℕ) (rest : Fraction) (done : List Fraction) (unit : Amount) (part : Part)
+-- one more unit puts its count behind those that are done, and its rest is left
+pub counting_more : (negative : Bool) (units : List Amount) (all : Result (List Fraction) FracFault) (i : ℕ)
+    (rest : Fraction) (done : List Fraction) (unit : Amount) (part : Part)
     → IsCounting negative units all i rest done → i + 1 < length units → unit ≡ get_or units i unit
     → part_of rest (number_of unit) ≡ Ok part
     → IsCounting negative units all (i + 1) part.rest (done ++ negated_if negative part.count ∷ [])
 unfolding counts_of
 counting_more negative units all i rest done unit part is within unit_is part_is =
-    let step : counts_of rest (map number_of (drop i units)) ≡ counts_of part.rest (map number_of (drop (i + 1) units)) >>= (λ counts. Ok (part.count ∷ counts)) =
+    let step : counts_of rest (map number_of (drop i units)) ≡ counts_of part.rest (map number_of (drop (i + 1) units))
+    >>= (λ counts. Ok (part.count ∷ counts)) =
     ap (counts_of rest) (more_units units i unit within)
-    ∙ ap (λ u. part_of rest (number_of u) >>= (λ part. counts_of part.rest (number_of (get_or units (i + 1) unit) ∷ map number_of (drop (i + 1 + 1) units)) >>= (λ counts. Ok (part.count ∷ counts)))) (sym unit_is)
-    ∙ ap (λ r. r >>= (λ part. counts_of part.rest (number_of (get_or units (i + 1) unit) ∷ map number_of (drop (i + 1 + 1) units)) >>= (λ counts. Ok (part.count ∷ counts)))) part_is
-    ∙ ap (λ us. counts_of part.rest us >>= (λ counts. Ok (part.count ∷ counts))) (sym (next_units units i unit within)) in
+    ∙ ap (λ u. part_of rest (number_of u)
+    >>= (λ part. counts_of part.rest (number_of (get_or units (i + 1) unit) ∷ map number_of (drop (i + 1 + 1) units))
+    >>= (λ counts. Ok (part.count ∷ counts)))) (sym unit_is)
+    ∙ ap (λ r. r >>= (λ part. counts_of part.rest
+    (number_of (get_or units (i + 1) unit) ∷ map number_of (drop (i + 1 + 1) units))
+    >>= (λ counts. Ok (part.count ∷ counts)))) part_is
+    ∙ ap (λ us. counts_of part.rest us >>= (λ counts. Ok (part.count ∷ counts)))
+    (sym (next_units units i unit within)) in
     record {
       same = sym (put_before negative done part.count (counts_of part.rest (map number_of (drop (i + 1) units))))
           ∙ ap (λ r. behind done (signed_counts negative r)) (sym step) ∙ is.same;
     }
 
 -- a part that has a fault
-pub counting_fault : (negative : Bool) (units : List Amount) (all : Result (List Fraction) FracFault) (i : ℕ) (rest : Fraction) (done : List Fraction) (unit : Amount) (fault : FracFault)
+pub counting_fault : (negative : Bool) (units : List Amount) (all : Result (List Fraction) FracFault) (i : ℕ)
+    (rest : Fraction) (done : List Fraction) (unit : Amount) (fault : FracFault)
     → IsCounting negative units all i rest done → i + 1 < length units → unit ≡ get_or units i unit
     → part_of rest (number_of unit) ≡ Err fault → all ≡ Err fault
 unfolding counts_of
 counting_fault negative units all i rest done unit fault is within unit_is part_is =
     let step : counts_of rest (map number_of (drop i units)) ≡ Err fault =
     ap (counts_of rest) (more_units units i unit within)
-    ∙ ap (λ u. part_of rest (number_of u) >>= (λ part. counts_of part.rest (number_of (get_or units (i + 1) unit) ∷ map number_of (drop (i + 1 + 1) units)) >>= (λ counts. Ok (part.count ∷ counts)))) (sym unit_is)
-    ∙ ap (λ r. r >>= (λ part. counts_of part.rest (number_of (get_or units (i + 1) unit) ∷ map number_of (drop (i + 1 + 1) units)) >>= (λ counts. Ok (part.count ∷ counts)))) part_is in
+    ∙ ap (λ u. part_of rest (number_of u)
+    >>= (λ part. counts_of part.rest (number_of (get_or units (i + 1) unit) ∷ map number_of (drop (i + 1 + 1) units))
+    >>= (λ counts. Ok (part.count ∷ counts)))) (sym unit_is)
+    ∙ ap (λ r. r >>= (λ part. counts_of part.rest
+    (number_of (get_or units (i + 1) unit) ∷ map number_of (drop (i + 1 + 1) units))
+    >>= (λ counts. Ok (part.count ∷ counts)))) part_is in
     sym is.same ∙ ap (λ r. behind done (signed_counts negative r)) step
 
 -- the last unit
-last_units : (units : List Amount) (i : ℕ) (unit : Amount) → i + 1 ≡ length units → unit ≡ get_or units (length units - 1) unit
+last_units : (units : List Amount) (i : ℕ) (unit : Amount) → i + 1 ≡ length units
+    → unit ≡ get_or units (length units - 1) unit
     → map number_of (drop i units) ≡ number_of unit ∷ []
 last_units units i unit last unit_is =
-    ap (map number_of) (drop_more units i unit (omega arith) ∙ ap (λ xs. get_or units i unit ∷ xs) (drop_past units (i + 1) (omega arith))
+    ap (map number_of)
+    (drop_more units i unit (omega arith)
+    ∙ ap (λ xs. get_or units i unit ∷ xs) (drop_past units (i + 1) (omega arith))
     ∙ ap (λ k. get_or units k unit ∷ []) (place i (length units) last) ∙ ap (λ u. u ∷ []) (sym unit_is))
   where
     place : (i n : ℕ) → i + 1 ≡ n → i ≡ n - 1
@@ -99,7 +125,8 @@ last_units units i unit last unit_is =
     drop_past (x ∷ xs) (suc n) h = drop_past xs n (omega arith)
 
 -- its count ends them
-pub counting_end : (negative : Bool) (units : List Amount) (all : Result (List Fraction) FracFault) (i : ℕ) (rest : Fraction) (done : List Fraction) (unit : Amount) (count : Fraction)
+pub counting_end : (negative : Bool) (units : List Amount) (all : Result (List Fraction) FracFault) (i : ℕ)
+    (rest : Fraction) (done : List Fraction) (unit : Amount) (count : Fraction)
     → IsCounting negative units all i rest done → i + 1 ≡ length units → unit ≡ get_or units (length units - 1) unit
     → over rest (number_of unit) ≡ Ok count
     → all ≡ Ok (done ++ negated_if negative count ∷ [])
@@ -110,7 +137,8 @@ counting_end negative units all i rest done unit count is last unit_is count_is 
     ∙ ap (λ r. behind done (signed_counts negative (r >>= (λ count. Ok (count ∷ []))))) count_is
 
 -- or has a fault
-pub counting_end_fault : (negative : Bool) (units : List Amount) (all : Result (List Fraction) FracFault) (i : ℕ) (rest : Fraction) (done : List Fraction) (unit : Amount) (fault : FracFault)
+pub counting_end_fault : (negative : Bool) (units : List Amount) (all : Result (List Fraction) FracFault) (i : ℕ)
+    (rest : Fraction) (done : List Fraction) (unit : Amount) (fault : FracFault)
     → IsCounting negative units all i rest done → i + 1 ≡ length units → unit ≡ get_or units (length units - 1) unit
     → over rest (number_of unit) ≡ Err fault
     → all ≡ Err fault
@@ -138,40 +166,51 @@ last_number units unit some unit_is = by_place units (length units - 1) (next (l
     by_place (first ∷ second ∷ units) (suc i) last is = by_place (second ∷ units) i (omega arith) is
 
 -- a split has begun: its units have no fault, and its amount is that of the number
-pub record IsBegun (round : Bool) (q : Amount) (units : List Amount) (negative : Bool) (amount : Result Fraction FracFault) : Type 0 where
+pub record IsBegun (round : Bool) (q : Amount) (units : List Amount) (negative : Bool)
+    (amount : Result Fraction FracFault) : Type 0 where
   pub fine : None ≡ unit_fault q units
   pub negative_is : negative ≡ is_negative q.value
   pub amount_is : amount ≡ rounded_if round (last_of (map number_of units)) (magnitude q.value)
 
 -- by the parts that the code makes
-pub begun_by : (round : Bool) (q : Amount) (units : List Amount) (number last size : Fraction) (negative : Bool) (unit : Amount) (amount : Result Fraction FracFault)
+pub begun_by : (round : Bool) (q : Amount) (units : List Amount) (number last size : Fraction) (negative : Bool)
+    (unit : Amount) (amount : Result Fraction FracFault)
     → None ≡ unit_fault q units → 0 < length units → number ≡ q.value → negative ≡ is_negative number
-    → unit ≡ get_or units (length units - 1) unit → last ≡ number_of unit → size ≡ magnitude number → amount ≡ rounded_if round last size
+    → unit ≡ get_or units (length units - 1) unit → last ≡ number_of unit → size ≡ magnitude number
+    → amount ≡ rounded_if round last size
     → IsBegun round q units negative amount
-begun_by round q units number last size negative unit amount fine some number_is negative_is unit_is last_is size_is amount_is = record {
-  fine = fine;
-  negative_is = negative_is ∙ ap is_negative number_is;
-  amount_is = amount_is ∙ ap (λ u. rounded_if round u size) (last_is ∙ sym (last_number units unit some unit_is))
-      ∙ ap (rounded_if round (last_of (map number_of units))) (size_is ∙ ap magnitude number_is);
-}
+begun_by round q units number last size negative unit amount fine some number_is negative_is unit_is last_is size_is
+    amount_is = record {
+      fine = fine;
+      negative_is = negative_is ∙ ap is_negative number_is;
+      amount_is = amount_is ∙ ap (λ u. rounded_if round u size) (last_is ∙ sym (last_number units unit some unit_is))
+          ∙ ap (rounded_if round (last_of (map number_of units))) (size_is ∙ ap magnitude number_is);
+    }
 
 -- where the amount has a fault, the split has it
-pub begun_fault : (round : Bool) (q : Amount) (units : List Amount) (negative : Bool) (amount : Result Fraction FracFault) (fault : FracFault)
+pub begun_fault : (round : Bool) (q : Amount) (units : List Amount) (negative : Bool)
+    (amount : Result Fraction FracFault) (fault : FracFault)
     → IsBegun round q units negative amount → amount ≡ Err fault → counts_in round q units ≡ Err (Number fault)
 unfolding counts_in
 begun_fault round q units negative amount fault is amount_fault =
     ap (λ f. checked f (number_counts round q.value (map number_of units))) (sym is.fine)
-    ∙ ap (λ r. numbered (r >>= (λ amount. signed_counts (is_negative q.value) (counts_of amount (map number_of units))))) (sym is.amount_is ∙ amount_fault)
+    ∙ ap (λ r. numbered (r
+    >>= (λ amount. signed_counts (is_negative q.value) (counts_of amount (map number_of units)))))
+    (sym is.amount_is ∙ amount_fault)
 
 -- and else its counts are those of the amount
-pub begun_counts : (round : Bool) (q : Amount) (units : List Amount) (negative : Bool) (amount : Result Fraction FracFault) (x : Fraction)
+pub begun_counts : (round : Bool) (q : Amount) (units : List Amount) (negative : Bool)
+    (amount : Result Fraction FracFault) (x : Fraction)
     → IsBegun round q units negative amount → amount ≡ Ok x
     → number_counts round q.value (numbers_of units) ≡ signed_counts negative (counts_of x (numbers_of units))
 begun_counts round q units negative amount x is amount_ok =
-    ap (λ r. r >>= (λ amount. signed_counts (is_negative q.value) (counts_of amount (numbers_of units)))) (sym is.amount_is ∙ amount_ok)
+    ap (λ r. r >>= (λ amount. signed_counts (is_negative q.value) (counts_of amount (numbers_of units))))
+    (sym is.amount_is ∙ amount_ok)
     ∙ ap (λ b. signed_counts b (counts_of x (numbers_of units))) (sym is.negative_is)
 
-pub begun_ends : (round : Bool) (q : Amount) (units : List Amount) (negative : Bool) (amount : Result Fraction FracFault) (x : Fraction)
+-- where the number of a split is found, the counts are those of that number
+pub begun_ends : (round : Bool) (q : Amount) (units : List Amount) (negative : Bool)
+    (amount : Result Fraction FracFault) (x : Fraction)
     → IsBegun round q units negative amount → amount ≡ Ok x
     → counts_in round q units ≡ numbered (signed_counts negative (counts_of x (numbers_of units)))
 unfolding counts_in
@@ -180,29 +219,35 @@ begun_ends round q units negative amount x is amount_ok =
     ∙ ap numbered (begun_counts round q units negative amount x is amount_ok)
 
 -- counts that are given
-pub numbered_ok : (counts : Result (List Fraction) FracFault) (given : List Fraction) → numbered counts ≡ Ok given → counts ≡ Ok given
+pub numbered_ok : (counts : Result (List Fraction) FracFault) (given : List Fraction) → numbered counts ≡ Ok given
+    → counts ≡ Ok given
 numbered_ok (Ok counts) given h = cc
 numbered_ok (Err fault) given h = absurd (cc)
 
 -- a fault that a `?` hands on is an answer where it is want of memory or the expected one
-pub handed_on : {A B : Type 0} (seen : A → B) (answer : Result A SplitFault) (expected : Result B SplitFault) (fault : SplitFault)
-    → IsErrAnd answer (λ given. given ≡ fault) → (fault ≡ OutOfMemory) ⊎ (expected ≡ Err fault) → Gives OutOfMemory seen answer expected
+pub handed_on : {A B : Type 0} (seen : A → B) (answer : Result A SplitFault) (expected : Result B SplitFault)
+    (fault : SplitFault)
+    → IsErrAnd answer (λ given. given ≡ fault) → (fault ≡ OutOfMemory) ⊎ (expected ≡ Err fault)
+    → Gives OutOfMemory seen answer expected
 handed_on seen (Ok x) expected fault given h = absurd given
 handed_on seen (Err other) expected fault given (inl none) = inl (given ∙ none)
 handed_on seen (Err other) expected fault given (inr h) = inr (h ∙ ap Err (sym given))
 
 -- the same, of what is expected in another form
-pub handed_same : {A B : Type 0} (seen : A → B) (answer : Result A SplitFault) (expected given : Result B SplitFault) (fault : SplitFault)
+pub handed_same : {A B : Type 0} (seen : A → B) (answer : Result A SplitFault) (expected given : Result B SplitFault)
+    (fault : SplitFault)
     → IsErrAnd answer (λ given. given ≡ fault) → expected ≡ given → (fault ≡ OutOfMemory) ⊎ (given ≡ Err fault)
     → Gives OutOfMemory seen answer expected
 handed_same seen answer expected given fault is same (inl none) = handed_on seen answer expected fault is (inl none)
 handed_same seen answer expected given fault is same (inr h) = handed_on seen answer expected fault is (inr (same ∙ h))
 
 -- units that have a fault
-pub unit_fault_ends : (round : Bool) (q : Amount) (units : List Amount) (fault : SplitFault) → Some fault ≡ unit_fault q units
+pub unit_fault_ends : (round : Bool) (q : Amount) (units : List Amount) (fault : SplitFault)
+    → Some fault ≡ unit_fault q units
     → counts_in round q units ≡ Err fault
 unfolding counts_in
-unit_fault_ends round q units fault is = ap (λ f. checked f (number_counts round q.value (map number_of units))) (sym is)
+unit_fault_ends round q units fault is =
+    ap (λ f. checked f (number_counts round q.value (map number_of units))) (sym is)
 
 -- ---- units without a fault
 
@@ -210,13 +255,16 @@ unit_fault_ends round q units fault is = ap (λ f. checked f (number_counts roun
 none_low : (place n : ℕ) → cond (nat_lt place n) (Some place) None ≡ None → n ≤ place
 none_low place n h = grind (arith, nat_tests)
 
+-- a place at or behind the end is none
 none_high : (place n : ℕ) → n ≤ place → cond (nat_lt place n) (Some place) None ≡ None
 none_high place n h = grind (arith, nat_tests)
 
 -- a test that no member passes
 none_passes : (test : Amount → Bool) (xs : List Amount) → position test xs ≡ None → Each (λ x. test x ≡ false) xs
 none_passes test [] h = tt
-none_passes test (x ∷ xs) h = by_test (test x) refl (none_low (position_or_len test (x ∷ xs)) (length (x ∷ xs)) h) (λ rest. none_passes test xs rest)
+none_passes test (x ∷ xs) h =
+    by_test (test x) refl (none_low (position_or_len test (x ∷ xs)) (length (x ∷ xs)) h)
+    (λ rest. none_passes test xs rest)
   where
     by_test : (b : Bool) → test x ≡ b → length (x ∷ xs) ≤ position_or_len test (x ∷ xs)
         → (position test xs ≡ None → Each (λ x. test x ≡ false) xs) → Each (λ x. test x ≡ false) (x ∷ xs)
@@ -237,13 +285,17 @@ fine_positive q units fine = go (position (is_unlike q) units) (position is_not_
     go None (Some k) h = absurd (cc)
     go None None h = refl
 
+-- a number that is not found to be 0 or less is above 0
 positive_is : (z : ℤ) → not (int_lt (pos 0) z) ≡ false → pos 0 <ℤ z
 positive_is z h = grind (arith, ints)
 
-pub fine_units : (q : Amount) (units : List Amount) → None ≡ unit_fault q units → All HasDenominator units → All IsUnit (numbers_of units)
+-- where no unit has a fault, the number of each is a unit
+pub fine_units : (q : Amount) (units : List Amount) → None ≡ unit_fault q units → All HasDenominator units
+    → All IsUnit (numbers_of units)
 fine_units q units fine denominators =
     let positive =
-    All-from_recursion (λ (unit : Amount). is_not_positive unit ≡ false) units (none_passes is_not_positive units (fine_positive q units fine)) in
+    All-from_recursion (λ (unit : Amount). is_not_positive unit ≡ false) units
+    (none_passes is_not_positive units (fine_positive q units fine)) in
     All-map IsUnit number_of units (λ k d within. record {
       denominator = denominators k d within;
       positive = positive_is (get_or units k d).value.num (positive k d within);

@@ -1,11 +1,13 @@
 -- The counts of a split are the only ones.
-use Rattle.std.proofs.Common.{◌≡◌, ◌<◌, ◌≤◌, ◌+◌, ◌-◌, ◌*◌, ◌*ℤ◌, ◌+ℤ◌, ◌<ℤ◌, ◌≤ℤ◌, ℕ, ℤ, pos, negsuc, suc, unsigned_abs, arith, refl, sym, ap, ap₂, subst, ◌∙◌}
+use Rattle.std.proofs.Common.{◌≡◌, ◌<◌, ◌≤◌, ◌+◌, ◌-◌, ◌*◌, ◌*ℤ◌, ◌+ℤ◌, ◌<ℤ◌, ◌≤ℤ◌, ℕ, ℤ, pos, negsuc, suc}
+use Rattle.std.proofs.Common.{unsigned_abs, arith, refl, sym, ap, ap₂, subst, ◌∙◌}
 use Rattle.std.specs.Prelude.{Bool, true, false, List, [], ◌∷◌, length, map, All}
 use Rattle.std.specs.List.{AllByRecursion as Each}
 use Rattle.std.proofs.lemmas.Int.{ints}
 use Rattle.std.proofs.lemmas.List.{length-map}
 use Rattle.std.proofs.lemmas.List.Elements.{recursion_from_All}
-use Rattle.std.proofs.Math.Nat.{le_of_mul-le-mul_right, lt_of_mul-lt-mul_right, mul-le-mul_right, mul-lt-mul_of_pos_right, mul-pos}
+use Rattle.std.proofs.Math.Nat.{le_of_mul-le-mul_right, lt_of_mul-lt-mul_right, mul-le-mul_right}
+use Rattle.std.proofs.Math.Nat.{mul-lt-mul_of_pos_right, mul-pos}
 use Rattle.frac128.specs.Exact.{difference, product, sum}
 use Rattle.frac128.specs.Fraction.{Fraction, IsReduced, SameValue, whole}
 use Rattle.frac128.specs.Sign.{is_negative, magnitude, negated_if}
@@ -22,10 +24,18 @@ record IsPlain (x : Fraction) : Type 0 where
   num_is : x.num ≡ pos num
   reduced : IsReduced x
 
+-- the magnitudes of fractions in lowest terms have natural numerators, and are in lowest terms
 plain_magnitudes : (counts : List Fraction) → Each IsReduced counts → Each IsPlain (map magnitude counts)
 plain_magnitudes [] are = tt
-plain_magnitudes (count ∷ counts) are =
-    (record { num = unsigned_abs count.num; num_is = refl; reduced = record { positive = are.0.positive; lowest = are.0.lowest } }, plain_magnitudes counts are.1)
+plain_magnitudes (count ∷ counts) are = (
+  record {
+    num = unsigned_abs count.num;
+    num_is = refl;
+    reduced =
+        record { positive = are.0.positive; lowest = are.0.lowest };
+  },
+  plain_magnitudes counts are.1,
+)
 
 -- a total that is not below 0
 record IsNatural (x : Fraction) : Type 0 where
@@ -33,7 +43,9 @@ record IsNatural (x : Fraction) : Type 0 where
   num_is : x.num ≡ pos num
   positive : 0 < x.den
 
-total_natural : (counts units : List Fraction) → Each IsPlain counts → Each IsUnit units → IsNatural (total counts units)
+-- the sum of such counts times units has a natural numerator
+total_natural : (counts units : List Fraction) → Each IsPlain counts → Each IsUnit units
+    → IsNatural (total counts units)
 total_natural [] units are units_are = record { num = 0; num_is = refl; positive = omega arith }
 total_natural (count ∷ counts) [] are units_are = record { num = 0; num_is = refl; positive = omega arith }
 total_natural (count ∷ counts) (unit ∷ units) are units_are =
@@ -41,32 +53,45 @@ total_natural (count ∷ counts) (unit ∷ units) are units_are =
     let natural = unit_natural unit units_are.0 in
     record {
       num = are.0.num * natural.num * (total counts units).den + rest.num * (count.den * unit.den);
-      num_is = ap (λ z. z *ℤ unit.num *ℤ pos (total counts units).den +ℤ (total counts units).num *ℤ pos (count.den * unit.den)) are.0.num_is
-          ∙ ap (λ z. pos are.0.num *ℤ z *ℤ pos (total counts units).den +ℤ (total counts units).num *ℤ pos (count.den * unit.den)) natural.num_is
-          ∙ ap (λ z. pos (are.0.num * natural.num * (total counts units).den) +ℤ z *ℤ pos (count.den * unit.den)) rest.num_is;
-      positive = mul-pos {m = count.den * unit.den} (mul-pos are.0.reduced.positive units_are.0.denominator) rest.positive;
+      num_is = ap (λ z. z *ℤ unit.num *ℤ pos (total counts units).den +ℤ (total counts units).num
+          *ℤ pos (count.den * unit.den)) are.0.num_is
+          ∙ ap (λ z. pos are.0.num *ℤ z *ℤ pos (total counts units).den +ℤ (total counts units).num
+          *ℤ pos (count.den * unit.den)) natural.num_is
+          ∙ ap (λ z. pos (are.0.num * natural.num * (total counts units).den) +ℤ z *ℤ pos (count.den * unit.den))
+          rest.num_is;
+      positive = mul-pos {m = count.den * unit.den} (mul-pos are.0.reduced.positive units_are.0.denominator)
+          rest.positive;
     }
 
 -- ---- the greatest count
 
+-- k is the greatest whole number of times that the unit is in a / b
 record AreBounds (a b c d k : ℕ) : Type 0 where
   low : k * c * b ≤ a * d
   high : a * d < (k + 1) * c * b
 
+-- the order of whole numbers is that of natural ones
 natural_low : (m n : ℕ) → pos m ≤ℤ pos n → m ≤ n
 natural_low m n h = omega (arith, ints)
 
+-- so is the strict one
 natural_high : (m n : ℕ) → pos m <ℤ pos n → m < n
 natural_high m n h = omega (arith, ints)
 
-greatest_bounds : (y unit count : Fraction) (a b c k : ℕ) → HasValue y a b → 0 < b → unit.num ≡ pos c → count ≡ whole (pos k)
+-- a greatest count is within these bounds
+greatest_bounds : (y unit count : Fraction) (a b c k : ℕ) → HasValue y a b → 0 < b → unit.num ≡ pos c
+    → count ≡ whole (pos k)
     → IsGreatest y unit count
     → AreBounds a b c unit.den k
 greatest_bounds y unit count a b c k is some_b c_is count_is greatest =
     let at : IsGreatest y unit (whole (pos k)) = subst (IsGreatest y unit) count_is greatest in
     let leaves : k * c * y.den ≤ is.num * (1 * unit.den) = natural_low _ _ (rw (c_is, is.num_is) at at.leaves) in
     let next : is.num * (1 * unit.den) < (k + 1) * c * y.den = natural_high _ _ (rw (c_is, is.num_is) at at.next) in
-    record { low = below is.num y.den unit.den is.positive is.same leaves; high = above is.num y.den unit.den is.positive is.same next }
+    record {
+      low = below is.num y.den unit.den is.positive is.same leaves;
+      high =
+          above is.num y.den unit.den is.positive is.same next;
+    }
   where
     turn : (n e d : ℕ) → n * b ≡ a * e → n * (1 * d) * b ≡ a * d * e
     turn n e d same = first n d ∙ ap (λ z. z * d) same ∙ second e d
@@ -113,7 +138,9 @@ one_greatest a b c d j k some first second = same (less j k first.low second.hig
 
 -- ---- what the others add up to
 
-rest_value : (count c a b left : ℕ) (unit rest : Fraction) → unit.num ≡ pos c → IsNatural rest → left + count * c * b ≡ a * unit.den
+-- where a count times a unit and a rest add up to a value, the rest has what is left of it
+rest_value : (count c a b left : ℕ) (unit rest : Fraction) → unit.num ≡ pos c → IsNatural rest
+    → left + count * c * b ≡ a * unit.den
     → HasValue (sum (product (whole (pos count)) unit) rest) a b → HasValue rest left (b * unit.den)
 rest_value count c a b left unit rest c_is natural left_is is = record {
   num = natural.num;
@@ -130,7 +157,8 @@ rest_value count c a b left unit rest c_is natural left_is is = record {
     settled : (n e d s : ℕ) → s ≡ count * c * e + n * (1 * d) → s * b ≡ a * (1 * d * e) → left + count * c * b ≡ a * d
         → n * (b * d) ≡ left * e
     settled n e d s s_is same parts =
-        same_sum _ _ _ (gather n e d ∙ ap (λ z. z * b) (sym s_is) ∙ same ∙ turn e d ∙ ap (λ z. z * e) (sym parts) ∙ spread e)
+        same_sum _ _ _ (gather n e d ∙ ap (λ z. z * b) (sym s_is) ∙ same ∙ turn e d ∙ ap (λ z. z * e) (sym parts)
+        ∙ spread e)
       where
         gather : (n e d : ℕ) → n * (b * d) + count * c * e * b ≡ (count * c * e + n * (1 * d)) * b
         gather n e d = omega arith
@@ -145,9 +173,11 @@ rest_value count c a b left unit rest c_is natural left_is is = record {
         same_sum m n s h = omega arith
 
 -- the last count
-last_value : (c a b : ℕ) (unit count : Fraction) → unit.num ≡ pos c → (is : IsPlain count) → HasValue (total (count ∷ []) (unit ∷ [])) a b
+last_value : (c a b : ℕ) (unit count : Fraction) → unit.num ≡ pos c → (is : IsPlain count)
+    → HasValue (total (count ∷ []) (unit ∷ [])) a b
     → is.num * (c * b) ≡ a * unit.den * count.den
-last_value c a b unit count c_is is value = gather is.num ∙ ap (λ z. z * b) (sym whole_is) ∙ value.same ∙ turn count.den unit.den
+last_value c a b unit count c_is is value = gather is.num ∙ ap (λ z. z * b) (sym whole_is) ∙ value.same
+    ∙ turn count.den unit.den
   where
     whole_is : value.num ≡ is.num * c * 1 + 0 * (count.den * unit.den)
     whole_is = pos_same _ _ (sym value.num_is
@@ -160,10 +190,12 @@ last_value c a b unit count c_is is value = gather is.num ∙ ap (λ z. z * b) (
     turn : (e d : ℕ) → a * (e * d * 1) ≡ a * d * e
     turn e d = omega arith
 
+-- two last counts in lowest terms that have one value are equal
 one_last : ReducedLaw → (k l : ℕ) (count other : Fraction) (is : IsPlain count) (of : IsPlain other) → 0 < k
     → is.num * k ≡ l * count.den → of.num * k ≡ l * other.den → count ≡ other
 one_last law k l count other is of some first second =
-    let cross : is.num * other.den ≡ of.num * count.den = cancelled _ _ k some (crossed is.num of.num count.den other.den first second) in
+    let cross : is.num * other.den ≡ of.num * count.den =
+    cancelled _ _ k some (crossed is.num of.num count.den other.den first second) in
     let same : SameValue count other =
     ap (λ z. z *ℤ pos other.den) is.num_is ∙ ap pos cross ∙ ap (λ z. z *ℤ pos count.den) (sym of.num_is) in
     let unique = (law other.num other.den of.reduced.positive).2 in
@@ -183,26 +215,39 @@ one_last law k l count other is of some first second =
 
 -- ---- the counts of a value
 
+-- a whole count is that of its natural numerator
 whole_is : (count : Fraction) (is : IsPlain count) → count ≡ whole count.num → count ≡ whole (pos is.num)
 whole_is count is h = h ∙ ap whole is.num_is
 
-same_counts : ReducedLaw → (units ms ns : List Fraction) (y : Fraction) (a b : ℕ) → HasValue y a b → 0 < b → Each IsUnit units
+-- two lists of counts that add up to one value, each the greatest but the last, are equal
+same_counts : ReducedLaw → (units ms ns : List Fraction) (y : Fraction) (a b : ℕ) → HasValue y a b → 0 < b
+    → Each IsUnit units
     → Each IsPlain ms → Each IsPlain ns
     → length ms ≡ length units → length ns ≡ length units → AreGreatest y units ms → AreGreatest y units ns
     → HasValue (total ms units) a b → HasValue (total ns units) a b → ms ≡ ns
-same_counts law [] [] [] y a b is some units_are plain others one_each others_each greatest others_greatest value others_value = refl
-same_counts law [] [] (n ∷ ns) y a b is some units_are plain others one_each others_each greatest others_greatest value others_value = absurd (omega arith)
-same_counts law [] (m ∷ ms) ns y a b is some units_are plain others one_each others_each greatest others_greatest value others_value = absurd (omega arith)
-same_counts law (unit ∷ units) [] ns y a b is some units_are plain others one_each others_each greatest others_greatest value others_value = absurd (omega arith)
-same_counts law (unit ∷ units) (m ∷ ms) [] y a b is some units_are plain others one_each others_each greatest others_greatest value others_value = absurd (omega arith)
-same_counts law (unit ∷ []) (m ∷ []) (n ∷ []) y a b is some units_are plain others one_each others_each greatest others_greatest value others_value =
+same_counts law [] [] [] y a b is some units_are plain others one_each others_each greatest others_greatest value
+    others_value = refl
+same_counts law [] [] (n ∷ ns) y a b is some units_are plain others one_each others_each greatest others_greatest value
+    others_value = absurd (omega arith)
+same_counts law [] (m ∷ ms) ns y a b is some units_are plain others one_each others_each greatest others_greatest value
+    others_value = absurd (omega arith)
+same_counts law (unit ∷ units) [] ns y a b is some units_are plain others one_each others_each greatest others_greatest
+    value others_value = absurd (omega arith)
+same_counts law (unit ∷ units) (m ∷ ms) [] y a b is some units_are plain others one_each others_each greatest
+    others_greatest value others_value = absurd (omega arith)
+same_counts law (unit ∷ []) (m ∷ []) (n ∷ []) y a b is some units_are plain others one_each others_each greatest
+    others_greatest value others_value =
     let natural = unit_natural unit units_are.0 in
     let same = one_last law (natural.num * b) (a * unit.den) m n plain.0 others.0 (mul-pos natural.some some)
-    (last_value natural.num a b unit m natural.num_is plain.0 value) (last_value natural.num a b unit n natural.num_is others.0 others_value) in
+    (last_value natural.num a b unit m natural.num_is plain.0 value)
+    (last_value natural.num a b unit n natural.num_is others.0 others_value) in
     ap (λ z. z ∷ []) same
-same_counts law (unit ∷ []) (m ∷ []) (n ∷ o ∷ ns) y a b is some units_are plain others one_each others_each greatest others_greatest value others_value = absurd (omega arith)
-same_counts law (unit ∷ []) (m ∷ l ∷ ms) (n ∷ ns) y a b is some units_are plain others one_each others_each greatest others_greatest value others_value = absurd (omega arith)
-same_counts law (unit ∷ next ∷ units) (m ∷ ms) (n ∷ ns) y a b is some units_are plain others one_each others_each greatest others_greatest value others_value =
+same_counts law (unit ∷ []) (m ∷ []) (n ∷ o ∷ ns) y a b is some units_are plain others one_each others_each greatest
+    others_greatest value others_value = absurd (omega arith)
+same_counts law (unit ∷ []) (m ∷ l ∷ ms) (n ∷ ns) y a b is some units_are plain others one_each others_each greatest
+    others_greatest value others_value = absurd (omega arith)
+same_counts law (unit ∷ next ∷ units) (m ∷ ms) (n ∷ ns) y a b is some units_are plain others one_each others_each
+    greatest others_greatest value others_value =
     let natural = unit_natural unit units_are.0 in
     let c = natural.num in
     let d = unit.den in
@@ -212,17 +257,20 @@ same_counts law (unit ∷ next ∷ units) (m ∷ ms) (n ∷ ns) y a b is some un
     let bounds = greatest_bounds y unit m a b c k is some natural.num_is m_is greatest.0 in
     let others_bounds = greatest_bounds y unit n a b c others.0.num is some natural.num_is n_is others_greatest.0 in
     let same : m ≡ n =
-    m_is ∙ ap (λ j. whole (pos j)) (one_greatest a b c d k others.0.num (mul-pos natural.some some) bounds others_bounds)
+    m_is ∙ ap (λ j. whole (pos j))
+    (one_greatest a b c d k others.0.num (mul-pos natural.some some) bounds others_bounds)
     ∙ sym n_is in
     let left = a * d - k * c * b in
     let left_is : left + k * c * b ≡ a * d = together (a * d) (k * c * b) bounds.low in
     let rest = total_natural ms (next ∷ units) plain.1 units_are.1 in
     let others_rest = total_natural ns (next ∷ units) others.1 units_are.1 in
     let first = subst (λ z. HasValue (sum (product z unit) (total ms (next ∷ units))) a b) m_is value in
-    let second = subst (λ z. HasValue (sum (product z unit) (total ns (next ∷ units))) a b) (sym same ∙ m_is) others_value in
+    let second = subst (λ z. HasValue (sum (product z unit) (total ns (next ∷ units))) a b)
+    (sym same ∙ m_is) others_value in
     ap₂ (λ z zs. z ∷ zs) same
     (same_counts law (next ∷ units) ms ns (difference y (product m unit)) left (b * d)
-    (difference_value y unit m a b c k left is natural.num_is units_are.0.denominator m_is left_is some) (mul-pos some units_are.0.denominator)
+    (difference_value y unit m a b c k left is natural.num_is units_are.0.denominator m_is left_is some)
+    (mul-pos some units_are.0.denominator)
     units_are.1 plain.1 others.1 (omega arith) (omega arith)
     greatest.1 (subst (λ z. AreGreatest (difference y (product z unit)) (next ∷ units) ns) (sym same) others_greatest.1)
     (rest_value k c a b left unit (total ms (next ∷ units)) natural.num_is rest left_is first)
@@ -239,7 +287,8 @@ abs-times (pos n) k = refl
 abs-times (negsuc n) k = abs-neg (pos (suc n * k))
 
 -- the total of the magnitudes
-magnitudes_value : (negative : Bool) (counts units : List Fraction) (y : Fraction) → Each IsPlain counts → All IsUnit units
+magnitudes_value : (negative : Bool) (counts units : List Fraction) (y : Fraction) → Each IsPlain counts
+    → All IsUnit units
     → SameValue (total (map (negated_if negative) counts) units) y
     → HasValue (total counts units) (unsigned_abs y.num) y.den
 magnitudes_value negative counts units y plain units_are same =
@@ -251,26 +300,35 @@ magnitudes_value negative counts units y plain units_are same =
       same = by_sign negative natural.num natural.num_is same;
     }
   where
-    magnitudes : (z : ℤ) (e n : ℕ) → unsigned_abs z ≡ n → z *ℤ pos y.den ≡ y.num *ℤ pos e → n * y.den ≡ unsigned_abs y.num * e
-    magnitudes z e n n_is h = ap (λ m. m * y.den) (sym n_is) ∙ sym (abs-times z y.den) ∙ ap unsigned_abs h ∙ abs-times y.num e
+    magnitudes : (z : ℤ) (e n : ℕ) → unsigned_abs z ≡ n → z *ℤ pos y.den ≡ y.num *ℤ pos e
+        → n * y.den ≡ unsigned_abs y.num * e
+    magnitudes z e n n_is h = ap (λ m. m * y.den) (sym n_is) ∙ sym (abs-times z y.den) ∙ ap unsigned_abs h
+        ∙ abs-times y.num e
 
     by_sign : (negative : Bool) (n : ℕ) → (total counts units).num ≡ pos n
-        → SameValue (total (map (negated_if negative) counts) units) y → n * y.den ≡ unsigned_abs y.num * (total counts units).den
-    by_sign false n n_is h = magnitudes _ _ n (ap unsigned_abs n_is) (subst (λ cs. SameValue (total cs units) y) (map-plain counts) h)
+        → SameValue (total (map (negated_if negative) counts) units) y
+        → n * y.den ≡ unsigned_abs y.num * (total counts units).den
+    by_sign false n n_is h =
+        magnitudes _ _ n (ap unsigned_abs n_is) (subst (λ cs. SameValue (total cs units) y) (map-plain counts) h)
     by_sign true n n_is h =
-        magnitudes _ _ n (abs-neg (total counts units).num ∙ ap unsigned_abs n_is) (subst (λ t. SameValue t y) (total-negated counts units units_are) h)
+        magnitudes _ _ n (abs-neg (total counts units).num ∙ ap unsigned_abs n_is)
+        (subst (λ t. SameValue t y) (total-negated counts units units_are) h)
 
 -- the number that is split has a denominator
-split_denominator : (round : Bool) (x : Fraction) (units : List Fraction) → 0 < x.den → 0 < length units → All IsUnit units
+split_denominator : (round : Bool) (x : Fraction) (units : List Fraction) → 0 < x.den → 0 < length units
+    → All IsUnit units
     → 0 < (split_number round (last_of units) x).den
 split_denominator false x units some many units_are = some
-split_denominator true x units some many units_are = by_sign (is_negative x) (last_unit units many units_are).denominator
+split_denominator true x units some many units_are =
+    by_sign (is_negative x) (last_unit units many units_are).denominator
   where
     by_sign : (negative : Bool) → 0 < (last_of units).den
-        → 0 < (negated_if negative (product (whole (pos (nearest_to (quotient_of x (last_of units))))) (last_of units))).den
+        → 0 < (negated_if negative
+        (product (whole (pos (nearest_to (quotient_of x (last_of units))))) (last_of units))).den
     by_sign false h = omega arith
     by_sign true h = omega arith
 
+-- the law that no other counts are so
 pub unique_law : ReducedLaw → UniqueLaw
 unique_law law round x units counts others some many units_are first second =
     let y = split_number round (last_of units) x in
@@ -281,9 +339,13 @@ unique_law law round x units counts others some many units_are first second =
     let others_plain = plain_magnitudes others (recursion_from_All IsReduced others second.lowest) in
     let denominator = split_denominator round x units some many units_are in
     let same =
-    same_counts law units ms ns (magnitude y) (unsigned_abs y.num) y.den (own_value (magnitude y) (unsigned_abs y.num) refl denominator) denominator
-    (recursion_from_All IsUnit units units_are) plain others_plain (length-map counts magnitude ∙ first.one_each) (length-map others magnitude ∙ second.one_each)
+    same_counts law units ms ns (magnitude y) (unsigned_abs y.num) y.den
+    (own_value (magnitude y) (unsigned_abs y.num) refl denominator) denominator
+    (recursion_from_All IsUnit units units_are) plain others_plain (length-map counts magnitude ∙ first.one_each)
+    (length-map others magnitude ∙ second.one_each)
     first.greatest second.greatest
-    (magnitudes_value negative ms units y plain units_are (subst (λ cs. SameValue (total cs units) y) first.signs first.sum))
-    (magnitudes_value negative ns units y others_plain units_are (subst (λ cs. SameValue (total cs units) y) second.signs second.sum)) in
+    (magnitudes_value negative ms units y plain units_are
+    (subst (λ cs. SameValue (total cs units) y) first.signs first.sum))
+    (magnitudes_value negative ns units y others_plain units_are
+    (subst (λ cs. SameValue (total cs units) y) second.signs second.sum)) in
     first.signs ∙ ap (map (negated_if negative)) same ∙ sym second.signs

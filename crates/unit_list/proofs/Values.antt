@@ -1,9 +1,11 @@
 -- The values of fractions that are not below 0, as ratios of two numbers.
-use Rattle.std.proofs.Common.{◌≡◌, ◌<◌, ◌≤◌, ◌+◌, ◌-◌, ◌*◌, ◌/◌, ◌*ℤ◌, ◌-ℤ◌, ℕ, ℤ, pos, suc, zero, unsigned_abs, arith, refl, sym, ap, subst, ◌∙◌}
+use Rattle.std.proofs.Common.{◌≡◌, ◌<◌, ◌≤◌, ◌+◌, ◌-◌, ◌*◌, ◌/◌, ◌*ℤ◌, ◌-ℤ◌, ℕ, ℤ, pos, suc, zero, unsigned_abs, arith}
+use Rattle.std.proofs.Common.{refl, sym, ap, subst, ◌∙◌}
 use Rattle.std.specs.Prelude.{◌&&◌, Bool, true, false, Ok, Err, if◌then◌else◌}
 use Rattle.std.proofs.lemmas.Int.{ints}
 use Rattle.std.proofs.lemmas.Nat.Gcd.{dvd_antisymm, dvd-zero}
-use Rattle.std.proofs.Math.Nat.{dvd_refl, one-dvd, dvd-mul_left, dvd-mul_right, eq_of_mul-eq-mul_right, le_of_mul-le-mul_right, mul-div_cancel', mul-le-mul_right, mul-pos}
+use Rattle.std.proofs.Math.Nat.{dvd_refl, one-dvd, dvd-mul_left, dvd-mul_right, eq_of_mul-eq-mul_right}
+use Rattle.std.proofs.Math.Nat.{le_of_mul-le-mul_right, mul-div_cancel', mul-le-mul_right, mul-pos}
 use Prim.Native.Nat.{◌∣◌}
 use Rattle.frac128.specs.declared.fault.FracFault.TheVariants.{Overflow}
 use Rattle.std.specs.Int.{int_div_euclid}
@@ -11,7 +13,7 @@ use Rattle.frac128.specs.Divisors.{LcmLaw, gcd, lcm}
 use Rattle.frac128.specs.Floor.{floor_of}
 use Rattle.frac128.specs.Fraction.{Fraction, IsReduced, fits, whole}
 use Rattle.frac128.specs.Steps.{ReducedLaw, over, ratio, reduced, times}
-use Rattle.frac128.specs.Sums.{in_range, joined, minus, numerator_over, sum_over}
+use Rattle.frac128.specs.Sums.{in_range, step_over, minus, numerator_over, sum_over}
 
 -- x has the value a / b
 pub record HasValue (x : Fraction) (a b : ℕ) : Type 0 where
@@ -31,10 +33,11 @@ ratio_ok n zero y some h = absurd (omega arith)
 ratio_ok n (suc d) y some h = if_ok (fits (reduced n (suc d))) (reduced n (suc d)) y h
 
 -- a sum or difference too
-joined_ok : (step : ℤ → ℤ → ℤ) (m : ℕ) (l r : ℤ) (y : Fraction) → joined step m l r ≡ Ok y → y ≡ reduced (step l r) m
+joined_ok : (step : ℤ → ℤ → ℤ) (m : ℕ) (l r : ℤ) (y : Fraction) → step_over step m l r ≡ Ok y → y ≡ reduced (step l r) m
 joined_ok step m l r y h = by_tests (in_range (pos m)) (in_range l) (in_range r) h
   where
-    by_tests : (a b c : Bool) → (if a && b && c then sum_over m (step l r) else Err Overflow) ≡ Ok y → y ≡ reduced (step l r) m
+    by_tests : (a b c : Bool) → (if a && b && c then sum_over m (step l r) else Err Overflow) ≡ Ok y
+        → y ≡ reduced (step l r) m
     by_tests true true true h = if_ok (in_range (step l r)) (reduced (step l r) m) y h
     by_tests true true false h = absurd (cc)
     by_tests true false c h = absurd (cc)
@@ -60,31 +63,36 @@ pub cancelled : (x y k : ℕ) → 0 < k → x * k ≡ y * k → x ≡ y
 cancelled x y k some h = eq_of_mul-eq-mul_right k some x y h
 
 -- the quotient of two natural numerators
-pub over_reduced : (x unit q : Fraction) (n c : ℕ) → x.num ≡ pos n → unit.num ≡ pos c → 0 < x.den → 0 < c → over x unit ≡ Ok q
+pub over_reduced : (x unit q : Fraction) (n c : ℕ) → x.num ≡ pos n → unit.num ≡ pos c → 0 < x.den → 0 < c
+    → over x unit ≡ Ok q
     → q ≡ reduced (pos (n * unit.den)) (x.den * c)
 over_reduced x unit q n c n_is c_is some_x some_c h =
     let ratio_is : over x unit ≡ ratio (pos (n * unit.den)) (pos (x.den * c)) =
-    ap (λ z. ratio (z *ℤ pos unit.den) (pos x.den *ℤ unit.num)) n_is ∙ ap (λ z. ratio (pos n *ℤ pos unit.den) (pos x.den *ℤ z)) c_is in
+    ap (λ z. ratio (z *ℤ pos unit.den) (pos x.den *ℤ unit.num)) n_is
+    ∙ ap (λ z. ratio (pos n *ℤ pos unit.den) (pos x.den *ℤ z)) c_is in
     ratio_ok (pos (n * unit.den)) (x.den * c) q (mul-pos some_x some_c) (sym ratio_is ∙ h)
 
 -- it is in lowest terms
 pub over_lowest : ReducedLaw → (x unit q : Fraction) (n c : ℕ) → x.num ≡ pos n → unit.num ≡ pos c → 0 < x.den → 0 < c
     → over x unit ≡ Ok q → IsReduced q
 over_lowest law x unit q n c n_is c_is some_x some_c h =
-    subst IsReduced (sym (over_reduced x unit q n c n_is c_is some_x some_c h)) (law (pos (n * unit.den)) (x.den * c) (mul-pos some_x some_c)).0
+    subst IsReduced (sym (over_reduced x unit q n c n_is c_is some_x some_c h))
+    (law (pos (n * unit.den)) (x.den * c) (mul-pos some_x some_c)).0
 
 -- so is a whole number
 pub whole_lowest : (n : ℤ) → IsReduced (whole n)
 whole_lowest n = record { positive = omega arith; lowest = (one-dvd (unsigned_abs n), dvd_refl 1, λ d p q. q) }
 
 -- the quotient of two values
-pub over_value : ReducedLaw → (x unit q : Fraction) (a b c : ℕ) → HasValue x a b → unit.num ≡ pos c → 0 < unit.den → 0 < c → 0 < b
+pub over_value : ReducedLaw → (x unit q : Fraction) (a b c : ℕ) → HasValue x a b → unit.num ≡ pos c → 0 < unit.den
+    → 0 < c → 0 < b
     → over x unit ≡ Ok q → HasValue q (a * unit.den) (b * c)
 over_value law x unit q a b c is c_is some_d some_c some_b h =
     let some : 0 < x.den * c = mul-pos is.positive some_c in
     let q_is = over_reduced x unit q is.num c is.num_is c_is is.positive some_c h in
     let raw : HasValue q (is.num * unit.den) (x.den * c) =
-    subst (λ y. HasValue y (is.num * unit.den) (x.den * c)) (sym q_is) (reduced_value law (is.num * unit.den) (x.den * c) some) in
+    subst (λ y. HasValue y (is.num * unit.den) (x.den * c)) (sym q_is)
+    (reduced_value law (is.num * unit.den) (x.den * c) some) in
     record {
       num = raw.num;
       num_is = raw.num_is;
@@ -105,7 +113,8 @@ over_value law x unit q a b c is c_is some_d some_c some_b h =
         third k d e = omega arith
 
 -- a whole multiple of a unit
-pub times_value : ReducedLaw → (k c : ℕ) (unit t : Fraction) → unit.num ≡ pos c → 0 < unit.den → times (whole (pos k)) unit ≡ Ok t
+pub times_value : ReducedLaw → (k c : ℕ) (unit t : Fraction) → unit.num ≡ pos c → 0 < unit.den
+    → times (whole (pos k)) unit ≡ Ok t
     → HasValue t (k * c) unit.den
 times_value law k c unit t c_is some h =
     let ratio_is : times (whole (pos k)) unit ≡ ratio (pos (k * c)) (pos (1 * unit.den)) =
@@ -128,6 +137,7 @@ record IsMultiple (b e m : ℕ) : Type 0 where
   second : e * (m / e) ≡ m
   some : 0 < m
 
+-- the least common multiple is a multiple of both numbers, by numbers above 0
 lcm_multiple : LcmLaw → (b e : ℕ) → 0 < b → 0 < e → IsMultiple b e (lcm b e)
 lcm_multiple law b e some_b some_e =
     let is = law b e some_e in
@@ -145,7 +155,8 @@ lcm_multiple law b e some_b some_e =
     above (suc m) h = omega arith
 
 -- the difference of two values, where it is not below 0
-pub minus_value : ReducedLaw → LcmLaw → (x t r : Fraction) (a b p e left : ℕ) → HasValue x a b → HasValue t p e → 0 < b → 0 < e
+pub minus_value : ReducedLaw → LcmLaw → (x t r : Fraction) (a b p e left : ℕ) → HasValue x a b → HasValue t p e → 0 < b
+    → 0 < e
     → left + p * b ≡ a * e → minus x t ≡ Ok r → HasValue r left (b * e)
 minus_value law multiples x t r a b p e left is_x is_t some_b some_e left_is h =
     let m = lcm x.den t.den in
@@ -153,19 +164,24 @@ minus_value law multiples x t r a b p e left is_x is_t some_b some_e left_is h =
     let f = m / x.den in
     let g = m / t.den in
     let under : is_t.num * g ≤ is_x.num * f =
-    below is_x.num x.den is_t.num t.den f g m is.first is.second is.some is_x.positive is_t.positive (crossed is_x.num x.den is_t.num t.den is_x.same is_t.same) in
+    below is_x.num x.den is_t.num t.den f g m is.first is.second is.some is_x.positive is_t.positive
+    (crossed is_x.num x.den is_t.num t.den is_x.same is_t.same) in
     let step_is : numerator_over x m -ℤ numerator_over t m ≡ pos (is_x.num * f - is_t.num * g) =
-    ap (λ z. z *ℤ pos f -ℤ t.num *ℤ pos g) is_x.num_is ∙ ap (λ z. pos is_x.num *ℤ pos f -ℤ z *ℤ pos g) is_t.num_is ∙ natural (is_x.num * f) (is_t.num * g) under in
+    ap (λ z. z *ℤ pos f -ℤ t.num *ℤ pos g) is_x.num_is ∙ ap (λ z. pos is_x.num *ℤ pos f -ℤ z *ℤ pos g) is_t.num_is
+    ∙ natural (is_x.num * f) (is_t.num * g) under in
     let r_is : r ≡ reduced (pos (is_x.num * f - is_t.num * g)) m =
     joined_ok ◌-ℤ◌ m (numerator_over x m) (numerator_over t m) r h ∙ ap (λ z. reduced z m) step_is in
     let raw : HasValue r (is_x.num * f - is_t.num * g) m =
-    subst (λ y. HasValue y (is_x.num * f - is_t.num * g) m) (sym r_is) (reduced_value law (is_x.num * f - is_t.num * g) m is.some) in
-    let whole_is : (is_x.num * f - is_t.num * g) + is_t.num * g ≡ is_x.num * f = together (is_x.num * f) (is_t.num * g) under in
+    subst (λ y. HasValue y (is_x.num * f - is_t.num * g) m) (sym r_is)
+    (reduced_value law (is_x.num * f - is_t.num * g) m is.some) in
+    let whole_is : (is_x.num * f - is_t.num * g) + is_t.num * g ≡ is_x.num * f =
+    together (is_x.num * f) (is_t.num * g) under in
     record {
       num = raw.num;
       num_is = raw.num_is;
       positive = raw.positive;
-      same = settled is_x.num x.den is_t.num t.den f g m (is_x.num * f - is_t.num * g) raw.num r.den is.first is.second is.some is_x.positive is_t.positive is_x.same is_t.same whole_is raw.same;
+      same = settled is_x.num x.den is_t.num t.den f g m (is_x.num * f - is_t.num * g) raw.num r.den is.first is.second
+          is.some is_x.positive is_t.positive is_x.same is_t.same whole_is raw.same;
     }
   where
     natural : (m n : ℕ) → n ≤ m → pos m -ℤ pos n ≡ pos (m - n)
@@ -177,9 +193,11 @@ minus_value law multiples x t r a b p e left is_x is_t some_b some_e left_is h =
     -- the values are in the order of their numerators
     crossed : (xn xd tn td : ℕ) → xn * b ≡ a * xd → tn * e ≡ p * td → tn * xd * (b * e) ≤ xn * td * (b * e)
     crossed xn xd tn td h k =
-        let least : p * b * (td * xd) ≤ a * e * (td * xd) = mul-le-mul_right (td * xd) (smaller (p * b) (a * e) left_is) in
+        let least : p * b * (td * xd) ≤ a * e * (td * xd) =
+        mul-le-mul_right (td * xd) (smaller (p * b) (a * e) left_is) in
         let low : tn * xd * (b * e) ≡ p * b * (td * xd) = turn tn xd ∙ ap (λ z. z * (xd * b)) k ∙ spread p td xd b in
-        let high : xn * td * (b * e) ≡ a * e * (td * xd) = turn_back xn td ∙ ap (λ z. z * (td * e)) h ∙ spread_back a xd td e in
+        let high : xn * td * (b * e) ≡ a * e * (td * xd) = turn_back xn td ∙ ap (λ z. z * (td * e)) h
+        ∙ spread_back a xd td e in
         rw (low, high) least
       where
         smaller : (m n : ℕ) → left + m ≡ n → m ≤ n
@@ -197,7 +215,8 @@ minus_value law multiples x t r a b p e left is_x is_t some_b some_e left_is h =
         spread_back : (a xd td e : ℕ) → a * xd * (td * e) ≡ a * e * (td * xd)
         spread_back a xd td e = omega arith
 
-    below : (xn xd tn td f g m : ℕ) → xd * f ≡ m → td * g ≡ m → 0 < m → 0 < xd → 0 < td → tn * xd * (b * e) ≤ xn * td * (b * e)
+    below : (xn xd tn td f g m : ℕ) → xd * f ≡ m → td * g ≡ m → 0 < m → 0 < xd → 0 < td
+        → tn * xd * (b * e) ≤ xn * td * (b * e)
         → tn * g ≤ xn * f
     below xn xd tn td f g m p q some some_x some_t h =
         let plain : tn * xd ≤ xn * td = le_of_mul-le-mul_right h (mul-pos some_b some_e) in
@@ -235,7 +254,8 @@ minus_value law multiples x t r a b p e left is_x is_t some_b some_e left_is h =
         turn : (xn f rd xd td : ℕ) → xn * f * (rd * xd * td) ≡ xn * td * rd * (xd * f)
         turn xn f rd xd td = omega arith
 
-    settled : (xn xd tn td f g m d n rd : ℕ) → xd * f ≡ m → td * g ≡ m → 0 < m → 0 < xd → 0 < td → xn * b ≡ a * xd → tn * e ≡ p * td
+    settled : (xn xd tn td f g m d n rd : ℕ) → xd * f ≡ m → td * g ≡ m → 0 < m → 0 < xd → 0 < td → xn * b ≡ a * xd
+        → tn * e ≡ p * td
         → d + tn * g ≡ xn * f → n * m ≡ d * rd → n * (b * e) ≡ left * rd
     settled xn xd tn td f g m d n rd first second some some_x some_t x_is t_is d_is n_is =
         let parts = plain xn xd tn td f g m d n rd first second some d_is n_is in
@@ -251,10 +271,12 @@ minus_value law multiples x t r a b p e left is_x is_t some_b some_e left_is h =
         ap (λ z. z * rd * (xd * td)) (sym left_is) ∙ parted (p * b) rd (xd * td) in
         cancelled _ _ (xd * td) (mul-pos some_x some_t) (same_sum _ _ _ (scaled ∙ whole))
       where
-        split : (n xd td rd : ℕ) → n * (b * e) * (xd * td) + p * b * rd * (xd * td) ≡ n * (xd * td) * (b * e) + p * td * (xd * rd * b)
+        split : (n xd td rd : ℕ)
+            → n * (b * e) * (xd * td) + p * b * rd * (xd * td) ≡ n * (xd * td) * (b * e) + p * td * (xd * rd * b)
         split n xd td rd = omega arith
 
-        gather : (n xd td tn rd : ℕ) → n * (xd * td) * (b * e) + tn * e * (xd * rd * b) ≡ (n * (xd * td) + tn * xd * rd) * (b * e)
+        gather : (n xd td tn rd : ℕ)
+            → n * (xd * td) * (b * e) + tn * e * (xd * rd * b) ≡ (n * (xd * td) + tn * xd * rd) * (b * e)
         gather n xd td tn rd = omega arith
 
         turn : (xn td rd : ℕ) → xn * td * rd * (b * e) ≡ xn * b * (td * rd * e)

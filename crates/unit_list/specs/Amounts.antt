@@ -7,7 +7,8 @@ use Rattle.frac128.specs.Sign.{is_positive}
 use Rattle.quantity.specs.Amount.{Amount, conform}
 use Rattle.unit_list.specs.Splits.{number_counts}
 use Rattle.unit_list.specs.declared.fault.SplitFault.{SplitFault}
-use Rattle.unit_list.specs.declared.fault.SplitFault.TheVariants.{NotConformable, ListUnitNotPositive, Number, OutOfMemory}
+use Rattle.unit_list.specs.declared.fault.SplitFault.TheVariants.{NotConformable, ListUnitNotPositive, Number}
+use Rattle.unit_list.specs.declared.fault.SplitFault.TheVariants.{OutOfMemory}
 use Rattle.unit_list.specs.declared.counts.Split.{Split}
 
 -- the unit has other exponents than the quantity

@@ -1,6 +1,7 @@
 -- What the counts of a split are: they add up, have the sign of the number, and each but the last
 -- is the greatest one.
-use Rattle.std.specs.Prelude.{◌≡◌, ◌<◌, ◌*◌, ◌+ℤ◌, ◌<ℤ◌, pos, unsigned_abs, Bool, true, false, List, ◌∷◌, length, map, All, Ok}
+use Rattle.std.specs.Prelude.{◌≡◌, ◌<◌, ◌*◌, ◌+ℤ◌, ◌<ℤ◌, pos, unsigned_abs, Bool, true, false, List, ◌∷◌, length, map}
+use Rattle.std.specs.Prelude.{All, Ok}
 use Rattle.frac128.specs.Exact.{difference, product, sum}
 use Rattle.frac128.specs.Fraction.{Fraction, IsReduced, SameValue, whole}
 use Rattle.frac128.specs.Order.{IsAtMost, IsLess}

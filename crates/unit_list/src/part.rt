@@ -1,7 +1,7 @@
 //! One unit of a split.
 
 ghost use Rattle.std.specs.Prelude.{◌≡◌};
-ghost use Rattle.unit_list.specs.Splits.{part_of as part_in};
+ghost use Rattle.unit_list.specs.Splits as spec;
 
 use frac128::{Frac, FracFault};
 
@@ -14,7 +14,7 @@ pub(crate) struct Part {
 
 // The greatest whole count of the unit in x, and what is left of x.
 pub(crate) fn part_of(x: &Frac, unit: &Frac) -> Result<Part, FracFault>
-    ensures { result ≡ part_in x.now unit.now }
+    ensures { result ≡ spec.part_of x.now unit.now }
 {
     let count = x.div(unit)?.floor();
     let taken = count.mul(unit)?;

@@ -2,7 +2,7 @@
 
 ghost use Rattle.std.specs.Prelude.{◌≡◌, ◌<◌, ◌%◌, ◌+◌, ◌/◌, ◌≤ℤ◌, pos, unsigned_abs};
 ghost use Rattle.frac128.specs.Fraction.{whole};
-ghost use Rattle.unit_list.specs.Splits.{nearest_to as nearest_to_of, rounded_if as rounded_if_of, rounded_to as rounded_to_of};
+ghost use Rattle.unit_list.specs.Splits as spec;
 
 use crate::sign::magnitude;
 use frac128::{Frac, FracFault};
@@ -10,21 +10,21 @@ use std::cmp::Ordering;
 
 // The number, or with rounding the whole multiple of the unit that is nearest to it.
 pub(crate) fn rounded_if(round: bool, unit: &Frac, x: &Frac) -> Result<Frac, FracFault>
-    ensures { result ≡ rounded_if_of round unit.now x.now }
+    ensures { result ≡ spec.rounded_if round unit.now x.now }
 {
     if round { rounded_to(unit, x) } else { Ok(*x) }
 }
 
 // The whole multiple of the unit that is nearest to x.
 fn rounded_to(unit: &Frac, x: &Frac) -> Result<Frac, FracFault>
-    ensures { result ≡ rounded_to_of unit.now x.now }
+    ensures { result ≡ spec.rounded_to unit.now x.now }
 {
     nearest_to(&x.div(unit)?).mul(unit)
 }
 
 // The whole number nearest to the magnitude of x, and of two the even one.
 fn nearest_to(x: &Frac) -> Frac
-    ensures { result ≡ whole (pos (nearest_to_of x.now)) }
+    ensures { result ≡ whole (pos (spec.nearest_to x.now)) }
 {
     let x = magnitude(x);
     let low = x.floor();

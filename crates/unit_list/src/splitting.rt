@@ -3,7 +3,7 @@
 ghost use Rattle.std.specs.Prelude.{◌≡◌, ◌<◌, length, All, IfOk, OnOk};
 ghost use Rattle.unit_list.specs.Amounts.{AreGiven, HasDenominator, IsSplit, counts_in, numbers_of};
 ghost use Rattle.unit_list.specs.Counts.{IsSplitOf};
-ghost use Rattle.unit_list.specs.Splits.{counts_of as counts_of_units, signed_counts};
+ghost use Rattle.unit_list.specs.Splits as spec;
 
 use crate::counts::{Fracs, Split};
 use crate::fault::SplitFault;
@@ -52,7 +52,7 @@ fn counts_of(
     units: &[Quantity],
 ) -> Result<Fracs, SplitFault>
     requires { 0 < length units.now }
-    ensures counts { AreGiven result (signed_counts negative (counts_of_units amount.now (numbers_of units.now))) }
+    ensures counts { AreGiven result (spec.signed_counts negative (spec.counts_of amount.now (numbers_of units.now))) }
     ensures denominators { OnOk result (All HasDenominator units.now) }
 {
     let last = units.len() - 1;

@@ -1,8 +1,8 @@
 //! Whether some units can split a quantity.
 
 ghost use Rattle.std.specs.Prelude.{◌≡◌, position};
-ghost use Rattle.frac128.specs.Sign.{is_positive as is_positive_of};
-ghost use Rattle.unit_list.specs.Amounts.{is_not_positive, is_unlike, unit_fault as unit_fault_of};
+ghost use Rattle.frac128.specs.Sign as sign;
+ghost use Rattle.unit_list.specs.Amounts as spec;
 
 use crate::fault::SplitFault;
 use quantity::Quantity;
@@ -10,7 +10,7 @@ use quantity::Quantity;
 // The fault of the first unit that does not conform, and else of the first whose number is not
 // above 0.
 pub(crate) fn unit_fault(q: &Quantity, units: &[Quantity]) -> Option<SplitFault>
-    ensures { result ≡ unit_fault_of q.now units.now }
+    ensures { result ≡ spec.unit_fault q.now units.now }
 {
     if let Some(place) = first_unlike(q, units) {
         return Some(SplitFault::NotConformable(place));
@@ -20,21 +20,21 @@ pub(crate) fn unit_fault(q: &Quantity, units: &[Quantity]) -> Option<SplitFault>
 
 // The place of the first unit that does not conform.
 fn first_unlike(q: &Quantity, units: &[Quantity]) -> Option<usize>
-    ensures { result ≡ position (is_unlike q.now) units.now }
+    ensures { result ≡ position (spec.is_unlike q.now) units.now }
 {
     units.iter().position(|unit| !q.conforms(unit))
 }
 
 // The place of the first unit whose number is not above 0.
 fn first_not_positive(units: &[Quantity]) -> Option<usize>
-    ensures { result ≡ position is_not_positive units.now }
+    ensures { result ≡ position spec.is_not_positive units.now }
 {
     units.iter().position(|unit| !is_positive(unit))
 }
 
 // Whether the number is above 0.
 fn is_positive(unit: &Quantity) -> bool
-    ensures { result ≡ is_positive_of unit.now.value }
+    ensures { result ≡ sign.is_positive unit.now.value }
 {
     unit.value().num() > 0
 }

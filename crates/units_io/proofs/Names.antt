@@ -1,5 +1,6 @@
 -- Pairs of a name and a value: what a look-up finds, and pairs with one more value.
-use Rattle.std.proofs.Common.{◌≡◌, ◌≢◌, ℕ, List, [], ◌∷◌, ◌++◌, Option, Some, None, refl, sym, ap, subst, ◌∙◌, Bool, true, false, cond}
+use Rattle.std.proofs.Common.{◌≡◌, ◌≢◌, ℕ, List, [], ◌∷◌, ◌++◌, Option, Some, None, refl, sym, ap, subst, ◌∙◌, Bool}
+use Rattle.std.proofs.Common.{true, false, cond}
 use Rattle.std.proofs.Common.{Vec, Bor}
 use Rattle.std.specs.Prelude.{IfNone}
 use Rattle.std.specs.Option.{option_copied}
@@ -11,8 +12,10 @@ use Rattle.units_io.specs.Named.{Pairs, value_of, with_value, Sets, HasNoName, H
 
 -- a test that is false tells two names apart
 differ : (name other : List ℕ) → bytes_eq name other ≡ false → other ≢ name
-differ name other differs same = let both : true ≡ false = sym ((bytes_eq-Decides name other).1 (sym same)) ∙ differs in cc
+differ name other differs same = let both : true ≡ false = sym ((bytes_eq-Decides name other).1 (sym same))
+    ∙ differs in cc
 
+-- bytes that are found equal are one list
 same : (name other : List ℕ) → bytes_eq name other ≡ true → name ≡ other
 same name other is = (bytes_eq-Decides name other).0 is
 
@@ -29,12 +32,16 @@ HasNoName-from_value_of : (pairs : Pairs) (name : List ℕ) → value_of pairs n
 HasNoName-from_value_of [] name none = tt
 HasNoName-from_value_of (pair ∷ pairs) name none = by _ refl (HasNoName-from_value_of pairs name)
   where
-    by : (b : Bool) → bytes_eq name pair.0 ≡ b → (value_of pairs name ≡ None → HasNoName pairs name) → HasNoName (pair ∷ pairs) name
-    by true is later = let found : Some pair.1 ≡ None = sym (ap (λ b. cond b (Some pair.1) (value_of pairs name)) is) ∙ none in cc
-    by false is later = (differ name pair.0 is, later (sym (ap (λ b. cond b (Some pair.1) (value_of pairs name)) is) ∙ none))
+    by : (b : Bool) → bytes_eq name pair.0 ≡ b → (value_of pairs name ≡ None → HasNoName pairs name)
+        → HasNoName (pair ∷ pairs) name
+    by true is later = let found : Some pair.1 ≡ None = sym (ap (λ b. cond b (Some pair.1) (value_of pairs name)) is)
+        ∙ none in cc
+    by false is later =
+        (differ name pair.0 is, later (sym (ap (λ b. cond b (Some pair.1) (value_of pairs name)) is) ∙ none))
 
 -- a name that a look-up does not find is in no pair
-pub HasNoName-not_found : (pairs : Pairs) (name : List ℕ) (found : Option (Bor (List ℕ))) → option_copied found ≡ value_of pairs name
+pub HasNoName-not_found : (pairs : Pairs) (name : List ℕ) (found : Option (Bor (List ℕ)))
+    → option_copied found ≡ value_of pairs name
     → IfNone found (HasNoName pairs name)
 HasNoName-not_found pairs name None is = HasNoName-from_value_of pairs name (sym is)
 HasNoName-not_found pairs name (Some value) is = tt
@@ -54,17 +61,20 @@ with_value-Sets (pair ∷ pairs) name value other = by _ _ refl refl (with_value
   where
     by : (b at : Bool) → bytes_eq name pair.0 ≡ b → bytes_eq other pair.0 ≡ at
         → value_of (with_value pairs name value) other ≡ cond (bytes_eq other name) (Some value) (value_of pairs other)
-        → value_of (with_value (pair ∷ pairs) name value) other ≡ cond (bytes_eq other name) (Some value) (value_of (pair ∷ pairs) other)
+        → value_of (with_value (pair ∷ pairs) name value) other
+        ≡ cond (bytes_eq other name) (Some value) (value_of (pair ∷ pairs) other)
     by true true is found later = rw (is, same name pair.0 is, found) refl
     by true false is found later = rw (is, same name pair.0 is, found) refl
-    by false true is found later = rw (is, found, apart other name (λ e. differ name pair.0 is (sym (e ∙ same other pair.0 found)))) refl
+    by false true is found later =
+        rw (is, found, apart other name (λ e. differ name pair.0 is (sym (e ∙ same other pair.0 found)))) refl
     by false false is found later = rw (is, found) later
 
 -- a pair of another name leaves a name absent
 HasNoName-with_value : (pairs : Pairs) (name value other : List ℕ) → HasNoName pairs other → name ≢ other
     → HasNoName (with_value pairs name value) other
 HasNoName-with_value [] name value other none differs = (differs, tt)
-HasNoName-with_value (pair ∷ pairs) name value other none differs = by _ refl (HasNoName-with_value pairs name value other none.1 differs)
+HasNoName-with_value (pair ∷ pairs) name value other none differs =
+    by _ refl (HasNoName-with_value pairs name value other none.1 differs)
   where
     by : (b : Bool) → bytes_eq name pair.0 ≡ b → HasNoName (with_value pairs name value) other
         → HasNoName (with_value (pair ∷ pairs) name value) other
@@ -75,18 +85,22 @@ HasNoName-with_value (pair ∷ pairs) name value other none differs = by _ refl 
 pub HasDistinctNames-with_value : (pairs : Pairs) (name value : List ℕ) → HasDistinctNames pairs
     → HasDistinctNames (with_value pairs name value)
 HasDistinctNames-with_value [] name value distinct = (tt, tt)
-HasDistinctNames-with_value (pair ∷ pairs) name value distinct = by _ refl (HasDistinctNames-with_value pairs name value distinct.1)
+HasDistinctNames-with_value (pair ∷ pairs) name value distinct =
+    by _ refl (HasDistinctNames-with_value pairs name value distinct.1)
   where
     by : (b : Bool) → bytes_eq name pair.0 ≡ b → HasDistinctNames (with_value pairs name value)
         → HasDistinctNames (with_value (pair ∷ pairs) name value)
     by true is later = rw is (distinct.0, distinct.1)
-    by false is later = rw is (HasNoName-with_value pairs name value pair.0 distinct.0 (λ e. differ name pair.0 is (sym e)), later)
+    by false is later =
+        rw is (HasNoName-with_value pairs name value pair.0 distinct.0 (λ e. differ name pair.0 is (sym e)), later)
 
 -- the name of a pair is not that of a pair before it
-pub HasNoName-before : (before : Pairs) (pair : List ℕ × List ℕ) (behind : Pairs) → HasDistinctNames (before ++ pair ∷ behind)
+pub HasNoName-before : (before : Pairs) (pair : List ℕ × List ℕ) (behind : Pairs)
+    → HasDistinctNames (before ++ pair ∷ behind)
     → HasNoName before pair.0
 HasNoName-before [] pair behind distinct = tt
-HasNoName-before (p ∷ before) pair behind distinct = (first before distinct.0, HasNoName-before before pair behind distinct.1)
+HasNoName-before (p ∷ before) pair behind distinct =
+    (first before distinct.0, HasNoName-before before pair behind distinct.1)
   where
     first : (before : Pairs) → HasNoName (before ++ pair ∷ behind) p.0 → p.0 ≢ pair.0
     first [] none = λ e. none.0 (sym e)
@@ -97,24 +111,31 @@ module _ {Y : Type 0} where
   pub value_of-pairs_of : (entries : List (Vec ℕ Y × List ℕ)) (name : List ℕ)
       → lookup (λ key. bytes_eq name key.items) entries ≡ value_of (pairs_of entries) name
   value_of-pairs_of [] name = refl
-  value_of-pairs_of (entry ∷ entries) name = ap (λ o. cond (bytes_eq name entry.0.items) (Some entry.1) o) (value_of-pairs_of entries name)
+  value_of-pairs_of (entry ∷ entries) name =
+      ap (λ o. cond (bytes_eq name entry.0.items) (Some entry.1) o) (value_of-pairs_of entries name)
 
   -- an insertion into an index map sets a value among its pairs
   pub pairs_of-insert : (entries : List (Vec ℕ Y × List ℕ)) (key : Vec ℕ Y) (value : List ℕ)
-      → pairs_of (insert_entry (λ x y. bytes_eq x.items y.items) entries key value) ≡ with_value (pairs_of entries) key.items value
+      → pairs_of (insert_entry (λ x y. bytes_eq x.items y.items) entries key value)
+      ≡ with_value (pairs_of entries) key.items value
   pairs_of-insert [] key value = refl
   pairs_of-insert (entry ∷ entries) key value = by _ refl (pairs_of-insert entries key value)
     where
       by : (b : Bool) → bytes_eq key.items entry.0.items ≡ b
-          → pairs_of (insert_entry (λ x y. bytes_eq x.items y.items) entries key value) ≡ with_value (pairs_of entries) key.items value
-          → pairs_of (insert_entry (λ x y. bytes_eq x.items y.items) (entry ∷ entries) key value) ≡ with_value (pairs_of (entry ∷ entries)) key.items value
+          → pairs_of (insert_entry (λ x y. bytes_eq x.items y.items) entries key value)
+          ≡ with_value (pairs_of entries) key.items value
+          → pairs_of (insert_entry (λ x y. bytes_eq x.items y.items) (entry ∷ entries) key value)
+          ≡ with_value (pairs_of (entry ∷ entries)) key.items value
       by true is later = rw is refl
       by false is later = rw is (ap (λ (ps : Pairs). (entry.0.items, entry.1) ∷ ps) later)
 
   -- the next name to copy is none of those that were copied
-  pub HasNoName-next : (pairs copied : Pairs) (rest behind : List (Vec ℕ Y × List ℕ)) (key : Vec ℕ Y) (value name : List ℕ)
+  pub HasNoName-next : (pairs copied : Pairs) (rest behind : List (Vec ℕ Y × List ℕ)) (key : Vec ℕ Y)
+      (value name : List ℕ)
       → HasDistinctNames pairs
       → copied ++ pairs_of rest ≡ pairs → rest ≡ (key, value) ∷ behind → name ≡ key.items → HasNoName copied name
   HasNoName-next pairs copied rest behind key value name distinct whole is named =
-      let parts : pairs ≡ copied ++ (key.items, value) ∷ pairs_of behind = sym whole ∙ ap (λ (es : List (Vec ℕ Y × List ℕ)). copied ++ pairs_of es) is in
-      subst (HasNoName copied) (sym named) (HasNoName-before copied (key.items, value) (pairs_of behind) (subst HasDistinctNames parts distinct))
+      let parts : pairs ≡ copied ++ (key.items, value) ∷ pairs_of behind =
+      sym whole ∙ ap (λ (es : List (Vec ℕ Y × List ℕ)). copied ++ pairs_of es) is in
+      subst (HasNoName copied) (sym named)
+      (HasNoName-before copied (key.items, value) (pairs_of behind) (subst HasDistinctNames parts distinct))

@@ -36,7 +36,9 @@ pub record FilesState : Type 0 where
 abbrev pub files_code : Coded FilesState
 files_code =
     code_by (FileMap × (List ℕ × (ℕ × (ℕ × (List ℕ × (ℕ × ℕ))))))
-    (coded× file_map_code (coded× (coded_list coded_ℕ) (coded× coded_ℕ (coded× coded_ℕ (coded× (coded_list coded_ℕ) (coded× coded_ℕ coded_ℕ))))))
+    (coded× file_map_code
+    (coded× (coded_list coded_ℕ)
+    (coded× coded_ℕ (coded× coded_ℕ (coded× (coded_list coded_ℕ) (coded× coded_ℕ coded_ℕ))))))
     (λ s. (s.files, (s.fails, (s.calls, (s.faults, (s.store_fails, (s.store_calls, s.store_faults)))))))
     (λ p. record {
       files = p.0;

@@ -1,11 +1,11 @@
 //! The bytes that part words.
 
 ghost use Rattle.std.specs.Prelude.{◌≡◌};
-ghost use Rattle.units_io.specs.Blanks.{is_blank as is_blank_byte};
+ghost use Rattle.units_io.specs.Blanks as spec;
 
 /// Whether the byte is a blank: a space or a tab.
 pub fn is_blank(byte: u8) -> bool
-    ensures { result ≡ is_blank_byte byte }
+    ensures { result ≡ spec.is_blank byte }
 {
     matches!(byte, b' ' | b'\t')
 }

@@ -12,12 +12,16 @@ pub const LONGEST_FILE: usize = 16_777_216;
 /// Why a file was not fetched.
 #[derive(Clone, Copy, Debug, PartialEq, Eq, Error)]
 pub enum FetchFault {
+    /// No file has this name.
     #[error("no such file")]
     Absent,
+    /// The file has more than `LONGEST_FILE` bytes.
     #[error("the file is longer than the limit")]
     TooLong,
+    /// It could not be read; the count of failures rose.
     #[error("the file could not be read")]
     Failed,
+    /// Want of memory.
     #[error("out of memory")]
     OutOfMemory,
 }
@@ -45,8 +49,10 @@ impl<T: Drop> From<AllocFailed<T>> for FetchFault {
 /// Why a file was not stored.
 #[derive(Clone, Copy, Debug, PartialEq, Eq, Error)]
 pub enum StoreFault {
+    /// It could not be written; the count of failures rose.
     #[error("the file could not be written")]
     Failed,
+    /// Want of memory.
     #[error("out of memory")]
     OutOfMemory,
 }

@@ -1,4 +1,5 @@
-//! Texts, lists of them and the bytes that part their words, and what a program reads from and writes to: sources, sinks and files, of the system and in memory.
+//! Texts, lists of them and the bytes that part their words, and what a program reads from and
+//! writes to: sources, sinks and files, of the system and in memory.
 #![tactic(auto)]
 
 mod blanks;

@@ -18,9 +18,9 @@ pub struct List<T> {
 pub type Texts = List<Text>;
 
 impl<T> Model for List<T> {
-    ghost use Rattle.std.specs.Prelude.{List as Listed};
+    ghost use Rattle.std.specs.Prelude as prelude;
 
-    ghost Value = { Listed T };
+    ghost Value = { prelude.List T };
 
     ghost view = { λ list. list.items.items };
 }

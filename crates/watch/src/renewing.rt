@@ -1,7 +1,7 @@
 //! Watches whose replies are asked for again.
 
 ghost use Rattle.std.specs.Prelude.{◌≡◌, ◌++◌, OnErr, OnOk, map};
-ghost use Rattle.deck.specs.Tables.{table as table_of};
+ghost use Rattle.deck.specs.Tables as tables;
 ghost use Rattle.live_table.specs.Shown.{IsRightTable};
 ghost use Rattle.reply.specs.Calls as call;
 ghost use Rattle.reply.specs.Options.{IsPrintable};
@@ -29,12 +29,12 @@ pub(crate) fn renew_all<L: Ledger>(
     requires printable { IsPrintable options.now }
     requires right { IsRightTable table.old }
     ensures told { OnOk result (told.new.items ≡ told.old.items
-        ++ told_from 1 (map (spec.change_of (table_of table.old.deck) options.now) watches.old.items)) }
+        ++ told_from 1 (map (spec.change_of (tables.table table.old.deck) options.now) watches.old.items)) }
     ensures renewed { OnOk result (watches.new.items
-        ≡ map (spec.renewed (table_of table.old.deck) options.now) watches.old.items) }
+        ≡ map (spec.renewed (tables.table table.old.deck) options.now) watches.old.items) }
     ensures partly { OnErr result
-        (IsPartlyRenewed (table_of table.old.deck) options.now watches.old.items watches.new.items) }
-    ensures queries { call.AreMade (spec.all_queries (table_of table.old.deck) options.now watches.old.items)
+        (IsPartlyRenewed (tables.table table.old.deck) options.now watches.old.items watches.new.items) }
+    ensures queries { call.AreMade (spec.all_queries (tables.table table.old.deck) options.now watches.old.items)
         result table.old table.new steps.old steps.new }
     ensures deck { table.new.deck ≡ table.old.deck }
 {
@@ -66,10 +66,11 @@ fn renew<L: Ledger>(
 ) -> Result<(), AllocError>
     requires { IsPrintable options.now }
     ensures told { OnOk result (told.new.items ≡ told.old.items
-        ++ told_of number (spec.change_of (table_of table.old.deck) options.now watch.old)) }
-    ensures renewed { OnOk result (watch.new ≡ spec.renewed (table_of table.old.deck) options.now watch.old) }
+        ++ told_of number (spec.change_of (tables.table table.old.deck) options.now watch.old)) }
+    ensures renewed { OnOk result (watch.new ≡ spec.renewed (tables.table table.old.deck) options.now watch.old) }
     ensures same { OnErr result (watch.new ≡ watch.old) }
-    ensures queries { call.AreMade (spec.queries_of (table_of table.old.deck) options.now (spec.subject_of watch.old))
+    ensures queries { call.AreMade
+        (spec.queries_of (tables.table table.old.deck) options.now (spec.subject_of watch.old))
         result table.old table.new steps.old steps.new }
     ensures deck { table.new.deck ≡ table.old.deck }
 {

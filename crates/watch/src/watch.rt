@@ -1,7 +1,7 @@
 //! A conversion that is watched.
 
 ghost use Rattle.std.specs.Prelude.{◌≡◌, IfOk};
-ghost use Rattle.deck.specs.Tables.{table as table_of};
+ghost use Rattle.deck.specs.Tables as tables;
 ghost use Rattle.reply.specs.Calls as call;
 ghost use Rattle.reply.specs.Options.{IsPrintable};
 ghost use Rattle.watch.specs.Watched as spec;
@@ -32,9 +32,9 @@ pub(crate) fn reply_bytes<L: Ledger>(
 ) -> Result<Text, AllocError>
     requires { IsPrintable options.now }
     ensures bytes { IfOk result (λ bytes.
-        bytes ≡ spec.reply_to (table_of table.old.deck) options.now (spec.subject from.now to.now)) }
+        bytes ≡ spec.reply_to (tables.table table.old.deck) options.now (spec.subject from.now to.now)) }
     ensures queries { call.AreMade
-        (spec.queries_of (table_of table.old.deck) options.now (spec.subject from.now to.now))
+        (spec.queries_of (tables.table table.old.deck) options.now (spec.subject from.now to.now))
         result table.old table.new steps.old steps.new }
     ensures deck { table.new.deck ≡ table.old.deck }
 {
@@ -53,9 +53,9 @@ pub(crate) fn watch_on<L: Ledger>(
 ) -> Result<Watch, AllocError>
     requires { IsPrintable options.now }
     ensures watch { IfOk result (λ watch.
-        watch ≡ spec.watch_on (table_of table.old.deck) options.now (spec.subject from.now to.now)) }
+        watch ≡ spec.watch_on (tables.table table.old.deck) options.now (spec.subject from.now to.now)) }
     ensures queries { call.AreMade
-        (spec.queries_of (table_of table.old.deck) options.now (spec.subject from.now to.now))
+        (spec.queries_of (tables.table table.old.deck) options.now (spec.subject from.now to.now))
         result table.old table.new steps.old steps.new }
     ensures deck { table.new.deck ≡ table.old.deck }
 {

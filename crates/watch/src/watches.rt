@@ -1,7 +1,7 @@
 //! The conversions that are watched.
 
 ghost use Rattle.std.specs.Prelude.{◌≡◌, ◌↔◌, ◌+◌, ◌++◌, ◌∷◌, ◌≤◌, [], IfOk, IsErrOf, OnErr, OnOk, length, map};
-ghost use Rattle.deck.specs.Tables.{table as table_of};
+ghost use Rattle.deck.specs.Tables as tables;
 ghost use Rattle.def_entry.specs.Tables.{Table};
 ghost use Rattle.reply.specs.Calls as call;
 ghost use Rattle.reply.specs.Options.{IsPrintable};
@@ -41,9 +41,9 @@ impl Drop for Watches {
 impl Model for Watches {
     ghost use Rattle.std.specs.Prelude.{◌≤◌, List, vec_len};
     ghost use Rattle.watch.specs.Watched.{most_watches};
-    ghost use Rattle.watch.specs.declared.watch.Watch.{Watch as Watched};
+    ghost use Rattle.watch.specs.declared.watch.Watch as watch_spec;
 
-    ghost Value = { List Watched };
+    ghost Value = { List watch_spec.Watch };
 
     ghost view = { λ watches. watches.items.items };
 
@@ -81,18 +81,18 @@ impl Watches {
         steps: &mut Steps<L>,
     ) -> Result<Text, WatchFault>
         requires { IsPrintable options.now }
-        ensures text { let table = table_of table.old.deck in IfOk result (λ text.
+        ensures text { let table = tables.table table.old.deck in IfOk result (λ text.
             text ≡ notice (length self.old + 1) (spec.reply_to table options.now (spec.subject from.now to.now))) }
         ensures added { OnOk result (self.new ≡ self.old
-            ++ spec.watch_on (table_of table.old.deck) options.now (spec.subject from.now to.now) ∷ []) }
+            ++ spec.watch_on (tables.table table.old.deck) options.now (spec.subject from.now to.now) ∷ []) }
         ensures kept { OnErr result (self.new ≡ self.old) }
         ensures full { IsErrOf result TooMany ↔ (length self.old ≡ spec.most_watches) }
         ensures few { length self.new ≤ spec.most_watches }
         ensures queries { calls.IsAsked
-            (spec.queries_of (table_of table.old.deck) options.now (spec.subject from.now to.now))
+            (spec.queries_of (tables.table table.old.deck) options.now (spec.subject from.now to.now))
             result table.old table.new steps.old steps.new }
         ensures deck { table.new.deck ≡ table.old.deck }
-        ensures current { let table = table_of table.old.deck in
+        ensures current { let table = tables.table table.old.deck in
             spec.AreCurrent table options.now self.old → spec.AreCurrent table options.now self.new }
     {
         let count = self.items.len();
@@ -119,15 +119,15 @@ impl Watches {
     ) -> Result<Text, AllocError>
         requires { IsPrintable options.now }
         ensures told { IfOk result (λ text.
-            text ≡ told (map (spec.change_of (table_of table.old.deck) options.now) self.old)) }
+            text ≡ told (map (spec.change_of (tables.table table.old.deck) options.now) self.old)) }
         ensures edit { (before : Table) → spec.AreCurrent before options.now self.old → IfOk result (λ text. text
-            ≡ told_by_edit before (table_of table.old.deck) options.now (map spec.subject_of self.old)) }
+            ≡ told_by_edit before (tables.table table.old.deck) options.now (map spec.subject_of self.old)) }
         ensures renewed { OnOk result (self.new
-            ≡ map (spec.renewed (table_of table.old.deck) options.now) self.old) }
-        ensures current { OnOk result (spec.AreCurrent (table_of table.old.deck) options.now self.new) }
+            ≡ map (spec.renewed (tables.table table.old.deck) options.now) self.old) }
+        ensures current { OnOk result (spec.AreCurrent (tables.table table.old.deck) options.now self.new) }
         ensures partly { OnErr result
-            (calls.IsPartlyRenewed (table_of table.old.deck) options.now self.old self.new) }
-        ensures queries { call.AreMade (spec.all_queries (table_of table.old.deck) options.now self.old) result
+            (calls.IsPartlyRenewed (tables.table table.old.deck) options.now self.old self.new) }
+        ensures queries { call.AreMade (spec.all_queries (tables.table table.old.deck) options.now self.old) result
             table.old table.new steps.old steps.new }
         ensures deck { table.new.deck ≡ table.old.deck }
     {

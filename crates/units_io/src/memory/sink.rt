@@ -1,5 +1,6 @@
 //! Memory as a sink.
-ghost use Rattle.std.specs.Prelude.{◌≡◌, ◌≤◌, ◌<◌, ◌-◌, ◌++◌, ◌↔◌, ◌⊎◌, [], length, take, min, IfOk, OnErr, IsErr, MatchResult, Some, Contains};
+ghost use Rattle.std.specs.Prelude.{◌≡◌, ◌≤◌, ◌<◌, ◌-◌, ◌++◌, ◌↔◌, ◌⊎◌, [], length, take, min, IfOk, OnErr, IsErr};
+ghost use Rattle.std.specs.Prelude.{MatchResult, Some, Contains};
 ghost use Rattle.units_io.specs.Faults.{HasCause, next};
 
 use crate::sink::Sink;

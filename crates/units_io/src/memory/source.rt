@@ -1,5 +1,6 @@
 //! Bytes in memory as a source.
-ghost use Rattle.std.specs.Prelude.{◌≡◌, ◌≤◌, ◌<◌, ◌+◌, ◌-◌, ◌^◌, ◌++◌, ◌↔◌, [], length, take, min, IfOk, OnErr, IsErr, MatchResult, Some, Contains};
+ghost use Rattle.std.specs.Prelude.{◌≡◌, ◌≤◌, ◌<◌, ◌+◌, ◌-◌, ◌^◌, ◌++◌, ◌↔◌, [], length, take, min, IfOk, OnErr, IsErr};
+ghost use Rattle.std.specs.Prelude.{MatchResult, Some, Contains};
 ghost use Rattle.units_io.specs.Faults.{HasCause, next};
 
 use crate::source::{Failed, Source};

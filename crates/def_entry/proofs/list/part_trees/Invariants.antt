@@ -6,7 +6,8 @@ use Rattle.def_entry.proofs.Parts.{joined}
 use Rattle.def_entry.proofs.list.part_trees.Given as goal
 
 abbrev pub invariant-loop-part : goal.invariant-loop-part
-invariant-loop-part l = joined (trees_of l.trees) (trees_in (slice_split is_semicolon l.rest)) ≡ trees_in (slice_split is_semicolon l.text)
+invariant-loop-part l = joined (trees_of l.trees) (trees_in (slice_split is_semicolon l.rest))
+    ≡ trees_in (slice_split is_semicolon l.text)
 
 abbrev pub decreases-loop-part : goal.decreases-loop-part
 decreases-loop-part l = length l.rest

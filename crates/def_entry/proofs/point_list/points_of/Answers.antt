@@ -14,22 +14,27 @@ pub loop-part-init : goal.loop-part-init
 loop-part-init c =
     record {
       same =
-          points-init c.new-points.result.items c.args.text.now c.trim_front.result.now c.behind_no_error-rest.result.now c.new-points.ensures.items c.trim_front.ensures
+          points-init c.new-points.result.items c.args.text.now c.trim_front.result.now
+          c.behind_no_error-rest.result.now c.new-points.ensures.items c.trim_front.ensures
           c.behind_no_error-rest.ensures;
       few = omega (arith, ap length c.new-points.ensures.items);
     }
 
 pub loop-part-smaller : goal.loop-part-smaller
 loop-part-smaller c =
-    shorter 44 c.loop-part.rest.now c.in-Some.part.now c.in-Some.behind.now (sym c.cut_at.ensures ∙ ap (option_map seen_pair) c.in-Some.is)
+    shorter 44 c.loop-part.rest.now c.in-Some.part.now c.in-Some.behind.now
+    (sym c.cut_at.ensures ∙ ap (option_map seen_pair) c.in-Some.is)
 
 pub loop-part-preserved : goal.loop-part-preserved
 loop-part-preserved c =
-    let more : Few (onto c.loop-part.points.items (some_pairs (words_of c.in-Some.part.now))) c.push_some_pairs.new.points.items =
-    few-is (onto c.loop-part.points.items (some_pairs (words_of c.in-Some.part.now))) c.push_some_pairs.new.points.items (c.in_ok-push_some_pairs.ensures {u = tt}) in
+    let more : Few (onto c.loop-part.points.items (some_pairs (words_of c.in-Some.part.now)))
+    c.push_some_pairs.new.points.items =
+    few-is (onto c.loop-part.points.items (some_pairs (words_of c.in-Some.part.now))) c.push_some_pairs.new.points.items
+    (c.in_ok-push_some_pairs.ensures {u = tt}) in
     record {
       same =
-          points-more c.loop-part.points.items c.push_some_pairs.new.points.items c.loop-part.rest.now c.in-Some.part.now c.in-Some.behind.now
+          points-more c.loop-part.points.items c.push_some_pairs.new.points.items c.loop-part.rest.now
+          c.in-Some.part.now c.in-Some.behind.now
           (sym c.cut_at.ensures ∙ ap (option_map seen_pair) c.in-Some.is) more.is
           ∙ c.loop-part.invariant.same;
       few = more.within;
@@ -37,23 +42,30 @@ loop-part-preserved c =
 
 pub returns-in_err-push_some_pairs : goal.returns-in_err-push_some_pairs
 returns-in_err-push_some_pairs c =
-    let fault = fault_of c.in_err-push_some_pairs.field-0.0 (or_fault BadTable (few (onto c.loop-part.points.items (some_pairs (words_of c.in-Some.part.now))))) (or_fault BadTable (few (points_of c.args.text.now)))
+    let fault = fault_of c.in_err-push_some_pairs.field-0.0
+    (or_fault BadTable (few (onto c.loop-part.points.items (some_pairs (words_of c.in-Some.part.now)))))
+    (or_fault BadTable (few (points_of c.args.text.now)))
     (λ said. ap (λ found. or_fault BadTable (few found)) (sym c.loop-part.invariant.same)
-    ∙ points-fault c.loop-part.points.items c.loop-part.rest.now c.in-Some.part.now c.in-Some.behind.now c.in_err-push_some_pairs.field-0.0
+    ∙ points-fault c.loop-part.points.items c.loop-part.rest.now c.in-Some.part.now c.in-Some.behind.now
+    c.in_err-push_some_pairs.field-0.0
     (sym c.cut_at.ensures ∙ ap (option_map seen_pair) c.in-Some.is) said)
     (c.in_err-push_some_pairs.ensures {u = tt}) in
     search rules
 
 pub returns-in_err-push_pairs : goal.returns-in_err-push_pairs
 returns-in_err-push_pairs c =
-    let fault = fault_of c.in_err-push_pairs.field-0.0 (or_fault BadTable (few (onto c.loop-part.points.items (pairs_of (words_of c.loop-part.rest.now))))) (or_fault BadTable (few (points_of c.args.text.now)))
+    let fault = fault_of c.in_err-push_pairs.field-0.0
+    (or_fault BadTable (few (onto c.loop-part.points.items (pairs_of (words_of c.loop-part.rest.now)))))
+    (or_fault BadTable (few (points_of c.args.text.now)))
     (λ said. ap (λ found. or_fault BadTable (few found)) (sym c.loop-part.invariant.same)
-    ∙ points-last c.loop-part.points.items c.loop-part.rest.now (sym c.cut_at.ensures ∙ ap (option_map seen_pair) c.in_default.is) ∙ said)
+    ∙ points-last c.loop-part.points.items c.loop-part.rest.now
+    (sym c.cut_at.ensures ∙ ap (option_map seen_pair) c.in_default.is) ∙ said)
     (c.in_err-push_pairs.ensures {u = tt}) in
     search rules
 
 pub returns : goal.returns
 returns c =
     ap (λ found. or_fault BadTable (few found)) (sym c.loop-part.invariant.same)
-    ∙ points-last c.loop-part.points.items c.loop-part.rest.now (sym c.cut_at.ensures ∙ ap (option_map seen_pair) c.in_default.is)
+    ∙ points-last c.loop-part.points.items c.loop-part.rest.now
+    (sym c.cut_at.ensures ∙ ap (option_map seen_pair) c.in_default.is)
     ∙ c.in_ok-push_pairs.ensures {u = tt}

@@ -7,7 +7,8 @@ use Rattle.def_entry.proofs.point_list.push_pairs.Given as goal
 abbrev pub invariant-loop-rest : goal.invariant-loop-rest
 invariant-loop-rest l = record {
   begun : is_begun l.rest ≡ true;
-  same : option_map (λ pairs. l.points.items ++ pairs) (pairs_of (words_of l.rest)) ≡ option_map (λ pairs. l.fn.points.items ++ pairs) (pairs_of (words_of l.text));
+  same : option_map (λ pairs. l.points.items ++ pairs) (pairs_of (words_of l.rest))
+      ≡ option_map (λ pairs. l.fn.points.items ++ pairs) (pairs_of (words_of l.text));
   few : length l.points.items ≤ most_points;
 }
 

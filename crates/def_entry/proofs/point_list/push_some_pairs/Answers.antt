@@ -7,9 +7,13 @@ use Rattle.def_entry.proofs.point_list.push_some_pairs.Goals as goal
 
 pub returns-then-is_empty : goal.returns-then-is_empty
 returns-then-is_empty c =
-    inr (ap (λ found. or_fault BadTable (few found)) (some_pairs-none c.args.points.now.items c.args.text.now c.trim_front.result.now c.trim_front.ensures (sym c.is_empty.ensures ∙ c.if-is_empty.true)))
+    inr (ap (λ found. or_fault BadTable (few found))
+    (some_pairs-none c.args.points.now.items c.args.text.now c.trim_front.result.now c.trim_front.ensures
+    (sym c.is_empty.ensures ∙ c.if-is_empty.true)))
 
 pub returns : goal.returns
 returns c =
-    subst (λ pairs. Gives (λ done. c.push_pairs.new.points.items) c.push_pairs.result (or_fault BadTable (few (onto c.args.points.now.items pairs))))
-    (sym (some_pairs-some c.args.text.now c.trim_front.result.now c.trim_front.ensures (sym c.is_empty.ensures ∙ c.if-is_empty.false))) c.push_pairs.ensures
+    subst (λ pairs. Gives (λ done. c.push_pairs.new.points.items) c.push_pairs.result
+    (or_fault BadTable (few (onto c.args.points.now.items pairs))))
+    (sym (some_pairs-some c.args.text.now c.trim_front.result.now c.trim_front.ensures
+    (sym c.is_empty.ensures ∙ c.if-is_empty.false))) c.push_pairs.ensures

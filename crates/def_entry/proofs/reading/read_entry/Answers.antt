@@ -14,8 +14,10 @@ use Rattle.def_entry.proofs.WrittenEntries.{entries}
 use Rattle.def_entry.proofs.reading.read_entry.Goals as goal
 
 -- what is computed is what is written
-as_written : (line : List ℕ) (r : Result (Key × MadeWhat) EntryFault) → has_entry (kind_of line) ≡ true → Gives (seen_entry line) r (entry_of line)
-    → MatchResult r (λ made. IsEntry line made.0 (said_by line made.1)) (λ fault. (fault ≡ OutOfMemory) ⊎ HasFault line fault)
+as_written : (line : List ℕ) (r : Result (Key × MadeWhat) EntryFault) → has_entry (kind_of line) ≡ true
+    → Gives (seen_entry line) r (entry_of line)
+    → MatchResult r (λ made. IsEntry line made.0 (said_by line made.1))
+    (λ fault. (fault ≡ OutOfMemory) ⊎ HasFault line fault)
 as_written line (Ok made) entry given = ((entries line entry).0 made.0 (said_by line made.1)).0 given
 as_written line (Err fault) entry (inl memory) = inl memory
 as_written line (Err fault) entry (inr said) = inr (((entries line entry).1 fault).0 said)
@@ -23,5 +25,6 @@ as_written line (Err fault) entry (inr said) = inr (((entries line entry).1 faul
 pub returns : goal.returns
 returns c =
     let given : Gives (seen_entry c.args.line.now) c.entry_behind.result (entry_of c.args.line.now) =
-    subst (λ (h : Heading). Gives (λ made. (made.0, record { text = h.text; what = what_view made.1 })) c.entry_behind.result (entry_by h)) c.heading_in.ensures c.entry_behind.ensures in
+    subst (λ (h : Heading). Gives (λ made. (made.0, record { text = h.text; what = what_view made.1 }))
+    c.entry_behind.result (entry_by h)) c.heading_in.ensures c.entry_behind.ensures in
     record { exact = as_written c.args.line.now c.entry_behind.result c.requires given; computed = given }

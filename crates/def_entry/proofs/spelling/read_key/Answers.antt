@@ -7,7 +7,8 @@ use Rattle.def_entry.proofs.spelling.read_key.Goals as goal
 pub returns-in_default : goal.returns-in_default
 returns-in_default c =
     let none : key_of c.args.bytes.now ≡ None =
-    read_key-none c.args.bytes.now (λ w h e. c.in_default.ensures w (ap (λ k. written k w) c.shown_kind-kind.ensures ∙ e)) in
+    read_key-none c.args.bytes.now
+    (λ w h e. c.in_default.ensures w (ap (λ k. written k w) c.shown_kind-kind.ensures ∙ e)) in
     record { exact = inr (refl, no_key c.args.bytes.now none); computed = inr (refl, none) }
 
 pub returns-then-not-is_name : goal.returns-then-not-is_name
@@ -27,5 +28,6 @@ returns c =
     let text = ap (written c.shown_kind-kind.result) c.in_ok-name.ensures ∙ c.in-Some.ensures in
     record {
       exact = (named, text);
-      computed = read_key-some c.args.bytes.now (record { kind = c.shown_kind-kind.result; name = c.in_ok-name.name }) named text;
+      computed = read_key-some c.args.bytes.now (record { kind = c.shown_kind-kind.result; name = c.in_ok-name.name })
+          named text;
     }

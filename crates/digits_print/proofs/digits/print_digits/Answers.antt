@@ -4,4 +4,6 @@ use Rattle.digits_print.proofs.digits.print_digits.Goals as goal
 
 pub returns-clause-nearest : goal.returns-clause-nearest
 returns-clause-nearest c =
-    IfOk-weaker _ _ _ (λ text is. nearest_text c.nearest_law.ensures c.args.x.now c.args.digits text c.den.ensures.kept c.requires.some is) c.rounded_text.ensures
+    IfOk-weaker _ _ _
+    (λ text is. nearest_text c.nearest_law.ensures c.args.x.now c.args.digits text c.den.ensures.kept
+    c.requires.some is) c.rounded_text.ensures

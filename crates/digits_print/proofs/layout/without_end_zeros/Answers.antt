@@ -1,6 +1,7 @@
 use Rattle.std.proofs.Common.{arith}
 use Rattle.digits_print.proofs.EndZeros.{cut_end, cut_more}
-use Rattle.digits_print.proofs.layout.without_end_zeros.Goals.{then-loop-end-test+else-digits-end-eq48, else-loop-end-test}
+use Rattle.digits_print.proofs.layout.without_end_zeros.Goals.{then-loop-end-test+else-digits-end-eq48}
+use Rattle.digits_print.proofs.layout.without_end_zeros.Goals.{else-loop-end-test}
 use Rattle.digits_print.proofs.layout.without_end_zeros.Goals as goal
 
 pub loop-end-preserved : goal.loop-end-preserved

@@ -11,7 +11,8 @@ pub nonzero_div-whole-in-loop-unit : goal.nonzero_div-whole-in-loop-unit
 nonzero_div-whole-in-loop-unit c = unit_some _ _ _ _ c.loop-unit.invariant
 
 pub overflow_mul-unit : goal.overflow_mul-unit
-overflow_mul-unit c = let room = shortened_room _ _ _ _ c.requires.some c.loop-unit.invariant (omega arith) in omega arith
+overflow_mul-unit c = let room = shortened_room _ _ _ _ c.requires.some c.loop-unit.invariant (omega arith)
+    in omega arith
 
 pub overflow_add-places : goal.overflow_add-places
 overflow_add-places c = let few = few_cut _ _ _ _ (omega arith) c.loop-unit.invariant in omega arith
@@ -43,6 +44,11 @@ returns-clause-value c =
     let scale = to_z_pos w32 c.loop-unit.places (omega arith) in
     let number = c.args.top / c.args.bottom / c.loop-unit.unit in
     c.rounded.ensures.value
-    ∙ ap (λ cut. carried c.args.digits (by_half number cut) (to_z w32 c.loop-unit.places)) c.compared_with_half-cut.ensures
-    ∙ ap (λ s. carried c.args.digits (by_half number (nat_cmp (2 * (c.args.top / c.args.bottom % c.loop-unit.unit * c.args.bottom + c.args.top % c.args.bottom)) (c.args.bottom * c.loop-unit.unit))) s) scale
-    ∙ shortened_end c.args.digits c.args.top c.args.bottom c.loop-unit.unit c.loop-unit.places c.requires.some c.requires.bottom c.loop-unit.invariant (omega arith)
+    ∙ ap (λ cut. carried c.args.digits (by_half number cut) (to_z w32 c.loop-unit.places))
+    c.compared_with_half-cut.ensures
+    ∙ ap (λ s. carried c.args.digits
+    (by_half number (nat_cmp
+    (2 * (c.args.top / c.args.bottom % c.loop-unit.unit * c.args.bottom + c.args.top % c.args.bottom))
+    (c.args.bottom * c.loop-unit.unit))) s) scale
+    ∙ shortened_end c.args.digits c.args.top c.args.bottom c.loop-unit.unit c.loop-unit.places c.requires.some
+    c.requires.bottom c.loop-unit.invariant (omega arith)

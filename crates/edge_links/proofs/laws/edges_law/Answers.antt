@@ -12,7 +12,8 @@ same_reach : (es ds : List Edge) → SameEdges es ds → {x y : ℕ} → Reaches
 same_reach es ds s (at_once h) = at_once (same_edge es ds s _ _ h)
 same_reach es ds s (further h r) = further (same_edge es ds s _ _ h) (same_reach es ds s r)
 
-put_edge : (user key : ℕ) (es : List Edge) (x y : ℕ) → HasEdge (edge user key ∷ es) x y ↔ (((user ≡ x) × (key ≡ y)) ⊎ HasEdge es x y)
+put_edge : (user key : ℕ) (es : List Edge) (x y : ℕ)
+    → HasEdge (edge user key ∷ es) x y ↔ (((user ≡ x) × (key ≡ y)) ⊎ HasEdge es x y)
 put_edge user key es x y = (
   λ h. elim (cases_eq (edge_count (edge user key ∷ []) x y) 0) [
     | inl z ↦ inr (rest _ _ _ (count_append (edge user key ∷ []) es x y) z h)

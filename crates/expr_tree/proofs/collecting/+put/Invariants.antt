@@ -5,12 +5,15 @@ use Rattle.expr_tree.proofs.collecting.+put.Given as goal
 
 abbrev pub invariant-put_members-loop-tree : goal.invariant-put_members-loop-tree
 invariant-put_members-loop-tree l =
-    l.words ++ words_in_members (members (map syntax (drop l.tree-index l.tree-items))) ≡ l.initial.words ++ words_in_members (members (map syntax l.tree-items))
+    l.words ++ words_in_members (members (map syntax (drop l.tree-index l.tree-items)))
+    ≡ l.initial.words ++ words_in_members (members (map syntax l.tree-items))
 
 abbrev pub invariant-put_factors-loop-member : goal.invariant-put_factors-loop-member
 invariant-put_factors-loop-member l =
-    l.words ++ words_in_factors (factors (map factor (drop l.member-index l.member-items))) ≡ l.initial.words ++ words_in_factors (factors (map factor l.member-items))
+    l.words ++ words_in_factors (factors (map factor (drop l.member-index l.member-items)))
+    ≡ l.initial.words ++ words_in_factors (factors (map factor l.member-items))
 
 abbrev pub invariant-put_terms-loop-member : goal.invariant-put_terms-loop-member
 invariant-put_terms-loop-member l =
-    l.words ++ words_in_terms (terms (map term (drop l.member-index l.member-items))) ≡ l.initial.words ++ words_in_terms (terms (map term l.member-items))
+    l.words ++ words_in_terms (terms (map term (drop l.member-index l.member-items)))
+    ≡ l.initial.words ++ words_in_terms (terms (map term l.member-items))

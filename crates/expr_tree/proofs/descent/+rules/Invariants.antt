@@ -36,7 +36,8 @@ decreases-closed_sum_at l = 8 * (length l.tokens.now - l.at) + 7
 
 abbrev pub invariant-sum_at-loop-sign : goal.invariant-sum_at-loop-sign
 invariant-sum_at-loop-sign l = record {
-  read : TermsRead (option_copied l.binder) l.opened (tokens_from l.tokens l.at) (tokens_from l.tokens l.next) (terms_of l.terms);
+  read : TermsRead (option_copied l.binder) l.opened (tokens_from l.tokens l.at) (tokens_from l.tokens l.next)
+      (terms_of l.terms);
   moved : l.at < l.next;
   within : l.next ≤ length l.tokens;
 }
@@ -46,7 +47,8 @@ decreases-sum_at-loop-sign l = length l.tokens - l.next
 
 abbrev pub invariant-product_at-loop-scale : goal.invariant-product_at-loop-scale
 invariant-product_at-loop-scale l = record {
-  read : FactorsRead (option_copied l.binder) l.opened (tokens_from l.tokens l.at) (tokens_from l.tokens l.next) (factors_of l.factors);
+  read : FactorsRead (option_copied l.binder) l.opened (tokens_from l.tokens l.at) (tokens_from l.tokens l.next)
+      (factors_of l.factors);
   moved : l.at < l.next;
   within : l.next ≤ length l.tokens;
 }
@@ -56,7 +58,8 @@ decreases-product_at-loop-scale l = length l.tokens - l.next
 
 abbrev pub invariant-powers_at-loop-alloc : goal.invariant-powers_at-loop-alloc
 invariant-powers_at-loop-alloc l = record {
-  read : MembersRead (option_copied l.binder) l.opened (tokens_from l.tokens l.at) (tokens_from l.tokens l.next) (trees_of l.members);
+  read : MembersRead (option_copied l.binder) l.opened (tokens_from l.tokens l.at) (tokens_from l.tokens l.next)
+      (trees_of l.members);
   moved : l.at < l.next;
   within : l.next ≤ length l.tokens;
 }

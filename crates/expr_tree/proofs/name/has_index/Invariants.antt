@@ -5,4 +5,5 @@ use Rattle.expr_tree.proofs.name.has_index.Given as goal
 
 abbrev pub invariant-loop-byte : goal.invariant-loop-byte
 invariant-loop-byte l =
-    ((l.in_index && list_all is_index_byte (drop l.byte-index l.bytes)) || has_index (drop l.byte-index l.bytes)) ≡ has_index l.bytes
+    ((l.in_index && list_all is_index_byte (drop l.byte-index l.bytes)) || has_index (drop l.byte-index l.bytes))
+    ≡ has_index l.bytes

@@ -1,4 +1,5 @@
-use Rattle.std.proofs.Common.{◌≡◌, ◌⊎◌, inl, inr, MatchResult, IsErrAnd, Result, Ok, Err, Option, Some, List, ℕ, ap, sym, ◌∙◌, map}
+use Rattle.std.proofs.Common.{◌≡◌, ◌⊎◌, inl, inr, MatchResult, IsErrAnd, Result, Ok, Err, Option, Some, List, ℕ, ap}
+use Rattle.std.proofs.Common.{sym, ◌∙◌, map}
 use Rattle.std.specs.Option.{option_copied}
 use Rattle.expr_tree.specs.declared.fault.ParseFault.{ParseFault}
 use Rattle.expr_tree.specs.declared.fault.ParseFault.TheVariants.{OutOfMemory}
@@ -23,24 +24,33 @@ handed_on IsTree text x (Err y) same (inr first) = inr (first ∙ ap Some (sym s
 
 -- the same fault as a computed one
 computed : (binder : Option (List ℕ)) (text : List ℕ) (r : Result Tree ParseFault)
-    → MatchResult r (λ tree. parsed binder text ≡ Ok (syntax tree)) (λ fault. (fault ≡ OutOfMemory) ⊎ (first_fault text ≡ Some fault))
-    → MatchResult r (λ tree. parsed binder text ≡ Ok (syntax tree)) (λ fault. (fault ≡ OutOfMemory) ⊎ (parsed binder text ≡ Err fault))
+    → MatchResult r (λ tree. parsed binder text ≡ Ok (syntax tree))
+    (λ fault. (fault ≡ OutOfMemory) ⊎ (first_fault text ≡ Some fault))
+    → MatchResult r (λ tree. parsed binder text ≡ Ok (syntax tree))
+    (λ fault. (fault ≡ OutOfMemory) ⊎ (parsed binder text ≡ Err fault))
 computed binder text (Ok tree) is = is
 computed binder text (Err x) (inl none) = inl none
 computed binder text (Err x) (inr first) = inr (refused_by binder text x first)
 
 pub returns-in_err-tokens : goal.returns-in_err-tokens
 returns-in_err-tokens c = record {
-  exact = handed_on _ c.args.text.now c.in_err-tokens.field-0.0 c.from_residual.result c.from_residual.ensures.1 c.in_err-tokens.ensures.fault;
+  exact = handed_on _ c.args.text.now c.in_err-tokens.field-0.0 c.from_residual.result c.from_residual.ensures.1
+      c.in_err-tokens.ensures.fault;
   computed = computed (option_copied c.args.binder) c.args.text.now c.from_residual.result
-      (handed_on _ c.args.text.now c.in_err-tokens.field-0.0 c.from_residual.result c.from_residual.ensures.1 c.in_err-tokens.ensures.fault);
+      (handed_on _ c.args.text.now c.in_err-tokens.field-0.0 c.from_residual.result c.from_residual.ensures.1
+      c.in_err-tokens.ensures.fault);
 }
 
 pub returns : goal.returns
 returns c =
-    let made : tree_of (option_copied c.args.binder) (tokens c.args.text.now) ≡ Some (syntax c.in_ok-tree_of_tokens.field-0) =
-    (ap (tree_of (option_copied c.args.binder)) (sym (ap (map seen) c.deref.ensures.value ∙ c.in_ok-tokens.ensures.tokens)) ∙ c.in_ok-tree_of_tokens.ensures) in
+    let made : tree_of (option_copied c.args.binder) (tokens c.args.text.now)
+    ≡ Some (syntax c.in_ok-tree_of_tokens.field-0) =
+    (ap (tree_of (option_copied c.args.binder))
+    (sym (ap (map seen) c.deref.ensures.value ∙ c.in_ok-tokens.ensures.tokens)) ∙ c.in_ok-tree_of_tokens.ensures) in
     record {
-      exact = (c.in_ok-tokens.ensures.faultless, (tree_of_law (option_copied c.args.binder) (tokens c.args.text.now) _).0 made);
+      exact = (
+        c.in_ok-tokens.ensures.faultless,
+        (tree_of_law (option_copied c.args.binder) (tokens c.args.text.now) _).0 made,
+      );
       computed = parsed_to (option_copied c.args.binder) c.args.text.now _ c.in_ok-tokens.ensures.faultless made;
     }

@@ -13,4 +13,5 @@ pub narrow_odd_gcd-requires-clause-odd_b : goal.narrow_odd_gcd-requires-clause-o
 narrow_odd_gcd-requires-clause-odd_b c = (odd_part w64 _ c.requires (search rules)).odd
 
 pub returns : goal.returns
-returns c = odd_parts w64 _ _ _ _ (omega (arith, c.if-a-eq0.false)) c.requires (search rules) (search rules) c.min.ensures c.narrow_odd_gcd.ensures
+returns c = odd_parts w64 _ _ _ _ (omega (arith, c.if-a-eq0.false)) c.requires (search rules)
+    (search rules) c.min.ensures c.narrow_odd_gcd.ensures

@@ -13,4 +13,5 @@ pub wide_odd_gcd-requires-clause-odd_b : goal.wide_odd_gcd-requires-clause-odd_b
 wide_odd_gcd-requires-clause-odd_b c = (odd_part w128 _ c.requires (search rules)).odd
 
 pub returns : goal.returns
-returns c = odd_parts w128 _ _ _ _ (omega (arith, c.if-a-eq0.false)) c.requires (search rules) (search rules) c.min.ensures c.wide_odd_gcd.ensures
+returns c = odd_parts w128 _ _ _ _ (omega (arith, c.if-a-eq0.false)) c.requires (search rules)
+    (search rules) c.min.ensures c.wide_odd_gcd.ensures

@@ -1,4 +1,5 @@
-use Rattle.std.proofs.Common.{true, false, ap, subst, sym, ◌∙◌, neg_ℤ, ◌+ℤ◌, ◌*ℤ◌, ◌<ℤ◌, ◌≡◌, ◌+◌, ◌*◌, ◌/◌, ◌<◌, ◌≤◌, ℕ, ℤ, pos, negsuc}
+use Rattle.std.proofs.Common.{true, false, ap, subst, sym, ◌∙◌, neg_ℤ, ◌+ℤ◌, ◌*ℤ◌, ◌<ℤ◌, ◌≡◌, ◌+◌, ◌*◌, ◌/◌, ◌<◌, ◌≤◌}
+use Rattle.std.proofs.Common.{ℕ, ℤ, pos, negsuc}
 use Rattle.std.proofs.Common.{arith}
 use Rattle.std.proofs.lemmas.Int.{ints}
 use Rattle.std.proofs.Math.Nat.{mul_comm}
@@ -25,7 +26,8 @@ floor_law x some = by_sign x.num x.den some
     by_sign (negsuc a) d some =
         let low = at_most a d some in
         let high = next_above a d some in
-        let next : (negsuc (a / d) +ℤ pos 1) *ℤ pos d ≡ neg_ℤ (pos (a / d * d)) = ap (λ z. z *ℤ pos d) (one_more (a / d)) ∙ mul-signed true false (a / d) d in
+        let next : (negsuc (a / d) +ℤ pos 1) *ℤ pos d ≡ neg_ℤ (pos (a / d * d)) =
+        ap (λ z. z *ℤ pos d) (one_more (a / d)) ∙ mul-signed true false (a / d) d in
         record { below = omega (arith, ints); above = subst (λ z. negsuc a <ℤ z) (sym next) (omega (arith, ints)) }
       where
         one_more : (q : ℕ) → negsuc q +ℤ pos 1 ≡ neg_ℤ (pos q)

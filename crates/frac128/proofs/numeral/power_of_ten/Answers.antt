@@ -12,7 +12,9 @@ pub pow-requires : goal.pow-requires
 pow-requires c = let low = below c.args.power c.if-power-le38.true in omega arith
 
 pub overflow_cast-result : goal.overflow_cast-result
-overflow_cast-result c = let low = below c.args.power c.if-power-le38.true in fits_signed_from_abs w128 (pos c.pow.result) (omega (arith, c.pow.ensures))
+overflow_cast-result c = let low =
+    below c.args.power c.if-power-le38.true
+    in fits_signed_from_abs w128 (pos c.pow.result) (omega (arith, c.pow.ensures))
 
 pub returns-then-power-le38 : goal.returns-then-power-le38
 returns-then-power-le38 c =

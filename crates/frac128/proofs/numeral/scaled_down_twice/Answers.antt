@@ -20,5 +20,7 @@ pub returns : goal.returns
 returns c =
     let n_is = to_z_pos w128 c.args.n (omega (arith, c.requires.fits)) in
     let fits : SFits w128 c.in-Some.divisor = search rules in
-    let divisor : c.whole.result ≡ whole (pos (10 ^ c.args.power)) = (simp to_z-of_z at c.whole.ensures) ∙ ap whole c.in-Some.ensures.1 in
-    c.div.ensures ∙ ap (over c.in_ok-new.field-0) divisor ∙ down_ok c.args.n c.args.power c.in_ok-new.field-0 (rw n_is at c.in_ok-new.ensures)
+    let divisor : c.whole.result ≡ whole (pos (10 ^ c.args.power)) = (simp to_z-of_z at c.whole.ensures)
+    ∙ ap whole c.in-Some.ensures.1 in
+    c.div.ensures ∙ ap (over c.in_ok-new.field-0) divisor
+    ∙ down_ok c.args.n c.args.power c.in_ok-new.field-0 (rw n_is at c.in_ok-new.ensures)

@@ -13,7 +13,8 @@ returns-then-left-right c =
 pub returns-then-left_rest-eq0 : goal.returns-then-left_rest-eq0
 returns-then-left_rest-eq0 c =
     let is = c.loop-left.invariant in
-    let none : (c.loop-left.a % c.loop-left.b ≡ 0) ⊎ (c.loop-left.c % c.loop-left.d ≡ 0) = elim c.then-left_rest-eq0.branch [
+    let none : (c.loop-left.a % c.loop-left.b ≡ 0) ⊎ (c.loop-left.c % c.loop-left.d ≡ 0) =
+    elim c.then-left_rest-eq0.branch [
       | then-left_rest-eq0-via-then-left_rest-eq0 w ↦ inl w.if-left_rest-eq0.true
       | then-left_rest-eq0-via-else-left_rest-eq0+then-right_rest-eq0 w ↦ inr w.if-right_rest-eq0.true
     ] in
@@ -26,6 +27,9 @@ loop-left-preserved c =
     record {
       some_b = omega arith;
       some_d = omega arith;
-      alike = rw (mul_comm c.loop-left.d (c.loop-left.a % c.loop-left.b), mul_comm c.loop-left.b (c.loop-left.c % c.loop-left.d))
+      alike = rw (
+        mul_comm c.loop-left.d (c.loop-left.a % c.loop-left.b),
+        mul_comm c.loop-left.b (c.loop-left.c % c.loop-left.d),
+      )
           (sym (quotient_same _ _ _ _ is.some_b is.some_d c.if-left-right.false) ∙ is.alike);
     }

@@ -1,4 +1,5 @@
-use Rattle.std.proofs.Common.{ℕ, ℤ, Bool, true, false, ◌<◌, ◌^◌, to_z, of_z, arith, ◌≡◌, ◌≤◌, ◌+ℤ◌, ◌-ℤ◌, Ok, pos, rules, ap, ◌∙◌}
+use Rattle.std.proofs.Common.{ℕ, ℤ, Bool, true, false, ◌<◌, ◌^◌, to_z, of_z, arith, ◌≡◌, ◌≤◌, ◌+ℤ◌, ◌-ℤ◌, Ok, pos}
+use Rattle.std.proofs.Common.{rules, ap, ◌∙◌}
 use mir.Syntax.{w128}
 use Rattle.std.proofs.lemmas.Int.{ints}
 use Rattle.std.specs.Int.RustNames.{unsigned_abs}
@@ -22,7 +23,8 @@ returns-in_default-exponent c =
 pub returns-then-coefficient-eq0 : goal.returns-then-coefficient-eq0
 returns-then-coefficient-eq0 c =
     let split = split_by _ _ _ _ c.mark_place.ensures c.split_at.ensures.front c.split_at.ensures.back c.requires in
-    ap Ok c.new.ensures ∙ read_zero _ _ _ _ _ split c.in-Some.ensures c.in-Some-exponent.ensures.0 c.if-coefficient-eq0.true
+    ap Ok c.new.ensures
+    ∙ read_zero _ _ _ _ _ split c.in-Some.ensures c.in-Some-exponent.ensures.0 c.if-coefficient-eq0.true
 
 -- the magnitude of such a number, where the text is no longer than can be
 scale_fits : (s p : ℤ) (size k z n : ℕ) (b : Bool) → s ≡ p -ℤ pos k +ℤ pos z → p ≡ signed b size → size ≤ 9999
@@ -32,21 +34,25 @@ scale_fits s p size k z n true s_is p_is low k_fits z_fits fits = rw (s_is, p_is
 
 -- the power less the places and with the zeros at the end, in 128 bits
 scale_is : (p : ℤ) (size k z : ℕ) (b : Bool) → p ≡ signed b size → size ≤ 9999 → k < 2 ^ 64 → z < 2 ^ 64
-    → to_z w128 (of_z w128 (to_z w128 (of_z w128 (to_z w128 (of_z w128 p) -ℤ to_z w128 k)) +ℤ to_z w128 z)) ≡ p -ℤ pos k +ℤ pos z
+    → to_z w128 (of_z w128 (to_z w128 (of_z w128 (to_z w128 (of_z w128 p) -ℤ to_z w128 k)) +ℤ to_z w128 z))
+    ≡ p -ℤ pos k +ℤ pos z
 scale_is p size k z false e low k_fits z_fits = rw e (omega (arith, ints))
 scale_is p size k z true e low k_fits z_fits = rw e (omega (arith, ints))
 
 pub new-requires-2-clause-scale : goal.new-requires-2-clause-scale
 new-requires-2-clause-scale c =
     let power = c.in-Some-exponent.ensures in
-    let scale = scale_is c.in-Some-exponent.power _ c.places.result c.in-Some.zeros _ power.1 power.0 (search rules) (search rules) in
-    scale_fits _ c.in-Some-exponent.power _ c.places.result c.in-Some.zeros _ _ scale power.1 power.0 c.places.ensures.within
+    let scale = scale_is c.in-Some-exponent.power _ c.places.result c.in-Some.zeros _ power.1 power.0 (search rules)
+    (search rules) in
+    scale_fits _ c.in-Some-exponent.power _ c.places.result c.in-Some.zeros _ _ scale power.1 power.0
+    c.places.ensures.within
     (zeros-le _ _ _ c.in-Some.ensures) c.places.ensures.fits
 
 pub returns : goal.returns
 returns c =
     let split = split_by _ _ _ _ c.mark_place.ensures c.split_at.ensures.front c.split_at.ensures.back c.requires in
     let power = c.in-Some-exponent.ensures in
-    let scale = scale_is c.in-Some-exponent.power _ c.places.result c.in-Some.zeros _ power.1 power.0 (search rules) (search rules) in
+    let scale = scale_is c.in-Some-exponent.power _ c.places.result c.in-Some.zeros _ power.1 power.0 (search rules)
+    (search rules) in
     ap Ok (c.new-2.ensures ∙ ap (λ s. record { coefficient = c.in-Some.coefficient; scale = s }) scale)
     ∙ read_some _ _ _ _ _ _ _ split c.in-Some.ensures power.0 c.if-coefficient-eq0.false power.1 c.places.ensures.is

@@ -12,7 +12,9 @@ returns-then-q-eq1 c =
     root_small _ _ c.requires.some small
 
 pub loop-high-init : goal.loop-high-init
-loop-high-init c = search_start _ _ _ c.requires.some c.if-q-eq1.false (λ small. omega (arith, c.if-n-lt2.false)) c.ilog2.ensures.next_power_gt c.ilog2.ensures.bound
+loop-high-init c =
+    search_start _ _ _ c.requires.some c.if-q-eq1.false
+    (λ small. omega (arith, c.if-n-lt2.false)) c.ilog2.ensures.next_power_gt c.ilog2.ensures.bound
 
 pub returns : goal.returns
 returns c = no_root _ _ _ _ c.loop-high.invariant c.loop-high-test.false

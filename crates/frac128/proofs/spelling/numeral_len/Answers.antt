@@ -12,7 +12,8 @@ returns-in-None c = read_end _ _ _ _ _ c.loop-i.invariant c.loop-i-test.true c.o
 
 pub loop-i-preserved : goal.loop-i-preserved
 loop-i-preserved c =
-    let len_is : c.if-may_end.len ≡ (if may_end c.in-Some.next then c.loop-i.i + 1 else c.loop-i.len) = elim c.if-may_end.branch [
+    let len_is : c.if-may_end.len ≡ (if may_end c.in-Some.next then c.loop-i.i + 1 else c.loop-i.len) =
+    elim c.if-may_end.branch [
       | then-may_end w ↦ rw (sym c.may_end.ensures ∙ w.if-may_end.true) w.len-is
       | else-may_end w ↦ rw (sym c.may_end.ensures ∙ w.if-may_end.false) w.len-is
     ] in

@@ -5,4 +5,5 @@ use Rattle.name_lookup.proofs.resolving.resolve.Goals as goal
 pub returns-clause-found : goal.returns-clause-found
 returns-clause-found g c =
     all_found (is_among (g.P.Present.keys c.args.table.now)) c.args.kind c.args.word.now
-    (g.L.Looking.looked c.args.looking.now) (g.L.Looking.looked c.try_word.new.looking) c.try_word.result c.try_word.ensures.taken
+    (g.L.Looking.looked c.args.looking.now) (g.L.Looking.looked c.try_word.new.looking) c.try_word.result
+    c.try_word.ensures.taken

@@ -1,4 +1,5 @@
-use Rattle.std.proofs.Common.{◌≡◌, ◌+◌, ◌<◌, ℕ, Bool, List, [], ◌∷◌, ◌++◌, length, drop, get_or, ◌∙◌, ap, subst, arith, Vec, Global}
+use Rattle.std.proofs.Common.{◌≡◌, ◌+◌, ◌<◌, ℕ, Bool, List, [], ◌∷◌, ◌++◌, length, drop, get_or, ◌∙◌, ap, subst, arith}
+use Rattle.std.proofs.Common.{Vec, Global}
 use Rattle.std.proofs.lemmas.List.{drop_all, drop_more}
 use Rattle.name_walk.specs.declared.traces.Frame.{Frame}
 use Rattle.name_walk.specs.Faults.{from_name}
@@ -9,8 +10,10 @@ use Rattle.name_walk.proofs.chain.chain.Goals.{then-is_below+in_ok-push, else-is
 
 -- the frames that are left begin with the next one
 next : (again last : ℕ) (all names : List ℕ) (b : Bool) (fs : List Frame) (i : ℕ) (d : Frame) → i < length fs
-    → IsChaining again last all names b (drop i fs) → IsChaining again last all names b (get_or fs i d ∷ drop (i + 1) fs)
-next again last all names b fs i d l h = subst (λ (rest : List Frame). IsChaining again last all names b rest) (drop_more fs i d l) h
+    → IsChaining again last all names b (drop i fs)
+    → IsChaining again last all names b (get_or fs i d ∷ drop (i + 1) fs)
+next again last all names b fs i d l h =
+    subst (λ (rest : List Frame). IsChaining again last all names b rest) (drop_more fs i d l) h
 
 pub loop-frame-init : goal.loop-frame-init
 loop-frame-init c = record {
@@ -27,7 +30,8 @@ loop-frame-preserved c =
           chaining_keep c.args.again c.args.last _ _ _ _ _ _ h w.if-is_below.true
           (ap (λ (v : Vec ℕ Global). v.items) w.names-is ∙ w.in_ok-push.ensures.items)
       | else-is_below w ↦
-          chaining_pass c.args.again c.args.last _ _ _ _ _ _ h w.if-is_below.false (ap (λ (v : Vec ℕ Global). v.items) w.names-is)
+          chaining_pass c.args.again c.args.last _ _ _ _ _ _ h w.if-is_below.false
+          (ap (λ (v : Vec ℕ Global). v.items) w.names-is)
     ]
 
 pub returns : goal.returns
@@ -36,8 +40,10 @@ returns c =
     drop_all c.loop-frame.frame-index c.args.frames.now (omega (arith, c.loop-frame-test.false)) in
     let all : List ℕ = from_name c.args.again (path c.args.frames.now c.args.last) in
     let end : IsChaining c.args.again c.args.last all c.loop-frame.names.items c.loop-frame.is_below [] =
-    subst (λ (rest : List Frame). IsChaining c.args.again c.args.last all c.loop-frame.names.items c.loop-frame.is_below rest) none
+    subst (λ (rest : List Frame). IsChaining c.args.again c.args.last all c.loop-frame.names.items c.loop-frame.is_below
+    rest) none
     c.loop-frame.invariant in
     c.in_ok-push-3.ensures.items
     ∙ ap (λ xs. xs ++ c.args.again ∷ [])
-    (c.in_ok-push-2.ensures.items ∙ chaining_end c.args.again c.args.last all c.loop-frame.names.items c.loop-frame.is_below end)
+    (c.in_ok-push-2.ensures.items
+    ∙ chaining_end c.args.again c.args.last all c.loop-frame.names.items c.loop-frame.is_below end)

@@ -1,7 +1,9 @@
-use Rattle.std.proofs.Common.{rules, arith, ◌≡◌, ◌+◌, ◌<◌, ◌≤◌, ◌^◌, ℕ, zero, suc, List, [], ◌∷◌, Option, Some, None, length, refl, sym, ap, subst, ◌∙◌}
+use Rattle.std.proofs.Common.{rules, arith, ◌≡◌, ◌+◌, ◌<◌, ◌≤◌, ◌^◌, ℕ, zero, suc, List, [], ◌∷◌, Option, Some, None}
+use Rattle.std.proofs.Common.{length, refl, sym, ap, subst, ◌∙◌}
 use Rattle.std.specs.List.{slice_get}
 use Rattle.name_walk.specs.Traces.{Trace}
-use Rattle.name_walk.proofs.Moves.{begin_at, cycle_at, dead_end_at, enter_at, entered_at, finish_at, is_on_at, leave_at, leave_less_at, next_at, pass_at, room_at, there_at}
+use Rattle.name_walk.proofs.Moves.{begin_at, cycle_at, dead_end_at, enter_at, entered_at, finish_at, is_on_at, leave_at}
+use Rattle.name_walk.proofs.Moves.{leave_less_at, next_at, pass_at, room_at, there_at}
 use Rattle.name_walk.proofs.visit.visit.Goals as goal
 
 -- where nothing stands, all is passed
@@ -18,7 +20,9 @@ step_is : {A : Type 0} {r o : Option A} {x y : A} → r ≡ o → r ≡ Some x �
 step_is read some is = sym read ∙ (some ∙ ap Some is)
 
 pub loop-step-init : goal.loop-step-init
-loop-step-init c = begin_at c.requires.net c.args.traces.now c.enter.new.self c.requires.between c.requires.fresh c.in_ok-enter.ensures.ok
+loop-step-init c =
+    begin_at c.requires.net c.args.traces.now c.enter.new.self c.requires.between c.requires.fresh
+    c.in_ok-enter.ensures.ok
 
 pub step-requires : goal.step-requires
 step-requires c = (there_at c.requires.net c.loop-step.invariant).0
@@ -28,34 +32,40 @@ close-requires c = (there_at c.requires.net c.loop-step.invariant).1
 
 pub returns-in_default-pop-clause-entered : goal.returns-in_default-pop-clause-entered
 returns-in_default-pop-clause-entered c =
-    entered_at c.requires.net c.loop-step.invariant (none_full _ _ c.step.ensures.step c.in_default.is) c.in_ok-close.ensures.ok
+    entered_at c.requires.net c.loop-step.invariant
+    (none_full _ _ c.step.ensures.step c.in_default.is) c.in_ok-close.ensures.ok
     c.pop.new.self c.in_default-pop.ensures.0
 
 pub returns-in_default-pop-clause-visited : goal.returns-in_default-pop-clause-visited
 returns-in_default-pop-clause-visited c =
-    finish_at c.requires.net c.loop-step.invariant (none_full _ _ c.step.ensures.step c.in_default.is) c.in_ok-close.ensures.ok
+    finish_at c.requires.net c.loop-step.invariant
+    (none_full _ _ c.step.ensures.step c.in_default.is) c.in_ok-close.ensures.ok
     c.args.traces.now c.pop.new.self refl c.in_default-pop.ensures.0 c.in_default-pop.ensures.1
 
 pub overflow_add-place : goal.overflow_add-place
 overflow_add-place c =
     let h : c.in-Some-pop.frame.place + 1 < 2 ^ 64 =
-    room_at c.requires.net c.loop-step.invariant (none_full _ _ c.step.ensures.step c.in_default.is) c.in_ok-close.ensures.ok
+    room_at c.requires.net c.loop-step.invariant
+    (none_full _ _ c.step.ensures.step c.in_default.is) c.in_ok-close.ensures.ok
     c.in-Some-pop.frame c.pop.new.self c.in-Some-pop.ensures in
     search rules
 
 pub loop-step-smaller-in_default : goal.loop-step-smaller-in_default
 loop-step-smaller-in_default c =
-    leave_less_at c.requires.net c.loop-step.invariant (none_full _ _ c.step.ensures.step c.in_default.is) c.in_ok-close.ensures.ok
+    leave_less_at c.requires.net c.loop-step.invariant
+    (none_full _ _ c.step.ensures.step c.in_default.is) c.in_ok-close.ensures.ok
     c.in-Some-pop.frame c.pop.new.self c.in-Some-pop.ensures
 
 pub loop-step-preserved-in_default : goal.loop-step-preserved-in_default
 loop-step-preserved-in_default c =
-    leave_at c.requires.net c.loop-step.invariant (none_full _ _ c.step.ensures.step c.in_default.is) c.in_ok-close.ensures.ok
+    leave_at c.requires.net c.loop-step.invariant
+    (none_full _ _ c.step.ensures.step c.in_default.is) c.in_ok-close.ensures.ok
     c.in-Some-pop.frame c.pop.new.self c.in-Some-pop.ensures
 
 pub returns-in-Nowhere-clause-visited : goal.returns-in-Nowhere-clause-visited
 returns-in-Nowhere-clause-visited c =
-    dead_end_at c.requires.net c.loop-step.invariant c.in-Nowhere.word (step_is c.step.ensures.step c.in-Some.is c.in-Nowhere.is)
+    dead_end_at c.requires.net c.loop-step.invariant c.in-Nowhere.word
+    (step_is c.step.ensures.step c.in-Some.is c.in-Nowhere.is)
 
 pub mark_of-requires-clause-settled : goal.mark_of-requires-clause-settled
 mark_of-requires-clause-settled c =
@@ -67,7 +77,8 @@ mark_of-requires-clause-marked c =
 
 pub loop-step-preserved-in-Closed : goal.loop-step-preserved-in-Closed
 loop-step-preserved-in-Closed c =
-    pass_at c.requires.net c.loop-step.invariant c.in-To.next (step_is c.step.ensures.step c.in-Some.is c.in-To.is) c.in-Closed.ensures
+    pass_at c.requires.net c.loop-step.invariant c.in-To.next
+    (step_is c.step.ensures.step c.in-Some.is c.in-To.is) c.in-Closed.ensures
 
 pub chain-requires : goal.chain-requires
 chain-requires c =
@@ -76,7 +87,8 @@ chain-requires c =
 pub returns-in-OnPath-clause-visited : goal.returns-in-OnPath-clause-visited
 returns-in-OnPath-clause-visited c =
     cycle_at c.requires.net c.loop-step.invariant c.in-To.next c.frames.result.now c.in_ok-names-in-OnPath.names.items
-    (step_is c.step.ensures.step c.in-Some.is c.in-To.is) c.in-OnPath.ensures c.frames.ensures c.in_ok-names-in-OnPath.ensures
+    (step_is c.step.ensures.step c.in-Some.is c.in-To.is) c.in-OnPath.ensures c.frames.ensures
+    c.in_ok-names-in-OnPath.ensures
 
 pub enter-requires-in-Open : goal.enter-requires-in-Open
 enter-requires-in-Open c =

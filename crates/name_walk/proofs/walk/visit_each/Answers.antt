@@ -16,7 +16,8 @@ read : {A : Type 0} (xs : List A) (i : ℕ) (d : A) {x : A} → i < length xs �
 read xs i d l e = slice_get-get_or xs i d l ∙ ap Some e
 
 -- a step of the query leads to a name that is there
-known : (g : Graph) (query : List Step) (i n : ℕ) → AreKnown g query → i < length query → get_or query i (Nowhere 0) ≡ To n → n < length g
+known : (g : Graph) (query : List Step) (i n : ℕ) → AreKnown g query → i < length query
+    → get_or query i (Nowhere 0) ≡ To n → n < length g
 known g query i n are_known l e = are_known n (get_In _ _ _ (read query i (Nowhere 0) l e))
 
 at_some : (r : Option Fault) (f : Fault) (P : Type 0) (Q : Fault → Type 0) → MatchOption r P Q → r ≡ Some f → Q f
@@ -35,7 +36,8 @@ returns-in-Nowhere-clause-visited c =
 
 pub mark_of-requires-clause-settled : goal.mark_of-requires-clause-settled
 mark_of-requires-clause-settled c =
-    subst (λ (k : ℕ). c.in-To.start < k) (sym c.requires.net.size) (known _ _ _ _ c.requires.query c.loop-step-test.true c.in-To.is)
+    subst (λ (k : ℕ). c.in-To.start < k) (sym c.requires.net.size)
+    (known _ _ _ _ c.requires.query c.loop-step-test.true c.in-To.is)
 
 pub mark_of-requires-clause-marked : goal.mark_of-requires-clause-marked
 mark_of-requires-clause-marked c =
@@ -45,11 +47,13 @@ mark_of-requires-clause-marked c =
 pub loop-step-preserved-in_default : goal.loop-step-preserved-in_default
 loop-step-preserved-in_default c =
     let off = c.loop-step.invariant.passed.between.off_path c.in-To.start in
-    let found = found_closed c.args.net.now.settled.now c.loop-step.traces.marks c.in-To.start c.mark_of.result c.mark_of.ensures
+    let found = found_closed c.args.net.now.settled.now c.loop-step.traces.marks c.in-To.start c.mark_of.result
+    c.mark_of.ensures
     c.in_default.not-Open off in
     record {
       passed = next_done c.requires.net c.args.query.now c.loop-step.step-index c.loop-step.invariant.passed
-          (read _ _ _ c.loop-step-test.true c.in-To.is) (known _ _ _ _ c.requires.query c.loop-step-test.true c.in-To.is) found;
+          (read _ _ _ c.loop-step-test.true c.in-To.is)
+          (known _ _ _ _ c.requires.query c.loop-step-test.true c.in-To.is) found;
       size = c.loop-step.invariant.size;
     }
 
@@ -62,11 +66,13 @@ returns-in-Some-clause-visited c =
 pub loop-step-preserved : goal.loop-step-preserved
 loop-step-preserved c = record {
   passed = next_visit c.requires.net c.args.query.now c.loop-step.step-index c.loop-step.invariant.passed
-      (read _ _ _ c.loop-step-test.true c.in-To.is) c.visit.new.traces (at_none _ _ _ c.in_ok-fault.ensures.visited c.in_default-2.is);
+      (read _ _ _ c.loop-step-test.true c.in-To.is) c.visit.new.traces
+      (at_none _ _ _ c.in_ok-fault.ensures.visited c.in_default-2.is);
   size = c.in_ok-fault.ensures.size ∙ c.loop-step.invariant.size;
 }
 
 pub returns-clause-visited : goal.returns-clause-visited
 returns-clause-visited c =
-    all_passed _ _ c.requires.net c.args.query.now c.loop-step.step-index c.loop-step.traces c.loop-step.invariant.passed
+    all_passed _ _ c.requires.net c.args.query.now c.loop-step.step-index c.loop-step.traces
+    c.loop-step.invariant.passed
     (omega (arith, c.loop-step-test.false))

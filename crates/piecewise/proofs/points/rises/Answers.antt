@@ -7,7 +7,8 @@ use Rattle.piecewise.proofs.points.rises.Goals as goal
 
 pub returns-then-not-is_less-clause-value : goal.returns-then-not-is_less-clause-value
 returns-then-not-is_less-clause-value c =
-    let are : AreNeighbours c.args.points.now c.loop-i.i c.index-points-i.result c.index-points-i-in-loop-i.result = record {
+    let are : AreNeighbours c.args.points.now c.loop-i.i c.index-points-i.result c.index-points-i-in-loop-i.result =
+    record {
       some = omega arith;
       within = omega arith;
       left = c.index-points-i.is;
@@ -17,14 +18,16 @@ returns-then-not-is_less-clause-value c =
 
 pub loop-i-preserved : goal.loop-i-preserved
 loop-i-preserved c =
-    let are : AreNeighbours c.args.points.now c.loop-i.i c.index-points-i.result c.index-points-i-in-loop-i.result = record {
+    let are : AreNeighbours c.args.points.now c.loop-i.i c.index-points-i.result c.index-points-i-in-loop-i.result =
+    record {
       some = omega arith;
       within = omega arith;
       left = c.index-points-i.is;
       right = c.index-points-i-in-loop-i.is;
     } in
     record {
-      rest = rises-on _ _ _ _ c.is_less.result are c.is_less.ensures.order c.if-not-is_less.false c.loop-i.invariant.rest;
+      rest = rises-on _ _ _ _ c.is_less.result are c.is_less.ensures.order c.if-not-is_less.false
+          c.loop-i.invariant.rest;
       denominators = λ more. known_more _ _ _ _ are c.loop-i.invariant.denominators c.is_less.ensures.denominators;
     }
 
@@ -32,4 +35,6 @@ pub returns-clause-value : goal.returns-clause-value
 returns-clause-value c = sym (rises-last c.args.points.now (c.loop-i.i - 1) (omega arith)) ∙ c.loop-i.invariant.rest
 
 pub returns-clause-denominators : goal.returns-clause-denominators
-returns-clause-denominators c = All-same IsKnown _ _ (sym (take_all c.loop-i.i c.args.points.now (omega arith))) (c.loop-i.invariant.denominators (omega arith))
+returns-clause-denominators c =
+    All-same IsKnown _ _ (sym (take_all c.loop-i.i c.args.points.now (omega arith)))
+    (c.loop-i.invariant.denominators (omega arith))

@@ -10,9 +10,12 @@ pub returns-then-eq : goal.returns-then-eq
 returns-then-eq c =
     let same = c.if-eq.ensures ∙ ap (pointwise eqb c.args.name.now) c.name.ensures in
     c.exponent.ensures
-    ∙ ap (λ o. unwrap_or o nothing) (sym (found_at c.args.powers.now c.loop-power.power-index c.args.name.now c.power-item.result (omega arith) c.power-item.is same) ∙ c.loop-power.invariant)
+    ∙ ap (λ o. unwrap_or o nothing)
+    (sym (found_at c.args.powers.now c.loop-power.power-index c.args.name.now c.power-item.result
+    (omega arith) c.power-item.is same) ∙ c.loop-power.invariant)
 
 pub loop-power-preserved : goal.loop-power-preserved
 loop-power-preserved c =
     let other = c.if-eq.ensures ∙ ap (pointwise eqb c.args.name.now) c.name.ensures in
-    passed_at c.args.powers.now c.loop-power.power-index c.args.name.now c.power-item.result (omega arith) c.power-item.is other ∙ c.loop-power.invariant
+    passed_at c.args.powers.now c.loop-power.power-index c.args.name.now c.power-item.result
+    (omega arith) c.power-item.is other ∙ c.loop-power.invariant

@@ -5,7 +5,8 @@ use Rattle.quantity.proofs.matching.same_powers.Given as goal
 
 -- the rests match where the lists do
 abbrev pub invariant-loop-l : goal.invariant-loop-l
-invariant-loop-l l = matches (exponent_in l.factor) l.left l.right ≡ matches (exponent_in l.factor) l.initial.left l.initial.right
+invariant-loop-l l = matches (exponent_in l.factor) l.left l.right
+    ≡ matches (exponent_in l.factor) l.initial.left l.initial.right
 
 abbrev pub decreases-loop-l : goal.decreases-loop-l
 decreases-loop-l l = length l.left

@@ -1,4 +1,4 @@
-use Rattle.std.proofs.Common.{◌≡◌, ◌==◌, ◌∙◌, sym, true, length}
+use Rattle.std.proofs.Common.{◌∙◌, sym, true}
 use Rattle.quantity.specs.Factors.{exponent_in}
 use Rattle.quantity.proofs.Copies.{left_alone, none_in, right_alone}
 use Rattle.quantity.proofs.merging.merge.Goals as goal
@@ -11,4 +11,5 @@ returns-then-is_empty c =
 pub returns-then-is_empty-2 : goal.returns-then-is_empty-2
 returns-then-is_empty-2 c =
     let none = none_in c.args.left.items (sym c.is_empty-2.ensures ∙ c.if-is_empty-2.true) in
-    right_alone c.args.factor c.args.left.items c.args.right.now c.in_ok-copies.field-0.items 0 c.requires.right none c.in_ok-copies.ensures
+    right_alone c.args.factor c.args.left.items c.args.right.now c.in_ok-copies.field-0.items 0 c.requires.right none
+    c.in_ok-copies.ensures

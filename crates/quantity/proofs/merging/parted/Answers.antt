@@ -6,7 +6,8 @@ use Rattle.quantity.proofs.Names.{Name}
 use Rattle.quantity.proofs.merging.parted.Goals as goal
 
 -- the first of a list, and the others
-parts : (es : Powers) (e : Name × Fraction) → 0 < length es → e ≡ get_or es 0 e → es ≡ e ∷ take (length es - 1) (drop 1 es)
+parts : (es : Powers) (e : Name × Fraction) → 0 < length es → e ≡ get_or es 0 e
+    → es ≡ e ∷ take (length es - 1) (drop 1 es)
 parts [] e some is = absurd (omega arith)
 parts (d ∷ es) e some is =
     let less : suc (length es) - 1 ≡ length es = omega arith in

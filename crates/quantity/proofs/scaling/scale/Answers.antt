@@ -7,7 +7,9 @@ use Rattle.quantity.proofs.ScaleSteps.{scaling_fault, scaling_more}
 use Rattle.quantity.proofs.scaling.scale.Goals as goal
 
 pub loop-power-preserved : goal.loop-power-preserved
-loop-power-preserved c = scaling_more _ _ _ c.loop-power.power-iterator _ _ c.in-Some.power c.loop-power.invariant c.in-Some.ensures.steps c.in_ok-put_product.ensures
+loop-power-preserved c =
+    scaling_more _ _ _ c.loop-power.power-iterator _ _ c.in-Some.power c.loop-power.invariant c.in-Some.ensures.steps
+    c.in_ok-put_product.ensures
 
 pub returns-in_err-put_product : goal.returns-in_err-put_product
 returns-in_err-put_product c =
@@ -18,4 +20,5 @@ returns-in_err-put_product c =
     rw (error.1, error.2)
     (handed_on _ _ _ _ _ c.in_err-put_product.ensures (λ fails.
     ap (λ (es : Powers). are_exponents (scaled by es)) (sym all)
-    ∙ scaling_fault c.reduced_law.ensures by _ _ c.loop-power.power-iterator _ c.in-Some.power some c.loop-power.invariant c.in-Some.ensures.steps fails))
+    ∙ scaling_fault c.reduced_law.ensures by _ _ c.loop-power.power-iterator _ c.in-Some.power some
+    c.loop-power.invariant c.in-Some.ensures.steps fails))

@@ -9,7 +9,9 @@ returns-in_ok-put_side-2 c =
     let slash =
     c.in_ok-extend_from_slice.ensures.items ∙ ap (λ t. c.put_side.new.text.items ++ t) c.as_slice.ensures
     ∙ ap (λ t. t ++ codes " /") c.in_ok-put_side.ensures in
-    c.in_ok-put_side-2.ensures ∙ ap (λ t. t ++ below) slash ∙ listed_below c.args.text.now.items c.args.powers.now (sym c.if-has_side.ensures)
+    c.in_ok-put_side-2.ensures ∙ ap (λ t. t ++ below) slash
+    ∙ listed_below c.args.text.now.items c.args.powers.now (sym c.if-has_side.ensures)
 
 pub returns-else-has_side : goal.returns-else-has_side
-returns-else-has_side c = c.in_ok-put_side.ensures ∙ listed_above c.args.text.now.items c.args.powers.now (sym c.if-has_side.ensures)
+returns-else-has_side c = c.in_ok-put_side.ensures
+    ∙ listed_above c.args.text.now.items c.args.powers.now (sym c.if-has_side.ensures)

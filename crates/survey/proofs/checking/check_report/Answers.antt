@@ -38,8 +38,10 @@ returns-in_err-put_checks-clause-queries g c =
     let p = err_from_is_err_and c.from_residual-in_err-put_checks.result c.from_residual-in_err-put_checks.ensures.1 in
     let keys : keys_there c.args.table.now.deck.lines c.as_slice.result.now ≡ table_keys (table c.args.table.now.deck) =
     ap (keys_there c.args.table.now.deck.lines) c.as_slice.ensures.value
-    ∙ subst (λ (d : Contents). keys_there d.lines c.in_ok-places.places.items ≡ table_keys (table d)) c.deck.ensures.deck
-    (c.key_lists_are_one.ensures (table c.deck.result.now) (keys_there c.deck.result.now.lines c.in_ok-places.places.items)
+    ∙ subst (λ (d : Contents). keys_there d.lines c.in_ok-places.places.items ≡ table_keys (table d))
+    c.deck.ensures.deck
+    (c.key_lists_are_one.ensures (table c.deck.result.now)
+    (keys_there c.deck.result.now.lines c.in_ok-places.places.items)
     (c.in_ok-places.ensures {u = tt}).all) in
     subst (λ (r : Result (List ℕ) AllocError). AreMade (check_queries (table c.args.table.now.deck)) r
     c.args.table.now c.put_checks.new.table c.args.steps.now c.put_checks.new.steps) (sym p.1)
@@ -49,7 +51,8 @@ returns-in_err-put_checks-clause-queries g c =
     c.put_checks.new.steps c.settle_all.ensures.deck c.in_ok-settle_all.ensures.after
     (subst (λ (ks : List Key). IsCutOff (queries_among (table c.args.table.now.deck) ks) c.settle_all.new.self
     c.put_checks.new.table c.settle_all.new.steps c.put_checks.new.steps) keys
-    (subst (λ (d : Contents). IsCutOff (queries_among (table d) (keys_there d.lines c.as_slice.result.now)) c.settle_all.new.self
+    (subst (λ (d : Contents). IsCutOff (queries_among (table d) (keys_there d.lines c.as_slice.result.now))
+    c.settle_all.new.self
     c.put_checks.new.table c.settle_all.new.steps c.put_checks.new.steps) c.settle_all.ensures.deck
     c.in_err-put_checks.ensures.queries)))
 
@@ -57,8 +60,10 @@ pub returns-clause-queries : goal.returns-clause-queries
 returns-clause-queries g c =
     let keys : keys_there c.args.table.now.deck.lines c.as_slice.result.now ≡ table_keys (table c.args.table.now.deck) =
     ap (keys_there c.args.table.now.deck.lines) c.as_slice.ensures.value
-    ∙ subst (λ (d : Contents). keys_there d.lines c.in_ok-places.places.items ≡ table_keys (table d)) c.deck.ensures.deck
-    (c.key_lists_are_one.ensures (table c.deck.result.now) (keys_there c.deck.result.now.lines c.in_ok-places.places.items)
+    ∙ subst (λ (d : Contents). keys_there d.lines c.in_ok-places.places.items ≡ table_keys (table d))
+    c.deck.ensures.deck
+    (c.key_lists_are_one.ensures (table c.deck.result.now)
+    (keys_there c.deck.result.now.lines c.in_ok-places.places.items)
     (c.in_ok-places.ensures {u = tt}).all) in
     follows_both (all_names (table c.args.table.now.deck))
     (queries_among (table c.args.table.now.deck) (table_keys (table c.args.table.now.deck)))
@@ -66,6 +71,7 @@ returns-clause-queries g c =
     c.put_checks.new.steps c.in_ok-settle_all.ensures.after
     (subst (λ (ks : List Key). Follows (queries_among (table c.args.table.now.deck) ks) c.settle_all.new.self
     c.put_checks.new.table c.settle_all.new.steps c.put_checks.new.steps) keys
-    (subst (λ (d : Contents). Follows (queries_among (table d) (keys_there d.lines c.as_slice.result.now)) c.settle_all.new.self
+    (subst (λ (d : Contents). Follows (queries_among (table d) (keys_there d.lines c.as_slice.result.now))
+    c.settle_all.new.self
     c.put_checks.new.table c.settle_all.new.steps c.put_checks.new.steps) c.settle_all.ensures.deck
     c.in_ok-put_checks.ensures.queries))

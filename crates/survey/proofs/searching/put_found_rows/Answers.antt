@@ -14,6 +14,8 @@ returns c =
     let rows : List ℕ → List ℕ =
     flat_map (λ place. given_by (found_row (table deck) c.args.text.now) (key_there deck.lines place)) in
     sym (append-nil c.loop-place.rows.items)
-    ∙ ap (λ places. c.loop-place.rows.items ++ rows places) (sym (drop_all c.loop-place.place-index c.args.places.now (omega arith)))
+    ∙ ap (λ places. c.loop-place.rows.items ++ rows places)
+    (sym (drop_all c.loop-place.place-index c.args.places.now (omega arith)))
     ∙ c.loop-place.invariant
-    ∙ ap (λ xs. c.args.rows.now.items ++ xs) (sym (each-place (found_row (table deck) c.args.text.now) deck c.args.places.now))
+    ∙ ap (λ xs. c.args.rows.now.items ++ xs)
+    (sym (each-place (found_row (table deck) c.args.text.now) deck c.args.places.now))

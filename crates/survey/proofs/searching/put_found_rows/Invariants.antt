@@ -10,6 +10,7 @@ use Rattle.survey.proofs.searching.put_found_rows.Given as goal
 abbrev pub invariant-loop-place : goal.invariant-loop-place
 invariant-loop-place l =
     l.rows.items
-    ++ flat_map (λ place. given_by (found_row (table l.deck) l.text) (key_there l.deck.lines place)) (drop l.place-index l.places)
+    ++ flat_map (λ place. given_by (found_row (table l.deck) l.text) (key_there l.deck.lines place))
+    (drop l.place-index l.places)
     ≡ l.initial.rows.items
     ++ flat_map (λ place. given_by (found_row (table l.deck) l.text) (key_there l.deck.lines place)) l.places

@@ -1,4 +1,5 @@
-use Rattle.std.proofs.Common.{◌≡◌, ◌<◌, ◌≤◌, ◌+◌, ◌*◌, ◌/◌, ◌%◌, ◌≤ℤ◌, ℕ, ℤ, pos, negsuc, suc, zero, unsigned_abs, arith, refl, ap, ◌∙◌}
+use Rattle.std.proofs.Common.{◌≡◌, ◌<◌, ◌≤◌, ◌+◌, ◌*◌, ◌/◌, ◌%◌, ◌≤ℤ◌, ℕ, ℤ, pos, negsuc, suc, zero, unsigned_abs}
+use Rattle.std.proofs.Common.{arith, refl, ap, ◌∙◌}
 use Rattle.std.proofs.lemmas.Int.{ints}
 use Rattle.std.proofs.Math.Nat.{div-add-mod, div-eq_of_lt-le, div-zero, mod-lt, zero-mod}
 use Rattle.frac128.specs.Floor.{floor_of}
@@ -12,7 +13,8 @@ next_whole a (suc d) some =
     let is : suc d * (suc a / suc d) + suc a % suc d ≡ suc a = div-add-mod (suc a) (suc d) in
     let part : suc a % suc d < suc d = mod-lt (suc a) (omega arith) in
     let same : a / suc d ≡ suc a / suc d =
-    div-eq_of_lt-le {k = suc a / suc d} (suc d) (low (suc a / suc d) (suc d) (suc a % suc d) is some) (high (suc a / suc d) (suc d) (suc a % suc d) is part) in
+    div-eq_of_lt-le {k = suc a / suc d} (suc d) (low (suc a / suc d) (suc d) (suc a % suc d) is some)
+    (high (suc a / suc d) (suc d) (suc a % suc d) is part) in
     omega arith
   where
     low : (q e r : ℕ) → e * q + r ≡ suc a → 0 < r → q * e ≤ a

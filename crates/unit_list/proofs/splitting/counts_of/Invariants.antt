@@ -6,6 +6,7 @@ use Rattle.unit_list.proofs.splitting.counts_of.Given as goal
 
 abbrev pub invariant-loop-i : goal.invariant-loop-i
 invariant-loop-i l = record {
-  counting : IsCounting l.negative l.units (signed_counts l.negative (counts_of l.amount (numbers_of l.units))) l.i l.rest l.counts;
+  counting : IsCounting l.negative l.units (signed_counts l.negative (counts_of l.amount (numbers_of l.units))) l.i
+      l.rest l.counts;
   denominators : All HasDenominator (take l.i l.units);
 }

@@ -1,7 +1,7 @@
 use Rattle.std.proofs.Common.{rules, ◌≡◌, ◌+◌, ◌++◌, [], ◌∷◌, ℕ, List, length, sym, ◌∙◌, ap, subst}
 use Rattle.edge_links.specs.Edges.{Graph}
 use Rattle.edge_links.specs.Owners.{Owners}
-use Rattle.edge_links.specs.Shown.{shown, AreLinks}
+use Rattle.edge_links.specs.Shown.{graph_of, AreLinks}
 use Rattle.edge_links.proofs.Begun.{begun_links, begun_shown, node_links, node_shown}
 use Rattle.edge_links.proofs.links.Links.add_node.Goals as goal
 
@@ -14,12 +14,12 @@ invariant_of-self-in_err-place c =
 
 pub returns-in_err-place-clause-err : goal.returns-in_err-place-clause-err
 returns-in_err-place-clause-err c =
-    let before : shown c.begin.new.self c.self.inside.nodes.items ≡ c.args.self.now =
+    let before : graph_of c.begin.new.self c.self.inside.nodes.items ≡ c.args.self.now =
     begun_shown c.self.inside.places c.begin.new.self c.self.inside.nodes.items c.self.invariant c.begin.ensures.begun
     ∙ c.self.view_is in
-    let same : shown c.add_head.new.self c.reserve.new.self.items ≡ c.args.self.now =
-    ap (λ xs. shown c.add_head.new.self xs) c.reserve.ensures.items ∙
-    (ap (λ (s : Owners). shown s c.self.inside.nodes.items) c.in_err-place.ensures.err ∙ before) in
+    let same : graph_of c.add_head.new.self c.reserve.new.self.items ≡ c.args.self.now =
+    ap (λ xs. graph_of c.add_head.new.self xs) c.reserve.ensures.items ∙
+    (ap (λ (s : Owners). graph_of s c.self.inside.nodes.items) c.in_err-place.ensures.err ∙ before) in
     search rules
 
 pub invariant_of-self-2 : goal.invariant_of-self-2
@@ -39,7 +39,7 @@ returns-clause-ok c =
     c.begin.ensures.begun in
     let node : c.len-node.result ≡ length c.self.inside.nodes.items = search rules in
     let named : c.in_ok-name.name ≡ length c.self.inside.nodes.items = c.in_ok-name.ensures.0 ∙ node in
-    let before : shown c.begin.new.self c.self.inside.nodes.items ≡ c.args.self.now =
+    let before : graph_of c.begin.new.self c.self.inside.nodes.items ≡ c.args.self.now =
     begun_shown c.self.inside.places c.begin.new.self c.self.inside.nodes.items c.self.invariant c.begin.ensures.begun
     ∙ c.self.view_is in (
       node ∙ ap (λ (g : Graph). g.nodes) before,

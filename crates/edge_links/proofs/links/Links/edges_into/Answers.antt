@@ -7,18 +7,22 @@ use Rattle.edge_links.proofs.Users.{has_user, user_put, stands_in, member_there,
 use Rattle.edge_links.proofs.Weighing.{summed}
 use Rattle.edge_links.proofs.links.Links.edges_into.Goals as goal
 
-members_of : (keys nodes items seen : List ℕ) (key head : ℕ) → key < length nodes → head ≡ get_or nodes key head → seen ≡ items
+members_of : (keys nodes items seen : List ℕ) (key head : ℕ) → key < length nodes → head ≡ get_or nodes key head
+    → seen ≡ items
     → AreMembers keys head items → AreMembers keys (get_or nodes key 0) seen
 members_of keys nodes items seen key head l e s m =
-    subst (λ xs. AreMembers keys (get_or nodes key 0) xs) (sym s) (subst (λ h. AreMembers keys h items) (read nodes key head l e) m)
+    subst (λ xs. AreMembers keys (get_or nodes key 0) xs) (sym s)
+    (subst (λ h. AreMembers keys h items) (read nodes key head l e) m)
 
 pub user_of-user-requires : goal.user_of-user-requires
 user_of-user-requires c =
     let there = subst (λ (x : Graph). c.args.key < x.nodes) (sym c.self.view_is) c.requires in
-    let members = members_of c.self.inside.places.keys c.self.inside.nodes.items c.in_ok-places.places.items c.deref-place-items.result.now
+    let members = members_of c.self.inside.places.keys c.self.inside.nodes.items c.in_ok-places.places.items
+    c.deref-place-items.result.now
     c.args.key c.index.result.now there c.index.ensures
     c.deref-place-items.ensures.value c.in_ok-places.ensures.members in
-    member_there c.self.inside.places c.in_ok-places.ensures.edges c.self.inside.nodes.items c.self.invariant c.args.key there
+    member_there c.self.inside.places c.in_ok-places.ensures.edges c.self.inside.nodes.items c.self.invariant c.args.key
+    there
     c.deref-place-items.result.now members
     (get_or c.deref-place-items.result.now c.loop-place.place-index 0)
     (stands_in c.deref-place-items.result.now c.loop-place.place-index c.loop-place-test.true)
@@ -28,18 +32,22 @@ loop-place-preserved c x =
     let place : ℕ = get_or c.deref-place-items.result.now c.loop-place.place-index 0 in
     let name : c.name.result ≡ get_or c.self.inside.places.names (get_or c.self.inside.places.users place 0) 0 =
     c.name.ensures ∙ ap (λ u. get_or c.self.inside.places.names u 0) c.user_of-user.ensures.0 in
-    user_put c.self.inside.places c.loop-place.users c.push.new.self (take c.loop-place.place-index c.deref-place-items.result.now) place
+    user_put c.self.inside.places c.loop-place.users c.push.new.self
+    (take c.loop-place.place-index c.deref-place-items.result.now) place
     c.name.result x name
     c.in_ok-push.ensures.ok (c.loop-place.invariant x)
-    ∙ ap (summed (has_user c.self.inside.places x)) (sym (take_more c.deref-place-items.result.now c.loop-place.place-index 0 c.loop-place-test.true))
+    ∙ ap (summed (has_user c.self.inside.places x))
+    (sym (take_more c.deref-place-items.result.now c.loop-place.place-index 0 c.loop-place-test.true))
 
 pub returns : goal.returns
 returns c x =
     let there = subst (λ (x : Graph). c.args.key < x.nodes) (sym c.self.view_is) c.requires in
-    let members = members_of c.self.inside.places.keys c.self.inside.nodes.items c.in_ok-places.places.items c.deref-place-items.result.now
+    let members = members_of c.self.inside.places.keys c.self.inside.nodes.items c.in_ok-places.places.items
+    c.deref-place-items.result.now
     c.args.key c.index.result.now there c.index.ensures
     c.deref-place-items.ensures.value c.in_ok-places.ensures.members in
-    are_users c.self.inside.places c.in_ok-places.ensures.edges c.self.inside.nodes.items c.self.invariant c.args.key there
+    are_users c.self.inside.places c.in_ok-places.ensures.edges c.self.inside.nodes.items c.self.invariant c.args.key
+    there
     c.deref-place-items.result.now members
     c.loop-place.users (λ y. c.loop-place.invariant y ∙ ap (summed (has_user c.self.inside.places y))
     (all_taken c.deref-place-items.result.now c.loop-place.place-index c.loop-place-test.false)) x

@@ -5,4 +5,5 @@ use Rattle.edge_links.proofs.Users.{has_user}
 use Rattle.edge_links.proofs.links.Links.edges_into.Given as goal
 
 abbrev pub invariant-loop-place : goal.invariant-loop-place
-invariant-loop-place l = (x : ℕ) → times x l.users ≡ summed (has_user l.self-inside.places x) (take l.place-index l.place-items)
+invariant-loop-place l = (x : ℕ)
+    → times x l.users ≡ summed (has_user l.self-inside.places x) (take l.place-index l.place-items)

@@ -8,14 +8,16 @@ use Rattle.edge_links.proofs.links.Links.unsettle.Goals as goal
 pub invariant_of-self : goal.invariant_of-self
 invariant_of-self g c =
     let there = subst (λ (x : Graph). c.args.key < x.nodes) (sym c.self.view_is) c.requires in
-    links_after c.self.inside.places c.unsettle.ensures.edges c.self.inside.nodes.items c.self.invariant c.args.key there
+    links_after c.self.inside.places c.unsettle.ensures.edges c.self.inside.nodes.items c.self.invariant c.args.key
+    there
     c.index-place.result.now c.index-place.ensures
     c.unsettle.new.self c.unsettle.ensures.size c.unsettle.ensures.names c.unsettle.ensures.cut c.unsettle.ensures.idle
 
 pub returns-clause-edges : goal.returns-clause-edges
 returns-clause-edges g c =
     let there = subst (λ (x : Graph). c.args.key < x.nodes) (sym c.self.view_is) c.requires in
-    subst (λ (x : Graph). Forgets c.args.key x.edges (edges_below c.unsettle.new.self (length c.unsettle.new.self.users))) c.self.view_is
+    subst (λ (x : Graph). Forgets c.args.key x.edges
+    (edges_below c.unsettle.new.self (length c.unsettle.new.self.users))) c.self.view_is
     (forgets c.self.inside.places c.unsettle.ensures.edges c.self.inside.nodes.items c.self.invariant c.args.key there
     c.index-place.result.now c.index-place.ensures
     c.unsettle.new.self c.unsettle.ensures.size c.unsettle.ensures.names c.unsettle.ensures.cut c.unsettle.ensures.idle)
@@ -23,7 +25,8 @@ returns-clause-edges g c =
 pub returns-clause-spare : goal.returns-clause-spare
 returns-clause-spare g c =
     let there = subst (λ (x : Graph). c.args.key < x.nodes) (sym c.self.view_is) c.requires in
-    spare_after c.self.inside.places c.unsettle.ensures.edges c.self.inside.nodes.items c.self.invariant c.args.key there
+    spare_after c.self.inside.places c.unsettle.ensures.edges c.self.inside.nodes.items c.self.invariant c.args.key
+    there
     c.index-place.result.now c.index-place.ensures
     c.unsettle.new.self c.unsettle.ensures.size c.unsettle.ensures.names c.unsettle.ensures.cut c.unsettle.ensures.idle
     ∙ ap (λ (x : Graph). x.spare + length x.edges) c.self.view_is
@@ -36,4 +39,5 @@ returns-clause-marks g c =
     (cleared c.self.inside.places c.unsettle.ensures.edges c.self.inside.nodes.items c.self.invariant c.args.key there
     c.index-place.result.now c.index-place.ensures
     c.unsettle.new.self c.unsettle.ensures.size c.unsettle.ensures.names c.unsettle.ensures.cut c.unsettle.ensures.idle
-    (g.K.Marks.is_marked c.args.marks.now) (g.K.Marks.is_marked c.unsettle.new.marks) c.unsettle.ensures.cleared c.unsettle.ensures.kept)
+    (g.K.Marks.is_marked c.args.marks.now) (g.K.Marks.is_marked c.unsettle.new.marks) c.unsettle.ensures.cleared
+    c.unsettle.ensures.kept)

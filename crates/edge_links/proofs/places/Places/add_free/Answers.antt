@@ -13,7 +13,9 @@ invariant_of-self c =
     let alone =
     subst (λ (x : Owners). (p : ℕ) → p < length x.users → (get_or x.users p 0 ≡ c.args.place → p ≡ c.args.place) ×
     (get_or x.keys p 0 ≡ c.args.place → p ≡ c.args.place)) (sym c.self.view_is) c.requires.alone in
-    let head = subst (λ (x : Owners). get_or x.users c.args.place 0 ≡ c.args.place) (sym c.self.view_is) c.requires.head in
+    let head = subst (λ (x : Owners). get_or x.users c.args.place 0 ≡ c.args.place)
+    (sym c.self.view_is) c.requires.head in
     subst (λ (x : Owners). ArePlaces x (c.self.inside.spare + 1))
     (sym (c.join-2.ensures ∙ ap (λ (x : Owners). with_owner Key x c.args.place 0) c.join.ensures))
-    (emptied_places c.self.inside.rings c.args.place c.self.inside.spare c.self.invariant there c.requires.there.1 head alone)
+    (emptied_places c.self.inside.rings c.args.place c.self.inside.spare c.self.invariant there c.requires.there.1 head
+    alone)

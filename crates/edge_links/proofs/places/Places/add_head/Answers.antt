@@ -5,10 +5,13 @@ use Rattle.edge_links.proofs.places.Places.add_head.Goals as goal
 
 -- one more place, or all as before
 still_places : {E : Type 0} (s t : Owners) (spare name : ℕ) (r : Result ℕ E) → ArePlaces s spare
-    → IfOk r (λ p. (p ≡ length s.users) × (p + 1 < 2 ^ 64) × (t ≡ with_head s p name)) → OnErr r (t ≡ s) → ArePlaces t spare
-still_places s t spare name (Ok p) places ok err = subst (λ (x : Owners). ArePlaces x spare) (sym ok.2) (grown_places s p name spare places ok.0 ok.1)
+    → IfOk r (λ p. (p ≡ length s.users) × (p + 1 < 2 ^ 64) × (t ≡ with_head s p name)) → OnErr r (t ≡ s)
+    → ArePlaces t spare
+still_places s t spare name (Ok p) places ok err =
+    subst (λ (x : Owners). ArePlaces x spare) (sym ok.2) (grown_places s p name spare places ok.0 ok.1)
 still_places s t spare name (Err e) places ok err = subst (λ (x : Owners). ArePlaces x spare) (sym err) places
 
 pub invariant_of-self : goal.invariant_of-self
-invariant_of-self c = still_places c.self.inside.rings c.add_head.new.self c.self.inside.spare c.args.name c.add_head.result
+invariant_of-self c =
+    still_places c.self.inside.rings c.add_head.new.self c.self.inside.spare c.args.name c.add_head.result
     c.self.invariant c.add_head.ensures.ok c.add_head.ensures.err

@@ -12,9 +12,12 @@ use Rattle.edge_links.specs.Waiting.{waiting_count}
 
 abbrev WaitsSo : Owners → Owners → ℕ → Type 0
 WaitsSo old s key =
-    (x : ℕ) → Waits s x ↔ (Waits old x ⊎ ((p : ℕ) × (p < length old.users) × HasKey old key p × (get_or old.users p 0 ≡ x) × (get_or s.keys p 0 ≡ 0)))
+    (x : ℕ) → Waits s x
+    ↔ (Waits old x ⊎ ((p : ℕ) × (p < length old.users) × HasKey old key p × (get_or old.users p 0 ≡ x)
+    × (get_or s.keys p 0 ≡ 0)))
 
-same_edges : (Test : ℕ → Type 0) (old s t : Owners) → IsCutting Test old s → t.users ≡ s.users → t.keys ≡ s.keys → t.names ≡ s.names
+same_edges : (Test : ℕ → Type 0) (old s t : Owners) → IsCutting Test old s → t.users ≡ s.users → t.keys ≡ s.keys
+    → t.names ≡ s.names
     → IsCutting Test old t
 same_edges Test old s t c u k n = record {
   size = ap length u ∙ c.size;
@@ -48,7 +51,8 @@ next : (old s r t : Owners) (key place user : ℕ) → Found old s key place use
     → t ≡ record r { waits = t.waits } → ((x : ℕ) → Waits t x ↔ (Waits r x ⊎ (x ≡ user)))
     → IsCutting (HasKey old key) old t × WaitsSo old t key × (owned key t.keys < owned key s.keys)
 next old s r t key place user f w q rest wait =
-    let here : (place < length old.users) × HasKey old key place × (get_or old.users place 0 ≡ user) = was old s key place user f in
+    let here : (place < length old.users) × HasKey old key place × (get_or old.users place 0 ≡ user) =
+    was old s key place user f in
     let kp : place < length s.keys = let z = f.size in let y = f.within in omega arith in
     let tk : t.keys ≡ set s.keys place 0 = ap (λ (x : Owners). x.keys) rest ∙ ap (λ (x : Owners). x.keys) q in
     let tu : t.users ≡ set s.users place 0 = ap (λ (x : Owners). x.users) rest ∙ ap (λ (x : Owners). x.users) q in
@@ -56,7 +60,8 @@ next old s r t key place user f w q rest wait =
     let same : (p : ℕ) → (p ≡ place → ⊥) → get_or t.keys p 0 ≡ get_or s.keys p 0 =
     λ p ne. ap (λ xs. get_or xs p 0) tk ∙ get_or-set_other s.keys place p 0 0 ne in
     let gone : get_or t.keys place 0 ≡ 0 = ap (λ xs. get_or xs place 0) tk ∙ get_or-set_same s.keys place 0 0 kp in (
-      same_edges (HasKey old key) old (freed s place) t (cutting_next (HasKey old key) old s place f.cutting f.size f.within
+      same_edges (HasKey old key) old (freed s place) t
+          (cutting_next (HasKey old key) old s place f.cutting f.size f.within
           (λ z. (f.apart, sym z.1 ∙ f.is))) tu tk (ap (λ (x : Owners). x.names) rest ∙ ap (λ (x : Owners). x.names) q),
       λ x. (
         λ h. elim ((wait x).0 h) [
@@ -87,7 +92,8 @@ next old s r t key place user f w q rest wait =
     )
 
 paid : (old s r t : Owners) (place : ℕ) → IsPaid old s → r ≡ freed s place → t ≡ record r { waits = t.waits }
-    → waiting_count t.waits ≤ waiting_count r.waits + 1 → place < length s.users → (get_or s.users place 0 ≡ 0 → ⊥) → IsPaid old t
+    → waiting_count t.waits ≤ waiting_count r.waits + 1 → place < length s.users → (get_or s.users place 0 ≡ 0 → ⊥)
+    → IsPaid old t
 paid old s r t place p q rest w l nz =
     let a : owned 0 t.users ≡ owned 0 (set s.users place 0) =
     ap (λ (x : Owners). owned 0 x.users) rest ∙ ap (λ (x : Owners). owned 0 x.users) q in
@@ -107,12 +113,14 @@ loop-place-preserved c =
       owned_by = c.user_of-user.ensures.0;
     } in
     let n =
-    next c.args.self.now c.loop-place.self c.free.new.self c.wait.new.self c.args.key c.in-Some.place c.user_of-user.result fd
+    next c.args.self.now c.loop-place.self c.free.new.self c.wait.new.self c.args.key c.in-Some.place
+    c.user_of-user.result fd
     c.loop-place.invariant.waits c.free.ensures c.wait.ensures.rest c.wait.ensures.waits in
     record {
       cutting = n.0;
       waits = n.1;
-      paid = paid c.args.self.now c.loop-place.self c.free.new.self c.wait.new.self c.in-Some.place c.loop-place.invariant.paid
+      paid = paid c.args.self.now c.loop-place.self c.free.new.self c.wait.new.self c.in-Some.place
+          c.loop-place.invariant.paid
           c.free.ensures c.wait.ensures.rest c.wait.ensures.one f.0
           (λ z. c.requires.there.1 (sym f.1 ∙ (c.in-Some.ensures.edges.free c.in-Some.place f.0).0 z));
     }
@@ -129,7 +137,8 @@ loop-place-smaller c =
       some = c.requires.there.1;
       owned_by = c.user_of-user.ensures.0;
     } in
-    (next c.args.self.now c.loop-place.self c.free.new.self c.wait.new.self c.args.key c.in-Some.place c.user_of-user.result fd
+    (next c.args.self.now c.loop-place.self c.free.new.self c.wait.new.self c.args.key c.in-Some.place
+    c.user_of-user.result fd
     c.loop-place.invariant.waits c.free.ensures c.wait.ensures.rest c.wait.ensures.waits).2
 
 pub returns-clause-cut : goal.returns-clause-cut

@@ -10,7 +10,8 @@ abbrev pub invariant-loop-place : goal.invariant-loop-place
 invariant-loop-place l = record {
   cutting : IsCutting (HasKey l.initial.self l.key) l.initial.self l.self;
   waits : (x : ℕ) → Waits l.self x ↔ (Waits l.initial.self x ⊎
-      ((p : ℕ) × (p < length l.initial.self.users) × HasKey l.initial.self l.key p × (get_or l.initial.self.users p 0 ≡ x) ×
+      ((p : ℕ) × (p < length l.initial.self.users) × HasKey l.initial.self l.key p
+      × (get_or l.initial.self.users p 0 ≡ x) ×
       (get_or l.self.keys p 0 ≡ 0)));
   paid : IsPaid l.initial.self l.self;
 }

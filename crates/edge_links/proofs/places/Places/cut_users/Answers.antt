@@ -7,7 +7,8 @@ use Rattle.edge_links.specs.Changes.{IsPaid}
 use Rattle.edge_links.specs.Owners.{owned}
 use Rattle.edge_links.proofs.places.Places.cut_users.Goals as goal
 
-next : (old s t : Owners) (user place : ℕ) → IsCutting (HasUser old user) old s → length s.keys ≡ length s.users → place < length s.users
+next : (old s t : Owners) (user place : ℕ) → IsCutting (HasUser old user) old s → length s.keys ≡ length s.users
+    → place < length s.users
     → get_or s.users place 0 ≡ user → (place ≡ user → ⊥) → (user ≡ 0 → ⊥) → t ≡ freed s place
     → IsCutting (HasUser old user) old t × (owned user t.users < owned user s.users)
 next old s t user place c ks l e ne nz q =
@@ -17,7 +18,8 @@ next old s t user place c ks l e ne nz q =
           (λ z. nz (sym z)) in omega arith,
     )
 
-paid : (old s t : Owners) (place : ℕ) → IsPaid old s → t ≡ freed s place → place < length s.users → (get_or s.users place 0 ≡ 0 → ⊥)
+paid : (old s t : Owners) (place : ℕ) → IsPaid old s → t ≡ freed s place → place < length s.users
+    → (get_or s.users place 0 ≡ 0 → ⊥)
     → IsPaid old t
 paid old s t place p q l nz =
     subst (λ (x : Owners). IsPaid old x) (sym q) (let m = owned_more 0 s.users place l nz in omega arith)
@@ -26,10 +28,12 @@ pub loop-place-preserved : goal.loop-place-preserved
 loop-place-preserved c =
     let f = c.in-Some.ensures.first in
     record {
-      cutting = (next c.args.self.now c.loop-place.self c.free.new.self c.args.user c.in-Some.place c.loop-place.invariant.cutting
+      cutting = (next c.args.self.now c.loop-place.self c.free.new.self c.args.user c.in-Some.place
+          c.loop-place.invariant.cutting
           c.in-Some.ensures.edges.keys_size f.0 f.1 f.2 c.requires.there.1 c.free.ensures).0;
       waits = ap (λ (s : Owners). s.waits) c.free.ensures ∙ c.loop-place.invariant.waits;
-      paid = paid c.args.self.now c.loop-place.self c.free.new.self c.in-Some.place c.loop-place.invariant.paid c.free.ensures f.0
+      paid = paid c.args.self.now c.loop-place.self c.free.new.self c.in-Some.place c.loop-place.invariant.paid
+          c.free.ensures f.0
           (λ z. c.requires.there.1 (sym f.1 ∙ z));
     }
 

@@ -10,19 +10,24 @@ invariant_of-self c =
     let f = c.in-Some.ensures in
     let ul = subst (λ (x : Owners). c.args.user < length x.users) (sym c.self.view_is) c.requires.there.0 in
     let kl = subst (λ (x : Owners). c.args.key < length x.users) (sym c.self.view_is) c.requires.there.1 in
-    let hu = subst (λ (x : Owners). get_or x.users c.args.user 0 ≡ c.args.user) (sym c.self.view_is) c.requires.heads.0 in
+    let hu = subst (λ (x : Owners). get_or x.users c.args.user 0 ≡ c.args.user)
+    (sym c.self.view_is) c.requires.heads.0 in
     let hk = subst (λ (x : Owners). get_or x.users c.args.key 0 ≡ c.args.key) (sym c.self.view_is) c.requires.heads.1 in
     subst (λ (x : Owners). ArePlaces x (c.self.inside.spare - 1))
-    (sym (c.move_to-in-Some.ensures ∙ ap (λ (x : Owners). with_owner Key x c.in-Some.place c.args.key) c.move_to.ensures))
-    (filled_places c.self.inside.rings c.in-Some.place c.args.user c.args.key c.self.inside.spare c.self.invariant f.0 f.2 f.1 ul kl
+    (sym (c.move_to-in-Some.ensures
+    ∙ ap (λ (x : Owners). with_owner Key x c.in-Some.place c.args.key) c.move_to.ensures))
+    (filled_places c.self.inside.rings c.in-Some.place c.args.user c.args.key c.self.inside.spare c.self.invariant f.0
+    f.2 f.1 ul kl
     c.requires.some.0 c.requires.some.1 hu hk)
 
 pub returns-in-Some-clause-spare : goal.returns-in-Some-clause-spare
 returns-in-Some-clause-spare c =
     let f = c.in-Some.ensures in
-    ap (λ (x : Owners). owned 0 x.users + 1) (c.move_to-in-Some.ensures ∙ ap (λ (x : Owners). with_owner Key x c.in-Some.place c.args.key)
+    ap (λ (x : Owners). owned 0 x.users + 1)
+    (c.move_to-in-Some.ensures ∙ ap (λ (x : Owners). with_owner Key x c.in-Some.place c.args.key)
     c.move_to.ensures)
-    ∙ (owned_less 0 c.args.user c.self.inside.rings.users c.in-Some.place f.0 f.1 c.requires.some.0 ∙ ap (λ (x : Owners). owned 0 x.users)
+    ∙ (owned_less 0 c.args.user c.self.inside.rings.users c.in-Some.place f.0 f.1 c.requires.some.0
+    ∙ ap (λ (x : Owners). owned 0 x.users)
     c.self.view_is)
 
 pub returns-in_default-clause-filled : goal.returns-in_default-clause-filled

@@ -1,4 +1,5 @@
-use Rattle.std.proofs.Common.{◌≡◌, ℕ, ◌+◌, ◌-◌, ◌<◌, List, Bool, false, cond, nat_eq, length, set, get_or, sym, ◌∙◌, ap, subst, arith, inl, inr, refl}
+use Rattle.std.proofs.Common.{◌≡◌, ℕ, ◌+◌, ◌-◌, ◌<◌, List, Bool, false, cond, nat_eq, length, set, get_or, sym, ◌∙◌, ap}
+use Rattle.std.proofs.Common.{subst, arith, inl, inr, refl}
 use Rattle.edge_links.specs.Changes.{IsParted, IsPaid}
 use Rattle.edge_links.specs.Owners.{Owners, Waits, owned}
 use Rattle.edge_links.specs.PlaceReach.{IsCutOff}
@@ -13,7 +14,8 @@ loop-place-init g c =
     let users : c.wait.new.self.users ≡ c.args.self.now.users = ap (λ (s : Owners). s.users) c.wait.ensures.rest in
     let keys : c.wait.new.self.keys ≡ c.args.self.now.keys = ap (λ (s : Owners). s.keys) c.wait.ensures.rest in
     record {
-      unsettling = begin c.args.self.now c.wait.ensures.was c.args.key (λ x. get_or c.args.self.now.names x 0) c.wait.new.self
+      unsettling = begin c.args.self.now c.wait.ensures.was c.args.key
+          (λ x. get_or c.args.self.now.names x 0) c.wait.new.self
           (g.K.Marks.is_marked c.args.marks.now) c.requires.idle
           c.requires.there.0 c.requires.there.1 c.requires.there.2 users keys c.wait.ensures.waits;
       names = ap (λ (s : Owners). s.names) c.wait.ensures.rest;
@@ -21,24 +23,31 @@ loop-place-init g c =
     }
 
 named : (names names2 : List ℕ) (place name : ℕ) (now new : ℕ → Bool) → name ≡ get_or names2 place 0 → names2 ≡ names
-    → ((m : ℕ) → new m ≡ cond (nat_eq m name) false (now m)) → (m : ℕ) → new m ≡ cond (nat_eq m (get_or names place 0)) false (now m)
-named names names2 place name now new e same clear m = clear m ∙ ap (λ y. cond (nat_eq m y) false (now m)) (e ∙ ap (λ xs. get_or xs place 0) same)
+    → ((m : ℕ) → new m ≡ cond (nat_eq m name) false (now m)) → (m : ℕ)
+    → new m ≡ cond (nat_eq m (get_or names place 0)) false (now m)
+named names names2 place name now new e same clear m =
+    clear m ∙ ap (λ y. cond (nat_eq m y) false (now m)) (e ∙ ap (λ xs. get_or xs place 0) same)
 
 pub loop-place-preserved : goal.loop-place-preserved
 loop-place-preserved g c =
     let t = c.in-Some.ensures.taken in
     let users : c.take.new.self.users ≡ c.loop-place.self.users = ap (λ (s : Owners). s.users) t.2 in
     let keys : c.take.new.self.keys ≡ c.loop-place.self.keys = ap (λ (s : Owners). s.keys) t.2 in
-    let waits : c.take.new.self.waits ≡ set c.loop-place.self.waits c.in-Some.place false = ap (λ (s : Owners). s.waits) t.2 in
-    let names : c.take.new.self.names ≡ c.args.self.now.names = ap (λ (s : Owners). s.names) t.2 ∙ c.loop-place.invariant.names in
+    let waits : c.take.new.self.waits ≡ set c.loop-place.self.waits c.in-Some.place false =
+    ap (λ (s : Owners). s.waits) t.2 in
+    let names : c.take.new.self.names ≡ c.args.self.now.names = ap (λ (s : Owners). s.names) t.2
+    ∙ c.loop-place.invariant.names in
     record {
-      unsettling = step c.args.self.now c.wait.ensures.was c.args.key (λ x. get_or c.args.self.now.names x 0) c.loop-place.self
+      unsettling = step c.args.self.now c.wait.ensures.was c.args.key
+          (λ x. get_or c.args.self.now.names x 0) c.loop-place.self
           c.take.new.self c.cut_users.new.self c.cut_keys.new.self c.in-Some.place
           (g.K.Marks.is_marked c.args.marks.now) (g.K.Marks.is_marked c.loop-place.marks)
           c.loop-place.invariant.unsettling (t.0, t.1, waits) users keys c.in-Some.ensures.edges
-          c.cut_users.ensures.cut c.cut_users.ensures.waits c.cut_users.ensures.size c.cut_keys.ensures.cut c.cut_keys.ensures.waits
+          c.cut_users.ensures.cut c.cut_users.ensures.waits c.cut_users.ensures.size c.cut_keys.ensures.cut
+          c.cut_keys.ensures.waits
           c.cut_keys.ensures.size (g.K.Marks.is_marked c.clear.new.self)
-          (named c.args.self.now.names c.take.new.self.names c.in-Some.place c.name.result (g.K.Marks.is_marked c.loop-place.marks)
+          (named c.args.self.now.names c.take.new.self.names c.in-Some.place c.name.result
+          (g.K.Marks.is_marked c.loop-place.marks)
           (g.K.Marks.is_marked c.clear.new.self) c.name.ensures names c.clear.ensures.marks);
       names = c.cut_keys.ensures.names ∙ (c.cut_users.ensures.names ∙ names);
       stays = g.met.K.Marks.stays_on c.args.marks.now c.loop-place.marks c.clear.new.self c.loop-place.invariant.stays
@@ -46,7 +55,8 @@ loop-place-preserved g c =
     }
 
 -- the place that was taken is a head
-head_taken : (old s0 s : Owners) (x key : ℕ) (name : ℕ → ℕ) (marks now : ℕ → Bool) → IsUnsettling old s0 name marks now key → Waits s0 x
+head_taken : (old s0 s : Owners) (x key : ℕ) (name : ℕ → ℕ) (marks now : ℕ → Bool)
+    → IsUnsettling old s0 name marks now key → Waits s0 x
     → s.users ≡ s0.users → get_or s.users x 0 ≡ x
 head_taken old s0 s x key name marks now u w us =
     let r = u.reached x (inr w) in
@@ -55,25 +65,33 @@ head_taken old s0 s x key name marks now u w us =
 pub cut_users-requires-clause-head : goal.cut_users-requires-clause-head
 cut_users-requires-clause-head g c =
     let t = c.in-Some.ensures.taken in
-    head_taken c.args.self.now c.loop-place.self c.take.new.self c.in-Some.place c.args.key (λ x. get_or c.args.self.now.names x 0)
-    (g.K.Marks.is_marked c.args.marks.now) (g.K.Marks.is_marked c.loop-place.marks) c.loop-place.invariant.unsettling t.1
+    head_taken c.args.self.now c.loop-place.self c.take.new.self c.in-Some.place c.args.key
+    (λ x. get_or c.args.self.now.names x 0)
+    (g.K.Marks.is_marked c.args.marks.now) (g.K.Marks.is_marked c.loop-place.marks) c.loop-place.invariant.unsettling
+    t.1
     (ap (λ (s : Owners). s.users) t.2)
 
 -- it stays one without its edges
 pub cut_keys-requires-clause-head : goal.cut_keys-requires-clause-head
 cut_keys-requires-clause-head g c =
     let t = c.in-Some.ensures.taken in
-    let there : c.in-Some.place < length c.take.new.self.users = let a = t.0 in let b = ap (λ (s : Owners). length s.users) t.2 in omega arith in
+    let there : c.in-Some.place < length c.take.new.self.users = let a = t.0 in let b =
+    ap (λ (s : Owners). length s.users) t.2 in omega arith in
     ((c.cut_users.ensures.cut c.in-Some.place there).1 (λ h. h.0 refl)).0
-    ∙ head_taken c.args.self.now c.loop-place.self c.take.new.self c.in-Some.place c.args.key (λ x. get_or c.args.self.now.names x 0)
-    (g.K.Marks.is_marked c.args.marks.now) (g.K.Marks.is_marked c.loop-place.marks) c.loop-place.invariant.unsettling t.1
+    ∙ head_taken c.args.self.now c.loop-place.self c.take.new.self c.in-Some.place c.args.key
+    (λ x. get_or c.args.self.now.names x 0)
+    (g.K.Marks.is_marked c.args.marks.now) (g.K.Marks.is_marked c.loop-place.marks) c.loop-place.invariant.unsettling
+    t.1
     (ap (λ (s : Owners). s.users) t.2)
 
-less : (s0 s t v : Owners) (x : ℕ) → Waits s0 x → s.waits ≡ set s0.waits x false → s.users ≡ s0.users → length t.users ≡ length s.users
+less : (s0 s t v : Owners) (x : ℕ) → Waits s0 x → s.waits ≡ set s0.waits x false → s.users ≡ s0.users
+    → length t.users ≡ length s.users
     → length v.users ≡ length t.users → IsPaid s t → IsPaid t v
-    → waiting_count v.waits + (length v.users - owned 0 v.users) < waiting_count s0.waits + (length s0.users - owned 0 s0.users)
+    → waiting_count v.waits + (length v.users - owned 0 v.users)
+    < waiting_count s0.waits + (length s0.users - owned 0 s0.users)
 less s0 s t v x q e u l m a b =
-    let w : waiting_count s.waits + 1 ≡ waiting_count s0.waits = ap (λ y. waiting_count y + 1) e ∙ waiting_set s0.waits x q in
+    let w : waiting_count s.waits + 1 ≡ waiting_count s0.waits = ap (λ y. waiting_count y + 1) e
+    ∙ waiting_set s0.waits x q in
     let o : owned 0 s.users ≡ owned 0 s0.users = ap (owned 0) u in
     let n : length s.users ≡ length s0.users = ap length u in
     let h = owned_le 0 v.users in
@@ -82,7 +100,8 @@ less s0 s t v x q e u l m a b =
 pub loop-place-smaller : goal.loop-place-smaller
 loop-place-smaller g c =
     let t = c.in-Some.ensures.taken in
-    less c.loop-place.self c.take.new.self c.cut_users.new.self c.cut_keys.new.self c.in-Some.place t.1 (ap (λ (s : Owners). s.waits) t.2)
+    less c.loop-place.self c.take.new.self c.cut_users.new.self c.cut_keys.new.self c.in-Some.place t.1
+    (ap (λ (s : Owners). s.waits) t.2)
     (ap (λ (s : Owners). s.users) t.2)
     c.cut_users.ensures.size c.cut_keys.ensures.size c.cut_users.ensures.paid c.cut_keys.ensures.paid
 

@@ -6,7 +6,8 @@ use Rattle.edge_links.specs.Waiting.{waiting_count}
 
 abbrev pub invariant-loop-place : goal.invariant-loop-place
 invariant-loop-place g l = record {
-  unsettling : IsUnsettling l.fn.self l.self (slice_index l.fn.self.names) (g.K.Marks.is_marked l.fn.marks) (g.K.Marks.is_marked l.marks) l.key;
+  unsettling : IsUnsettling l.fn.self l.self (slice_index l.fn.self.names) (g.K.Marks.is_marked l.fn.marks)
+      (g.K.Marks.is_marked l.marks) l.key;
   names : l.self.names ≡ l.fn.self.names;
   stays : g.K.Marks.stays l.fn.marks l.marks;
 }

@@ -6,10 +6,13 @@ use Rattle.edge_links.proofs.rings.Rings.add_head.Goals as goal
 
 -- one more place, or all as before
 still_linked : {E : Type 0} (c d : Columns) (top : Option ℕ) (name : ℕ) (r : Result ℕ E) → AreLinked c top
-    → IfOk r (λ p. (p ≡ length c.names) × (p + 1 < 2 ^ 64) × (d ≡ with_slot c p name)) → OnErr r (d ≡ c) → AreLinked d top
-still_linked c d top name (Ok p) l ok err = subst (λ (x : Columns). AreLinked x top) (sym ok.2) (grown_linked c top p name l ok.0)
+    → IfOk r (λ p. (p ≡ length c.names) × (p + 1 < 2 ^ 64) × (d ≡ with_slot c p name)) → OnErr r (d ≡ c)
+    → AreLinked d top
+still_linked c d top name (Ok p) l ok err =
+    subst (λ (x : Columns). AreLinked x top) (sym ok.2) (grown_linked c top p name l ok.0)
 still_linked c d top name (Err e) l ok err = subst (λ (x : Columns). AreLinked x top) (sym err) l
 
 pub invariant_of-self : goal.invariant_of-self
-invariant_of-self c = still_linked c.self.inside.slots c.push.new.self c.self.inside.last_waiting c.args.name c.push.result
+invariant_of-self c =
+    still_linked c.self.inside.slots c.push.new.self c.self.inside.last_waiting c.args.name c.push.result
     c.self.invariant c.push.ensures.ok c.push.ensures.err

@@ -14,11 +14,14 @@ none : (side : Side) (c : Columns) (top : Option ℕ) (now : Owners) (h p : ℕ)
 none side c top now h p linked v l r e q m o =
     let same = same_owners side c now v in
     let are = rings_at side c top linked in
-    alone (length (ring_of side c).owner) (λ k. get_or (ring_of side c).next k 0) (λ k. get_or (ring_of side c).prev k 0)
+    alone (length (ring_of side c).owner) (λ k. get_or (ring_of side c).next k 0)
+    (λ k. get_or (ring_of side c).prev k 0)
     (λ k. get_or (ring_of side c).owner k 0) are.ring h q
-    (subst (λ xs. h < length xs) same l) (sym r ∙ e) (subst (λ xs. q < length xs) same m) (subst (λ xs. get_or xs q 0 ≡ h) same o)
+    (subst (λ xs. h < length xs) same l) (sym r ∙ e) (subst (λ xs. q < length xs) same m)
+    (subst (λ xs. get_or xs q 0 ≡ h) same o)
 
 pub returns-then-place-head : goal.returns-then-place-head
 returns-then-place-head c =
-    none c.args.side c.self.inside.slots c.self.inside.last_waiting c.args.self.now c.args.head c.seat-place.result.next c.self.invariant
+    none c.args.side c.self.inside.slots c.self.inside.last_waiting c.args.self.now c.args.head c.seat-place.result.next
+    c.self.invariant
     c.self.view_is c.requires.there c.seat-place.ensures.next c.if-place-head.true

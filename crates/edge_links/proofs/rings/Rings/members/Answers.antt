@@ -10,7 +10,8 @@ use Rattle.edge_links.proofs.rings.Rings.members.Goals as goal
 pub loop-place-init : goal.loop-place-init
 loop-place-init c =
     let same = same_owners c.args.side c.self.inside.slots c.args.self.now c.self.view_is in
-    subst (λ xs. IsWalking (ring_of c.args.side c.self.inside.slots) c.args.head c.seat-place.result.prev xs) (sym c.new-places.ensures.items)
+    subst (λ xs. IsWalking (ring_of c.args.side c.self.inside.slots) c.args.head c.seat-place.result.prev xs)
+    (sym c.new-places.ensures.items)
     (subst (λ q. IsWalking (ring_of c.args.side c.self.inside.slots) c.args.head q []) (sym c.seat-place.ensures.prev)
     (walking_start (ring_of c.args.side c.self.inside.slots) c.args.head
     (rings_at c.args.side c.self.inside.slots c.self.inside.last_waiting c.self.invariant)
@@ -19,11 +20,14 @@ loop-place-init c =
 
 pub loop-place-preserved : goal.loop-place-preserved
 loop-place-preserved c =
-    subst (λ xs. IsWalking (ring_of c.args.side c.self.inside.slots) c.args.head c.seat-place-in-loop-place.result.prev xs)
+    subst (λ xs. IsWalking (ring_of c.args.side c.self.inside.slots) c.args.head c.seat-place-in-loop-place.result.prev
+    xs)
     (sym c.in_ok-push.ensures.items)
-    (subst (λ q. IsWalking (ring_of c.args.side c.self.inside.slots) c.args.head q (c.loop-place.places.items ++ c.loop-place.place ∷ []))
+    (subst (λ q. IsWalking (ring_of c.args.side c.self.inside.slots) c.args.head q
+    (c.loop-place.places.items ++ c.loop-place.place ∷ []))
     (sym c.seat-place-in-loop-place.ensures.prev)
-    (walking_next (ring_of c.args.side c.self.inside.slots) c.args.head c.loop-place.place c.loop-place.places.items c.loop-place.invariant
+    (walking_next (ring_of c.args.side c.self.inside.slots) c.args.head c.loop-place.place c.loop-place.places.items
+    c.loop-place.invariant
     c.loop-place-test.true))
 
 less : (met more : List ℕ) (place n : ℕ) → more ≡ met ++ place ∷ [] → length met < n → n - length more < n - length met
@@ -31,9 +35,11 @@ less met more place n e l = let a = ap length e ∙ length-append met (place ∷
 
 pub loop-place-smaller : goal.loop-place-smaller
 loop-place-smaller c =
-    less c.loop-place.places.items c.push.new.self.items c.loop-place.place (length (ring_of c.args.side c.self.inside.slots).owner)
+    less c.loop-place.places.items c.push.new.self.items c.loop-place.place
+    (length (ring_of c.args.side c.self.inside.slots).owner)
     c.in_ok-push.ensures.items
-    (walking_less (ring_of c.args.side c.self.inside.slots) c.args.head c.loop-place.place c.loop-place.places.items c.loop-place.invariant
+    (walking_less (ring_of c.args.side c.self.inside.slots) c.args.head c.loop-place.place c.loop-place.places.items
+    c.loop-place.invariant
     c.loop-place-test.true)
 
 pub returns : goal.returns
@@ -41,5 +47,6 @@ returns c =
     subst (λ (xs : List ℕ). AreMembers xs c.args.head c.loop-place.places.items)
     (sym (same_owners c.args.side c.self.inside.slots c.args.self.now c.self.view_is))
     (walking_end (ring_of c.args.side c.self.inside.slots) c.args.head c.loop-place.places.items
-    (subst (λ q. IsWalking (ring_of c.args.side c.self.inside.slots) c.args.head q c.loop-place.places.items) c.loop-place-test.false
+    (subst (λ q. IsWalking (ring_of c.args.side c.self.inside.slots) c.args.head q c.loop-place.places.items)
+    c.loop-place-test.false
     c.loop-place.invariant))

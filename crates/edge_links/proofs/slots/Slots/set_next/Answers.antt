@@ -12,6 +12,7 @@ returns-in-User c =
 
 pub returns-in-Key : goal.returns-in-Key
 returns-in-Key c =
-    key_next c.self.inside.slots.items c.args.place c.index_mut-in-Key.result.now c.index_mut-in-Key.ensures.value c.args.next
+    key_next c.self.inside.slots.items c.args.place c.index_mut-in-Key.result.now c.index_mut-in-Key.ensures.value
+    c.args.next
     ∙ (ap (λ (x : Columns). with_next Key x c.args.place c.args.next) c.self.view_is ∙ ap
     (λ side. with_next side c.args.self.now c.args.place c.args.next) (sym c.in-Key.is))

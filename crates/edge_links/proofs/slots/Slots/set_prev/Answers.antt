@@ -12,6 +12,7 @@ returns-in-User c =
 
 pub returns-in-Key : goal.returns-in-Key
 returns-in-Key c =
-    key_prev c.self.inside.slots.items c.args.place c.index_mut-in-Key.result.now c.index_mut-in-Key.ensures.value c.args.prev
+    key_prev c.self.inside.slots.items c.args.place c.index_mut-in-Key.result.now c.index_mut-in-Key.ensures.value
+    c.args.prev
     ∙ (ap (λ (x : Columns). with_prev Key x c.args.place c.args.prev) c.self.view_is ∙ ap
     (λ side. with_prev side c.args.self.now c.args.place c.args.prev) (sym c.in-Key.is))

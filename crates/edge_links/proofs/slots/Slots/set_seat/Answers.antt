@@ -12,6 +12,7 @@ returns-in-User c =
 
 pub returns-in-Key : goal.returns-in-Key
 returns-in-Key c =
-    key_seat c.self.inside.slots.items c.args.place c.index_mut-in-Key.result.now c.index_mut-in-Key.ensures.value c.args.seat
+    key_seat c.self.inside.slots.items c.args.place c.index_mut-in-Key.result.now c.index_mut-in-Key.ensures.value
+    c.args.seat
     ∙ (ap (λ (x : Columns). with_seat Key x c.args.place c.args.seat) c.self.view_is ∙ ap
     (λ side. with_seat side c.args.self.now c.args.place c.args.seat) (sym c.in-Key.is))

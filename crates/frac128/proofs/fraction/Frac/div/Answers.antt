@@ -26,13 +26,19 @@ fitting-requires-clause-lowest c =
 
 pub returns-in-Some : goal.returns-in-Some
 returns-in-Some c =
-    let low = rw (c.top.ensures.is, c.bottom.ensures.is, c.top-2.ensures.is, c.bottom-2.ensures.is) at c.in-Some.ensures.found in
-    let signs : c.differ-negative.result ≡ signs_differ c.args.self.now.num c.args.other.now.num = rw (← c.is_negative.ensures, ← c.is_negative-2.ensures) c.differ-negative.ensures in
+    let low = rw (c.top.ensures.is, c.bottom.ensures.is, c.top-2.ensures.is, c.bottom-2.ensures.is) at
+    c.in-Some.ensures.found in
+    let signs : c.differ-negative.result ≡ signs_differ c.args.self.now.num c.args.other.now.num =
+    rw (← c.is_negative.ensures, ← c.is_negative-2.ensures) c.differ-negative.ensures in
     c.fitting.ensures
     ∙ ap (λ s. fitting (record { num = signed s c.in-Some.top; den = c.in-Some.bottom })) signs
-    ∙ sym (over_is c.args.self.now c.args.other.now c.in-Some.top c.in-Some.bottom (rw (← c.bottom.ensures.is) c.bottom.ensures.some) (rw (← c.bottom-2.ensures.is) c.bottom-2.ensures.some) (grind (arith, common_steps)) low)
+    ∙ sym (over_is c.args.self.now c.args.other.now c.in-Some.top c.in-Some.bottom
+    (rw (← c.bottom.ensures.is) c.bottom.ensures.some) (rw (← c.bottom-2.ensures.is) c.bottom-2.ensures.some)
+    (grind (arith, common_steps)) low)
 
 pub returns-in-None : goal.returns-in-None
 returns-in-None c =
-    let wide = rw (c.top.ensures.is, c.bottom.ensures.is, c.top-2.ensures.is, c.bottom-2.ensures.is) at c.in-None.ensures.wide in
-    sym (over_wide c.args.self.now c.args.other.now (rw (← c.bottom.ensures.is) c.bottom.ensures.some) (rw (← c.bottom-2.ensures.is) c.bottom-2.ensures.some) (grind (arith, common_steps)) wide)
+    let wide = rw (c.top.ensures.is, c.bottom.ensures.is, c.top-2.ensures.is, c.bottom-2.ensures.is) at
+    c.in-None.ensures.wide in
+    sym (over_wide c.args.self.now c.args.other.now (rw (← c.bottom.ensures.is) c.bottom.ensures.some)
+    (rw (← c.bottom-2.ensures.is) c.bottom-2.ensures.some) (grind (arith, common_steps)) wide)

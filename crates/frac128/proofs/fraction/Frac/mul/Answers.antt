@@ -13,20 +13,27 @@ pub lowest_product-requires-clause-lowest_cd : goal.lowest_product-requires-clau
 lowest_product-requires-clause-lowest_cd c = rw c.bottom-2.ensures.is c.top-2.ensures.lowest
 
 pub fitting-requires-clause-some : goal.fitting-requires-clause-some
-fitting-requires-clause-some c = lowest_some _ _ _ _ (mul-pos c.bottom.ensures.some c.bottom-2.ensures.some) c.in-Some.ensures.found
+fitting-requires-clause-some c =
+    lowest_some _ _ _ _ (mul-pos c.bottom.ensures.some c.bottom-2.ensures.some) c.in-Some.ensures.found
 
 pub fitting-requires-clause-lowest : goal.fitting-requires-clause-lowest
-fitting-requires-clause-lowest c = lowest_gcd _ _ _ _ (mul-pos c.bottom.ensures.some c.bottom-2.ensures.some) c.in-Some.ensures.found
+fitting-requires-clause-lowest c =
+    lowest_gcd _ _ _ _ (mul-pos c.bottom.ensures.some c.bottom-2.ensures.some) c.in-Some.ensures.found
 
 pub returns-in-Some : goal.returns-in-Some
 returns-in-Some c =
-    let low = rw (c.top.ensures.is, c.bottom.ensures.is, c.top-2.ensures.is, c.bottom-2.ensures.is) at c.in-Some.ensures.found in
-    let signs : c.differ-negative.result ≡ signs_differ c.args.self.now.num c.args.other.now.num = rw (← c.is_negative.ensures, ← c.is_negative-2.ensures) c.differ-negative.ensures in
+    let low = rw (c.top.ensures.is, c.bottom.ensures.is, c.top-2.ensures.is, c.bottom-2.ensures.is) at
+    c.in-Some.ensures.found in
+    let signs : c.differ-negative.result ≡ signs_differ c.args.self.now.num c.args.other.now.num =
+    rw (← c.is_negative.ensures, ← c.is_negative-2.ensures) c.differ-negative.ensures in
     c.fitting.ensures
     ∙ ap (λ s. fitting (record { num = signed s c.in-Some.top; den = c.in-Some.bottom })) signs
-    ∙ sym (times_is c.args.self.now c.args.other.now c.in-Some.top c.in-Some.bottom (rw (← c.bottom.ensures.is) c.bottom.ensures.some) (rw (← c.bottom-2.ensures.is) c.bottom-2.ensures.some) low)
+    ∙ sym (times_is c.args.self.now c.args.other.now c.in-Some.top c.in-Some.bottom
+    (rw (← c.bottom.ensures.is) c.bottom.ensures.some) (rw (← c.bottom-2.ensures.is) c.bottom-2.ensures.some) low)
 
 pub returns-in-None : goal.returns-in-None
 returns-in-None c =
-    let wide = rw (c.top.ensures.is, c.bottom.ensures.is, c.top-2.ensures.is, c.bottom-2.ensures.is) at c.in-None.ensures.wide in
-    sym (times_wide c.args.self.now c.args.other.now (rw (← c.bottom.ensures.is) c.bottom.ensures.some) (rw (← c.bottom-2.ensures.is) c.bottom-2.ensures.some) wide)
+    let wide = rw (c.top.ensures.is, c.bottom.ensures.is, c.top-2.ensures.is, c.bottom-2.ensures.is) at
+    c.in-None.ensures.wide in
+    sym (times_wide c.args.self.now c.args.other.now (rw (← c.bottom.ensures.is) c.bottom.ensures.some)
+    (rw (← c.bottom-2.ensures.is) c.bottom-2.ensures.some) wide)

@@ -1,7 +1,7 @@
 use Rattle.std.proofs.Common.{◌≡◌, ◌-ℤ◌, ℕ, ℤ, pos, neg_ℤ, unsigned_abs, ap, ◌∙◌, arith, SFits, rules}
 use mir.Syntax.{w128}
 use Rattle.std.proofs.lemmas.Int.{ints, to_z-of_z}
-use Rattle.frac128.specs.Fraction.{IsKept}
+use Rattle.frac128.specs.Fraction.{IsFrac}
 use Rattle.frac128.proofs.Signs.{abs-neg}
 use Rattle.frac128.proofs.fraction.Frac.negate.Goals as goal
 
@@ -13,7 +13,7 @@ abs-minus z = ap unsigned_abs (minus_is z) ∙ abs-neg z
     minus_is z = omega (arith, ints)
 
 -- the other sign keeps a fraction in lowest terms and in range
-kept_minus : (z : ℤ) (d : ℕ) → IsKept (record { num = z; den = d }) → IsKept (record { num = pos 0 -ℤ z; den = d })
+kept_minus : (z : ℤ) (d : ℕ) → IsFrac (record { num = z; den = d }) → IsFrac (record { num = pos 0 -ℤ z; den = d })
 kept_minus z d kept = record {
   reduced = record { positive = kept.reduced.positive; lowest = rw (abs-minus z) kept.reduced.lowest };
   num_fits = rw (abs-minus z) kept.num_fits;

@@ -7,7 +7,8 @@ use Rattle.frac128.proofs.Signs.{ratio-signed, ratio_is, some_abs}
 use Rattle.frac128.proofs.fraction.Frac.new.Goals as goal
 
 -- a quotient by its sign and magnitudes
-by_signs : (n d : ℤ) → 0 < unsigned_abs d → ratio n d ≡ ratio (signed (signs_differ n d) (unsigned_abs n)) (pos (unsigned_abs d))
+by_signs : (n d : ℤ) → 0 < unsigned_abs d
+    → ratio n d ≡ ratio (signed (signs_differ n d) (unsigned_abs n)) (pos (unsigned_abs d))
 by_signs n d some =
     ratio_is n d _ _ some (record { top_is = refl; bottom_is = refl })
     ∙ sym (ratio-signed _ (unsigned_abs n) (unsigned_abs d) _ _ some (record { top_is = refl; bottom_is = refl }))
@@ -15,7 +16,8 @@ by_signs n d some =
 pub lowered-requires-clause-some : goal.lowered-requires-clause-some
 lowered-requires-clause-some c =
     let fits_d = c.ranges.d in
-    rw (simp to_z-of_z at c.unsigned_abs-bottom.ensures.value) (some_abs c.args.d (λ e. c.if-d-eq0.false (ap (of_z w128) e)))
+    rw (simp to_z-of_z at c.unsigned_abs-bottom.ensures.value)
+    (some_abs c.args.d (λ e. c.if-d-eq0.false (ap (of_z w128) e)))
 
 pub returns : goal.returns
 returns c =

@@ -21,16 +21,21 @@ returns-then-k-ge0 c =
       some = c.bottom-bottom.ensures.some;
       lowest = c.top-top.ensures.lowest;
     } in
-    c.raised.ensures ∙ power_at _ _ _ _ _ _ made (simp to_z-of_z at c.unsigned_abs-times.ensures.value) (simp to_z-of_z at c.if-k-ge0.true)
+    c.raised.ensures
+    ∙ power_at _ _ _ _ _ _ made (simp to_z-of_z at c.unsigned_abs-times.ensures.value)
+    (simp to_z-of_z at c.if-k-ge0.true)
 
 pub returns-else-top-eq0 : goal.returns-else-top-eq0
 returns-else-top-eq0 c =
     let fits : SFits w32 c.args.k = c.ranges.k in
-    let made : IsMade c.args.self.now c.is_negative-else-top-eq0.result c.top-top.result c.bottom-bottom.result = record {
+    let made : IsMade c.args.self.now c.is_negative-else-top-eq0.result c.top-top.result c.bottom-bottom.result =
+    record {
       s_is = c.is_negative-else-top-eq0.ensures;
       a_is = c.top-top.ensures.is;
       b_is = c.bottom-bottom.ensures.is;
       some = c.bottom-bottom.ensures.some;
       lowest = c.top-top.ensures.lowest;
     } in
-    c.raised-else-top-eq0.ensures ∙ power_below _ _ _ _ _ _ made (simp to_z-of_z at c.unsigned_abs-times.ensures.value) (simp to_z-of_z at c.if-k-ge0.false) (omega arith)
+    c.raised-else-top-eq0.ensures
+    ∙ power_below _ _ _ _ _ _ made (simp to_z-of_z at c.unsigned_abs-times.ensures.value)
+    (simp to_z-of_z at c.if-k-ge0.false) (omega arith)

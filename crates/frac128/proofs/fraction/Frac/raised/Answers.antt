@@ -7,4 +7,5 @@ fitting-requires-clause-some c = rw c.in-Some-Some.ensures'.1 (pow_some _ _ c.re
 
 pub fitting-requires-clause-lowest : goal.fitting-requires-clause-lowest
 fitting-requires-clause-lowest c =
-    rw (c.in-Some-Some.ensures.1, c.in-Some-Some.ensures'.1) (is_coprime _ _ (coprime-pow _ _ _ (coprime_is _ _ c.requires.lowest)))
+    rw (c.in-Some-Some.ensures.1, c.in-Some-Some.ensures'.1)
+    (is_coprime _ _ (coprime-pow _ _ _ (coprime_is _ _ c.requires.lowest)))

@@ -2,4 +2,6 @@ use Rattle.frac128.proofs.ComputedRoots.{root_is}
 use Rattle.frac128.proofs.fraction.Frac.root.Goals as goal
 
 pub returns-clause-computed : goal.returns-clause-computed
-returns-clause-computed c = root_is c.args.self.now c.args.q c.root_by_parts.result c.den.ensures.kept.reduced c.requires c.root_by_parts.ensures
+returns-clause-computed c =
+    root_is c.args.self.now c.args.q c.root_by_parts.result c.den.ensures.kept.reduced c.requires
+    c.root_by_parts.ensures

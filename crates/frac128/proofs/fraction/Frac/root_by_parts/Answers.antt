@@ -2,7 +2,8 @@ use Rattle.std.proofs.Common.{◌≡◌, ◌%◌, true, false, sym, subst, ◌�
 use Rattle.frac128.specs.Roots.{IsRootAnswer}
 use Rattle.frac128.proofs.Powers.{IsMade}
 use Rattle.frac128.proofs.Roots.{root_lowest, root_made, root_some}
-use Rattle.frac128.proofs.fraction.Frac.root_by_parts.Goals.{else-negative-via-then-negative+else-q-eq0, else-negative-via-else-negative}
+use Rattle.frac128.proofs.fraction.Frac.root_by_parts.Goals.{else-negative-via-then-negative+else-q-eq0}
+use Rattle.frac128.proofs.fraction.Frac.root_by_parts.Goals.{else-negative-via-else-negative}
 use Rattle.frac128.proofs.fraction.Frac.root_by_parts.Goals as goal
 
 differs : true ≡ false → ⊥
@@ -12,7 +13,9 @@ pub fitting-requires-clause-some : goal.fitting-requires-clause-some
 fitting-requires-clause-some c = root_some _ _ _ c.requires c.in-Some-Some.ensures' c.bottom.ensures.some
 
 pub fitting-requires-clause-lowest : goal.fitting-requires-clause-lowest
-fitting-requires-clause-lowest c = root_lowest _ _ _ _ _ c.requires c.in-Some-Some.ensures c.in-Some-Some.ensures' (rw c.bottom.ensures.is c.top.ensures.lowest)
+fitting-requires-clause-lowest c =
+    root_lowest _ _ _ _ _ c.requires c.in-Some-Some.ensures c.in-Some-Some.ensures'
+    (rw c.bottom.ensures.is c.top.ensures.lowest)
 
 pub returns-in-Some-Some : goal.returns-in-Some-Some
 returns-in-Some-Some c =
@@ -28,4 +31,5 @@ returns-in-Some-Some c =
       | else-negative-via-else-negative w ↦ λ e h. differs (sym e ∙ w.if-negative.false)
     ] in
     subst (IsRootAnswer c.args.self.now c.args.q) (sym c.fitting.ensures)
-    (root_made _ _ _ _ _ _ _ made c.requires c.in-Some-Some.ensures c.in-Some-Some.ensures' c.top.ensures.fits c.bottom.ensures.fits odd)
+    (root_made _ _ _ _ _ _ _ made c.requires c.in-Some-Some.ensures c.in-Some-Some.ensures' c.top.ensures.fits
+    c.bottom.ensures.fits odd)

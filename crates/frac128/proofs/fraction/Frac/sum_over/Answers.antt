@@ -1,4 +1,5 @@
-use Rattle.std.proofs.Common.{◌≡◌, ◌<◌, ◌<ℤ◌, ◌≤◌, ◌^◌, ℕ, ℤ, pos, negsuc, unsigned_abs, int_lt, SFits, of_z, to_z, arith, sym, ap, ◌∙◌}
+use Rattle.std.proofs.Common.{◌≡◌, ◌<◌, ◌<ℤ◌, ◌≤◌, ◌^◌, ℕ, ℤ, pos, negsuc, unsigned_abs, int_lt, SFits, of_z, to_z}
+use Rattle.std.proofs.Common.{arith, sym, ap, ◌∙◌}
 use mir.Syntax.{w128}
 use Rattle.std.proofs.lemmas.Int.{ints, to_z-of_z}
 use Rattle.frac128.specs.Fraction.{most}
@@ -15,7 +16,8 @@ not_least (pos n) fits other = let h = fits.sfits in omega arith
 not_least (negsuc n) fits other = let h = fits.sfits in omega arith
 
 -- a ratio by its sign and magnitudes, over a number above 0
-ratio_over : (sum m : ℤ) (top bottom : ℕ) → top ≡ unsigned_abs sum → bottom ≡ unsigned_abs m → pos 0 <ℤ m → unsigned_abs m ≤ most
+ratio_over : (sum m : ℤ) (top bottom : ℕ) → top ≡ unsigned_abs sum → bottom ≡ unsigned_abs m → pos 0 <ℤ m
+    → unsigned_abs m ≤ most
     → unsigned_abs sum ≤ most
     → ratio (signed (int_lt sum (pos 0)) top) (pos bottom) ≡ sum_over (unsigned_abs m) sum
 ratio_over sum (pos m) top bottom p q some low h =
@@ -58,5 +60,6 @@ returns-in-Some c =
     let back : to_z w128 (of_z w128 c.in-Some.sum) ≡ c.in-Some.sum = simp to_z-of_z in
     c.lowered.ensures
     ∙ ap (λ z. ratio (signed (int_lt z (pos 0)) c.unsigned_abs-top.result) (pos c.unsigned_abs-bottom.result)) back
-    ∙ ratio_over c.in-Some.sum c.args.multiple _ _ top bottom c.requires.some c.requires.multiple (not_least _ fits_sum c.if-sum.true)
+    ∙ ratio_over c.in-Some.sum c.args.multiple _ _ top bottom c.requires.some c.requires.multiple
+    (not_least _ fits_sum c.if-sum.true)
     ∙ ap (sum_over (unsigned_abs c.args.multiple)) facts.1

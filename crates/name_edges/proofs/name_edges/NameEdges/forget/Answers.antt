@@ -3,13 +3,13 @@ use Rattle.std.specs.Prelude.{◌&&◌}
 use Rattle.edge_links.specs.Reach.{IsCleared}
 use Rattle.name_edges.specs.Affected.{Forgets, IsAffected}
 use Rattle.name_edges.specs.NameGraphs.{NameGraph}
-use Rattle.name_edges.specs.Nodes.{shown}
+use Rattle.name_edges.specs.Nodes.{name_graph}
 use Rattle.name_edges.proofs.Nodes.{cleared, forgotten, marked_at}
 use Rattle.name_edges.proofs.name_edges.NameEdges.forget.Goals as goal
 
 pub returns-clause-edges : goal.returns-clause-edges
 returns-clause-edges g c =
-    subst (λ (x : NameGraph). Forgets (IsAffected x c.args.key) x (shown c.unsettle-2.new.self)) c.self.view_is
+    subst (λ (x : NameGraph). Forgets (IsAffected x c.args.key) x (name_graph c.unsettle-2.new.self)) c.self.view_is
     (forgotten c.self.inside.links c.self.invariant c.args.key c.unsettle.new.self.edges c.unsettle-2.new.self.edges
     c.unsettle.ensures.edges c.unsettle-2.ensures.edges c.unsettle-2.new.self
     (c.unsettle-2.ensures.nodes ∙ c.unsettle.ensures.nodes) refl)

@@ -23,7 +23,8 @@ returns-then-are_some-2-clause-taken g c =
     (g.L.Looking.looked c.try_key.new.looking) (g.L.Looking.looked c.try_key-2.new.looking) c.in_ok-targets.targets
     c.in_ok-targets-2.targets (sym c.are_some.ensures ∙ c.if-are_some.false) c.in_ok-targets.ensures.taken
     (ended_there has second (try_parts c.args.word.now) (g.L.Looking.looked c.try_key.new.looking)
-    (g.L.Looking.looked c.try_key-2.new.looking) c.in_ok-targets-2.targets (sym c.are_some-2.ensures ∙ c.if-are_some-2.true)
+    (g.L.Looking.looked c.try_key-2.new.looking) c.in_ok-targets-2.targets
+    (sym c.are_some-2.ensures ∙ c.if-are_some-2.true)
     c.in_ok-targets-2.ensures.taken)
 
 pub returns-clause-taken : goal.returns-clause-taken

@@ -6,8 +6,10 @@ use Rattle.name_lookup.proofs.searching.Search.try_prefixes.Goals as goal
 pub returns-then-are_some-clause-taken : goal.returns-then-are_some-clause-taken
 returns-then-are_some-clause-taken g c =
     ended (is_among (g.P.Present.keys c.args.self.now.table.now)) c.args.word.now c.split_at.result.0.now
-    c.split_at.result.1.now c.loop-len.len (g.L.Looking.looked c.args.looking.now) (g.L.Looking.looked c.loop-len.looking)
-    (g.L.Looking.looked c.try_prefix.new.looking) c.in_ok-targets.targets c.loop-len-test.true c.loop-len.invariant.tried
+    c.split_at.result.1.now c.loop-len.len (g.L.Looking.looked c.args.looking.now)
+    (g.L.Looking.looked c.loop-len.looking)
+    (g.L.Looking.looked c.try_prefix.new.looking) c.in_ok-targets.targets c.loop-len-test.true
+    c.loop-len.invariant.tried
     c.split_at.ensures.front c.split_at.ensures.back (sym c.are_some.ensures ∙ c.if-are_some.true)
     c.in_ok-targets.ensures.taken
 

@@ -7,14 +7,16 @@ use Rattle.name_walk.proofs.Marks.{entered_pop}
 use Rattle.name_walk.proofs.traces.Traces.clean.Goals as goal
 
 -- the name that was taken out was the last of them
-last_entered : {marks : List Mark} {names : List ℕ} (rest : List ℕ) (n : ℕ) → AreEntered marks names → names ≡ rest ++ n ∷ []
+last_entered : {marks : List Mark} {names : List ℕ} (rest : List ℕ) (n : ℕ) → AreEntered marks names
+    → names ≡ rest ++ n ∷ []
     → AreEntered marks (rest ++ n ∷ [])
 last_entered {marks} rest n h e = subst (λ (xs : List ℕ). AreEntered marks xs) e h
 
 pub index_mut-requires : goal.index_mut-requires
 index_mut-requires c =
     subst (λ (k : ℕ). c.in-Some.name < k) (sym c.loop-name.self-inside.marks.ok.0)
-    ((last_entered c.pop.new.self.items c.in-Some.name c.loop-name.invariant.entered c.in-Some.ensures.items).within c.in-Some.name
+    ((last_entered c.pop.new.self.items c.in-Some.name c.loop-name.invariant.entered c.in-Some.ensures.items).within
+    c.in-Some.name
     (In-last c.pop.new.self.items c.in-Some.name))
 
 pub loop-name-preserved : goal.loop-name-preserved

@@ -2,9 +2,11 @@ use Rattle.std.proofs.Common.{◌≡◌, arith, sym, ◌∙◌, rules}
 use Rattle.std.specs.Prelude.{true, false}
 use Rattle.std.specs.List.Sorted.{IsPartitionPoint}
 use Rattle.std.proofs.lemmas.List.Sorted.{IsPartitionPoint-from_clause}
-use Rattle.piecewise.proofs.FirstSegments.{IsPlace, is_left, kept_rising, rising-partitioned, y_at-before, y_at-here, y_at-past}
+use Rattle.piecewise.proofs.FirstSegments.{IsPlace, is_left, kept_rising, rising-partitioned, y_at-before, y_at-here}
+use Rattle.piecewise.proofs.FirstSegments.{y_at-past}
 use Rattle.piecewise.proofs.Neighbours.{AreNeighbours, table_many}
-use Rattle.piecewise.proofs.points.Points.at.Goals.{then-is_less-via-then-is_less, then-is_less-via-else-is_less+then-place-len}
+use Rattle.piecewise.proofs.points.Points.at.Goals.{then-is_less-via-then-is_less}
+use Rattle.piecewise.proofs.points.Points.at.Goals.{then-is_less-via-else-is_less+then-place-len}
 use Rattle.piecewise.proofs.points.Points.at.Goals as goal
 
 pub returns-then-is_less : goal.returns-then-is_less
@@ -14,15 +16,18 @@ returns-then-is_less c =
     let some = c.is_less.ensures.denominators.0 in
     let rising = kept_rising points c.self.invariant in
     let parted : IsPartitionPoint (λ p. is_left x p ≡ true) (λ p. is_left x p ≡ false) points c.partition_point.result =
-    rw (← c.deref.ensures.value) (IsPartitionPoint-from_clause (is_left x) c.deref.result.now _ c.partition_point.ensures.partitioned
-    (rw c.deref.ensures.value (rising-partitioned c.order_law.ensures x some points rising)) (λ a r f h. search rules)) in
+    rw (← c.deref.ensures.value)
+    (IsPartitionPoint-from_clause (is_left x) c.deref.result.now _ c.partition_point.ensures.partitioned
+    (rw c.deref.ensures.value (rising-partitioned c.order_law.ensures x some points rising)) (λ a r f h. search rules))
+    in
     let place : IsPlace x points c.partition_point.result c.max-place.result = record {
       many = table_many points c.self.invariant.table;
       parted = parted;
       place_is = c.max-place.ensures;
     } in
     rw (← c.self.view_is) (elim c.then-is_less.branch [
-      | then-is_less-via-then-is_less w ↦ y_at-before c.order_law.ensures x some points _ _ c.index-left.result.now rising place c.index-left.ensures (sym c.is_less.ensures.order ∙ w.if-is_less.true) (omega arith)
+      | then-is_less-via-then-is_less w ↦ y_at-before c.order_law.ensures x some points _ _ c.index-left.result.now
+          rising place c.index-left.ensures (sym c.is_less.ensures.order ∙ w.if-is_less.true) (omega arith)
       | then-is_less-via-else-is_less+then-place-len w ↦ y_at-past x points _ _ place (omega arith)
     ])
 
@@ -33,8 +38,10 @@ returns c =
     let some = c.is_less.ensures.denominators.0 in
     let rising = kept_rising points c.self.invariant in
     let parted : IsPartitionPoint (λ p. is_left x p ≡ true) (λ p. is_left x p ≡ false) points c.partition_point.result =
-    rw (← c.deref.ensures.value) (IsPartitionPoint-from_clause (is_left x) c.deref.result.now _ c.partition_point.ensures.partitioned
-    (rw c.deref.ensures.value (rising-partitioned c.order_law.ensures x some points rising)) (λ a r f h. search rules)) in
+    rw (← c.deref.ensures.value)
+    (IsPartitionPoint-from_clause (is_left x) c.deref.result.now _ c.partition_point.ensures.partitioned
+    (rw c.deref.ensures.value (rising-partitioned c.order_law.ensures x some points rising)) (λ a r f h. search rules))
+    in
     let place : IsPlace x points c.partition_point.result c.max-place.result = record {
       many = table_many points c.self.invariant.table;
       parted = parted;
@@ -46,4 +53,5 @@ returns c =
       left = c.index-left.ensures;
       right = c.index.ensures;
     } in
-    rw (← c.self.view_is) (c.y_on.ensures ∙ sym (y_at-here x points _ _ _ _ place are (sym c.is_less.ensures.order ∙ c.if-is_less.false)))
+    rw (← c.self.view_is)
+    (c.y_on.ensures ∙ sym (y_at-here x points _ _ _ _ place are (sym c.is_less.ensures.order ∙ c.if-is_less.false)))

@@ -5,17 +5,21 @@ use Rattle.piecewise.proofs.points.Points.back.Goals as goal
 
 pub returns-then-encloses : goal.returns-then-encloses
 returns-then-encloses c =
-    let are : AreNeighbours c.self.inside.points.items c.loop-i.i c.index-then-encloses.result.now c.index-right.result.now = record {
+    let are : AreNeighbours c.self.inside.points.items c.loop-i.i c.index-then-encloses.result.now
+    c.index-right.result.now = record {
       some = omega arith;
       within = omega arith;
       left = c.index-then-encloses.ensures;
       right = c.index-right.ensures;
     } in
-    rw (← c.self.view_is) (c.x_on.ensures ∙ sym (x_at-here _ _ _ _ _ _ _ c.loop-i.invariant are c.cmp-after.ensures.order (sym c.encloses.ensures ∙ c.if-encloses.true)))
+    rw (← c.self.view_is)
+    (c.x_on.ensures ∙ sym (x_at-here _ _ _ _ _ _ _ c.loop-i.invariant are c.cmp-after.ensures.order
+    (sym c.encloses.ensures ∙ c.if-encloses.true)))
 
 pub loop-i-preserved : goal.loop-i-preserved
 loop-i-preserved c =
-    x_at-more _ _ _ _ _ _ c.loop-i.invariant (omega arith) (omega arith) c.index-right.ensures c.cmp-after.ensures.order (sym c.encloses.ensures ∙ c.if-encloses.false)
+    x_at-more _ _ _ _ _ _ c.loop-i.invariant (omega arith) (omega arith) c.index-right.ensures c.cmp-after.ensures.order
+    (sym c.encloses.ensures ∙ c.if-encloses.false)
 
 pub returns : goal.returns
 returns c =

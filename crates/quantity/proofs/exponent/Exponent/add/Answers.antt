@@ -14,8 +14,10 @@ returns c =
     let left_fits : SFits w32 c.widened-left.result = search rules in
     let right_fits : SFits w32 c.widened-right.result = search rules in
     let sum_fits : SFits w32 (c.widened-left.result +ℤ c.widened-right.result) = search rules in
-    let left : c.widened-left.result ≡ c.self.inside.num *ℤ pos c.other.inside.den = simp to_z-of_z at c.widened-left.ensures.value in
-    let right : c.widened-right.result ≡ c.other.inside.num *ℤ pos c.self.inside.den = simp to_z-of_z at c.widened-right.ensures.value in
+    let left : c.widened-left.result ≡ c.self.inside.num *ℤ pos c.other.inside.den =
+    simp to_z-of_z at c.widened-left.ensures.value in
+    let right : c.widened-right.result ≡ c.other.inside.num *ℤ pos c.self.inside.den =
+    simp to_z-of_z at c.widened-right.ensures.value in
     (simp to_z-of_z at c.lowest.ensures)
     ∙ ap₂ (λ m n. as_exponent (reduced (m +ℤ n) (c.self.inside.den * c.other.inside.den))) left right
     ∙ ap₂ (λ (x y : Fraction). as_exponent (exponent_sum x y)) c.self.view_is c.other.view_is

@@ -13,7 +13,8 @@ abs-minus z = ap unsigned_abs (minus_is z) ∙ abs-neg z
     minus_is z = omega (arith, ints)
 
 -- the other sign keeps an exponent one
-exponent_minus : (z : ℤ) (d : ℕ) → IsExponent (record { num = z; den = d }) → IsExponent (record { num = pos 0 -ℤ z; den = d })
+exponent_minus : (z : ℤ) (d : ℕ) → IsExponent (record { num = z; den = d })
+    → IsExponent (record { num = pos 0 -ℤ z; den = d })
 exponent_minus z d is = record {
   reduced = record { positive = is.reduced.positive; lowest = rw (abs-minus z) is.reduced.lowest };
   num_fits = rw (abs-minus z) is.num_fits;

@@ -13,5 +13,6 @@ returns c =
     let fits_num : SFits w32 c.num.result = search rules in
     let fits_product : SFits w32 (c.self.inside.num *ℤ c.num.result) = search rules in
     (simp to_z-of_z at c.lowest.ensures)
-    ∙ ap₂ (λ n d. as_exponent (reduced (c.self.inside.num *ℤ n) (c.self.inside.den * d))) c.num.ensures.value c.den.ensures.value
+    ∙ ap₂ (λ n d. as_exponent (reduced (c.self.inside.num *ℤ n) (c.self.inside.den * d))) c.num.ensures.value
+    c.den.ensures.value
     ∙ ap (λ (e : Fraction). as_exponent (exponent_product e c.args.degree.now)) c.self.view_is

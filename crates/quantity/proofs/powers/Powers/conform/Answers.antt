@@ -10,7 +10,8 @@ returns c =
     let o = c.args.other.now in
     let left = list_of c.self.inside.items.items _ _ c.self.invariant c.self.view_is c.as_slice.ensures in
     let right = list_of c.other.inside.items.items _ _ c.other.invariant c.other.view_is c.as_slice-2.ensures in
-    let value : c.same_powers.result ≡ conform p o = c.same_powers.ensures ∙ ap₂ (matches (λ e. e)) left.same right.same in
+    let value : c.same_powers.result ≡ conform p o = c.same_powers.ensures
+    ∙ ap₂ (matches (λ e. e)) left.same right.same in
     let equal = conform_is p o in
     let names = conform_names p o left.kept right.kept in
     record {

@@ -3,7 +3,9 @@ use Rattle.quantity.proofs.Copies.{with_number}
 use Rattle.quantity.proofs.powers.Powers.number_facts.Goals as goal
 
 pub returns-clause-product : goal.returns-clause-product
-returns-clause-product c = with_number c.reduced_law.ensures Plain _ c.self.inside.items.items c.self.invariant c.self.view_is
+returns-clause-product c =
+    with_number c.reduced_law.ensures Plain _ c.self.inside.items.items c.self.invariant c.self.view_is
 
 pub returns-clause-quotient : goal.returns-clause-quotient
-returns-clause-quotient c = with_number c.reduced_law.ensures Inverse _ c.self.inside.items.items c.self.invariant c.self.view_is
+returns-clause-quotient c =
+    with_number c.reduced_law.ensures Inverse _ c.self.inside.items.items c.self.invariant c.self.view_is

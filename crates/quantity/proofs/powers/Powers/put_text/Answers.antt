@@ -6,4 +6,5 @@ use Rattle.quantity.proofs.powers.Powers.put_text.Goals as goal
 pub returns : goal.returns
 returns c =
     let list = list_of c.self.inside.items.items _ _ c.self.invariant c.self.view_is c.as_slice.ensures in
-    subst (λ es. OnOk c.put_powers.result (c.put_powers.new.text.items ≡ c.args.text.now.items ++ listed_text es)) list.same c.put_powers.ensures
+    subst (λ es. OnOk c.put_powers.result (c.put_powers.new.text.items ≡ c.args.text.now.items ++ listed_text es))
+    list.same c.put_powers.ensures

@@ -21,4 +21,5 @@ returns-in_err-items c =
     let error = err_from_is_err_and c.from_residual.result c.from_residual.ensures.1 in
     let left = list_of c.self.inside.items.items _ _ c.self.invariant c.self.view_is refl in
     let right = list_of c.other.inside.items.items _ _ c.other.invariant c.other.view_is c.as_slice.ensures in
-    rw (error.1, error.2) (product_fault c.reduced_law.ensures c.args.factor _ _ _ _ _ left right c.in_err-items.ensures)
+    rw (error.1, error.2)
+    (product_fault c.reduced_law.ensures c.args.factor _ _ _ _ _ left right c.in_err-items.ensures)

@@ -9,4 +9,5 @@ returns-clause-opposite c =
     let Opposite : Exponents → Exponents → Type 0 =
     λ p o. IsTrue c.are_reciprocal.result ↔ ((name : List ℕ) → exponent_of p name ≡ negated (exponent_of o name)) in
     subst (λ (x : Amount). Opposite x.exponents c.args.other.now.exponents) c.self.view_is
-    (subst (λ (y : Amount). Opposite c.self.inside.powers y.exponents) c.other.view_is c.are_reciprocal.ensures.opposite)
+    (subst (λ (y : Amount). Opposite c.self.inside.powers y.exponents) c.other.view_is
+    c.are_reciprocal.ensures.opposite)

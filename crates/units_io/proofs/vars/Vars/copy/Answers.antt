@@ -8,5 +8,6 @@ use Rattle.units_io.proofs.vars.Vars.copy.Goals as goal
 pub push-requires : goal.push-requires
 push-requires c =
     let next = rest_more deref_pair _ _ _ (c.in-Some.name, c.in-Some.value) c.in-Some.is c.next.ensures.steps in
-    HasNoName-next c.args.self.now _ _ _ _ _ _ (subst HasDistinctNames c.self.view_is c.self.invariant) c.loop-name.invariant.copied next
+    HasNoName-next c.args.self.now _ _ _ _ _ _
+    (subst HasDistinctNames c.self.view_is c.self.invariant) c.loop-name.invariant.copied next
     (c.in_ok-name.ensures ∙ c.as_slice.ensures.value)

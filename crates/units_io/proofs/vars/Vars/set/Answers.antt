@@ -15,7 +15,8 @@ returns-clause-ok c =
 
 pub returns-clause-values : goal.returns-clause-values
 returns-clause-values c =
-    subst (λ (pairs : Pairs). Sets c.args.self.now pairs c.args.name c.args.value) (sym (returns-clause-ok c)) (with_value-Sets _ _ _)
+    subst (λ (pairs : Pairs). Sets c.args.self.now pairs c.args.name c.args.value) (sym (returns-clause-ok c))
+    (with_value-Sets _ _ _)
 
 pub returns-clause-distinct : goal.returns-clause-distinct
 returns-clause-distinct c = invariant_of-self-2 c

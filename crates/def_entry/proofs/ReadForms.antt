@@ -1,0 +1,239 @@
+-- Forms are read as they are written.
+use Rattle.std.proofs.Common.{◌≡◌, ◌≢◌, ◌==◌, ◌||◌, ◌∷◌, [], ℕ, List, Bool, true, false, cond, codes}
+use Rattle.std.proofs.Common.{map, Option, Some, None, Result, Ok, Err, refl, sym, ap, ◌∙◌, subst}
+use Rattle.std.specs.Str.{bytes_eq}
+use Rattle.std.specs.List.{slice_split}
+use Rattle.std.proofs.lemmas.Bool.{eqb-true}
+use Rattle.std.proofs.lemmas.Slice.Eq.{bytes_eq-Decides}
+use Rattle.units_io.specs.Outcomes.{◌>>=◌}
+use Rattle.def_lines.specs.Blanks.{trimmed}
+use Rattle.expr_tree.specs.Names.{is_name}
+use Rattle.def_entry.specs.declared.fault.EntryFault.{EntryFault}
+use Rattle.def_entry.specs.declared.fault.EntryFault.TheVariants.{BadForm}
+use Rattle.def_entry.specs.declared.key.Kind.{Kind}
+use Rattle.def_entry.specs.declared.key.Kind.TheVariants as kind
+use Rattle.def_entry.specs.Cuts.{cut_at}
+use Rattle.def_entry.specs.Entries.{What, Primitive, Dimensionless, Body, Alias, ListOf}
+use Rattle.def_entry.specs.EntryGrammar.{HasFurtherName, Parameter, Target}
+use Rattle.def_entry.specs.FormGrammar.{IsBracketed, IsTarget, IsWritten}
+use Rattle.def_entry.specs.FormGrammar.{WrittenForm, PrimitiveForm, DimensionlessForm, BodyForm, FunctionForm}
+use Rattle.def_entry.specs.FormGrammar.{AliasForm, TableForm, ListForm}
+use Rattle.def_entry.specs.Forms.{Form, form_of, some_text}
+use Rattle.def_entry.specs.Headings.{is_opened}
+use Rattle.def_entry.specs.Outcomes.{named, or_fault, tree_in}
+use Rattle.def_entry.specs.Reading.{alias_in, body_in, call_in, func_in, function_of, is_semicolon}
+use Rattle.def_entry.specs.Reading.{list_in, parted_call, parted_table, table_in, trees_in, unit_in, what_in}
+use Rattle.def_entry.specs.Reading.{without_call}
+use Rattle.def_entry.proofs.CutTexts.{cut-at}
+use Rattle.def_entry.proofs.Meanings.{list_trees, meaning}
+use Rattle.def_entry.proofs.WrittenForms.{Formed, brackets, form-at, form-is, parts-at, parts-is, some-text, target-at}
+use Rattle.def_entry.proofs.WrittenForms.{target-is, text-some}
+use Rattle.def_entry.proofs.WrittenNames.{taken}
+
+-- a text with a first byte is not empty
+cons_some : (b : ℕ) (text : List ℕ) → b ∷ text ≢ []
+cons_some b text e = cc
+
+-- the body of a unit or a prefix
+body-at : (text body : List ℕ) → text ≡ body → text ≢ []
+    → body_in text ≡ (tree_in None body >>= (λ tree. Ok (Body tree)))
+body-at [] body e some = absurd (some refl)
+body-at (b ∷ text) body e some = ap (λ t. tree_in None t >>= (λ tree. Ok (Body tree))) e
+
+-- texts that differ are not found equal
+other_bytes : (text word : List ℕ) → text ≢ word → bytes_eq text word ≡ false
+other_bytes text word other = go (bytes_eq text word) refl
+  where
+    go : (t : Bool) → bytes_eq text word ≡ t → t ≡ false
+    go true e = absurd (other ((bytes_eq-Decides text word).0 e))
+    go false e = refl
+
+-- the trees of parts are those of the trimmed ones
+parts-trees : (pieces : List (List ℕ)) → trees_in pieces ≡ list_trees (map trimmed pieces)
+parts-trees [] = refl
+parts-trees (piece ∷ pieces) =
+    ap (λ rest. tree_in None (trimmed piece) >>= (λ tree. rest >>= (λ trees. Ok (tree ∷ trees)))) (parts-trees pieces)
+
+-- what a list of parts says
+abbrev list_of : List ℕ → Result What EntryFault
+list_of text = trees_in (slice_split is_semicolon text) >>= (λ trees. Ok (ListOf trees))
+
+-- a list is read by its parts
+list-at : (text : List ℕ) (parts : List (List ℕ)) → parts ≡ map trimmed (slice_split is_semicolon text) → text ≢ []
+    → list_in text ≡ (list_trees parts >>= (λ trees. Ok (ListOf trees)))
+list-at [] parts e some = absurd (some refl)
+list-at (b ∷ text) parts e some =
+    ap (λ r. r >>= (λ trees. Ok (ListOf trees)))
+    (parts-trees (slice_split is_semicolon (b ∷ text)) ∙ ap list_trees (sym e))
+
+-- a function behind its parameter
+call-at : (name parameter behind : List ℕ) (form : Form) → parameter ≢ [] → is_name parameter ≡ true
+    → form_of behind ≡ Some form
+    → call_in name parameter behind ≡ function_of name parameter form
+call-at name [] behind form some is_one e = absurd (some refl)
+call-at name (b ∷ parameter) behind form some is_one e =
+    taken (b ∷ parameter) (λ p. or_fault BadForm (form_of behind) >>= (λ form. function_of name p form)) is_one
+    ∙ ap (λ f. or_fault BadForm f >>= (λ form. function_of name (b ∷ parameter) form)) e
+
+-- an alias is read by its target
+alias-at : (behind target : List ℕ) → without_call (trimmed behind) ≡ target → target ≢ [] → is_name target ≡ true
+    → alias_in behind ≡ Ok (Alias target)
+alias-at behind target e some is_one =
+    ap (λ o. or_fault BadForm o >>= (λ t. named t >>= (λ other. Ok (Alias other))))
+    (some-text (without_call (trimmed behind)) target e some)
+    ∙ taken target (λ other. Ok (Alias other)) is_one
+
+-- a table by its unit and its points
+table-at : (name text unit points : List ℕ) → text ≡ unit → unit ≢ []
+    → table_in text points ≡ meaning name (TableForm unit points)
+table-at name text unit points e some =
+    ap (λ o. or_fault BadForm o >>= (λ u. meaning name (TableForm u points))) (some-text text unit e some)
+
+-- what is written in a form is read as what that form says
+pub written-what : (k : Kind) (name text : List ℕ) (form : WrittenForm)
+    → ((w : List ℕ) → HasFurtherName k text w → is_name w ≡ true)
+    → IsWritten k text form
+    → what_in k name text ≡ meaning name form
+written-what kind.Unit name text PrimitiveForm good is = ap unit_in is
+written-what kind.Unit name text DimensionlessForm good is = ap unit_in is
+written-what kind.Unit name text (BodyForm body) good is =
+    ap (λ t. cond t (Ok Primitive) (cond (bytes_eq text (codes "!dimensionless")) (Ok Dimensionless) (body_in text)))
+    (other_bytes text (codes "!") is.2)
+    ∙ ap (λ t. cond t (Ok Dimensionless) (body_in text)) (other_bytes text (codes "!dimensionless") is.3)
+    ∙ body-at text body is.0 is.1
+written-what kind.Prefix name text (BodyForm body) good is = body-at text body is.0 is.1
+written-what kind.Func name text (FunctionForm parameter form) good is =
+    ap (func_in name) is.bracketed.spelled
+    ∙ ap (parted_call name) (cut-at 41 is.inside is.behind is.bracketed.clear)
+    ∙ ap (λ p. call_in name p is.behind) is.parameter_is.0
+    ∙ call-at name parameter is.behind form is.parameter_is.1
+    (good parameter (Parameter is.inside is.behind is.bracketed is.parameter_is))
+    (form-at is.behind is.bodies form is.options_are is.bodies_are)
+written-what kind.Func name text (AliasForm target) good is =
+    ap (func_in name) is.bracketed.spelled
+    ∙ ap (parted_call name) (cut-at 41 is.inside is.behind is.bracketed.clear)
+    ∙ ap (λ p. call_in name p is.behind) is.blank
+    ∙ alias-at is.behind target (target-at (trimmed is.behind) target is.target_is) is.some (good target (Target is))
+written-what kind.Func name text (TableForm unit points) good is =
+    ap (func_in name) is.bracketed.spelled
+    ∙ ap parted_table (cut-at 93 is.inside points is.bracketed.clear)
+    ∙ table-at name (trimmed is.inside) unit points is.unit_is.0 is.unit_is.1
+written-what kind.List name text (ListForm parts) good is = list-at text parts (parts-at text parts is) is.some
+written-what _ name text _ good is = absurd is
+
+-- a text has a form, or is read as none
+pub data FormOf (k : Kind) (name text : List ℕ) : Type 0 where
+  InForm : (form : WrittenForm) → IsWritten k text form → FormOf k name text
+  NoForm : what_in k name text ≡ Err BadForm → FormOf k name text
+
+-- the text of a unit has a form or none
+unit-form : (name text : List ℕ) → FormOf kind.Unit name text
+unit-form name [] = NoForm refl
+unit-form name (b ∷ text) =
+    go (bytes_eq (b ∷ text) (codes "!")) refl (bytes_eq (b ∷ text) (codes "!dimensionless")) refl
+  where
+    differ : (word : List ℕ) → bytes_eq (b ∷ text) word ≡ false → (b ∷ text) ≢ word
+    differ word e is = let there : true ≡ false = sym ((bytes_eq-Decides (b ∷ text) word).1 is) ∙ e in cc
+
+    go : (s : Bool) → bytes_eq (b ∷ text) (codes "!") ≡ s → (t : Bool)
+        → bytes_eq (b ∷ text) (codes "!dimensionless") ≡ t
+        → FormOf kind.Unit name (b ∷ text)
+    go true e t f = InForm PrimitiveForm ((bytes_eq-Decides (b ∷ text) (codes "!")).0 e)
+    go false e true f = InForm DimensionlessForm ((bytes_eq-Decides (b ∷ text) (codes "!dimensionless")).0 f)
+    go false e false f =
+        InForm (BodyForm (b ∷ text)) (refl, cons_some b text, differ (codes "!") e, differ (codes "!dimensionless") f)
+
+-- so has that of a function or an alias
+function-form : (name : List ℕ) (b : ℕ) (text inside behind parameter : List ℕ)
+    → IsBracketed 40 41 (b ∷ text) inside behind
+    → trimmed inside ≡ parameter
+    → func_in name (b ∷ text) ≡ call_in name parameter behind
+    → ((w : List ℕ) → HasFurtherName kind.Func (b ∷ text) w → is_name w ≡ true)
+    → FormOf kind.Func name (b ∷ text)
+function-form name b text inside behind [] is bare read good = go (some_text (without_call (trimmed behind))) refl
+  where
+    go : (target : Option (List ℕ)) → some_text (without_call (trimmed behind)) ≡ target
+        → FormOf kind.Func name (b ∷ text)
+    go None e = NoForm (read ∙ ap (λ o. or_fault BadForm o >>= (λ t. named t >>= (λ other. Ok (Alias other)))) e)
+    go (Some target) e =
+        let some : (without_call (trimmed behind) ≡ target) × (target ≢ []) =
+        text-some (without_call (trimmed behind)) target e in
+        InForm (AliasForm target) (record {
+          inside = inside;
+          behind = behind;
+          bracketed = is;
+          blank = bare;
+          target_is = subst (IsTarget (trimmed behind)) some.0 (target-is (trimmed behind));
+          some = some.1;
+        })
+function-form name b text inside behind (c ∷ parameter) is bare read good = go (form_of behind) refl
+  where
+    go : (found : Option Form) → form_of behind ≡ found → FormOf kind.Func name (b ∷ text)
+    go None e =
+        NoForm
+        (read
+        ∙ taken (c ∷ parameter) (λ p. or_fault BadForm (form_of behind) >>= (λ form. function_of name p form))
+        (good (c ∷ parameter) (Parameter inside behind is (bare, cons_some c parameter)))
+        ∙ ap (λ f. or_fault BadForm f >>= (λ form. function_of name (c ∷ parameter) form)) e)
+    go (Some form) e =
+        let formed : Formed behind form = form-is behind form e in
+        InForm (FunctionForm (c ∷ parameter) form) (record {
+          inside = inside;
+          behind = behind;
+          bodies = formed.bodies;
+          bracketed = is;
+          parameter_is = (bare, cons_some c parameter);
+          options_are = formed.options_are;
+          bodies_are = formed.bodies_are;
+        })
+
+-- so has that of a table
+table-form : (name : List ℕ) (b : ℕ) (text inside points unit : List ℕ) → IsBracketed 91 93 (b ∷ text) inside points
+    → trimmed inside ≡ unit
+    → func_in name (b ∷ text) ≡ table_in unit points → FormOf kind.Func name (b ∷ text)
+table-form name b text inside points [] is bare read = NoForm read
+table-form name b text inside points (c ∷ unit) is bare read =
+    InForm (TableForm (c ∷ unit) points)
+    (record { inside = inside; bracketed = is; unit_is = (bare, cons_some c unit) })
+
+-- so has that of any of these
+func-form : (name text : List ℕ) → is_opened text ≡ true
+    → ((w : List ℕ) → HasFurtherName kind.Func text w → is_name w ≡ true)
+    → FormOf kind.Func name text
+func-form name [] opened good = NoForm refl
+func-form name (b ∷ text) opened good = go (b == 40) refl (cut_at 41 text) refl (cut_at 93 text) refl
+  where
+    bracket_else : (s t : Bool) → s ≡ false → (s || t) ≡ true → t ≡ true
+    bracket_else true t e f = cc
+    bracket_else false t e f = f
+
+    go : (s : Bool) → (b == 40) ≡ s → (round : Option (List ℕ × List ℕ)) → cut_at 41 text ≡ round
+        → (other : Option (List ℕ × List ℕ))
+        → cut_at 93 text ≡ other
+        → FormOf kind.Func name (b ∷ text)
+    go true e None f other g =
+        NoForm (ap (λ s. cond s (parted_call name (cut_at 41 text)) (parted_table (cut_at 93 text))) e
+        ∙ ap (parted_call name) f)
+    go true e (Some parts) f other g =
+        function-form name b text parts.0 parts.1 (trimmed parts.0)
+        (brackets 40 41 b text parts.0 parts.1 (eqb-true b 40 e) f) refl
+        (ap (λ s. cond s (parted_call name (cut_at 41 text)) (parted_table (cut_at 93 text))) e
+        ∙ ap (parted_call name) f) good
+    go false e round f None g =
+        NoForm (ap (λ s. cond s (parted_call name (cut_at 41 text)) (parted_table (cut_at 93 text))) e
+        ∙ ap parted_table g)
+    go false e round f (Some parts) g =
+        table-form name b text parts.0 parts.1 (trimmed parts.0)
+        (brackets 91 93 b text parts.0 parts.1 (eqb-true b 91 (bracket_else (b == 40) (b == 91) e opened)) g) refl
+        (ap (λ s. cond s (parted_call name (cut_at 41 text)) (parted_table (cut_at 93 text))) e ∙ ap parted_table g)
+
+-- so has a text of each kind
+pub form-of : (k : Kind) (name text : List ℕ) → (k ≡ kind.Func → is_opened text ≡ true)
+    → ((w : List ℕ) → HasFurtherName k text w → is_name w ≡ true) → FormOf k name text
+form-of kind.Unit name text opened good = unit-form name text
+form-of kind.Prefix name [] opened good = NoForm refl
+form-of kind.Prefix name (b ∷ text) opened good = InForm (BodyForm (b ∷ text)) (refl, cons_some b text)
+form-of kind.Func name text opened good = func-form name text (opened refl) good
+form-of kind.List name [] opened good = NoForm refl
+form-of kind.List name (b ∷ text) opened good =
+    InForm (ListForm (map trimmed (slice_split is_semicolon (b ∷ text)))) (parts-is (b ∷ text) (cons_some b text))

@@ -1,0 +1,289 @@
+-- Derivations of each rule, from those of its parts.
+use Rattle.std.proofs.Common.{◌≡◌, ℕ, suc, ◌<◌, ◌≤◌, Bool, true, List, [], ◌∷◌, length, refl}
+use Rattle.std.proofs.Common.{◌∙◌, ap, arith}
+use Rattle.frac128.specs.Decimals.{Decimal}
+use Rattle.expr_tree.specs.Grammar.{SumOf, NextTerm, ProductOf, NextFactor}
+use Rattle.expr_tree.specs.Grammar.{Signed, JuxtapositionOf, NextPower, Bare, Raised, SignedExponent}
+use Rattle.expr_tree.specs.Grammar.{ExponentOf}
+use Rattle.expr_tree.specs.Grammar.{NumeralAtom, BarAtom, CallAtom, InverseAtom, RootAtom}
+use Rattle.expr_tree.specs.Grammar.{GroupAtom}
+use Rattle.expr_tree.specs.Grammar.{sign, scale, sum, sum_rest, product, product_rest, juxtaposition}
+use Rattle.expr_tree.specs.Grammar.{juxtaposition_rest, power, exponent, atom}
+use Rattle.expr_tree.specs.Rules.{WantsOperand, EndsOperand, EndsNumeral, fits}
+use Rattle.expr_tree.specs.Tokens.{Token, Numeral, Head, Root, Bar}
+use Rattle.expr_tree.specs.Tokens.{Caret, Tilde, Open, Close}
+use Rattle.expr_tree.specs.declared.operator.Scale.{Scale}
+use Rattle.expr_tree.specs.declared.operator.Sign.{Sign}
+use Rattle.expr_tree.specs.Front.{stops, after_sum, after_product, after_juxtaposition, after_power, after_atom}
+use Rattle.expr_tree.proofs.Fits.{closing, ended_stops}
+use Rattle.expr_tree.specs.declared.operator.RootKind.{RootKind}
+
+-- A derivation stands at the front of the tokens.
+pub record At {X : Type 0} (spell : X → List Token → List Token) (follow : Token → Bool) (k : ℕ)
+    (ts : List Token) : Type 0 where
+  pub made : X
+  pub rest : List Token
+  pub is : ts ≡ spell made rest
+  pub stop : stops follow rest ≡ true
+  pub fit : fits EndsOperand k rest ≡ true
+  pub less : length rest ≤ length ts
+
+-- the same, and at least one token less
+pub record Front {X : Type 0} (spell : X → List Token → List Token) (follow : Token → Bool) (k : ℕ)
+    (ts : List Token) : Type 0 where
+  pub made : X
+  pub rest : List Token
+  pub is : ts ≡ spell made rest
+  pub stop : stops follow rest ≡ true
+  pub fit : fits EndsOperand k rest ≡ true
+  pub less : length rest < length ts
+
+-- ---- one rule of the grammar each, from the derivations of its parts
+
+-- a sum, from a product and the terms behind it
+pub sum_from : (k : ℕ) (ts : List Token) → Front product after_product k ts
+    → ((r : List Token) → length r < length ts → stops after_product r ≡ true → fits EndsOperand k r ≡ true
+    → At sum_rest after_sum k r) → Front sum after_sum k ts
+sum_from k ts p f = go p (f p.rest p.less p.stop p.fit)
+  where
+    go : (p : Front product after_product k ts) → At sum_rest after_sum k p.rest → Front sum after_sum k ts
+    go p q = record {
+      made = SumOf p.made q.made;
+      rest = q.rest;
+      is = p.is ∙ ap (product p.made) q.is;
+      stop = q.stop;
+      fit = q.fit;
+      less = omega arith;
+    }
+
+-- one more term, from its sign, a product and the terms behind it
+pub next_term_from : (s : Sign) (k : ℕ) (ts : List Token) → Front product after_product k ts
+    → ((r : List Token) → length r < length ts → stops after_product r ≡ true → fits EndsOperand k r ≡ true
+    → At sum_rest after_sum k r) → At sum_rest after_sum k (sign s ∷ ts)
+next_term_from s k ts p f = go p (f p.rest p.less p.stop p.fit)
+  where
+    go : (p : Front product after_product k ts) → At sum_rest after_sum k p.rest → At sum_rest after_sum k (sign s ∷ ts)
+    go p q = record {
+      made = NextTerm s p.made q.made;
+      rest = q.rest;
+      is =
+          ap (λ x. sign s ∷ x) (p.is ∙ ap (product p.made) q.is);
+      stop = q.stop;
+      fit = q.fit;
+      less = omega arith;
+    }
+
+-- a product, from a juxtaposition and the factors behind it
+pub product_from : (k : ℕ) (ts : List Token) → Front juxtaposition after_juxtaposition k ts
+    → ((r : List Token) → length r < length ts → stops after_juxtaposition r ≡ true → fits EndsOperand k r ≡ true
+    → At product_rest after_product k r) → Front product after_product k ts
+product_from k ts p f = go p (f p.rest p.less p.stop p.fit)
+  where
+    go : (p : Front juxtaposition after_juxtaposition k ts) → At product_rest after_product k p.rest
+        → Front product after_product k ts
+    go p q = record {
+      made = ProductOf p.made q.made;
+      rest = q.rest;
+      is = p.is ∙ ap (juxtaposition p.made) q.is;
+      stop =
+          q.stop;
+      fit = q.fit;
+      less = omega arith;
+    }
+
+-- one more factor
+pub next_factor_from : (s : Scale) (k : ℕ) (ts : List Token) → Front juxtaposition after_juxtaposition k ts
+    → ((r : List Token) → length r < length ts → stops after_juxtaposition r ≡ true → fits EndsOperand k r ≡ true
+    → At product_rest after_product k r) → At product_rest after_product k (scale s ∷ ts)
+next_factor_from s k ts p f = go p (f p.rest p.less p.stop p.fit)
+  where
+    go : (p : Front juxtaposition after_juxtaposition k ts) → At product_rest after_product k p.rest
+        → At product_rest after_product k (scale s ∷ ts)
+    go p q = record {
+      made = NextFactor s p.made q.made;
+      rest = q.rest;
+      is =
+          ap (λ x. scale s ∷ x) (p.is ∙ ap (juxtaposition p.made) q.is);
+      stop = q.stop;
+      fit = q.fit;
+      less = omega arith;
+    }
+
+-- a juxtaposition with a sign
+pub signed_from : (s : Sign) (k : ℕ) (ts : List Token) → Front juxtaposition after_juxtaposition k ts
+    → Front juxtaposition after_juxtaposition k (sign s ∷ ts)
+signed_from s k ts p =
+    record {
+      made = Signed s p.made;
+      rest = p.rest;
+      is = ap (λ x. sign s ∷ x) p.is;
+      stop = p.stop;
+      fit = p.fit;
+      less =
+          omega arith;
+    }
+
+-- a juxtaposition, from a power and those behind it
+pub juxtaposition_from : (k : ℕ) (ts : List Token) → Front power after_power k ts
+    → ((r : List Token) → length r < length ts → stops after_power r ≡ true → fits EndsOperand k r ≡ true
+    → At juxtaposition_rest after_juxtaposition k r) → Front juxtaposition after_juxtaposition k ts
+juxtaposition_from k ts p f = go p (f p.rest p.less p.stop p.fit)
+  where
+    go : (p : Front power after_power k ts) → At juxtaposition_rest after_juxtaposition k p.rest
+        → Front juxtaposition after_juxtaposition k ts
+    go p q = record {
+      made = JuxtapositionOf p.made q.made;
+      rest = q.rest;
+      is = p.is ∙ ap (power p.made) q.is;
+      stop =
+          q.stop;
+      fit = q.fit;
+      less = omega arith;
+    }
+
+-- one more power
+pub next_power_from : (k : ℕ) (ts : List Token) → Front power after_power k ts
+    → ((r : List Token) → length r < length ts → stops after_power r ≡ true → fits EndsOperand k r ≡ true
+    → At juxtaposition_rest after_juxtaposition k r) → At juxtaposition_rest after_juxtaposition k ts
+next_power_from k ts p f = go p (f p.rest p.less p.stop p.fit)
+  where
+    go : (p : Front power after_power k ts) → At juxtaposition_rest after_juxtaposition k p.rest
+        → At juxtaposition_rest after_juxtaposition k ts
+    go p q = record {
+      made = NextPower p.made q.made;
+      rest = q.rest;
+      is = p.is ∙ ap (power p.made) q.is;
+      stop = q.stop;
+      fit = q.fit;
+      less = omega arith;
+    }
+
+-- an atom, with its exponent where `^` follows
+pub power_from : (k : ℕ) (ts : List Token) → Front atom after_atom k ts
+    → ((r : List Token) → suc (length r) < length ts → fits WantsOperand k r ≡ true → Front exponent after_power k r)
+    → Front power after_power k ts
+power_from k ts p f = go p.rest p.is p.fit p.less
+  where
+    go : (r : List Token) → ts ≡ atom p.made r → fits EndsOperand k r ≡ true → length r < length ts
+        → Front power after_power k ts
+    go [] is fit less = record { made = Bare p.made; rest = []; is = is; stop = refl; fit = fit; less = less }
+    go (Caret ∷ r) is fit less = raised is less (f r less fit)
+      where
+        raised : ts ≡ atom p.made (Caret ∷ r) → length (Caret ∷ r) < length ts → Front exponent after_power k r
+            → Front power after_power k ts
+        raised is less q =
+            record {
+              made = Raised p.made q.made;
+              rest = q.rest;
+              is = is ∙ ap (λ x. atom p.made (Caret ∷ x)) q.is;
+              stop = q.stop;
+              fit = q.fit;
+              less = omega arith;
+            }
+    go (Bar ∷ r) is fit less = cc
+    go (t ∷ r) is fit less = record { made = Bare p.made; rest = t ∷ r; is = is; stop = refl; fit = fit; less = less }
+
+-- an exponent with a sign
+pub signed_exponent_from : (s : Sign) (k : ℕ) (ts : List Token) → Front exponent after_power k ts
+    → Front exponent after_power k (sign s ∷ ts)
+signed_exponent_from s k ts p =
+    record {
+      made = SignedExponent s p.made;
+      rest = p.rest;
+      is = ap (λ x. sign s ∷ x) p.is;
+      stop = p.stop;
+      fit = p.fit;
+      less = omega arith;
+    }
+
+-- an exponent that is a power
+pub exponent_from : (k : ℕ) (ts : List Token) → Front power after_power k ts → Front exponent after_power k ts
+exponent_from k ts p =
+    record { made = ExponentOf p.made; rest = p.rest; is = p.is; stop = p.stop; fit = p.fit; less = p.less }
+
+-- a call, from a sum and its closing parenthesis
+pub call_from : (w : List ℕ) (k : ℕ) (ts : List Token) → Front sum after_sum (suc k) ts
+    → Front atom after_atom k (Head w ∷ ts)
+call_from w k ts p = go (closing k p.rest p.stop p.fit)
+  where
+    go : ((s : List Token) × (p.rest ≡ Close ∷ s) × (fits EndsOperand k s ≡ true))
+        → Front atom after_atom k (Head w ∷ ts)
+    go c =
+        let e : length p.rest ≡ suc (length c.0) = ap length c.1 in
+        record {
+          made = CallAtom w p.made;
+          rest = c.0;
+          is = ap (λ x. Head w ∷ x) (p.is ∙ ap (sum p.made) c.1);
+          stop =
+              ended_stops k c.0 c.2;
+          fit = c.2;
+          less = omega arith;
+        }
+
+-- an inverse
+pub inverse_from : (w : List ℕ) (k : ℕ) (ts : List Token) → Front sum after_sum (suc k) ts
+    → Front atom after_atom k (Tilde ∷ Head w ∷ ts)
+inverse_from w k ts p = go (closing k p.rest p.stop p.fit)
+  where
+    go : ((s : List Token) × (p.rest ≡ Close ∷ s) × (fits EndsOperand k s ≡ true))
+        → Front atom after_atom k (Tilde ∷ Head w ∷ ts)
+    go c =
+        let e : length p.rest ≡ suc (length c.0) = ap length c.1 in
+        record {
+          made = InverseAtom w p.made;
+          rest = c.0;
+          is =
+              ap (λ x. Tilde ∷ Head w ∷ x) (p.is ∙ ap (sum p.made) c.1);
+          stop = ended_stops k c.0 c.2;
+          fit = c.2;
+          less =
+              omega arith;
+        }
+
+-- a root
+pub root_from : (n : RootKind) (k : ℕ) (ts : List Token) → Front sum after_sum (suc k) ts
+    → Front atom after_atom k (Root n ∷ Open ∷ ts)
+root_from n k ts p = go (closing k p.rest p.stop p.fit)
+  where
+    go : ((s : List Token) × (p.rest ≡ Close ∷ s) × (fits EndsOperand k s ≡ true))
+        → Front atom after_atom k (Root n ∷ Open ∷ ts)
+    go c =
+        let e : length p.rest ≡ suc (length c.0) = ap length c.1 in
+        record {
+          made = RootAtom n p.made;
+          rest = c.0;
+          is = ap (λ x. Root n ∷ Open ∷ x) (p.is ∙ ap (sum p.made) c.1);
+          stop = ended_stops k c.0 c.2;
+          fit = c.2;
+          less = omega arith;
+        }
+
+-- a numeral, with the one after `|` where that follows
+pub numeral_from : (m : Decimal) (k : ℕ) (ts : List Token) → fits EndsNumeral k ts ≡ true
+    → Front atom after_atom k (Numeral m ∷ ts)
+numeral_from m k [] h = record { made = NumeralAtom m; rest = []; is = refl; stop = refl; fit = h; less = omega arith }
+numeral_from m k (Bar ∷ Numeral d ∷ ts) h =
+    record { made = BarAtom m d; rest = ts; is = refl; stop = ended_stops k ts h; fit = h; less = omega arith }
+numeral_from m k (Bar ∷ []) h = cc
+numeral_from m k (Bar ∷ t ∷ ts) h = cc
+numeral_from m k (t ∷ ts) h =
+    record { made = NumeralAtom m; rest = t ∷ ts; is = refl; stop = refl; fit = h; less = omega arith }
+
+-- a group
+pub group_from : (k : ℕ) (ts : List Token) → Front sum after_sum (suc k) ts → Front atom after_atom k (Open ∷ ts)
+group_from k ts p = go (closing k p.rest p.stop p.fit)
+  where
+    go : ((s : List Token) × (p.rest ≡ Close ∷ s) × (fits EndsOperand k s ≡ true)) → Front atom after_atom k (Open ∷ ts)
+    go c =
+        let e : length p.rest ≡ suc (length c.0) = ap length c.1 in
+        record {
+          made = GroupAtom p.made;
+          rest = c.0;
+          is = ap (λ x. Open ∷ x) (p.is ∙ ap (sum p.made) c.1);
+          stop =
+              ended_stops k c.0 c.2;
+          fit = c.2;
+          less = omega arith;
+        }
+
+-- ---- all of them
