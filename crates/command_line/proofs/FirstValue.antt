@@ -42,6 +42,7 @@ matched_some : (o : Option MatchedArg) (text : Text) → option_and_then text_of
 matched_some None text e = cc
 matched_some (Some x) text e = (x, refl, e)
 
+-- a first value that is there is the text of an argument that matched
 first_value-some : (f : Found) (id text : Text) → first_value f id ≡ Some text
     → (x : MatchedArg) × (matched_of f id ≡ Some x) × (text_of x ≡ Some text)
 unfolding text_of
@@ -129,10 +130,12 @@ accepted id text p (r ∷ rules) all some = elim some [
 
 -- ---- both together
 
+-- where both hold, the first does
 first_true : (a b : Bool) → (a && b) ≡ true → a ≡ true
 first_true true b e = refl
 first_true false b e = cc
 
+-- and the second
 second_true : (a b : Bool) → (a && b) ≡ true → b ≡ true
 second_true true b e = e
 second_true false b e = cc

@@ -62,6 +62,7 @@ number_in_range old new f has_subcommand id high named is before after built_or 
 pub digits_parser : HasParser (codes "digits") (vp.Signed (pos 1) (pos 36)) units_app.top.rules
 digits_parser = search rules
 
+-- the rule of `--trial` takes numbers from 1 to 20,000
 pub trial_parser : HasParser (codes "trial") (vp.Signed (pos 1) (pos 20000)) units_app.top.rules
 trial_parser = search rules
 
@@ -71,6 +72,7 @@ column_parser = search rules
 pub built_digits_parser : HasParser (codes "digits") (vp.Signed (pos 1) (pos 36)) (built units_app).top.rules
 built_digits_parser = search rules
 
+-- so is the rule of `--trial`
 pub built_trial_parser : HasParser (codes "trial") (vp.Signed (pos 1) (pos 20000)) (built units_app).top.rules
 built_trial_parser = search rules
 

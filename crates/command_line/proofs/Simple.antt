@@ -4,10 +4,12 @@ use Rattle.clap.specs.Words.{is_simple, is_simple_and_free}
 use Rattle.clap.proofs.OnLiterals.{clap_on_literals}
 use Rattle.command_line.specs.Definition.{units_app}
 
+-- the command is one of those that clap's short definition speaks of
 pub units_app-is_simple : is_simple units_app ≡ true
 unfolding clap_on_literals
 units_app-is_simple = refl
 
+-- and takes words in any order
 pub units_app-is_free : is_simple_and_free units_app ≡ true
 unfolding clap_on_literals
 units_app-is_free = refl

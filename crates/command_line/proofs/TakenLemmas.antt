@@ -10,6 +10,7 @@ use Rattle.command_line.specs.Definition.{units_app}
 use Rattle.command_line.specs.Fields.{command_line_of}
 use Rattle.command_line.specs.Taken.{are_parsed, are_taken, arguments_fit, is_faultless}
 
+-- where there are faults, the words are not faultless
 is_faultless-some : (kinds : Kinds) → kinds ≢ [] → is_faultless kinds ≡ false
 is_faultless-some [] some = absurd (some refl)
 is_faultless-some (kind ∷ rest) some = refl

@@ -6,8 +6,7 @@ use Rattle.std.specs.Option.{option_map_or}
 use Rattle.std.specs.Str.{bytes_eq, is_utf8}
 use Rattle.clap.specs.Kinds.{Kinds}
 use Rattle.clap.specs.Words.{Text, fault_of}
-use Rattle.def_lines.specs.Blanks.{after_blanks}
-use Rattle.def_lines.specs.Lines.{cleaned}
+use Rattle.def_lines.specs.Lines.{line_content}
 use Rattle.def_lines.specs.Words.{is_empty}
 use Rattle.command_line.specs.Definition.{units_app}
 use Rattle.command_line.specs.Fields.{command_line_of}
@@ -30,14 +29,9 @@ one_if stands = if stands then 1 else 0
 abbrev pub work_count : CommandLine → ℕ
 work_count line = one_if (is_some line.from) + one_if line.check + one_if (is_some line.trial)
 
--- what a FROM or TO word says: it is read without a final carriage return, then without `#` and what follows,
--- then without outer blanks
-abbrev pub operand_text : Text → Text
-operand_text word = after_blanks (cleaned word)
-
 -- the TO word is neither blank nor `?`
 abbrev pub is_target : Text → Bool
-is_target to = not (is_empty (operand_text to) || bytes_eq (operand_text to) (codes "?"))
+is_target to = not (is_empty (line_content to) || bytes_eq (line_content to) (codes "?"))
 
 -- FROM stands, with a TO that is neither blank nor `?`
 abbrev pub is_conversion : CommandLine → Bool

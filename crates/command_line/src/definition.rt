@@ -10,7 +10,7 @@ use clap::{Arg, ArgAction, Command, value_parser};
 use std::alloc::{AllocError, Global};
 
 /// The command of this program, with every argument.
-pub fn units_command<'a>(alloc: Global) -> Result<Command<'a>, AllocError>
+pub(crate) fn units_command<'a>(alloc: Global) -> Result<Command<'a>, AllocError>
     ensures { IfOk result (λ command. app_of command ≡ units_app) }
 {
     let bare = bare_command(alloc);

@@ -48,7 +48,10 @@ pub struct CommandLine {
 }
 
 /// The command line of clap's matches.
-pub fn command_line_from(alloc: Global, matches: &ArgMatches<'_>) -> Result<CommandLine, AllocError>
+pub(crate) fn command_line_from(
+    alloc: Global,
+    matches: &ArgMatches<'_>,
+) -> Result<CommandLine, AllocError>
     requires digits { HasNumberUpTo (codes "digits") 36 (rows_of (found_of matches.now)) }
     requires trial { HasNumberUpTo (codes "trial") 20000 (rows_of (found_of matches.now)) }
     requires column { HasNumberUpTo (codes "column") 65535 (rows_of (found_of matches.now)) }

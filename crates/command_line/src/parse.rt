@@ -14,7 +14,7 @@ use std::alloc::Global;
 use units_io::Text;
 
 /// The words as texts, where each of them is UTF-8.
-pub fn texts_of<'w>(alloc: Global, words: &'w [Text]) -> Result<Vec<&'w str>, WordsFault>
+pub(crate) fn texts_of<'w>(alloc: Global, words: &'w [Text]) -> Result<Vec<&'w str>, WordsFault>
     ensures utf8 { IfOk result (λ _. list_all is_utf8 words.entry.now ≡ true) }
     ensures texts { IfOk result (λ texts. map (λ text. text.now) texts.items ≡ words.entry.now) }
     ensures usage { result ≡ Err WordsFault.Usage → list_all is_utf8 words.entry.now ≡ false }
@@ -30,7 +30,7 @@ pub fn texts_of<'w>(alloc: Global, words: &'w [Text]) -> Result<Vec<&'w str>, Wo
 }
 
 /// The matches of the program's command in these words.
-pub fn parse<'a>(alloc: Global, words: &'a [&'a str]) -> Result<ArgMatches<'a>, WordsFault>
+pub(crate) fn parse<'a>(alloc: Global, words: &'a [&'a str]) -> Result<ArgMatches<'a>, WordsFault>
     ensures exact { let texts = map (λ word. word.now) words.entry.now in
         MatchResult result
         (λ matches. (fault_of units_app texts ≡ [])

@@ -1,13 +1,12 @@
 //! The words of the command line, read.
 ghost use Rattle.std.specs.Prelude.{◌≡◌, ◌≤◌, IfOk, IfSome, true, false};
 ghost use Rattle.command_line.specs.Taken as spec;
-ghost use Rattle.command_line.specs.Taken.{are_taken, are_parsed, work_count};
 ghost use Rattle.command_line.specs.Fields.{command_line_of};
 
 use crate::fault::WordsFault;
 use crate::fields::{CommandLine, command_line_from};
 use crate::parse::{parse, texts_of};
-use def_lines::{clean, trim_front};
+use def_lines::line_content;
 use std::alloc::Global;
 use units_io::Text;
 
@@ -16,13 +15,13 @@ use units_io::Text;
 /// The answer is `Usage` where the words are not a command line of this program, and `OutOfMemory`
 /// where there is no memory to tell.
 pub fn read_words(alloc: Global, words: &[Text]) -> Result<CommandLine, WordsFault>
-    ensures taken { IfOk result (λ _. are_taken words.now ≡ true) }
+    ensures taken { IfOk result (λ _. spec.are_taken words.now ≡ true) }
     ensures read { IfOk result (λ line. line ≡ command_line_of words.now) }
-    ensures usage { result ≡ Err WordsFault.Usage → are_taken words.now ≡ false }
+    ensures usage { result ≡ Err WordsFault.Usage → spec.are_taken words.now ≡ false }
     ensures digits { IfOk result (λ line. IfSome line.digits (λ n. (1 ≤ n) × (n ≤ 36))) }
     ensures trial { IfOk result (λ line. IfSome line.trial (λ n. (1 ≤ n) × (n ≤ 20000))) }
     ensures column { IfOk result (λ line. IfSome line.column (λ n. (1 ≤ n) × (n ≤ 65535))) }
-    ensures work { IfOk result (λ line. work_count line ≤ 1) }
+    ensures work { IfOk result (λ line. spec.work_count line ≤ 1) }
     ensures sides { IfOk result (λ line. IfSome line.column (λ _. spec.is_conversion line ≡ true)) }
 {
     let line = parsed_line(alloc, words)?;
@@ -34,9 +33,9 @@ pub fn read_words(alloc: Global, words: &[Text]) -> Result<CommandLine, WordsFau
 
 /// The words as clap reads them, before any test between them.
 fn parsed_line(alloc: Global, words: &[Text]) -> Result<CommandLine, WordsFault>
-    ensures parsed { IfOk result (λ _. are_parsed words.now ≡ true) }
+    ensures parsed { IfOk result (λ _. spec.are_parsed words.now ≡ true) }
     ensures read { IfOk result (λ line. line ≡ command_line_of words.now) }
-    ensures usage { result ≡ Err WordsFault.Usage → are_parsed words.now ≡ false }
+    ensures usage { result ≡ Err WordsFault.Usage → spec.are_parsed words.now ≡ false }
     ensures digits { IfOk result (λ line. IfSome line.digits (λ n. (1 ≤ n) × (n ≤ 36))) }
     ensures trial { IfOk result (λ line. IfSome line.trial (λ n. (1 ≤ n) × (n ≤ 20000))) }
     ensures column { IfOk result (λ line. IfSome line.column (λ n. (1 ≤ n) × (n ≤ 65535))) }
@@ -55,7 +54,7 @@ fn arguments_fit(line: &CommandLine) -> bool
 
 /// How many of FROM, `--check` and `--trial` stand.
 fn count_of_work(line: &CommandLine) -> u8
-    ensures { result ≡ work_count line.now }
+    ensures { result ≡ spec.work_count line.now }
 {
     one_if(line.from.is_some()) + one_if(line.check) + one_if(line.trial.is_some())
 }
@@ -87,6 +86,6 @@ fn is_conversion(line: &CommandLine) -> bool
 fn is_target(to: &[u8]) -> bool
     ensures { result ≡ spec.is_target to.now }
 {
-    let text = trim_front(clean(to));
+    let text = line_content(to);
     !(text.is_empty() || text == b"?".as_slice())
 }

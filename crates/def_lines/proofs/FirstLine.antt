@@ -1,17 +1,21 @@
 -- The first physical line, and those behind it.
-use Rattle.std.proofs.Common.{◌≡◌, ◌==◌, ◌<◌, ◌+◌, ◌∷◌, [], ℕ, List, true, false, cond, not, length, take, drop, refl, sym, ap, ◌∙◌}
+use Rattle.std.proofs.Common.{◌≡◌, ◌==◌, ◌<◌, ◌+◌, ◌∷◌, [], ℕ, List, true, false, cond, not, length, take, drop, refl}
+use Rattle.std.proofs.Common.{sym, ap, ◌∙◌}
 use Rattle.std.proofs.Common.{arith, one-add, add-one}
 use Rattle.std.specs.List.{position_or_len}
 use Rattle.std.proofs.lemmas.List.{drop-drop}
 use Rattle.def_lines.specs.Lines.{physical_lines, onto_line}
 
+-- the place of the first line feed, or the length where there is none
 abbrev place : List ℕ → ℕ
 place bytes = position_or_len (λ x. x == 10) bytes
 
+-- a byte that is no line feed is put at the front of the first line
 step : (x : ℕ) (rest : List ℕ) (q : ℕ) → physical_lines rest ≡ take q rest ∷ physical_lines (drop (q + 1) rest)
     → onto_line x (physical_lines rest) ≡ take (1 + q) (x ∷ rest) ∷ physical_lines (drop (1 + q + 1) (x ∷ rest))
 step x rest q ih = rw ih (simp (one-add, add-one))
 
+-- the first line is what stands before the first line feed, and the others are the lines of what stands behind it
 first : (bytes : List ℕ) → 0 < length bytes
     → physical_lines bytes ≡ take (place bytes) bytes ∷ physical_lines (drop (place bytes + 1) bytes)
 first [] h = absurd (omega arith)
@@ -30,16 +34,23 @@ first (x ∷ y ∷ ys) h =
     [ true ↦ refl | false ↦ step x (y ∷ ys) (place (y ∷ ys)) ih ]
 
 -- by what `split_at` gives
-pub parted : (bytes part behind : List ℕ) (at : ℕ) → 0 < length bytes → at ≡ place bytes → part ≡ take at bytes → behind ≡ drop at bytes
+pub parted : (bytes part behind : List ℕ) (at : ℕ) → 0 < length bytes → at ≡ place bytes → part ≡ take at bytes
+    → behind ≡ drop at bytes
     → physical_lines bytes ≡ part ∷ physical_lines (drop 1 behind)
 parted bytes part behind at h e p q =
     first bytes h
-    ∙ rw (← e) (rw p (ap (λ t. take at bytes ∷ physical_lines t) (sym (drop-drop 1 at bytes)) ∙ ap (λ t. take at bytes ∷ physical_lines (drop 1 t)) (sym q)))
+    ∙ rw (← e) (rw p
+    (ap (λ t. take at bytes ∷ physical_lines t) (sym (drop-drop 1 at bytes))
+    ∙ ap (λ t. take at bytes ∷ physical_lines (drop 1 t)) (sym q)))
 
-pub parted_some : (bytes part behind : List ℕ) (at b : ℕ) (tail : List ℕ) → 0 < length bytes → at ≡ place bytes → part ≡ take at bytes
+-- the same of bytes that are parted there, where a line feed stands
+pub parted_some : (bytes part behind : List ℕ) (at b : ℕ) (tail : List ℕ) → 0 < length bytes → at ≡ place bytes
+    → part ≡ take at bytes
     → behind ≡ drop at bytes → behind ≡ b ∷ tail → physical_lines bytes ≡ part ∷ physical_lines tail
-parted_some bytes part behind at b tail h e p q is = parted bytes part behind at h e p q ∙ ap (λ t. part ∷ physical_lines (drop 1 t)) is
+parted_some bytes part behind at b tail h e p q is = parted bytes part behind at h e p q
+    ∙ ap (λ t. part ∷ physical_lines (drop 1 t)) is
 
+-- and where none stands
 pub parted_none : (bytes part behind : List ℕ) (at : ℕ) → 0 < length bytes → at ≡ place bytes → part ≡ take at bytes
     → behind ≡ drop at bytes → length behind ≡ 0 → physical_lines bytes ≡ part ∷ physical_lines behind
 parted_none bytes part [] at h e p q none = parted bytes part [] at h e p q

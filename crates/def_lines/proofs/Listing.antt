@@ -1,5 +1,6 @@
 -- The words of a text, taken one by one.
-use Rattle.std.proofs.Common.{◌≡◌, ◌<◌, ◌≤◌, ◌+◌, ◌∷◌, [], ◌||◌, ℕ, suc, List, Bool, true, false, cond, not, length, take, drop, refl}
+use Rattle.std.proofs.Common.{◌≡◌, ◌<◌, ◌≤◌, ◌+◌, ◌∷◌, [], ◌||◌, ℕ, suc, List, Bool, true, false, cond, not, length}
+use Rattle.std.proofs.Common.{take, drop, refl}
 use Rattle.std.proofs.Common.{sym, ap, ◌∙◌, arith, one-add, ◌==◌, length-drop}
 use Rattle.std.specs.List.{list_any, position_or_len, slice_split, onto_first}
 use Rattle.units_io.specs.Blanks.{is_blank}
@@ -7,7 +8,8 @@ use Rattle.std.specs.Str.{bytes_eq}
 use Rattle.def_lines.specs.Blanks.{after_blanks}
 use Rattle.def_lines.specs.Parts.{is_begun}
 use Rattle.def_lines.specs.Words.{after_word, first_word, is_listed, nonempty, words_of}
-use Rattle.def_lines.proofs.Trimming.{after_blanks-blank, after_blanks-word, empty-nil, is_begun-after_blanks, length-after_blanks}
+use Rattle.def_lines.proofs.Trimming.{after_blanks-blank, after_blanks-word, empty-nil, is_begun-after_blanks}
+use Rattle.def_lines.proofs.Trimming.{length-after_blanks}
 
 -- where the first blank stands
 abbrev pub word_end : List ℕ → ℕ
@@ -16,7 +18,8 @@ word_end text = position_or_len is_blank text
 -- a blank at the front is no word
 words_of-blank : (b : ℕ) (text : List ℕ) → is_blank b ≡ true → words_of (b ∷ text) ≡ words_of text
 unfolding words_of
-words_of-blank b text blank = ap (λ t. nonempty (cond t ([] ∷ slice_split is_blank text) (onto_first b (slice_split is_blank text)))) blank
+words_of-blank b text blank =
+    ap (λ t. nonempty (cond t ([] ∷ slice_split is_blank text) (onto_first b (slice_split is_blank text)))) blank
 
 -- nor are all blanks there
 pub words_of-after_blanks : (text : List ℕ) → words_of (after_blanks text) ≡ words_of text
@@ -34,6 +37,7 @@ pub record Parted (text : List ℕ) : Type 0 where
   pub pieces : slice_split is_blank text ≡ take (word_end text) text ∷ behind
   pub words : nonempty behind ≡ words_of (after_blanks (drop (word_end text) text))
 
+-- each text is parted so
 pub parted : (text : List ℕ) → Parted text
 unfolding words_of
 parted [] = record { behind = []; pieces = refl; words = refl }
@@ -76,12 +80,14 @@ length-first_word : (text : List ℕ) → length (first_word text) ≡ word_end 
 length-first_word [] = refl
 length-first_word (b ∷ text) = go (is_blank b) refl (length-first_word text)
   where
-    go : (t : Bool) → is_blank b ≡ t → length (first_word text) ≡ word_end text → length (first_word (b ∷ text)) ≡ word_end (b ∷ text)
+    go : (t : Bool) → is_blank b ≡ t → length (first_word text) ≡ word_end text
+        → length (first_word (b ∷ text)) ≡ word_end (b ∷ text)
     go true e rest =
         let at : word_end (b ∷ text) ≡ 0 = ap (λ t. cond (not t) (1 + word_end text) 0) e in
         ap (λ n. length (take n (b ∷ text))) at ∙ sym at
     go false e rest =
-        let at : word_end (b ∷ text) ≡ suc (word_end text) = ap (λ t. cond (not t) (1 + word_end text) 0) e ∙ one-add (word_end text) in
+        let at : word_end (b ∷ text) ≡ suc (word_end text) = ap (λ t. cond (not t) (1 + word_end text) 0) e
+        ∙ one-add (word_end text) in
         ap (λ n. length (take n (b ∷ text))) at ∙ ap suc rest ∙ sym at
 
 -- the words of a text whose front is no blank: the first, and those behind it
@@ -101,14 +107,24 @@ words_of-first b text begun =
 -- what stands behind the first word is no longer than the text
 pub length-after_word : (text : List ℕ) → length (after_word text) ≤ length text
 length-after_word text =
-    omega (arith, length-after_blanks (drop (length (first_word text)) text), length-drop (length (first_word text)) text)
+    omega (
+      arith,
+      length-after_blanks (drop (length (first_word text)) text),
+      length-drop (length (first_word text)) text,
+    )
 
 -- and shorter, where no blank is at the front
-pub shorter-after_word : (b : ℕ) (text : List ℕ) → is_begun (b ∷ text) ≡ true → length (after_word (b ∷ text)) < length (b ∷ text)
+pub shorter-after_word : (b : ℕ) (text : List ℕ) → is_begun (b ∷ text) ≡ true
+    → length (after_word (b ∷ text)) < length (b ∷ text)
 shorter-after_word b text begun =
     let next : length (first_word (b ∷ text)) ≡ suc (word_end text) =
-    length-first_word (b ∷ text) ∙ ap (λ t. cond (not t) (1 + word_end text) 0) (front_word b text begun) ∙ one-add (word_end text) in
-    omega (arith, length-after_blanks (drop (length (first_word (b ∷ text))) (b ∷ text)), length-drop (length (first_word (b ∷ text))) (b ∷ text))
+    length-first_word (b ∷ text) ∙ ap (λ t. cond (not t) (1 + word_end text) 0) (front_word b text begun)
+    ∙ one-add (word_end text) in
+    omega (
+      arith,
+      length-after_blanks (drop (length (first_word (b ∷ text))) (b ∷ text)),
+      length-drop (length (first_word (b ∷ text))) (b ∷ text),
+    )
 
 -- no blank is at its front
 pub is_begun-after_word : (text : List ℕ) → is_begun (after_word text) ≡ true
@@ -131,6 +147,7 @@ is_listed-first (b ∷ text) value begun some =
     ap (λ ws. list_any (λ w. bytes_eq w value) ws) (words_of-first b text begun)
 
 -- what stands behind the first word is shorter
-pub shorter : (text : List ℕ) → is_begun text ≡ true → (length text == 0) ≡ false → length (after_word text) < length text
+pub shorter : (text : List ℕ) → is_begun text ≡ true → (length text == 0) ≡ false
+    → length (after_word text) < length text
 shorter [] begun some = cc
 shorter (b ∷ text) begun some = shorter-after_word b text begun

@@ -19,6 +19,7 @@ one_skipped : (number : ℕ) (bytes : List ℕ) (new : List Line) → AreSkipped
     → AreSkipped (map trimmed_line (lines_from (number + 1) ([] ∷ physical_lines bytes))) new
 one_skipped number bytes new h = record { same = h.same; fewer = omega (arith, h.fewer) }
 
+-- the line feeds at the front of some bytes are lines that are skipped, and each is counted
 pub feeds_skipped : (bytes : List ℕ) (number : ℕ) → AreSkipped (lines_behind number bytes)
     (lines_behind (number + feeds bytes) (drop (feeds bytes) bytes))
 feeds_skipped [] number = record { same = refl; fewer = omega arith }

@@ -1,5 +1,6 @@
 -- Blanks at the ends of texts that are put together.
-use Rattle.std.proofs.Common.{◌≡◌, ◌≤◌, ◌++◌, ◌∷◌, [], ℕ, List, Bool, true, false, cond, not, reverse, length, drop, ◌+◌, one-add}
+use Rattle.std.proofs.Common.{◌≡◌, ◌≤◌, ◌++◌, ◌∷◌, [], ℕ, List, Bool, true, false, cond, not, reverse, length, drop}
+use Rattle.std.proofs.Common.{◌+◌, one-add}
 use Rattle.std.proofs.Common.{if◌then◌else◌, Result, Ok, Err, OnOk, is_ok, ◌==◌, refl, sym, ap, ◌∙◌, arith}
 use Rattle.std.specs.List.{prefix_len}
 use Rattle.std.proofs.lemmas.List.{reverse-append}
@@ -35,7 +36,8 @@ pub length-after_blanks : (bytes : List ℕ) → length (after_blanks bytes) ≤
 length-after_blanks [] = omega arith
 length-after_blanks (b ∷ bytes) = go (is_blank b) refl (length-after_blanks bytes)
   where
-    go : (t : Bool) → is_blank b ≡ t → length (after_blanks bytes) ≤ length bytes → length (after_blanks (b ∷ bytes)) ≤ length (b ∷ bytes)
+    go : (t : Bool) → is_blank b ≡ t → length (after_blanks bytes) ≤ length bytes
+        → length (after_blanks (b ∷ bytes)) ≤ length (b ∷ bytes)
     go true e rest = omega (arith, ap length (after_blanks-blank b bytes e))
     go false e rest = omega (arith, ap length (after_blanks-word b bytes e))
 
@@ -49,17 +51,21 @@ is_begun-after_blanks (b ∷ bytes) = go (is_blank b) refl (is_begun-after_blank
     go false e rest = ap is_begun (after_blanks-word b bytes e) ∙ ap not e
 
 -- a byte that is no blank stays at the end
-after_blanks-end_word : (b : ℕ) (bytes : List ℕ) → is_blank b ≡ false → after_blanks (bytes ++ b ∷ []) ≡ after_blanks bytes ++ b ∷ []
+after_blanks-end_word : (b : ℕ) (bytes : List ℕ) → is_blank b ≡ false
+    → after_blanks (bytes ++ b ∷ []) ≡ after_blanks bytes ++ b ∷ []
 after_blanks-end_word b [] word = after_blanks-word b [] word
 after_blanks-end_word b (c ∷ bytes) word = go (is_blank c) refl (after_blanks-end_word b bytes word)
   where
     go : (t : Bool) → is_blank c ≡ t → after_blanks (bytes ++ b ∷ []) ≡ after_blanks bytes ++ b ∷ []
         → after_blanks (c ∷ (bytes ++ b ∷ [])) ≡ after_blanks (c ∷ bytes) ++ b ∷ []
-    go true e rest = after_blanks-blank c (bytes ++ b ∷ []) e ∙ rest ∙ ap (λ t. t ++ b ∷ []) (sym (after_blanks-blank c bytes e))
-    go false e rest = after_blanks-word c (bytes ++ b ∷ []) e ∙ ap (λ t. t ++ b ∷ []) (sym (after_blanks-word c bytes e))
+    go true e rest = after_blanks-blank c (bytes ++ b ∷ []) e ∙ rest
+        ∙ ap (λ t. t ++ b ∷ []) (sym (after_blanks-blank c bytes e))
+    go false e rest = after_blanks-word c (bytes ++ b ∷ []) e
+        ∙ ap (λ t. t ++ b ∷ []) (sym (after_blanks-word c bytes e))
 
 -- a byte that is no blank stays at the front
-pub before_blanks-word : (b : ℕ) (bytes : List ℕ) → is_blank b ≡ false → before_blanks (b ∷ bytes) ≡ b ∷ before_blanks bytes
+pub before_blanks-word : (b : ℕ) (bytes : List ℕ) → is_blank b ≡ false
+    → before_blanks (b ∷ bytes) ≡ b ∷ before_blanks bytes
 before_blanks-word b bytes word =
     ap (λ t. reverse (after_blanks t)) (reverse-append (b ∷ []) bytes)
     ∙ ap reverse (after_blanks-end_word b (reverse bytes) word)
@@ -85,7 +91,8 @@ after_blanks-end_blank b (c ∷ bytes) blank = go (is_blank c) refl (after_blank
   where
     go : (t : Bool) → is_blank c ≡ t
         → after_blanks (reverse (after_blanks (bytes ++ b ∷ []))) ≡ after_blanks (reverse (after_blanks bytes))
-        → after_blanks (reverse (after_blanks (c ∷ (bytes ++ b ∷ [])))) ≡ after_blanks (reverse (after_blanks (c ∷ bytes)))
+        → after_blanks (reverse (after_blanks (c ∷ (bytes ++ b ∷ []))))
+        ≡ after_blanks (reverse (after_blanks (c ∷ bytes)))
     go true e rest =
         ap (λ t. after_blanks (reverse t)) (after_blanks-blank c (bytes ++ b ∷ []) e)
         ∙ rest
@@ -99,7 +106,8 @@ after_blanks-end_blank b (c ∷ bytes) blank = go (is_blank c) refl (after_blank
 -- a blank at the front does not count
 pub trimmed-blank : (b : ℕ) (bytes : List ℕ) → is_blank b ≡ true → trimmed (b ∷ bytes) ≡ trimmed bytes
 trimmed-blank b bytes blank =
-    ap (λ t. after_blanks (reverse (after_blanks t))) (reverse-append (b ∷ []) bytes) ∙ after_blanks-end_blank b (reverse bytes) blank
+    ap (λ t. after_blanks (reverse (after_blanks t))) (reverse-append (b ∷ []) bytes)
+    ∙ after_blanks-end_blank b (reverse bytes) blank
 
 -- nor do blanks at the front of a text that goes on
 pub trimmed-after_blanks : (bytes behind : List ℕ) → trimmed (after_blanks bytes ++ behind) ≡ trimmed (bytes ++ behind)
@@ -108,20 +116,23 @@ trimmed-after_blanks (b ∷ bytes) behind = go (is_blank b) refl (trimmed-after_
   where
     go : (t : Bool) → is_blank b ≡ t → trimmed (after_blanks bytes ++ behind) ≡ trimmed (bytes ++ behind)
         → trimmed (after_blanks (b ∷ bytes) ++ behind) ≡ trimmed (b ∷ (bytes ++ behind))
-    go true e rest = ap (λ t. trimmed (t ++ behind)) (after_blanks-blank b bytes e) ∙ rest ∙ sym (trimmed-blank b (bytes ++ behind) e)
+    go true e rest = ap (λ t. trimmed (t ++ behind)) (after_blanks-blank b bytes e) ∙ rest
+        ∙ sym (trimmed-blank b (bytes ++ behind) e)
     go false e rest = ap (λ t. trimmed (t ++ behind)) (after_blanks-word b bytes e)
 
 -- a text of length 0 is empty
 pub empty-nil : (text : List ℕ) → (length text == 0) ≡ true → text ≡ []
 empty-nil [] none = refl
-empty-nil (b ∷ text) none = let e : length (b ∷ text) ≡ 0 = (Decides-eqb (length (b ∷ text)) 0).0 none in absurd (omega arith)
+empty-nil (b ∷ text) none = let e : length (b ∷ text) ≡ 0 =
+    (Decides-eqb (length (b ∷ text)) 0).0 none in absurd (omega arith)
 
 -- bytes are put behind a text that has none
 pub put-first : {E : Type 0} (r : Result (Unit {0}) E) (old new part bytes : List ℕ) → (length old == 0) ≡ true
     → part ≡ after_blanks bytes → new ≡ (if is_ok r then old ++ part else old)
     → OnOk r ((behind : List ℕ) → trimmed (new ++ behind) ≡ trimmed (old ++ (bytes ++ behind)))
 put-first (Ok done) old new part bytes none from is = λ behind.
-    ap (λ t. trimmed (t ++ behind)) (is ∙ ap (λ t. old ++ t) from ∙ ap (λ t. t ++ after_blanks bytes) (empty-nil old none))
+    ap (λ t. trimmed (t ++ behind))
+    (is ∙ ap (λ t. old ++ t) from ∙ ap (λ t. t ++ after_blanks bytes) (empty-nil old none))
     ∙ trimmed-after_blanks bytes behind
     ∙ ap (λ t. trimmed (t ++ (bytes ++ behind))) (sym (empty-nil old none))
 put-first (Err fault) old new part bytes none from is = tt
@@ -130,7 +141,8 @@ put-first (Err fault) old new part bytes none from is = tt
 pub is_begun-put-first : (t : Bool) (old new part bytes : List ℕ) → (length old == 0) ≡ true → part ≡ after_blanks bytes
     → new ≡ (if t then old ++ part else old) → is_begun new ≡ true
 is_begun-put-first true old new part bytes none from is =
-    ap is_begun (is ∙ ap (λ t. old ++ t) from ∙ ap (λ t. t ++ after_blanks bytes) (empty-nil old none)) ∙ is_begun-after_blanks bytes
+    ap is_begun (is ∙ ap (λ t. old ++ t) from ∙ ap (λ t. t ++ after_blanks bytes) (empty-nil old none))
+    ∙ is_begun-after_blanks bytes
 is_begun-put-first false old new part bytes none from is = ap is_begun (is ∙ empty-nil old none)
 
 -- nor does one that began with none

@@ -1,7 +1,9 @@
--- The lines of a few files, the kinds of a few lines and the words of a few texts, found by hand from the rules of the format.
+-- The lines of a few files, the kinds of a few lines and the words of a few texts, found by hand from the rules of the
+-- format.
 use Rattle.std.specs.Prelude.{◌≡◌, ℕ, List, [], ◌∷◌, Bool, true, false, codes, map}
 use Rattle.def_lines.specs.declared.line.Line.{Line}
-use Rattle.def_lines.specs.Kinds.{Kind, kind_of, Blank, Definition, Include, Locale, EndLocale, Set, Var, VarNot, EndVar, Utf8, EndUtf8}
+use Rattle.def_lines.specs.Kinds.{Kind, kind_of, Blank, Definition, Include, Locale, EndLocale, Set, Var, VarNot}
+use Rattle.def_lines.specs.Kinds.{EndVar, Utf8, EndUtf8}
 use Rattle.def_lines.specs.Kinds.{Message, Prompt, UnitList, UnknownDirective, BadDirective}
 use Rattle.def_lines.specs.Lines.{logical_lines}
 use Rattle.def_lines.specs.Words.{is_listed}

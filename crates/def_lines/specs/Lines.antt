@@ -2,7 +2,7 @@
 use Rattle.std.specs.Prelude.{◌==◌, ◌+◌, ℕ, List, [], ◌∷◌, ◌++◌, Bool, false, filter, map, not, reverse, if◌then◌else◌}
 use Rattle.std.specs.List.{before_first}
 use Rattle.def_lines.specs.declared.line.Line.{Line}
-use Rattle.def_lines.specs.Blanks.{before_blanks, trimmed}
+use Rattle.def_lines.specs.Blanks.{after_blanks, before_blanks, trimmed}
 use Rattle.def_lines.specs.Words.{is_empty}
 
 -- a byte at the front of the first of some lines
@@ -41,6 +41,10 @@ before_byte b bytes = before_first (λ x. x == b) bytes
 -- without trailing blanks
 abbrev pub cleaned : List ℕ → List ℕ
 cleaned line = before_blanks (before_byte 35 (if ends_with 13 line then front line else line))
+
+-- the content of a line that stands by itself: cleaned, and without blanks at the front
+unfoldable pub line_content : List ℕ → List ℕ
+line_content line = after_blanks (cleaned line)
 
 -- a text at the front of the first of some lines, which takes this number, or alone where there
 -- is none

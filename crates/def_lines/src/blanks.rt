@@ -1,7 +1,7 @@
 //! Blanks at the ends of a text.
 ghost use Rattle.std.specs.Prelude.{◌≡◌, ◌≤◌, length, take};
-ghost use Rattle.std.specs.List.{prefix_len as prefix_len_of};
-ghost use Rattle.units_io.specs.Blanks.{is_blank as is_blank_byte};
+ghost use Rattle.std.specs.List as lists;
+ghost use Rattle.units_io.specs.Blanks as blanks;
 ghost use Rattle.def_lines.specs.Blanks.{after_blanks, before_blanks, trimmed};
 
 use units_io::{is_blank, prefix_len};
@@ -24,7 +24,7 @@ pub fn trim_front(text: &[u8]) -> &[u8]
 
 // How many blanks are at the front of the text.
 fn blank_len(text: &[u8]) -> usize
-    ensures is { result ≡ prefix_len_of is_blank_byte text.now }
+    ensures is { result ≡ lists.prefix_len blanks.is_blank text.now }
     ensures within { result ≤ length text.now }
 {
     prefix_len(text, |byte| is_blank(byte))

@@ -1,7 +1,8 @@
 //! The logical lines of a file, taken one by one.
 ghost use Rattle.std.specs.Prelude.{◌≡◌, ◌≤◌, ◌+◌, ◌++◌, ◌∷◌, [], List, IfOk, OnErr, length, map};
 ghost use Rattle.std.specs.Map.Iter.{TakesFirst};
-ghost use Rattle.def_lines.specs.Lines.{joined, lines_behind, lines_from, logical_lines, physical_lines, shown, trimmed_line};
+ghost use Rattle.def_lines.specs.Lines.{joined, lines_behind, lines_from, logical_lines, physical_lines, shown};
+ghost use Rattle.def_lines.specs.Lines.{trimmed_line};
 
 use crate::line::{LentLine, Line, Lines};
 use crate::part::Part;
@@ -115,7 +116,8 @@ fn join_lines<'a>(
 ) -> Result<Joined<'a>, AllocError>
     requires { number + length bytes.now ≤ 16777216 }
     ensures lines { IfOk result (λ taken. taken.line ∷ lines_behind taken.number taken.behind.now
-        ≡ map trimmed_line (joined number (start.now ++ 32 ∷ []) (lines_from (number + 1) (physical_lines bytes.now)))) }
+        ≡ map trimmed_line
+        (joined number (start.now ++ 32 ∷ []) (lines_from (number + 1) (physical_lines bytes.now)))) }
     ensures few { IfOk result (λ taken. taken.number + length taken.behind.now ≤ number + length bytes.now) }
 {
     let mut part = Part::new(alloc, number);

@@ -6,17 +6,29 @@ ghost use Rattle.def_lines.specs.Kinds.{beside, directives};
 /// What the word behind a `!` asks for.
 #[derive(Clone, Copy)]
 pub enum Directive {
+    /// `!include`: the lines of another file.
     Include,
+    /// `!locale`: a block for one locale.
     Locale,
+    /// `!endlocale`: its end.
     EndLocale,
+    /// `!set`: a value for a variable that has none.
     Set,
+    /// `!var`: a block for some values of a variable.
     Var,
+    /// `!varnot`: a block for all its other values.
     VarNot,
+    /// `!endvar`: the end of either.
     EndVar,
+    /// `!utf8`: a block that always holds.
     Utf8,
+    /// `!endutf8`: its end.
     EndUtf8,
+    /// `!message`: a text to show.
     Message,
+    /// `!prompt`: a prompt, which is passed over.
     Prompt,
+    /// `!unitlist`: a list of units by name.
     UnitList,
 }
 

@@ -16,5 +16,5 @@ pub use cursor::{Cursor, split_lines};
 pub use examples::examples_law;
 pub use kind::{LineKind, classify};
 pub use line::{LentLine, Line, Lines};
-pub use physical::clean;
+pub use physical::{clean, line_content};
 pub use words::{cut_word, listed, split_word};

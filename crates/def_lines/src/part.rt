@@ -1,6 +1,6 @@
 //! The front of a logical line that goes on.
 ghost use Rattle.std.specs.Prelude.{◌≡◌, ◌++◌, ◌∷◌, [], List, ℕ, IfOk, OnOk, map, true};
-ghost use Rattle.def_lines.specs.declared.line.Line.{Line as LineValue};
+ghost use Rattle.def_lines.specs.declared.line.Line as line_spec;
 ghost use Rattle.def_lines.specs.Blanks.{trimmed};
 ghost use Rattle.def_lines.specs.Lines.{joined, trimmed_line};
 ghost use Rattle.def_lines.specs.Parts.{is_begun};
@@ -45,9 +45,10 @@ impl Part {
 
     // Goes on with what stands before a `\`, in whose place comes a space.
     pub(crate) fn go_on(&mut self, start: &[u8]) -> Result<(), AllocError>
-        ensures { OnOk result ((number : ℕ) (more : List LineValue) →
+        ensures { OnOk result ((number : ℕ) (more : List line_spec.Line) →
             map trimmed_line (joined self.new.number self.new.text.items more)
-            ≡ map trimmed_line (joined self.old.number self.old.text.items (joined number (start.now ++ 32 ∷ []) more))) }
+            ≡ map trimmed_line
+            (joined self.old.number self.old.text.items (joined number (start.now ++ 32 ∷ []) more))) }
     {
         self.put(start)?;
         self.put(b" ")
@@ -68,8 +69,9 @@ impl Part {
 
     // The line that these bytes end.
     pub(crate) fn ended(mut self, bytes: &[u8]) -> Result<Line, AllocError>
-        ensures { IfOk result (λ line. (number : ℕ) (more : List LineValue) → line ∷ map trimmed_line more
-            ≡ map trimmed_line (joined self.number self.text.items (record { number = number; text = bytes.now } ∷ more))) }
+        ensures { IfOk result (λ line. (number : ℕ) (more : List line_spec.Line) → line ∷ map trimmed_line more
+            ≡ map trimmed_line
+            (joined self.number self.text.items (record { number = number; text = bytes.now } ∷ more))) }
     {
         self.put(bytes)?;
         Ok(self.finished())

@@ -1,16 +1,16 @@
 //! The physical lines of a file.
 
 ghost use Rattle.std.specs.Prelude.{◌≡◌, ◌==◌, ◌≤◌, ◌<◌, ◌∷◌, length, true, false, MatchOption};
-ghost use Rattle.std.specs.List.{position_or_len, prefix_len as prefix_len_of};
-ghost use Rattle.def_lines.specs.Lines.{cleaned, ends_with, front, physical_lines};
+ghost use Rattle.std.specs.List as lists;
+ghost use Rattle.def_lines.specs.Lines as spec;
 
-use crate::blanks::trim_end;
+use crate::blanks::{trim_end, trim_front};
 use units_io::prefix_len;
 
 // The first physical line, and the bytes behind it.
 pub(crate) fn next_line(bytes: &[u8]) -> (&[u8], &[u8])
     requires { 0 < length bytes.now }
-    ensures lines { physical_lines bytes.now ≡ result.0.now ∷ physical_lines result.1.now }
+    ensures lines { spec.physical_lines bytes.now ≡ result.0.now ∷ spec.physical_lines result.1.now }
     ensures shorter { length result.1.now < length bytes.now }
 {
     let (line, rest) = bytes.split_at(place_of(bytes, b'\n'));
@@ -23,17 +23,26 @@ pub(crate) fn next_line(bytes: &[u8]) -> (&[u8], &[u8])
 /// A physical line without its final carriage return, then without `#` and what follows, then without its
 /// trailing blanks.
 pub fn clean(line: &[u8]) -> &[u8]
-    ensures { result.now ≡ cleaned line.now }
+    ensures { result.now ≡ spec.cleaned line.now }
 {
     let line = strip_last(line, b'\r').unwrap_or(line);
     trim_end(&line[..place_of(line, b'#')])
 }
 
+/// The content of a line that stands by itself: without a final carriage return, then without `#` and what follows,
+/// then without outer blanks.
+#[tactic(auto, unfolding(crate::specs::Lines::line_content))]
+pub fn line_content(line: &[u8]) -> &[u8]
+    ensures { result.now ≡ spec.line_content line.now }
+{
+    trim_front(clean(line))
+}
+
 // All but the last byte, where that is this one.
 pub(crate) fn strip_last(text: &[u8], byte: u8) -> Option<&[u8]>
     ensures { MatchOption result
-        (ends_with byte text.now ≡ false)
-        (λ rest. (ends_with byte text.now ≡ true) × (rest.now ≡ front text.now)) }
+        (spec.ends_with byte text.now ≡ false)
+        (λ rest. (spec.ends_with byte text.now ≡ true) × (rest.now ≡ spec.front text.now)) }
 {
     match text.split_last() {
         Some((last, rest)) if *last == byte => Some(rest),
@@ -43,7 +52,7 @@ pub(crate) fn strip_last(text: &[u8], byte: u8) -> Option<&[u8]>
 
 // How many line feeds are at the front of the bytes.
 pub(crate) fn line_feed_count(bytes: &[u8]) -> usize
-    ensures is { result ≡ prefix_len_of (λ b. b == 10) bytes.now }
+    ensures is { result ≡ lists.prefix_len (λ b. b == 10) bytes.now }
     ensures within { result ≤ length bytes.now }
 {
     prefix_len(bytes, |byte| byte == b'\n')
@@ -51,7 +60,7 @@ pub(crate) fn line_feed_count(bytes: &[u8]) -> usize
 
 // The place of the first such byte, or the length where there is none.
 fn place_of(text: &[u8], byte: u8) -> usize
-    ensures is { result ≡ position_or_len (λ b. b == byte) text.now }
+    ensures is { result ≡ lists.position_or_len (λ b. b == byte) text.now }
     ensures within { result ≤ length text.now }
 {
     prefix_len(text, |b| b != byte)

@@ -2,8 +2,8 @@
 
 ghost use Rattle.std.specs.Prelude.{◌≡◌, ◌≤◌, length};
 ghost use Rattle.std.specs.List.{list_any, position_or_len};
-ghost use Rattle.units_io.specs.Blanks.{is_blank as is_blank_byte};
-ghost use Rattle.def_lines.specs.Words.{after_word, behind_word, first_word, is_listed, is_word as is_word_text};
+ghost use Rattle.units_io.specs.Blanks as blanks;
+ghost use Rattle.def_lines.specs.Words as spec;
 
 use crate::blanks::{trim, trim_front};
 use units_io::{is_blank, prefix_len};
@@ -11,8 +11,8 @@ use units_io::{is_blank, prefix_len};
 /// What stands before the first blank, or all where there is none, and what stands behind that,
 /// trimmed.
 pub fn split_word(text: &[u8]) -> (&[u8], &[u8])
-    ensures word { result.0.now ≡ first_word text.now }
-    ensures behind { result.1.now ≡ behind_word text.now }
+    ensures word { result.0.now ≡ spec.first_word text.now }
+    ensures behind { result.1.now ≡ spec.behind_word text.now }
 {
     let (word, behind) = text.split_at(word_len(text));
     (word, trim(behind))
@@ -21,8 +21,8 @@ pub fn split_word(text: &[u8]) -> (&[u8], &[u8])
 /// What stands before the first blank, or all where there is none, and what stands behind that,
 /// without the blanks at its front.
 pub fn cut_word(text: &[u8]) -> (&[u8], &[u8])
-    ensures word { result.0.now ≡ first_word text.now }
-    ensures behind { result.1.now ≡ after_word text.now }
+    ensures word { result.0.now ≡ spec.first_word text.now }
+    ensures behind { result.1.now ≡ spec.after_word text.now }
 {
     let (word, behind) = text.split_at(word_len(text));
     (word, trim_front(behind))
@@ -30,7 +30,7 @@ pub fn cut_word(text: &[u8]) -> (&[u8], &[u8])
 
 /// Whether the value is one of the words of a text.
 pub fn listed(values: &[u8], value: &[u8]) -> bool
-    ensures { result ≡ is_listed values.now value.now }
+    ensures { result ≡ spec.is_listed values.now value.now }
 {
     let mut rest = trim_front(values);
     while !rest.is_empty() {
@@ -45,21 +45,21 @@ pub fn listed(values: &[u8], value: &[u8]) -> bool
 
 // Whether the text is a word and nothing else.
 pub(crate) fn is_word(text: &[u8]) -> bool
-    ensures { result ≡ is_word_text text.now }
+    ensures { result ≡ spec.is_word text.now }
 {
     !text.is_empty() && !has_blank(text)
 }
 
 // Whether a blank is among the bytes.
 fn has_blank(text: &[u8]) -> bool
-    ensures { result ≡ list_any is_blank_byte text.now }
+    ensures { result ≡ list_any blanks.is_blank text.now }
 {
     text.iter().any(|byte| is_blank(*byte))
 }
 
 // The place of the first blank, or the length where there is none.
 fn word_len(text: &[u8]) -> usize
-    ensures is { result ≡ position_or_len is_blank_byte text.now }
+    ensures is { result ≡ position_or_len blanks.is_blank text.now }
     ensures within { result ≤ length text.now }
 {
     prefix_len(text, |byte| !is_blank(byte))

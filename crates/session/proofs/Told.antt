@@ -59,7 +59,8 @@ module _ (r : EditResult) (notices : List ℕ) (options : Options) (pending : Op
 
     left : Leaves events old new n k
     left = leaves events old new n k
-        (follows_both (Becomes (table_in mid.deck) ∷ []) (watched_queries (table_in mid.deck) options watched) old mid new
+        (follows_both (Becomes (table_in mid.deck) ∷ []) (watched_queries (table_in mid.deck) options watched) old mid
+        new
         n n k (makes.edit n) asked)
 
     behind : known_dated options (dated new after) pending watched_now

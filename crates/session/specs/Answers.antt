@@ -53,7 +53,8 @@ replying asked pending state = record {
   after = with_table (asked_table asked.events state.session.table) pending state;
 }
 
--- an edit that came to this, with the notices of a file that was loaded: of what is watched, all is asked for again, and
+-- an edit that came to this, with the notices of a file that was loaded: of what is watched, all is asked for again,
+-- and
 -- what has changed is told
 abbrev pub editing : EditResult → (notices : List ℕ) → State → Answer
 editing (Refused line) notices state = saying line state

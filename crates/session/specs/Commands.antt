@@ -3,8 +3,8 @@ use Rattle.std.specs.Prelude.{◌==◌, ◌||◌, ◌∷◌, [], ℕ, List, Bool
 use Rattle.std.specs.Prelude.{Option, Some, None}
 use Rattle.std.specs.Str.{bytes_eq}
 use Rattle.def_entry.specs.Cuts.{cut_at}
-use Rattle.def_lines.specs.Blanks.{after_blanks, trimmed}
-use Rattle.def_lines.specs.Lines.{cleaned}
+use Rattle.def_lines.specs.Blanks.{trimmed}
+use Rattle.def_lines.specs.Lines.{line_content}
 use Rattle.def_lines.specs.Words.{first_word, behind_word, is_empty}
 
 -- an edit of the deck that needs no file; `DropLast` has the text behind its word, which may be the text of no key
@@ -30,10 +30,6 @@ pub data Command : Type 0 where
   Unknown : List ℕ → Command
   Bad : List ℕ → Command
   Expression : List ℕ → Command
-
--- the text of a line: without a final carriage return, then without `#` and what follows, then without outer blanks
-unfoldable pub text_of : List ℕ → List ℕ
-text_of line = after_blanks (cleaned line)
 
 -- a command, unless it lacks what it needs
 abbrev pub where_good : Bool → Command → (word : List ℕ) → Command
@@ -88,7 +84,7 @@ command_in (b ∷ bytes) =
 
 -- what a line asks for
 abbrev pub command_of : List ℕ → Command
-command_of line = command_in (text_of line)
+command_of line = command_in (line_content line)
 
 abbrev pub is_quit : Command → Bool
 is_quit Quit = true

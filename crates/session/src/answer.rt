@@ -3,7 +3,7 @@
 ghost use Rattle.std.specs.Prelude.{◌≡◌, ◌≤◌, ℕ, List, length, map, None, Some, IfOk, IsErrOf, OnOk, [], false};
 ghost use Rattle.units_io.specs.FileMap.{FileMap, longest_file, with_file};
 ghost use Rattle.units_io.specs.Faults.{Rose};
-ghost use Rattle.deck.specs.Tables.{table as table_in};
+ghost use Rattle.deck.specs.Tables as tables;
 ghost use Rattle.deck_save.specs.Saved.{saved_file};
 ghost use Rattle.edit_history.specs.Histories.{Follows};
 ghost use Rattle.reply.specs.Options.{IsPrintable};
@@ -122,7 +122,8 @@ fn answer_conformable<L: Ledger>(
 ) -> Result<LineReply, SessionFault>
     requires { IsPrintable options.now }
     ensures said { (m : FileMap) (versions : Versions) (watched : List Subject) → IsSaid
-        (spec.conformable_answer pending.old (state_of (known options.now table.old pending.old versions watched) m)) result
+        (spec.conformable_answer pending.old (state_of (known options.now table.old pending.old versions watched) m))
+        result
         (known options.now table.new pending.new versions watched) steps.old steps.new }
     ensures done { IfOk result (λ reply. reply.done ≡ false) }
     ensures deck { table.new.deck ≡ table.old.deck }
@@ -226,7 +227,7 @@ fn perform<L: Ledger>(
 ) -> Result<LineReply, SessionFault>
     requires printable { IsPrintable options.now }
     requires follows { Follows history.old table.old.deck }
-    requires current { AreCurrent (table_in table.old.deck) options.now watches.old }
+    requires current { AreCurrent (tables.table table.old.deck) options.now watches.old }
     requires no_file { commands.names_file (seen_command command) ≡ false }
     ensures said { (m : FileMap) → IsSaid
         (spec.answer_to (state_of (known_dated options.now (dated table.old history.old) pending.old
@@ -235,7 +236,7 @@ fn perform<L: Ledger>(
         steps.old steps.new }
     ensures done { IfOk result (λ reply. reply.done ≡ commands.is_quit (seen_command command.entry)) }
     ensures follows { Follows history.new table.new.deck }
-    ensures current { AreCurrent (table_in table.new.deck) options.now watches.new }
+    ensures current { AreCurrent (tables.table table.new.deck) options.now watches.new }
     ensures calm { IsCalm result }
 {
     match command {

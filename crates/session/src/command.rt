@@ -1,12 +1,12 @@
 //! What a line of a session asks for.
 
 ghost use Rattle.std.specs.Prelude.{◌≡◌};
-ghost use Rattle.def_entry.specs.Cuts.{cut_at as cut_at_byte};
+ghost use Rattle.def_entry.specs.Cuts as cuts;
 ghost use Rattle.session.specs.Commands as spec;
 ghost use Rattle.session.specs.Seen.{seen_command};
 
 use def_entry::cut_at;
-use def_lines::{clean, split_word, trim, trim_front};
+use def_lines::{line_content, split_word, trim};
 
 /// An edit of the deck that needs no file.
 #[derive(Clone, Copy)]
@@ -41,20 +41,11 @@ pub enum Command<'a> {
     Expression(&'a [u8]),
 }
 
-/// The text of a line or of a word of the command line: without a final carriage return, then without `#` and what
-/// follows, then without outer blanks.
-#[tactic(auto, unfolding(crate::specs::Commands::text_of))]
-pub fn line_text(line: &[u8]) -> &[u8]
-    ensures { result.now ≡ spec.text_of line.now }
-{
-    trim_front(clean(line))
-}
-
 /// What a line asks for.
 pub fn read_command(line: &[u8]) -> Command<'_>
     ensures { seen_command result ≡ spec.command_of line.now }
 {
-    command_in_text(line_text(line))
+    command_in_text(line_content(line))
 }
 
 // What the text of a line asks for.
@@ -147,7 +138,7 @@ fn other_command<'a>(word: &'a [u8], rest: &'a [u8]) -> Command<'a>
 
 // FROM and TO before and behind the first `;`, where neither is blank and TO asks for no list of what conforms.
 fn watch_command<'a>(rest: &'a [u8], word: &'a [u8]) -> Command<'a>
-    ensures { seen_command result ≡ spec.watch_parts (cut_at_byte 59 rest.now) word.now }
+    ensures { seen_command result ≡ spec.watch_parts (cuts.cut_at 59 rest.now) word.now }
 {
     match cut_at(rest, b';') {
         Some((from, to)) => watch_sides(trim(from), trim(to), word),

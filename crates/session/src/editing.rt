@@ -222,7 +222,8 @@ fn undo(
 ) -> Result<EditResult, SessionFault>
     requires { Follows history.old table.old.deck }
     ensures edit { let was = dated table.old history.old in
-        IsEdited (turn_result (undone (timeline_of was.table.deck was.versions)) (codes "nothing to undo") was.table.deck)
+        IsEdited (turn_result (undone (timeline_of was.table.deck was.versions))
+        (codes "nothing to undo") was.table.deck)
         result was (dated table.new history.new) }
     ensures follows { Follows history.new table.new.deck }
     ensures calm { IsCalm result }
@@ -242,7 +243,8 @@ fn redo(
 ) -> Result<EditResult, SessionFault>
     requires { Follows history.old table.old.deck }
     ensures edit { let was = dated table.old history.old in
-        IsEdited (turn_result (redone (timeline_of was.table.deck was.versions)) (codes "nothing to redo") was.table.deck)
+        IsEdited (turn_result (redone (timeline_of was.table.deck was.versions))
+        (codes "nothing to redo") was.table.deck)
         result was (dated table.new history.new) }
     ensures follows { Follows history.new table.new.deck }
     ensures calm { IsCalm result }

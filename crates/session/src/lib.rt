@@ -21,7 +21,7 @@ mod trial_lines;
 mod watching;
 
 pub use answer::LineReply;
-pub use command::{Command, DeckEdit, line_text, read_command};
+pub use command::{Command, DeckEdit, read_command};
 pub use fault::SessionFault;
 pub use held::{Held, LONGEST_LINE};
 pub use laws::{leaves_law, line_laws};

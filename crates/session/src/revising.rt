@@ -4,7 +4,7 @@ ghost use Rattle.std.specs.Prelude.{◌≡◌, ℕ, List, map, Some, IfOk, IsErr
 ghost use Rattle.std.specs.declared.option.Option.{Option};
 ghost use Rattle.units_io.specs.FileMap.{FileMap};
 ghost use Rattle.units_io.specs.Faults.{Rose};
-ghost use Rattle.deck.specs.Tables.{table as table_in};
+ghost use Rattle.deck.specs.Tables as tables;
 ghost use Rattle.edit_history.specs.Histories.{Follows};
 ghost use Rattle.reply.specs.Options.{IsPrintable};
 ghost use Rattle.session.specs.Answering.{IsCalm, faults_after};
@@ -44,7 +44,7 @@ pub(crate) fn edit<L: Ledger>(
 ) -> Result<LineReply, SessionFault>
     requires printable { IsPrintable options.now }
     requires follows { Follows history.old table.old.deck }
-    requires current { AreCurrent (table_in table.old.deck) options.now watches.old }
+    requires current { AreCurrent (tables.table table.old.deck) options.now watches.old }
     ensures said { (pending : Option (List ℕ)) (m : FileMap) → let was = dated table.old history.old in IsSaid
         (editing (edited_by (seen_edit change.entry) was) []
         (state_of (known_dated options.now was pending (map subject_of watches.old)) m)) result
@@ -52,7 +52,7 @@ pub(crate) fn edit<L: Ledger>(
         steps.old steps.new }
     ensures done { IfOk result (λ reply. reply.done ≡ false) }
     ensures follows { Follows history.new table.new.deck }
-    ensures current { AreCurrent (table_in table.new.deck) options.now watches.new }
+    ensures current { AreCurrent (tables.table table.new.deck) options.now watches.new }
     ensures calm { IsCalm result }
 {
     match make_edit(alloc, table, history, change)? {
@@ -64,7 +64,8 @@ pub(crate) fn edit<L: Ledger>(
     }
 }
 
-/// Puts what a file adds, with its notices on `err`, and tells what has changed of what is watched; or a line refuses it.
+/// Puts what a file adds, with its notices on `err`, and tells what has changed of what is watched;
+/// or a line refuses it.
 pub(crate) fn load<F: Files, L: Ledger>(
     alloc: Global,
     options: &Options,
@@ -77,7 +78,7 @@ pub(crate) fn load<F: Files, L: Ledger>(
 ) -> Result<LineReply, SessionFault>
     requires printable { IsPrintable options.now }
     requires follows { Follows history.old table.old.deck }
-    requires current { AreCurrent (table_in table.old.deck) options.now watches.old }
+    requires current { AreCurrent (tables.table table.old.deck) options.now watches.old }
     ensures said { (pending : Option (List ℕ)) (m : FileMap) → F.files files.old ≡ Some m → IsSaid
         (spec.answer_to (state_of (known_dated options.now (dated table.old history.old) pending
         (map subject_of watches.old)) m) (commands.Load name.now)) result
@@ -85,7 +86,7 @@ pub(crate) fn load<F: Files, L: Ledger>(
         steps.old steps.new }
     ensures done { IfOk result (λ reply. reply.done ≡ false) }
     ensures follows { Follows history.new table.new.deck }
-    ensures current { AreCurrent (table_in table.new.deck) options.now watches.new }
+    ensures current { AreCurrent (tables.table table.new.deck) options.now watches.new }
     ensures kept { F.files files.new ≡ F.files files.old }
     ensures stores { F.store_faults files.new ≡ F.store_faults files.old }
     ensures counted { F.faults files.new ≡ faults_after (F.faults files.old) result }

@@ -38,7 +38,7 @@ impl Drop for Session {
 
 impl Model for Session {
     ghost use Rattle.std.specs.Prelude.{map};
-    ghost use Rattle.deck.specs.Tables.{table as table_in};
+    ghost use Rattle.deck.specs.Tables as tables;
     ghost use Rattle.reply.specs.Options.{IsPrintable};
     ghost use Rattle.edit_history.specs.Histories.{Follows};
     ghost use Rattle.session.specs.Sessions.{Known, known_code, known_dated};
@@ -53,7 +53,7 @@ impl Model for Session {
         known_dated s.options (dated s.table s.history) s.pending (map subject_of s.watches) };
 
     ghost invariant = { λ s. IsPrintable s.options × Follows s.history s.table.deck
-        × AreCurrent (table_in s.table.deck) s.options s.watches };
+        × AreCurrent (tables.table s.table.deck) s.options s.watches };
 }
 
 impl Session {

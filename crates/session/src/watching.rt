@@ -4,7 +4,7 @@ ghost use Rattle.std.specs.Prelude.{◌≡◌, ℕ, List, map, IfOk, OnOk, false
 ghost use Rattle.std.specs.declared.option.Option.{Option};
 ghost use Rattle.units_io.specs.FileMap.{FileMap};
 ghost use Rattle.def_entry.specs.Tables.{Table};
-ghost use Rattle.deck.specs.Tables.{table as table_in};
+ghost use Rattle.deck.specs.Tables as tables;
 ghost use Rattle.reply.specs.Calls.{AreMade};
 ghost use Rattle.reply.specs.Options.{IsPrintable};
 ghost use Rattle.session.specs.Answering.{IsCalm};
@@ -25,8 +25,8 @@ use std::sync::ledger::Ledger;
 use units_io::{Steps, Text};
 use watch::{WatchFault, Watches};
 
-/// What an edit has changed of what is watched, for which all is asked for again. The only error is want of memory, after
-/// which nothing is watched.
+/// What an edit has changed of what is watched, for which all is asked for again. The only error is
+/// want of memory, after which nothing is watched.
 pub(crate) fn tell_changes<L: Ledger>(
     alloc: Global,
     options: &Options,
@@ -36,10 +36,10 @@ pub(crate) fn tell_changes<L: Ledger>(
 ) -> Result<Text, AllocError>
     requires { IsPrintable options.now }
     ensures told { (before : Table) → AreCurrent before options.now watches.old → IfOk result (λ text. text
-        ≡ told_by_edit before (table_in table.old.deck) options.now (map subject_of watches.old)) }
+        ≡ told_by_edit before (tables.table table.old.deck) options.now (map subject_of watches.old)) }
     ensures watched { OnOk result (map subject_of watches.new ≡ map subject_of watches.old) }
-    ensures current { AreCurrent (table_in table.new.deck) options.now watches.new }
-    ensures queries { AreMade (watched_queries (table_in table.old.deck) options.now (map subject_of watches.old))
+    ensures current { AreCurrent (tables.table table.new.deck) options.now watches.new }
+    ensures queries { AreMade (watched_queries (tables.table table.old.deck) options.now (map subject_of watches.old))
         result table.old table.new steps.old steps.new }
     ensures deck { table.new.deck ≡ table.old.deck }
 {
@@ -63,14 +63,14 @@ pub(crate) fn watch<L: Ledger>(
     steps: &mut Steps<L>,
 ) -> Result<LineReply, SessionFault>
     requires printable { IsPrintable options.now }
-    requires current { AreCurrent (table_in table.old.deck) options.now watches.old }
+    requires current { AreCurrent (tables.table table.old.deck) options.now watches.old }
     ensures said { (pending : Option (List ℕ)) (versions : Versions) (m : FileMap) → IsSaid
         (watching (is_full (map subject_of watches.old)) (subject from.now to.now)
         (state_of (known options.now table.old pending versions (map subject_of watches.old)) m)) result
         (known options.now table.new pending versions (map subject_of watches.new)) steps.old steps.new }
     ensures done { IfOk result (λ reply. reply.done ≡ false) }
     ensures deck { table.new.deck ≡ table.old.deck }
-    ensures current { AreCurrent (table_in table.new.deck) options.now watches.new }
+    ensures current { AreCurrent (tables.table table.new.deck) options.now watches.new }
     ensures calm { IsCalm result }
 {
     match watches.add(alloc, table, options, from, to, steps) {

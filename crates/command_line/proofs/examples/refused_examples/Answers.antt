@@ -1,12 +1,13 @@
 use Rattle.std.proofs.Common.{refl}
 use Rattle.std.specs.Str.{is_utf8}
 use Rattle.clap.proofs.OnLiterals.{clap_on_literals}
+use Rattle.def_lines.specs.Lines.{line_content}
 use Rattle.command_line.specs.Fields.{command_line_of}
 use Rattle.command_line.specs.Taken.{are_parsed, are_taken}
 use Rattle.command_line.proofs.examples.refused_examples.Goals as goal
 
 pub returns : goal.returns
-unfolding clap_on_literals is_utf8 command_line_of are_parsed are_taken
+unfolding clap_on_literals is_utf8 line_content command_line_of are_parsed are_taken
 returns c = record {
   digits_zero = refl;
   digits_beyond = refl;

@@ -6,8 +6,10 @@ use Rattle.def_lines.proofs.cursor.join_lines.Goals as goal
 
 pub returns-in-None-clause-lines : goal.returns-in-None-clause-lines
 returns-in-None-clause-lines c =
-    c.in_ok-ended-in-None.ensures (c.loop-rest.last + 1) (lines_from (c.loop-rest.last + 1 + 1) (physical_lines c.next_line.result.1.now))
+    c.in_ok-ended-in-None.ensures (c.loop-rest.last + 1)
+    (lines_from (c.loop-rest.last + 1 + 1) (physical_lines c.next_line.result.1.now))
     ∙ ap (λ (lines : List Line). map trimmed_line (joined c.loop-rest.part.number c.loop-rest.part.text.items lines))
-    (sym (lines_from-ended (c.loop-rest.last + 1) c.loop-rest.rest.now c.next_line.result.0.now c.next_line.result.1.now c.clean-line.result.now
+    (sym (lines_from-ended (c.loop-rest.last + 1) c.loop-rest.rest.now c.next_line.result.0.now c.next_line.result.1.now
+    c.clean-line.result.now
     c.next_line.ensures.lines c.clean-line.ensures c.in-None.ensures))
     ∙ c.loop-rest.invariant.same

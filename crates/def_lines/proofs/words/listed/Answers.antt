@@ -3,13 +3,15 @@ use Rattle.std.specs.Str.{bytes_eq}
 use Rattle.def_lines.specs.Words.{after_word, is_listed}
 use Rattle.def_lines.specs.Parts.{is_begun}
 use Rattle.def_lines.proofs.Trimming.{is_begun-after_blanks}
-use Rattle.def_lines.proofs.Listing.{is_begun-after_word, is_listed-after_blanks, is_listed-first, is_listed-none, shorter}
+use Rattle.def_lines.proofs.Listing.{is_begun-after_word, is_listed-after_blanks, is_listed-first, is_listed-none}
+use Rattle.def_lines.proofs.Listing.{shorter}
 use Rattle.def_lines.proofs.words.listed.Goals as goal
 
 pub loop-value-init : goal.loop-value-init
 loop-value-init c = record {
   begun = ap is_begun c.trim_front-rest.ensures ∙ is_begun-after_blanks c.args.values.now;
-  same = ap (λ t. is_listed t c.args.value.now) c.trim_front-rest.ensures ∙ is_listed-after_blanks c.args.values.now c.args.value.now;
+  same = ap (λ t. is_listed t c.args.value.now) c.trim_front-rest.ensures
+      ∙ is_listed-after_blanks c.args.values.now c.args.value.now;
 }
 
 pub returns-then-eq : goal.returns-then-eq
@@ -22,7 +24,8 @@ returns-then-eq c =
 
 pub loop-value-smaller : goal.loop-value-smaller
 loop-value-smaller c =
-    let less = shorter c.loop-value.rest.now c.loop-value.invariant.begun (sym c.is_empty.ensures ∙ c.loop-value-test.true) in
+    let less = shorter c.loop-value.rest.now c.loop-value.invariant.begun
+    (sym c.is_empty.ensures ∙ c.loop-value-test.true) in
     omega (arith, ap length c.cut_word.ensures.behind)
 
 pub loop-value-preserved : goal.loop-value-preserved

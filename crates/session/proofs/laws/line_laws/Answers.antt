@@ -1,12 +1,13 @@
 use Rattle.std.proofs.Common.{◌∷◌, [], cond, ap, refl}
-use Rattle.session.specs.Commands.{text_of, command_in}
+use Rattle.def_lines.specs.Lines.{line_content}
+use Rattle.session.specs.Commands.{command_in}
 use Rattle.session.specs.Hearing.{heard, readable}
 use Rattle.session.proofs.Joining.{joined_from}
 use Rattle.session.proofs.Talking.{heard-going}
 use Rattle.session.proofs.laws.line_laws.Goals as goal
 
 pub returns : goal.returns
-unfolding readable text_of command_in
+unfolding readable line_content command_in
 returns c = record {
   joined = joined_from [];
   on = heard-going;
