@@ -1,5 +1,6 @@
 -- The keys whose entries differ.
-use Rattle.std.proofs.Common.{◌≡◌, ◌++◌, ◌&&◌, ℕ, List, Bool, true, false, true≢false, not, refl, sym, ap, subst, ◌∙◌, Option, Some, None, Ok, option_map}
+use Rattle.std.proofs.Common.{◌≡◌, ◌++◌, ◌&&◌, ℕ, List, Bool, true, false, true≢false, not, refl, sym, ap, subst, ◌∙◌}
+use Rattle.std.proofs.Common.{Option, Some, None, Ok, option_map}
 use Rattle.std.specs.List.{filter}
 use Rattle.std.specs.Map.{lookup}
 use Rattle.std.specs.Option.{option_and_then}
@@ -29,47 +30,64 @@ abbrev pub differ : Table → Table → Key → Bool
 differ t u k = not (is_same_entry (entry_at t k) (entry_at u k))
 
 -- those that differ among keys beside which none differs
-pub changed_among : (t u : Table) (keys : List Key) → AreOnce keys → ((k : Key) → is_among keys k ≡ false → entry_at t k ≡ entry_at u k) →
-    ((k : Key) → is_same_entry (entry_at t k) (entry_at u k) ≡ true → entry_at t k ≡ entry_at u k) → IsTableChange t u (filter (differ t u) keys)
+pub changed_among : (t u : Table) (keys : List Key) → AreOnce keys
+    → ((k : Key) → is_among keys k ≡ false → entry_at t k ≡ entry_at u k) →
+    ((k : Key) → is_same_entry (entry_at t k) (entry_at u k) ≡ true → entry_at t k ≡ entry_at u k)
+    → IsTableChange t u (filter (differ t u) keys)
 changed_among t u keys once beside same = record {
-  changed = λ k. (λ never. unchanged k never (is_among keys k) refl (is_same_entry (entry_at t k) (entry_at u k)) refl, λ equal m. no_difference k equal m);
+  changed = λ k. (
+    λ never. unchanged k never (is_among keys k) refl (is_same_entry (entry_at t k) (entry_at u k)) refl,
+    λ equal m. no_difference k equal m,
+  );
   once = once_filter (differ t u) keys once;
 }
   where
-    unchanged : (k : Key) → (is_among (filter (differ t u) keys) k ≡ true → ⊥) → (b : Bool) → is_among keys k ≡ b → (s : Bool) → is_same_entry (entry_at t k) (entry_at u k) ≡ s → entry_at t k ≡ entry_at u k
+    unchanged : (k : Key) → (is_among (filter (differ t u) keys) k ≡ true → ⊥) → (b : Bool) → is_among keys k ≡ b
+        → (s : Bool) → is_same_entry (entry_at t k) (entry_at u k) ≡ s → entry_at t k ≡ entry_at u k
     unchanged k never b e true f = same k f
     unchanged k never false e false f = beside k e
-    unchanged k never true e false f = absurd (never (among_filter (differ t u) keys k ∙ ap (λ s. not s && is_among keys k) f ∙ e))
+    unchanged k never true e false f =
+        absurd (never (among_filter (differ t u) keys k ∙ ap (λ s. not s && is_among keys k) f ∙ e))
 
     no_difference : (k : Key) → entry_at t k ≡ entry_at u k → is_among (filter (differ t u) keys) k ≡ true → ⊥
     no_difference k equal m =
-        true≢false (sym m ∙ among_filter (differ t u) keys k ∙ ap (λ o. not (is_same_entry (entry_at t k) o) && is_among keys k) (sym equal)
+        true≢false (sym m ∙ among_filter (differ t u) keys k
+        ∙ ap (λ o. not (is_same_entry (entry_at t k) o) && is_among keys k) (sym equal)
         ∙ ap (λ s. not s && is_among keys k) (entry_itself (entry_at t k)))
 
 -- an entry of a table of lines is one that a line defines
-pub from_place : (lines : List DeckLine) (ds : Definitions) → AreInPlace lines ds → (k : Key) (e : Entry) → entry_at (table_of ds) k ≡ Some e → (place : ℕ) × (definition_at lines place ≡ Some (k, e))
+pub from_place : (lines : List DeckLine) (ds : Definitions) → AreInPlace lines ds → (k : Key) (e : Entry)
+    → entry_at (table_of ds) k ≡ Some e → (place : ℕ) × (definition_at lines place ≡ Some (k, e))
 from_place lines ds placed k e h = by (lookup (is_same k) ds) refl (sym (entry_found ds k) ∙ h)
   where
-    by : (o : Option (ℕ × Entry)) → lookup (is_same k) ds ≡ o → option_map (λ v. v.1) o ≡ Some e → (place : ℕ) × (definition_at lines place ≡ Some (k, e))
+    by : (o : Option (ℕ × Entry)) → lookup (is_same k) ds ≡ o → option_map (λ v. v.1) o ≡ Some e
+        → (place : ℕ) × (definition_at lines place ≡ Some (k, e))
     by None g f = cc
     by (Some v) g f = (v.0, placed k v g ∙ ap (λ o. option_map (λ x. (k, x)) o) f)
 
 -- and that it gives
-pub from_line : (lines : List DeckLine) (ds : Definitions) → AreInPlace lines ds → (k : Key) (e : Entry) → entry_at (table_of ds) k ≡ Some e → (text : List ℕ) × (entry_of text ≡ Ok (k, e))
+pub from_line : (lines : List DeckLine) (ds : Definitions) → AreInPlace lines ds → (k : Key) (e : Entry)
+    → entry_at (table_of ds) k ≡ Some e → (text : List ℕ) × (entry_of text ≡ Ok (k, e))
 from_line lines ds placed k e h =
     let at = from_place lines ds placed k e h in
     read_at lines at.0 (k, e) at.1
 
 -- so the test by texts is right
-pub same_by_text : SameTextLaw → (lines others : List DeckLine) (ds es : Definitions) → AreInPlace lines ds → AreInPlace others es → (k : Key) →
-    is_same_entry (entry_at (table_of ds) k) (entry_at (table_of es) k) ≡ true → entry_at (table_of ds) k ≡ entry_at (table_of es) k
-same_by_text law lines others ds es placed put k = same_entry law k (entry_at (table_of ds) k) (entry_at (table_of es) k) (from_line lines ds placed k) (from_line others es put k)
+pub same_by_text : SameTextLaw → (lines others : List DeckLine) (ds es : Definitions) → AreInPlace lines ds
+    → AreInPlace others es → (k : Key) →
+    is_same_entry (entry_at (table_of ds) k) (entry_at (table_of es) k) ≡ true
+    → entry_at (table_of ds) k ≡ entry_at (table_of es) k
+same_by_text law lines others ds es placed put k =
+    same_entry law k (entry_at (table_of ds) k) (entry_at (table_of es) k) (from_line lines ds placed k)
+    (from_line others es put k)
 
 -- the entry at the place of a key is its own
-pub entry_placed : (lines : List DeckLine) (ds : Definitions) → AreInPlace lines ds → (k : Key) → entry_there lines (place_of ds k) ≡ entry_at (table_of ds) k
+pub entry_placed : (lines : List DeckLine) (ds : Definitions) → AreInPlace lines ds → (k : Key)
+    → entry_there lines (place_of ds k) ≡ entry_at (table_of ds) k
 entry_placed lines ds placed k = by (lookup (is_same k) ds) refl ∙ sym (entry_found ds k)
   where
-    by : (o : Option (ℕ × Entry)) → lookup (is_same k) ds ≡ o → entry_there lines (option_map (λ p. p.0) o) ≡ option_map (λ v. v.1) o
+    by : (o : Option (ℕ × Entry)) → lookup (is_same k) ds ≡ o
+        → entry_there lines (option_map (λ p. p.0) o) ≡ option_map (λ v. v.1) o
     by None g = refl
     by (Some v) g = ap (option_map (λ d. d.1)) (placed k v g)
 
@@ -83,27 +101,41 @@ module _ (store : Store) (numbering : IsNumbering store) (ds : Definitions) (pla
       by (Some v) g = absurd (true≢false (sym (numbering.each v.0 (k, v.1) (placed k v g)) ∙ e))
 
   -- the entry at the place of a number is that of its key
-  pub entry_numbered : (last : LastPlaces) → AreLast store.names ds last → (n : KeyNumber) (k : Key) → key_at store.names n ≡ Some k → entry_there store.lines (place_at last n) ≡ entry_at (table_of ds) k
+  pub entry_numbered : (last : LastPlaces) → AreLast store.names ds last → (n : KeyNumber) (k : Key)
+      → key_at store.names n ≡ Some k → entry_there store.lines (place_at last n) ≡ entry_at (table_of ds) k
   entry_numbered last is_last n k e =
-      ap (entry_there store.lines) (is_last.place n ∙ ap (option_and_then (place_of ds)) e) ∙ entry_placed store.lines ds placed k
+      ap (entry_there store.lines) (is_last.place n ∙ ap (option_and_then (place_of ds)) e)
+      ∙ entry_placed store.lines ds placed k
 
 -- the keys whose entries differ between last places before an edit and last places after it
-pub changed_numbers : SameTextLaw → (edited : Edited) → IsNumbering (store_before edited) → IsNumbering (store_after edited) → (before after : LastPlaces) (ds es : Definitions) →
-    AreInPlace edited.before ds → AreInPlace edited.after es → AreLast edited.names ds before → AreLast edited.names es after →
+pub changed_numbers : SameTextLaw → (edited : Edited) → IsNumbering (store_before edited)
+    → IsNumbering (store_after edited) → (before after : LastPlaces) (ds es : Definitions) →
+    AreInPlace edited.before ds → AreInPlace edited.after es → AreLast edited.names ds before
+    → AreLast edited.names es after →
     IsTableChange (table_of ds) (table_of es)
-    (keys_where (differs edited before after) kind.Unit 0 edited.names.units ++ (keys_where (differs edited before after) kind.Prefix 0 edited.names.prefixes
-    ++ (keys_where (differs edited before after) kind.Func 0 edited.names.functions ++ keys_where (differs edited before after) kind.List 0 edited.names.lists)))
+    (keys_where (differs edited before after) kind.Unit 0 edited.names.units
+    ++ (keys_where (differs edited before after) kind.Prefix 0 edited.names.prefixes
+    ++ (keys_where (differs edited before after) kind.Func 0 edited.names.functions
+    ++ keys_where (differs edited before after) kind.List 0 edited.names.lists)))
 changed_numbers law edited numbering too before after ds es placed put was is_last =
-    subst (IsTableChange (table_of ds) (table_of es)) (sym (all_filter edited.names (differs edited before after) (differ (table_of ds) (table_of es)) by_number))
-    (changed_among (table_of ds) (table_of es) (all_keys edited.names) (once_all edited.names numbering.unique) beside (same_by_text law edited.before edited.after ds es placed put))
+    subst (IsTableChange (table_of ds) (table_of es))
+    (sym (all_filter edited.names (differs edited before after) (differ (table_of ds) (table_of es)) by_number))
+    (changed_among (table_of ds) (table_of es) (all_keys edited.names) (once_all edited.names numbering.unique) beside
+    (same_by_text law edited.before edited.after ds es placed put))
   where
-    by_number : (n : KeyNumber) (k : Key) → key_at edited.names n ≡ Some k → differs edited before after n ≡ differ (table_of ds) (table_of es) k
+    by_number : (n : KeyNumber) (k : Key) → key_at edited.names n ≡ Some k
+        → differs edited before after n ≡ differ (table_of ds) (table_of es) k
     by_number n k e =
-        ap (λ o. not (is_same_entry o (entry_there edited.after (place_at after n)))) (entry_numbered (store_before edited) numbering ds placed before was n k e)
-        ∙ ap (λ o. not (is_same_entry (entry_at (table_of ds) k) o)) (entry_numbered (store_after edited) too es put after is_last n k e)
+        ap (λ o. not (is_same_entry o (entry_there edited.after (place_at after n))))
+        (entry_numbered (store_before edited) numbering ds placed before was n k e)
+        ∙ ap (λ o. not (is_same_entry (entry_at (table_of ds) k) o))
+        (entry_numbered (store_after edited) too es put after is_last n k e)
 
-    beside : (k : Key) → is_among (all_keys edited.names) k ≡ false → entry_at (table_of ds) k ≡ entry_at (table_of es) k
+    beside : (k : Key) → is_among (all_keys edited.names) k ≡ false
+        → entry_at (table_of ds) k ≡ entry_at (table_of es) k
     beside k e =
         let unnumbered = sym (among_all edited.names k) ∙ e in
-        entry_found ds k ∙ ap (option_map (λ v. v.1)) (not_defined (store_before edited) numbering ds placed k unnumbered)
-        ∙ sym (ap (option_map (λ v. v.1)) (not_defined (store_after edited) too es put k unnumbered)) ∙ sym (entry_found es k)
+        entry_found ds k
+        ∙ ap (option_map (λ v. v.1)) (not_defined (store_before edited) numbering ds placed k unnumbered)
+        ∙ sym (ap (option_map (λ v. v.1)) (not_defined (store_after edited) too es put k unnumbered))
+        ∙ sym (entry_found es k)

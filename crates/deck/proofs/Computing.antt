@@ -13,9 +13,11 @@ use Rattle.deck.proofs.Listing.{among-append, among_each, once_each}
 use Rattle.deck.proofs.Placing.{in_place}
 
 -- a key that is in neither table has no entry in either
-absent_both : (t u : Table) (k : Key) → is_among (each_once (keys_of t ++ keys_of u)) k ≡ false → entry_at t k ≡ entry_at u k
+absent_both : (t u : Table) (k : Key) → is_among (each_once (keys_of t ++ keys_of u)) k ≡ false
+    → entry_at t k ≡ entry_at u k
 absent_both t u k e =
-    none (entry_at t k) (entry_at u k) (sym (among_each (keys_of t ++ keys_of u) k ∙ among-append (keys_of t) (keys_of u) k
+    none (entry_at t k) (entry_at u k)
+    (sym (among_each (keys_of t ++ keys_of u) k ∙ among-append (keys_of t) (keys_of u) k
     ∙ ap (λ b. b || is_among (keys_of u) k) (among t k) ∙ ap (λ b. is_present t k || b) (among u k)) ∙ e)
   where
     none : (a b : Option Entry) → (is_some a || is_some b) ≡ false → a ≡ b
@@ -23,10 +25,12 @@ absent_both t u k e =
     none None (Some f) h = cc
     none (Some f) b h = cc
 
+-- the law of changed keys
 pub changes_computed : SameTextLaw → ChangedLaw
 changes_computed law before after =
     let t : Table = table before in
     let u : Table = table after in
     changed_among t u (each_once (keys_of t ++ keys_of u)) (once_each (keys_of t ++ keys_of u)) (absent_both t u)
-    (same_by_text law before.lines after.lines (definitions before.settings before.lines) (definitions after.settings after.lines)
+    (same_by_text law before.lines after.lines (definitions before.settings before.lines)
+    (definitions after.settings after.lines)
     (in_place before.settings before.lines) (in_place after.settings after.lines))

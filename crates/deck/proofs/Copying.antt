@@ -1,5 +1,7 @@
 -- Lines copied one after another.
-use Rattle.std.proofs.Common.{◌≡◌, ◌++◌, ◌∷◌, ◌+◌, ◌-◌, ◌<◌, ◌≤◌, [], ℕ, zero, suc, List, Bool, false, length, take, drop, get_or, append_assoc, length-take, refl, sym, ap, subst, ◌∙◌, arith, Option, Some, None, option_map, slice_get}
+use Rattle.std.proofs.Common.{◌≡◌, ◌++◌, ◌∷◌, ◌+◌, ◌-◌, ◌<◌, ◌≤◌, [], ℕ, zero, suc, List, Bool, false, length, take}
+use Rattle.std.proofs.Common.{drop, get_or, append_assoc, length-take, refl, sym, ap, subst, ◌∙◌, arith, Option, Some}
+use Rattle.std.proofs.Common.{None, option_map, slice_get}
 use Rattle.std.proofs.lemmas.Bool.Decides.{nat_tests}
 use Rattle.std.proofs.lemmas.List.Sums.{sum_by-take-drop}
 use Rattle.std.proofs.lemmas.Option.{same_Some}
@@ -20,11 +22,14 @@ use Rattle.deck_lines.proofs.Entries.{text_in}
 use Rattle.deck.proofs.Marking.{marks_drop, marks_take}
 
 -- one more item
-pub copied_step : {A : Type 0} (xs rest now copy whole : List A) (x : A) → xs ≡ x ∷ rest → now ≡ copy ++ x ∷ [] → copy ++ xs ≡ whole → now ++ rest ≡ whole
-copied_step xs rest now copy whole x at e h = ap (λ t. t ++ rest) e ∙ append_assoc copy (x ∷ []) rest ∙ sym (ap (λ t. copy ++ t) at) ∙ h
+pub copied_step : {A : Type 0} (xs rest now copy whole : List A) (x : A) → xs ≡ x ∷ rest → now ≡ copy ++ x ∷ []
+    → copy ++ xs ≡ whole → now ++ rest ≡ whole
+copied_step xs rest now copy whole x at e h = ap (λ t. t ++ rest) e ∙ append_assoc copy (x ∷ []) rest
+    ∙ sym (ap (λ t. copy ++ t) at) ∙ h
 
 -- the line at a place, with its mark
-pub mark_there : (ls : List Line) (ms : List Bool) (i : ℕ) (l : Line) (m : Bool) → length ms ≡ length ls → i < length ls →
+pub mark_there : (ls : List Line) (ms : List Bool) (i : ℕ) (l : Line) (m : Bool) → length ms ≡ length ls → i < length ls
+    →
     l ≡ get_or ls i l → m ≡ get_or ms i false → slice_get (with_marks ls ms) i ≡ Some (with_mark m l)
 mark_there [] ms i l m h g e f = absurd (omega arith)
 mark_there (k ∷ ls) [] i l m h g e f = absurd (omega arith)
@@ -32,13 +37,17 @@ mark_there (k ∷ ls) (n ∷ ms) zero l m h g e f = rw (e, f) refl
 mark_there (k ∷ ls) (n ∷ ms) (suc i) l m h g e f = mark_there ls ms i l m (omega arith) (omega arith) e f
 
 -- the same in lines that are told
-pub line_there : (ls : List Line) (ms : List Bool) (lines : List DeckLine) (i : ℕ) (l : Line) (m : Bool) (text : List ℕ) → with_marks ls ms ≡ lines → length ms ≡ length ls → i < length ls →
-    l ≡ get_or ls i l → m ≡ get_or ms i false → text ≡ l.text → slice_get lines i ≡ Some (record { number = l.number; text = text; mark = m })
+pub line_there : (ls : List Line) (ms : List Bool) (lines : List DeckLine) (i : ℕ) (l : Line) (m : Bool) (text : List ℕ)
+    → with_marks ls ms ≡ lines → length ms ≡ length ls → i < length ls →
+    l ≡ get_or ls i l → m ≡ get_or ms i false → text ≡ l.text
+    → slice_get lines i ≡ Some (record { number = l.number; text = text; mark = m })
 line_there ls ms lines i l m text are h g e f same =
-    ap (λ xs. slice_get xs i) (sym are) ∙ mark_there ls ms i l m h g e f ∙ ap (λ t. Some (record { number = l.number; text = t; mark = m })) (sym same)
+    ap (λ xs. slice_get xs i) (sym are) ∙ mark_there ls ms i l m h g e f
+    ∙ ap (λ t. Some (record { number = l.number; text = t; mark = m })) (sym same)
 
 -- the front of a list, with the item behind it
-pub front_more : {A : Type 0} (xs : List A) (i : ℕ) (x : A) → slice_get xs i ≡ Some x → take (i + 1) xs ≡ take i xs ++ x ∷ []
+pub front_more : {A : Type 0} (xs : List A) (i : ℕ) (x : A) → slice_get xs i ≡ Some x
+    → take (i + 1) xs ≡ take i xs ++ x ∷ []
 front_more [] i x e = absurd (cc)
 front_more (y ∷ ys) zero x e = ap (λ t. t ∷ []) (same_Some y x e)
 front_more (y ∷ ys) (suc i) x e =
@@ -48,26 +57,36 @@ front_more (y ∷ ys) (suc i) x e =
 -- the front of lines is within the limits where all of them are
 pub front_within : (xs : List DeckLine) (n : ℕ) → pass_limit xs ≡ false → pass_limit (take n xs) ≡ false
 unfolding pass_limit
-front_within xs n e = grind (arith, nat_tests, e, length-take n xs, sum_by-take-drop (λ (x : DeckLine). length x.text) xs n)
+front_within xs n e =
+    grind (arith, nat_tests, e, length-take n xs, sum_by-take-drop (λ (x : DeckLine). length x.text) xs n)
 
 -- a front that is copied, with the line behind it
-pub room_more : (lines copy : List DeckLine) (i : ℕ) (x : DeckLine) → copy ≡ take i lines → slice_get lines i ≡ Some x → pass_limit lines ≡ false → pass_limit (copy ++ x ∷ []) ≡ false
-room_more lines copy i x e at within = subst (λ t. pass_limit t ≡ false) (front_more lines i x at ∙ ap (λ t. t ++ x ∷ []) (sym e)) (front_within lines (i + 1) within)
+pub room_more : (lines copy : List DeckLine) (i : ℕ) (x : DeckLine) → copy ≡ take i lines → slice_get lines i ≡ Some x
+    → pass_limit lines ≡ false → pass_limit (copy ++ x ∷ []) ≡ false
+room_more lines copy i x e at within =
+    subst (λ t. pass_limit t ≡ false) (front_more lines i x at ∙ ap (λ t. t ++ x ∷ []) (sym e))
+    (front_within lines (i + 1) within)
 
-pub copied_more : (lines copy now : List DeckLine) (i : ℕ) (x : DeckLine) → copy ≡ take i lines → slice_get lines i ≡ Some x → now ≡ copy ++ x ∷ [] → now ≡ take (i + 1) lines
+-- one more line makes the copy of a front one longer
+pub copied_more : (lines copy now : List DeckLine) (i : ℕ) (x : DeckLine) → copy ≡ take i lines
+    → slice_get lines i ≡ Some x → now ≡ copy ++ x ∷ [] → now ≡ take (i + 1) lines
 copied_more lines copy now i x e at h = h ∙ ap (λ t. t ++ x ∷ []) e ∙ sym (front_more lines i x at)
 
 -- what a line defines, by its parts
-pub defined_by_parts : (lines : List DeckLine) (place : ℕ) (x : DeckLine) (k : Key) (what : MadeWhat) (e : Entry) → slice_get lines place ≡ Some x →
-    Some (Some k) ≡ option_map (λ (d : Key × Entry). Some d.0) (definition_at lines place) → Some e ≡ option_map (λ (d : Key × Entry). d.1) (definition_at lines place) → what_view what ≡ e.what →
+pub defined_by_parts : (lines : List DeckLine) (place : ℕ) (x : DeckLine) (k : Key) (what : MadeWhat) (e : Entry)
+    → slice_get lines place ≡ Some x →
+    Some (Some k) ≡ option_map (λ (d : Key × Entry). Some d.0) (definition_at lines place)
+    → Some e ≡ option_map (λ (d : Key × Entry). d.1) (definition_at lines place) → what_view what ≡ e.what →
     Some (seen_entry x.text (k, what)) ≡ entry_in x
 defined_by_parts lines place x k what e at keyed said same =
-    by (entry_in x) refl (keyed ∙ ap (option_map (λ (d : Key × Entry). Some d.0)) here) (said ∙ ap (option_map (λ (d : Key × Entry). d.1)) here)
+    by (entry_in x) refl (keyed ∙ ap (option_map (λ (d : Key × Entry). Some d.0)) here)
+    (said ∙ ap (option_map (λ (d : Key × Entry). d.1)) here)
   where
     here : definition_at lines place ≡ entry_in x
     here = ap (option_and_then entry_in) at
 
-    by : (o : Option (Key × Entry)) → entry_in x ≡ o → Some (Some k) ≡ option_map (λ (d : Key × Entry). Some d.0) o → Some e ≡ option_map (λ (d : Key × Entry). d.1) o → Some (seen_entry x.text (k, what)) ≡ o
+    by : (o : Option (Key × Entry)) → entry_in x ≡ o → Some (Some k) ≡ option_map (λ (d : Key × Entry). Some d.0) o
+        → Some e ≡ option_map (λ (d : Key × Entry). d.1) o → Some (seen_entry x.text (k, what)) ≡ o
     by None is keyed said = cc
     by (Some d) is keyed said =
         let one : k ≡ d.0 = same_Some k d.0 (same_Some (Some k) (Some d.0) keyed) in
@@ -80,9 +99,12 @@ pub length_within : (xs : List DeckLine) → pass_limit xs ≡ false → length 
 unfolding pass_limit
 length_within xs e = grind (arith, nat_tests, e)
 
-pub part_marks : (ls : List Line) (ms : List Bool) (lines : List DeckLine) (at count : ℕ) → with_marks ls ms ≡ lines → length ms ≡ length ls →
+-- a part of lines and of marks is the part of the marked lines
+pub part_marks : (ls : List Line) (ms : List Bool) (lines : List DeckLine) (at count : ℕ) → with_marks ls ms ≡ lines
+    → length ms ≡ length ls →
     with_marks (take (at + count - at) (drop at ls)) (take (at + count - at) (drop at ms)) ≡ take count (drop at lines)
 part_marks ls ms lines at count are each =
     let so_many : at + count - at ≡ count = omega arith in
     ap (λ n. with_marks (take n (drop at ls)) (take n (drop at ms))) so_many
-    ∙ marks_take count (drop at ls) (drop at ms) ∙ ap (take count) (marks_drop at ls ms each) ∙ ap (λ xs. take count (drop at xs)) are
+    ∙ marks_take count (drop at ls) (drop at ms) ∙ ap (take count) (marks_drop at ls ms each)
+    ∙ ap (λ xs. take count (drop at xs)) are

@@ -1,5 +1,6 @@
 -- How many keys a table has.
-use Rattle.std.proofs.Common.{◌≡◌, ◌∷◌, ◌+◌, ◌||◌, [], ℕ, suc, Bool, true, false, cond, length, refl, ap, ◌∙◌, arith, Some}
+use Rattle.std.proofs.Common.{◌≡◌, ◌∷◌, ◌+◌, ◌||◌, [], ℕ, suc, Bool, true, false, cond, length, refl, ap, ◌∙◌, arith}
+use Rattle.std.proofs.Common.{Some}
 use Rattle.std.specs.Option.{is_some}
 use Rattle.def_entry.specs.declared.key.Key.{Key}
 use Rattle.def_entry.specs.declared.key.Kind.{Kind}
@@ -14,7 +15,8 @@ pub among : (t : Table) (k : Key) → is_among (keys_of t) k ≡ is_present t k
 among [] k = refl
 among (e ∷ t) k = by (is_same k e.0) (among t k)
   where
-    by : (b : Bool) → is_among (keys_of t) k ≡ is_present t k → (b || is_among (keys_of t) k) ≡ is_some (cond b (Some e.1) (entry_at t k))
+    by : (b : Bool) → is_among (keys_of t) k ≡ is_present t k
+        → (b || is_among (keys_of t) k) ≡ is_some (cond b (Some e.1) (entry_at t k))
     by true ih = refl
     by false ih = ih
 
@@ -28,7 +30,9 @@ count_push t k e kind =
     more : (n : ℕ) → suc n ≡ n + 1
     more n = omega arith
 
-    front : (s : Bool) → length (cond s (k ∷ of_kind kind (each_once (keys_of t))) (of_kind kind (each_once (keys_of t)))) ≡ cond s (key_count t kind + 1) (key_count t kind)
+    front : (s : Bool)
+        → length (cond s (k ∷ of_kind kind (each_once (keys_of t))) (of_kind kind (each_once (keys_of t))))
+        ≡ cond s (key_count t kind + 1) (key_count t kind)
     front true = more (key_count t kind)
     front false = refl
 
@@ -36,7 +40,10 @@ count_push t k e kind =
     same true = refl
     same false = refl
 
-    by : (b s : Bool) → is_same_kind kind k.kind ≡ s → length (of_kind kind (cond b (each_once (keys_of t)) (k ∷ each_once (keys_of t)))) ≡
+    by : (b s : Bool) → is_same_kind kind k.kind ≡ s
+        → length (of_kind kind (cond b (each_once (keys_of t)) (k ∷ each_once (keys_of t)))) ≡
         cond s (cond b (key_count t kind) (key_count t kind + 1)) (key_count t kind)
     by true s h = same s
-    by false s h = ap (λ c. length (cond c (k ∷ of_kind kind (each_once (keys_of t))) (of_kind kind (each_once (keys_of t))))) h ∙ front s
+    by false s h = ap
+        (λ c. length (cond c (k ∷ of_kind kind (each_once (keys_of t))) (of_kind kind (each_once (keys_of t))))) h
+        ∙ front s

@@ -1,5 +1,6 @@
 -- A line that defines a key, put at the end.
-use Rattle.std.proofs.Common.{◌≡◌, ◌≢◌, ◌++◌, ◌∷◌, ◌<◌, ◌||◌, ◌↔◌, [], ℕ, List, Bool, true, false, true≢false, cond, length, set, refl, sym, ap, subst, ◌∙◌, arith, Some, None, option_map}
+use Rattle.std.proofs.Common.{◌≡◌, ◌≢◌, ◌++◌, ◌∷◌, ◌<◌, ◌||◌, ◌↔◌, [], ℕ, List, Bool, true, false, true≢false, cond}
+use Rattle.std.proofs.Common.{length, set, refl, sym, ap, subst, ◌∙◌, arith, Some, None, option_map}
 use Rattle.std.proofs.lemmas.Option.{same_Some}
 use Rattle.std.specs.Option.{option_and_then}
 use Rattle.def_entry.specs.declared.key.Key.{Key}
@@ -31,7 +32,8 @@ use Rattle.deck.proofs.Sameness.{same_key}
 
 -- the key that the number of a line tells that was put at the end
 key_put : (store : Store) (x : DeckLine) (k : Key) (e : Entry) (n : KeyNumber) → entry_in x ≡ Some (k, e) →
-    Some (key_at (stored_with store x).names n) ≡ option_map (λ d. Some d.0) (definition_at (stored_with store x).lines (length store.lines)) →
+    Some (key_at (stored_with store x).names n)
+    ≡ option_map (λ d. Some d.0) (definition_at (stored_with store x).lines (length store.lines)) →
     key_at (with_definition store.names (entry_in x)) n ≡ Some k
 key_put store x k e n defines at =
     let there : definition_at (store.lines ++ x ∷ []) (length store.lines) ≡ Some (k, e) =
@@ -39,27 +41,36 @@ key_put store x k e n defines at =
     same_Some _ _ (at ∙ ap (option_map (λ d. Some d.0)) there)
 
 -- there is room at the number where there was room for one more key
-number_put : (store : Store) (x : DeckLine) (k : Key) (e : Entry) (last : LastPlaces) (n : KeyNumber) → entry_in x ≡ Some (k, e) →
-    length (names_of store.names k.kind) < length (places_of last k.kind) → key_at (with_definition store.names (entry_in x)) n ≡ Some k →
+number_put : (store : Store) (x : DeckLine) (k : Key) (e : Entry) (last : LastPlaces) (n : KeyNumber)
+    → entry_in x ≡ Some (k, e) →
+    length (names_of store.names k.kind) < length (places_of last k.kind)
+    → key_at (with_definition store.names (entry_in x)) n ≡ Some k →
     n.number < length (places_of last n.kind)
 number_put store x k e last n defines room key_is =
     let own : k.kind ≡ n.kind = kind_at (with_definition store.names (entry_in x)) n k key_is in
-    let inside : n.number < length (names_of (with_key store.names k) n.kind) = subst (λ (ns : Names). n.number < length (names_of ns n.kind)) (ap (with_definition store.names) defines)
+    let inside : n.number < length (names_of (with_key store.names k) n.kind) =
+    subst (λ (ns : Names). n.number < length (names_of ns n.kind)) (ap (with_definition store.names) defines)
     (number_within (with_definition store.names (entry_in x)) n k key_is) in
-    let enough : length (names_of store.names n.kind) < length (places_of last n.kind) = subst (λ a. length (names_of store.names a) < length (places_of last a)) own room in
+    let enough : length (names_of store.names n.kind) < length (places_of last n.kind) =
+    subst (λ a. length (names_of store.names a) < length (places_of last a)) own room in
     omega (arith, inside, enough, names_len store.names k n.kind)
 
 -- the places of a deck with a line more
-indexed_push : (settings : Settings) (store : Store) (x : DeckLine) (k : Key) (e : Entry) (last now : LastPlaces) (n : KeyNumber) →
+indexed_push : (settings : Settings) (store : Store) (x : DeckLine) (k : Key) (e : Entry) (last now : LastPlaces)
+    (n : KeyNumber) →
     entry_in x ≡ Some (k, e) → IsNumbering store → IsIndexed store settings last →
     length (names_of store.names k.kind) < length (places_of last k.kind) → IsNumbering (stored_with store x) →
-    Some (key_at (stored_with store x).names n) ≡ option_map (λ d. Some d.0) (definition_at (stored_with store x).lines (length store.lines)) →
-    ((a : Kind) → places_of now a ≡ cond (is_same_kind a n.kind) (set (places_of last a) n.number (Some (length store.lines))) (places_of last a)) →
+    Some (key_at (stored_with store x).names n)
+    ≡ option_map (λ d. Some d.0) (definition_at (stored_with store x).lines (length store.lines)) →
+    ((a : Kind) → places_of now a
+    ≡ cond (is_same_kind a n.kind) (set (places_of last a) n.number (Some (length store.lines))) (places_of last a)) →
     IsIndexed (stored_with store x) settings now
 indexed_push settings store x k e last now n defines numbering before room numbered at put = record {
   closed = closed_push settings store.lines before.closed x (k, e) defines;
-  places = subst (λ (ds : Definitions). AreLast (with_definition store.names (entry_in x)) ds now) (sym (placed_push settings store.lines before.closed x (k, e) defines))
-      (last_more (with_definition store.names (entry_in x)) numbered.unique ds n k (length store.lines) e last now key_is (number_put store x k e last n defines room key_is) are_last put);
+  places = subst (λ (ds : Definitions). AreLast (with_definition store.names (entry_in x)) ds now)
+      (sym (placed_push settings store.lines before.closed x (k, e) defines))
+      (last_more (with_definition store.names (entry_in x)) numbered.unique ds n k
+      (length store.lines) e last now key_is (number_put store x k e last n defines room key_is) are_last put);
 }
   where
     ds : Definitions
@@ -72,46 +83,64 @@ indexed_push settings store x k e last now n defines numbering before room numbe
     are_last = subst (λ (ns : Names). AreLast ns ds last) (sym (ap (with_definition store.names) defines))
         (last_extended store.names (with_key store.names k) ds last before.places (key_kept store.names k) undefined)
       where
-        undefined : (m : KeyNumber) (j : Key) → key_at store.names m ≡ None → key_at (with_key store.names k) m ≡ Some j → place_of ds j ≡ None
+        undefined : (m : KeyNumber) (j : Key) → key_at store.names m ≡ None → key_at (with_key store.names k) m ≡ Some j
+            → place_of ds j ≡ None
         undefined m j h g =
             let p = key_new store.names k m j h g in
-            ap (place_of ds) p.1 ∙ ap (option_map (λ d. d.0)) (not_defined store numbering ds (in_place settings store.lines) k p.0)
+            ap (place_of ds) p.1
+            ∙ ap (option_map (λ d. d.0)) (not_defined store numbering ds (in_place settings store.lines) k p.0)
 
 -- what the number of a line tells, in a store that is told
-told : (store new : Store) (x : DeckLine) (n : KeyNumber) (place : ℕ) → new ≡ stored_with store x → place ≡ length store.lines →
+told : (store new : Store) (x : DeckLine) (n : KeyNumber) (place : ℕ) → new ≡ stored_with store x
+    → place ≡ length store.lines →
     Some (key_at new.names n) ≡ option_map (λ d. Some d.0) (definition_at new.lines place) →
-    Some (key_at (stored_with store x).names n) ≡ option_map (λ d. Some d.0) (definition_at (stored_with store x).lines (length store.lines))
+    Some (key_at (stored_with store x).names n)
+    ≡ option_map (λ d. Some d.0) (definition_at (stored_with store x).lines (length store.lines))
 told store new x n place is at number =
-    subst (λ (s : Store). Some (key_at s.names n) ≡ option_map (λ d. Some d.0) (definition_at s.lines (length store.lines))) is
+    subst (λ (s : Store). Some (key_at s.names n)
+    ≡ option_map (λ d. Some d.0) (definition_at s.lines (length store.lines))) is
     (subst (λ p. Some (key_at new.names n) ≡ option_map (λ d. Some d.0) (definition_at new.lines p)) at number)
 
 -- the same two of a store that is told
-pub number_pushed : (store new : Store) (x : DeckLine) (k : Key) (e : Entry) (last : LastPlaces) (n : KeyNumber) (place : ℕ) →
+pub number_pushed : (store new : Store) (x : DeckLine) (k : Key) (e : Entry) (last : LastPlaces) (n : KeyNumber)
+    (place : ℕ) →
     new ≡ stored_with store x → place ≡ length store.lines →
     entry_in x ≡ Some (k, e) → length (names_of store.names k.kind) < length (places_of last k.kind) →
-    Some (key_at new.names n) ≡ option_map (λ d. Some d.0) (definition_at new.lines place) → n.number < length (places_of last n.kind)
+    Some (key_at new.names n) ≡ option_map (λ d. Some d.0) (definition_at new.lines place)
+    → n.number < length (places_of last n.kind)
 number_pushed store new x k e last n place is at defines room number =
     number_put store x k e last n defines room (key_put store x k e n defines (told store new x n place is at number))
 
-pub indexed_pushed : (settings : Settings) (store new : Store) (x : DeckLine) (k : Key) (e : Entry) (last now : LastPlaces) (n : KeyNumber) (place : ℕ) →
+-- where a line that defines a key is put at the end, the last places with its place are those of the longer store
+pub indexed_pushed : (settings : Settings) (store new : Store) (x : DeckLine) (k : Key) (e : Entry)
+    (last now : LastPlaces) (n : KeyNumber) (place : ℕ) →
     new ≡ stored_with store x → place ≡ length store.lines →
     entry_in x ≡ Some (k, e) → IsNumbering store → IsIndexed store settings last →
     length (names_of store.names k.kind) < length (places_of last k.kind) → IsNumbering new →
     Some (key_at new.names n) ≡ option_map (λ d. Some d.0) (definition_at new.lines place) →
-    ((a : Kind) → places_of now a ≡ cond (is_same_kind a n.kind) (set (places_of last a) n.number (Some place)) (places_of last a)) →
+    ((a : Kind) → places_of now a
+    ≡ cond (is_same_kind a n.kind) (set (places_of last a) n.number (Some place)) (places_of last a)) →
     IsIndexed new settings now
 indexed_pushed settings store new x k e last now n place is at defines numbering before room numbered number put =
     subst (λ (s : Store). IsIndexed s settings now) (sym is)
-    (indexed_push settings store x k e last now n defines numbering before room (subst IsNumbering is numbered) (told store new x n place is at number)
-    (λ a. put a ∙ ap (λ p. cond (is_same_kind a n.kind) (set (places_of last a) n.number (Some p)) (places_of last a)) at))
+    (indexed_push settings store x k e last now n defines numbering before room (subst IsNumbering is numbered)
+    (told store new x n place is at number)
+    (λ a. put a ∙ ap (λ p. cond (is_same_kind a n.kind) (set (places_of last a) n.number (Some p)) (places_of last a))
+    at))
 
 -- other last places that tell the same
-pub indexed_same : (store : Store) (settings : Settings) (old now : LastPlaces) → ((a : Kind) → HasSamePlaces (places_of old a) (places_of now a)) →
+pub indexed_same : (store : Store) (settings : Settings) (old now : LastPlaces)
+    → ((a : Kind) → HasSamePlaces (places_of old a) (places_of now a)) →
     IsIndexed store settings old → IsIndexed store settings now
 indexed_same store settings old now same before =
-    record { closed = before.closed; places = last_same store.names (definitions settings store.lines) old now before.places same }
+    record {
+      closed = before.closed;
+      places =
+          last_same store.names (definitions settings store.lines) old now before.places same;
+    }
 
-module _ (d : Contents) (closed : IsClosed d.lines) (text : List ℕ) (k : Key) (e : Entry) (defines : entry_in (plain_line 0 text) ≡ Some (k, e)) where
+module _ (d : Contents) (closed : IsClosed d.lines) (text : List ℕ) (k : Key) (e : Entry)
+    (defines : entry_in (plain_line 0 text) ≡ Some (k, e)) where
   -- the table with the line at its front
   table_push : table (with_line text d) ≡ (k, e) ∷ table d
   table_push = ap table_of (placed_push d.settings d.lines closed (plain_line 0 text) (k, e) defines)
@@ -129,8 +158,12 @@ module _ (d : Contents) (closed : IsClosed d.lines) (text : List ℕ) (k : Key) 
   pub changed_one : entry_at (table d) k ≢ Some e → IsChange d (with_line text d) (k ∷ [])
   changed_one differs = record { changed = λ j. by j (is_same j k) refl; once = (refl, tt) }
     where
-      by : (j : Key) (b : Bool) → is_same j k ≡ b → (is_among (k ∷ []) j ≡ true → ⊥) ↔ (entry_at (table d) j ≡ entry_at (table (with_line text d)) j)
-      by j true h = (λ never. absurd (never (ap (λ b. b || false) h)), λ same _. differs (ap (entry_at (table d)) (sym (same_key j k h)) ∙ same ∙ at_key j h))
+      by : (j : Key) (b : Bool) → is_same j k ≡ b
+          → (is_among (k ∷ []) j ≡ true → ⊥) ↔ (entry_at (table d) j ≡ entry_at (table (with_line text d)) j)
+      by j true h = (
+        λ never. absurd (never (ap (λ b. b || false) h)),
+        λ same _. differs (ap (entry_at (table d)) (sym (same_key j k h)) ∙ same ∙ at_key j h),
+      )
       by j false h = (λ _. apart j h, λ _ m. true≢false (sym m ∙ ap (λ b. b || false) h))
 
   -- the entry is as before

@@ -15,7 +15,8 @@ use Rattle.deck_lines.proofs.Entries.{reads}
 use Rattle.deck.specs.Changes.{is_same_entry}
 
 -- a definition is that of a line
-pub read_at : (lines : List DeckLine) (place : ℕ) (e : Key × Entry) → definition_at lines place ≡ Some e → (text : List ℕ) × (entry_of text ≡ Ok e)
+pub read_at : (lines : List DeckLine) (place : ℕ) (e : Key × Entry) → definition_at lines place ≡ Some e
+    → (text : List ℕ) × (entry_of text ≡ Ok e)
 read_at lines place e h = by (slice_get lines place) h
   where
     by : (o : Option DeckLine) → option_and_then entry_in o ≡ Some e → (text : List ℕ) × (entry_of text ≡ Ok e)
@@ -23,9 +24,11 @@ read_at lines place e h = by (slice_get lines place) h
     by (Some x) g = (x.text, reads x e g)
 
 -- two entries of a key that lines give are equal where they have one text
-pub same_text : SameTextLaw → (k : Key) (e f : Entry) (s t : List ℕ) → entry_of s ≡ Ok (k, e) → entry_of t ≡ Ok (k, f) → e.text ≡ f.text → e ≡ f
+pub same_text : SameTextLaw → (k : Key) (e f : Entry) (s t : List ℕ) → entry_of s ≡ Ok (k, e) → entry_of t ≡ Ok (k, f)
+    → e.text ≡ f.text → e ≡ f
 same_text law k e f s t h g same = (law k s t e f h g).1 same
 
+-- an entry has the same text as itself
 pub entry_itself : (a : Option Entry) → is_same_entry a a ≡ true
 entry_itself None = refl
 entry_itself (Some f) = (bytes_eq-Decides f.text f.text).1 refl
@@ -43,7 +46,10 @@ same_entry law k (Some e) (Some f) h g s =
     ap Some (same_text law k e f p.0 q.0 p.1 q.1 ((bytes_eq-Decides e.text f.text).0 s))
 
 -- a definition or a unit list that gives an entry defines it
-pub defines_by : (text : List ℕ) (e : Key × Entry) (kind : LineKind) → (kind ≡ line.Definition) ⊎ (kind ≡ line.UnitList) → kind_of text ≡ kind → entry_of text ≡ Ok e → entry_in (plain_line 0 text) ≡ Some e
+pub defines_by : (text : List ℕ) (e : Key × Entry) (kind : LineKind) → (kind ≡ line.Definition) ⊎ (kind ≡ line.UnitList)
+    → kind_of text ≡ kind → entry_of text ≡ Ok e → entry_in (plain_line 0 text) ≡ Some e
 unfolding entry_in reading_of
-defines_by text e kind (inl d) k h = ap (λ x. defined_by (reading_by text x)) (k ∙ d) ∙ ap (λ r. defined_by (of_entry r)) h
-defines_by text e kind (inr u) k h = ap (λ x. defined_by (reading_by text x)) (k ∙ u) ∙ ap (λ r. defined_by (of_entry r)) h
+defines_by text e kind (inl d) k h = ap (λ x. defined_by (reading_by text x)) (k ∙ d)
+    ∙ ap (λ r. defined_by (of_entry r)) h
+defines_by text e kind (inr u) k h = ap (λ x. defined_by (reading_by text x)) (k ∙ u)
+    ∙ ap (λ r. defined_by (of_entry r)) h

@@ -1,5 +1,6 @@
 -- Lists of the same keys have one length.
-use Rattle.std.proofs.Common.{◌≡◌, ◌∷◌, ◌&&◌, ◌||◌, [], suc, List, Bool, true, false, true≢false, not, cond, length, refl, sym, ap, ◌∙◌}
+use Rattle.std.proofs.Common.{◌≡◌, ◌∷◌, ◌&&◌, ◌||◌, [], suc, List, Bool, true, false, true≢false, not, cond, length}
+use Rattle.std.proofs.Common.{refl, sym, ap, ◌∙◌}
 use Rattle.std.specs.Cmp.{both_ways}
 use Rattle.std.specs.List.{AllByRecursion, IsDistinct, filter}
 use Rattle.def_entry.specs.declared.key.Key.{Key}
@@ -12,6 +13,7 @@ use Rattle.deck.proofs.Counting.{among}
 use Rattle.deck.proofs.Listing.{among_each, among_filter, once_each, once_filter}
 use Rattle.deck.proofs.Sameness.{key_itself, same_key}
 
+-- whether two keys are the same may be turned
 pub flips : (x y : Key) → is_same x y ≡ is_same y x
 flips x y = both_ways (is_same x y) (is_same y x) (turned x y) (turned y x)
   where
@@ -23,46 +25,58 @@ none_of : (k : Key) (ks : List Key) → is_among ks k ≡ false → AllByRecursi
 none_of k [] h = tt
 none_of k (x ∷ ks) h = by (none_of k ks) (is_same k x) refl h
   where
-    by : (is_among ks k ≡ false → AllByRecursion (λ y. is_same k y ≡ false) ks) → (b : Bool) → is_same k x ≡ b → (b || is_among ks k) ≡ false → AllByRecursion (λ y. is_same k y ≡ false) (x ∷ ks)
+    by : (is_among ks k ≡ false → AllByRecursion (λ y. is_same k y ≡ false) ks) → (b : Bool) → is_same k x ≡ b
+        → (b || is_among ks k) ≡ false → AllByRecursion (λ y. is_same k y ≡ false) (x ∷ ks)
     by ih true e g = absurd (true≢false g)
     by ih false e g = (e, ih g)
 
+-- keys of which each stands once are different
 pub distinct : (ks : List Key) → AreOnce ks → IsDistinct is_same ks
 unfolding IsDistinct
 distinct [] h = tt
 distinct (k ∷ ks) h = (none_of k ks h.0, distinct ks h.1)
 
+-- a key that is none of some is not among them
 not_among : (k : Key) (ks : List Key) → AllByRecursion (λ y. is_same k y ≡ false) ks → is_among ks k ≡ false
 not_among k [] h = refl
 not_among k (x ∷ ks) h = ap (λ b. b || is_among ks k) h.0 ∙ not_among k ks h.1
 
+-- different keys stand once each
 pub once_distinct : (ks : List Key) → IsDistinct is_same ks → AreOnce ks
 unfolding IsDistinct
 once_distinct [] h = tt
 once_distinct (k ∷ ks) h = (not_among k ks h.0, once_distinct ks h.1)
 
+-- some keys without one
 abbrev others : Key → List Key → List Key
 others x ks = filter (λ k. not (is_same x k)) ks
 
+-- without a key that is not there they are the same
 all_others : (x : Key) (ks : List Key) → is_among ks x ≡ false → others x ks ≡ ks
 all_others x [] h = refl
 all_others x (k ∷ ks) h = by (all_others x ks) (is_same x k) refl h
   where
-    by : (is_among ks x ≡ false → others x ks ≡ ks) → (b : Bool) → is_same x k ≡ b → (b || is_among ks x) ≡ false → cond (not (is_same x k)) (k ∷ others x ks) (others x ks) ≡ k ∷ ks
+    by : (is_among ks x ≡ false → others x ks ≡ ks) → (b : Bool) → is_same x k ≡ b → (b || is_among ks x) ≡ false
+        → cond (not (is_same x k)) (k ∷ others x ks) (others x ks) ≡ k ∷ ks
     by ih true e g = absurd (true≢false g)
     by ih false e g = ap (λ b. cond (not b) (k ∷ others x ks) (others x ks)) e ∙ ap (λ t. k ∷ t) (ih g)
 
+-- without one that is there they are one less
 one_less : (x : Key) (ks : List Key) → AreOnce ks → is_among ks x ≡ true → length ks ≡ suc (length (others x ks))
 one_less x [] once h = absurd (true≢false (sym h))
 one_less x (k ∷ ks) once h = by (one_less x ks once.1) (is_same x k) refl h
   where
-    by : (is_among ks x ≡ true → length ks ≡ suc (length (others x ks))) → (b : Bool) → is_same x k ≡ b → (b || is_among ks x) ≡ true → suc (length ks) ≡ suc (length (cond (not (is_same x k)) (k ∷ others x ks) (others x ks)))
+    by : (is_among ks x ≡ true → length ks ≡ suc (length (others x ks))) → (b : Bool) → is_same x k ≡ b
+        → (b || is_among ks x) ≡ true
+        → suc (length ks) ≡ suc (length (cond (not (is_same x k)) (k ∷ others x ks) (others x ks)))
     by ih true e g =
         ap (λ t. suc (length t)) (sym (all_others x ks (ap (is_among ks) (same_key x k e) ∙ once.0)))
         ∙ sym (ap (λ b. suc (length (cond (not b) (k ∷ others x ks) (others x ks)))) e)
     by ih false e g = ap suc (ih g) ∙ sym (ap (λ b. suc (length (cond (not b) (k ∷ others x ks) (others x ks)))) e)
 
-same_length : (xs ys : List Key) → AreOnce xs → AreOnce ys → ((k : Key) → is_among xs k ≡ is_among ys k) → length xs ≡ length ys
+-- two lists of the same keys, each once, are equally long
+same_length : (xs ys : List Key) → AreOnce xs → AreOnce ys → ((k : Key) → is_among xs k ≡ is_among ys k)
+    → length xs ≡ length ys
 same_length [] [] h g e = refl
 same_length [] (y ∷ ys) h g e = absurd (true≢false (sym (e y ∙ ap (λ b. b || is_among ys y) (key_itself y))))
 same_length (x ∷ xs) ys h g e =
@@ -79,10 +93,13 @@ same_length (x ∷ xs) ys h g e =
             ∙ sym (ap (λ b. not b && is_among ys k) s)
 
 -- a list of all keys of a table, each once, has as many of each kind as the table
-pub counted : (t : Table) (keys : List Key) → ((k : Key) → is_among keys k ≡ is_present t k) → AreOnce keys → (kind : Kind) → length (of_kind kind keys) ≡ key_count t kind
+pub counted : (t : Table) (keys : List Key) → ((k : Key) → is_among keys k ≡ is_present t k) → AreOnce keys
+    → (kind : Kind) → length (of_kind kind keys) ≡ key_count t kind
 counted t keys each once kind =
-    same_length (of_kind kind keys) (of_kind kind (each_once (keys_of t))) (once_filter own keys once) (once_filter own (each_once (keys_of t)) (once_each (keys_of t)))
-    (λ k. among_filter own keys k ∙ ap (λ b. own k && b) (each k ∙ sym (among_each (keys_of t) k ∙ among t k)) ∙ sym (among_filter own (each_once (keys_of t)) k))
+    same_length (of_kind kind keys) (of_kind kind (each_once (keys_of t))) (once_filter own keys once)
+    (once_filter own (each_once (keys_of t)) (once_each (keys_of t)))
+    (λ k. among_filter own keys k ∙ ap (λ b. own k && b) (each k ∙ sym (among_each (keys_of t) k ∙ among t k))
+    ∙ sym (among_filter own (each_once (keys_of t)) k))
   where
     own : Key → Bool
     own key = is_same_kind kind key.kind

@@ -1,5 +1,6 @@
 -- The list of all keys.
-use Rattle.std.proofs.Common.{◌≡◌, ◌++◌, ◌∷◌, ◌&&◌, [], zero, suc, List, Bool, true, false, true≢false, refl, sym, ap, subst, ◌∙◌, arith, Some, option_map}
+use Rattle.std.proofs.Common.{◌≡◌, ◌++◌, ◌∷◌, ◌&&◌, [], zero, suc, List, Bool, true, false, true≢false, refl, sym, ap}
+use Rattle.std.proofs.Common.{subst, ◌∙◌, arith, Some, option_map}
 use Rattle.std.proofs.lemmas.List.Sorted.{list_any-IsPermutation, ranks_by, sorted_far}
 use Rattle.std.proofs.lemmas.Map.Keys.{IsDistinct-IsPermutation}
 use Rattle.std.specs.List.{All, AllByRecursion, AllPairs, IsDistinct, filter}
@@ -39,11 +40,14 @@ module _ (law : KeyOrderLaw) where
       by Equal e h = absurd (true≢false (sym (ap (is_same y) (law.exact z y e) ∙ key_itself y) ∙ apart))
       by Greater e h = refl
 
-  all_below : (y : Key) (zs : List Key) → All (λ z. is_lt (key_cmp z y) ≡ false) zs → AllByRecursion (λ z. is_same y z ≡ false) zs → AllByRecursion (λ z. key_cmp y z ≡ Less) zs
+  all_below : (y : Key) (zs : List Key) → All (λ z. is_lt (key_cmp z y) ≡ false) zs
+      → AllByRecursion (λ z. is_same y z ≡ false) zs → AllByRecursion (λ z. key_cmp y z ≡ Less) zs
   all_below y [] up apart = tt
-  all_below y (z ∷ zs) up apart = (below y z (up zero z (omega arith)) apart.0, all_below y zs (λ j e inside. up (suc j) e (omega arith)) apart.1)
+  all_below y (z ∷ zs) up apart =
+      (below y z (up zero z (omega arith)) apart.0, all_below y zs (λ j e inside. up (suc j) e (omega arith)) apart.1)
 
-  strict : (ys : List Key) → AllPairs (λ a b. is_lt (key_cmp b a) ≡ false) ys → IsDistinct is_same ys → IsStrictlySortedBy key_cmp ys
+  strict : (ys : List Key) → AllPairs (λ a b. is_lt (key_cmp b a) ≡ false) ys → IsDistinct is_same ys
+      → IsStrictlySortedBy key_cmp ys
   unfolding IsStrictlySortedBy IsDistinct
   strict [] up apart = tt
   strict (y ∷ ys) up apart = (
@@ -53,26 +57,35 @@ module _ (law : KeyOrderLaw) where
 
   -- keys in order, of which no two are the same
   pub in_strict_order : (ys : List Key) → IsSorted key_cmp ys → IsDistinct is_same ys → IsStrictlySortedBy key_cmp ys
-  in_strict_order ys sorted = strict ys (λ i j e before inside. sorted_far _ (ranks_by law.total (λ k. k)) ys sorted i j e (omega arith) inside)
+  in_strict_order ys sorted =
+      strict ys (λ i j e before inside. sorted_far _ (ranks_by law.total (λ k. k)) ys sorted i j e (omega arith) inside)
 
 -- the numbered keys that have a last place, in order
-module _ (store : Store) (numbering : IsNumbering store) (ds : Definitions) (placed : AreInPlace store.lines ds) (last : LastPlaces) (are_last : AreLast store.names ds last) where
-  by_number : (n : KeyNumber) (k : Key) → key_at store.names n ≡ Some k → is_some (place_at last n) ≡ is_present (table_of ds) k
+module _ (store : Store) (numbering : IsNumbering store) (ds : Definitions) (placed : AreInPlace store.lines ds)
+    (last : LastPlaces) (are_last : AreLast store.names ds last) where
+  by_number : (n : KeyNumber) (k : Key) → key_at store.names n ≡ Some k
+      → is_some (place_at last n) ≡ is_present (table_of ds) k
   by_number n k e = ap is_some (are_last.place n ∙ ap (option_and_then (place_of ds)) e) ∙ place_present ds k
 
   -- a key that has an entry has a number
-  present_numbered : (k : Key) → (is_present (table_of ds) k && is_among (all_keys store.names) k) ≡ is_present (table_of ds) k
+  present_numbered : (k : Key) → (is_present (table_of ds) k && is_among (all_keys store.names) k)
+      ≡ is_present (table_of ds) k
   present_numbered k = by (is_present (table_of ds) k) refl (is_numbered store.names k) refl
     where
-      by : (p : Bool) → is_present (table_of ds) k ≡ p → (n : Bool) → is_numbered store.names k ≡ n → (is_present (table_of ds) k && is_among (all_keys store.names) k) ≡ is_present (table_of ds) k
-      by true e true h = ap (λ b. is_present (table_of ds) k && b) (among_all store.names k ∙ h) ∙ ap (λ b. b && true) e ∙ sym e
+      by : (p : Bool) → is_present (table_of ds) k ≡ p → (n : Bool) → is_numbered store.names k ≡ n
+          → (is_present (table_of ds) k && is_among (all_keys store.names) k) ≡ is_present (table_of ds) k
+      by true e true h = ap (λ b. is_present (table_of ds) k && b) (among_all store.names k ∙ h) ∙ ap (λ b. b && true) e
+          ∙ sym e
       by true e false h =
-          absurd (true≢false (sym e ∙ sym (place_present ds k) ∙ ap (λ o. is_some (option_map (λ p. p.0) o)) (not_defined store numbering ds placed k h)))
+          absurd (true≢false (sym e ∙ sym (place_present ds k)
+          ∙ ap (λ o. is_some (option_map (λ p. p.0) o)) (not_defined store numbering ds placed k h)))
       by false e n h = ap (λ b. b && is_among (all_keys store.names) k) e ∙ sym e
 
   pub all_keys_found : KeyOrderLaw → (found sorted : List Key) →
-      found ≡ keys_where (λ n. is_some (place_at last n)) kind.Unit 0 store.names.units ++ (keys_where (λ n. is_some (place_at last n)) kind.Prefix 0 store.names.prefixes
-      ++ (keys_where (λ n. is_some (place_at last n)) kind.Func 0 store.names.functions ++ keys_where (λ n. is_some (place_at last n)) kind.List 0 store.names.lists)) →
+      found ≡ keys_where (λ n. is_some (place_at last n)) kind.Unit 0 store.names.units
+      ++ (keys_where (λ n. is_some (place_at last n)) kind.Prefix 0 store.names.prefixes
+      ++ (keys_where (λ n. is_some (place_at last n)) kind.Func 0 store.names.functions
+      ++ keys_where (λ n. is_some (place_at last n)) kind.List 0 store.names.lists)) →
       IsPermutation found sorted → IsSorted key_cmp sorted → IsWhole (table_of ds) sorted
   all_keys_found law found sorted e moved up = record {
     all = record { each = each; order = in_strict_order law sorted up apart };
@@ -85,7 +98,8 @@ module _ (store : Store) (numbering : IsNumbering store) (ds : Definitions) (pla
       apart : IsDistinct is_same sorted
       apart =
           IsDistinct-IsPermutation is_same flips found sorted moved
-          (distinct found (subst AreOnce (sym is) (once_filter (is_present (table_of ds)) (all_keys store.names) (once_all store.names numbering.unique))))
+          (distinct found (subst AreOnce (sym is)
+          (once_filter (is_present (table_of ds)) (all_keys store.names) (once_all store.names numbering.unique))))
 
       each : (k : Key) → is_among sorted k ≡ is_present (table_of ds) k
       each k =

@@ -1,5 +1,6 @@
 -- Places that are put, added and changed.
-use Rattle.std.proofs.Common.{◌≡◌, ◌++◌, ◌∷◌, ◌+◌, ◌<◌, ◌≤◌, [], ℕ, zero, suc, List, Bool, true, false, cond, length, get_or, take, drop, map, set, refl, sym, ap, ◌∙◌, arith, Option, Some, None, option_map}
+use Rattle.std.proofs.Common.{◌≡◌, ◌++◌, ◌∷◌, ◌+◌, ◌<◌, ◌≤◌, [], ℕ, zero, suc, List, Bool, true, false, cond, length}
+use Rattle.std.proofs.Common.{get_or, take, drop, map, set, refl, sym, ap, ◌∙◌, arith, Option, Some, None, option_map}
 use Rattle.std.specs.Option.{is_some}
 use Rattle.deck.specs.KindPlaces.{HasSamePlaces, place_count, place_in}
 
@@ -9,6 +10,7 @@ in_set_same [] n p h = absurd (omega arith)
 in_set_same (x ∷ ps) zero p h = refl
 in_set_same (x ∷ ps) (suc n) p h = in_set_same ps n p (omega arith)
 
+-- a place that is put leaves all others
 pub in_set_other : (ps : List (Option ℕ)) (n p m : ℕ) → (m ≡ n → ⊥) → place_in (set ps n (Some p)) m ≡ place_in ps m
 in_set_other [] n p m h = refl
 in_set_other (x ∷ ps) zero p zero h = absurd (h refl)
@@ -16,24 +18,28 @@ in_set_other (x ∷ ps) zero p (suc m) h = refl
 in_set_other (x ∷ ps) (suc n) p zero h = refl
 in_set_other (x ∷ ps) (suc n) p (suc m) h = in_set_other ps n p m (λ e. h (ap suc e))
 
+-- it is counted where there was none before
 pub count_set : (ps : List (Option ℕ)) (n p : ℕ) → n < length ps →
     place_count (set ps n (Some p)) ≡ cond (is_some (place_in ps n)) (place_count ps) (place_count ps + 1)
 count_set [] n p h = absurd (omega arith)
 count_set (None ∷ ps) zero p h = refl
 count_set (Some q ∷ ps) zero p h = refl
 count_set (None ∷ ps) (suc n) p h = count_set ps n p (omega arith)
-count_set (Some q ∷ ps) (suc n) p h = ap (λ c. c + 1) (count_set ps n p (omega arith)) ∙ more (is_some (place_in ps n)) (place_count ps)
+count_set (Some q ∷ ps) (suc n) p h = ap (λ c. c + 1) (count_set ps n p (omega arith))
+    ∙ more (is_some (place_in ps n)) (place_count ps)
   where
     more : (b : Bool) (c : ℕ) → cond b c (c + 1) + 1 ≡ cond b (c + 1) ((c + 1) + 1)
     more true c = refl
     more false c = refl
 
+-- room for one more number changes no place
 pub in_longer : (ps : List (Option ℕ)) (m : ℕ) → place_in (ps ++ None ∷ []) m ≡ place_in ps m
 in_longer [] zero = refl
 in_longer [] (suc m) = refl
 in_longer (x ∷ ps) zero = refl
 in_longer (x ∷ ps) (suc m) = in_longer ps m
 
+-- nor their count
 pub count_longer : (ps : List (Option ℕ)) → place_count (ps ++ None ∷ []) ≡ place_count ps
 count_longer [] = refl
 count_longer (None ∷ ps) = count_longer ps
@@ -46,16 +52,20 @@ longer old ps qs h e = record {
   count = ap place_count e ∙ count_longer ps ∙ h.count;
 }
 
-pub in_mapped : (f : ℕ → ℕ) (ps : List (Option ℕ)) (m : ℕ) → place_in (map (option_map f) ps) m ≡ option_map f (place_in ps m)
+-- places that move stand at their numbers
+pub in_mapped : (f : ℕ → ℕ) (ps : List (Option ℕ)) (m : ℕ)
+    → place_in (map (option_map f) ps) m ≡ option_map f (place_in ps m)
 in_mapped f [] m = refl
 in_mapped f (x ∷ ps) zero = refl
 in_mapped f (x ∷ ps) (suc m) = in_mapped f ps m
 
+-- and are as many
 pub count_mapped : (f : ℕ → ℕ) (ps : List (Option ℕ)) → place_count (map (option_map f) ps) ≡ place_count ps
 count_mapped f [] = refl
 count_mapped f (None ∷ ps) = count_mapped f ps
 count_mapped f (Some p ∷ ps) = ap (λ c. c + 1) (count_mapped f ps)
 
+-- there are no more places than numbers
 pub count_within : (ps : List (Option ℕ)) → place_count ps ≤ length ps
 count_within [] = omega arith
 count_within (None ∷ ps) = omega (arith, count_within ps)
@@ -77,7 +87,9 @@ mapped_step f (y ∷ xs) (suc i) x h e =
     let next : suc (i + 1) ≡ suc i + 1 = omega arith in
     ap (λ t. f y ∷ t) (mapped_step f xs i x (omega arith) e) ∙ ap (λ j. map f (take j (y ∷ xs)) ++ drop j (y ∷ xs)) next
 
-pub mapped_all : {A : Type 0} (f : A → A) (xs : List A) (i : ℕ) → length xs ≤ i → map f (take i xs) ++ drop i xs ≡ map f xs
+-- where the first i members are images and no others are left, all are
+pub mapped_all : {A : Type 0} (f : A → A) (xs : List A) (i : ℕ) → length xs ≤ i
+    → map f (take i xs) ++ drop i xs ≡ map f xs
 mapped_all f [] zero h = refl
 mapped_all f [] (suc i) h = refl
 mapped_all f (x ∷ xs) zero h = absurd (omega arith)
@@ -90,7 +102,8 @@ read_same (x ∷ xs) zero d h = refl
 read_same (x ∷ xs) (suc i) d h = read_same xs i d (omega arith)
 
 -- a list that took the place of another one
-pub in_place : {A : Type 0} (n : ℕ) (xs ys : List A) → length xs ≡ length ys → n ≡ length ys → take n (xs ++ drop (length xs) ys) ≡ xs
+pub in_place : {A : Type 0} (n : ℕ) (xs ys : List A) → length xs ≡ length ys → n ≡ length ys
+    → take n (xs ++ drop (length xs) ys) ≡ xs
 in_place zero [] ys h e = refl
 in_place zero (x ∷ xs) ys h e = absurd (omega arith)
 in_place (suc n) [] [] h e = refl
@@ -98,5 +111,6 @@ in_place (suc n) [] (y ∷ ys) h e = absurd (omega arith)
 in_place (suc n) (x ∷ xs) [] h e = absurd (omega arith)
 in_place (suc n) (x ∷ xs) (y ∷ ys) h e = ap (λ t. x ∷ t) (in_place n xs ys (omega arith) (omega arith))
 
+-- places that are twice the same are the same
 pub same_then : (a b c : List (Option ℕ)) → HasSamePlaces a b → HasSamePlaces b c → HasSamePlaces a c
 same_then a b c h g = record { place = λ m. g.place m ∙ h.place m; count = g.count ∙ h.count }

@@ -1,5 +1,7 @@
 -- Last places, with a definition more.
-use Rattle.std.proofs.Common.{◌≡◌, ◌++◌, ◌∷◌, ◌+◌, ◌<◌, [], ℕ, suc, List, Bool, true, false, true≢false, cond, length, set, take, reverse, length-take, append_assoc, add-zero, refl, sym, ap, subst, ◌∙◌, arith, Option, Some, None, option_map, slice_get}
+use Rattle.std.proofs.Common.{◌≡◌, ◌++◌, ◌∷◌, ◌+◌, ◌<◌, [], ℕ, suc, List, Bool, true, false, true≢false, cond, length}
+use Rattle.std.proofs.Common.{set, take, reverse, length-take, append_assoc, add-zero, refl, sym, ap, subst, ◌∙◌, arith}
+use Rattle.std.proofs.Common.{Option, Some, None, option_map, slice_get}
 use Rattle.std.proofs.lemmas.List.{reverse-append}
 use Rattle.std.proofs.lemmas.Option.{same_Some, slice_get_within}
 use Rattle.std.specs.Map.{lookup}
@@ -16,7 +18,8 @@ use Rattle.deck_lines.specs.declared.line.DeckLine.{DeckLine}
 use Rattle.deck.specs.KeyLists.{key_count}
 use Rattle.deck.specs.KindPlaces.{HasSamePlaces, place_count, place_in}
 use Rattle.deck.specs.LastPlaces.{AreLast, HasRoom, place_at, places_of}
-use Rattle.deck.specs.Tables.{Definitions, definition_by, definitions_by, definitions_from, is_present, place_of, table_of}
+use Rattle.deck.specs.Tables.{Definitions, definition_by, definitions_by, definitions_from, is_present, place_of}
+use Rattle.deck.specs.Tables.{table_of}
 use Rattle.deck.specs.declared.places.last_places.LastPlaces.{LastPlaces}
 use Rattle.deck.proofs.Counting.{count_push}
 use Rattle.deck.proofs.KindPlacing.{count_set, in_set_other, in_set_same}
@@ -31,12 +34,18 @@ kind_at names n k e = by (slice_get (names_of names n.kind) n.number) e
     by None h = cc
     by (Some name) h = sym (ap (λ (j : Key). j.kind) (same_Some (key n.kind name) k h))
 
-module _ (names : Names) (unique : IsOneToOne names) (ds : Definitions) (n : KeyNumber) (k : Key) (at : ℕ) (e : Entry) (old now : LastPlaces)
-    (numbered : key_at names n ≡ Some k) (room : n.number < length (places_of old n.kind)) (before : AreLast names ds old)
-    (put : (kind : Kind) → places_of now kind ≡ cond (is_same_kind kind n.kind) (set (places_of old kind) n.number (Some at)) (places_of old kind)) where
+module _ (names : Names) (unique : IsOneToOne names) (ds : Definitions) (n : KeyNumber) (k : Key) (at : ℕ) (e : Entry)
+    (old now : LastPlaces)
+    (numbered : key_at names n ≡ Some k) (room : n.number < length (places_of old n.kind))
+    (before : AreLast names ds old)
+    (put : (kind : Kind)
+    → places_of now kind
+    ≡ cond (is_same_kind kind n.kind) (set (places_of old kind) n.number (Some at)) (places_of old kind)) where
   own_place : place_at now n ≡ Some at
   own_place =
-      ap (λ ps. place_in ps n.number) (put n.kind ∙ ap (λ b. cond b (set (places_of old n.kind) n.number (Some at)) (places_of old n.kind)) (kind_itself n.kind))
+      ap (λ ps. place_in ps n.number)
+      (put n.kind ∙ ap (λ b. cond b (set (places_of old n.kind) n.number (Some at)) (places_of old n.kind))
+      (kind_itself n.kind))
       ∙ in_set_same (places_of old n.kind) n.number at room
 
   other_place : (m : KeyNumber) → (m ≡ n → ⊥) → place_at now m ≡ place_at old m
@@ -47,23 +56,28 @@ module _ (names : Names) (unique : IsOneToOne names) (ds : Definitions) (n : Key
 
       by : (b : Bool) → is_same_kind m.kind n.kind ≡ b → place_at now m ≡ place_at old m
       by true h =
-          ap (λ ps. place_in ps m.number) (put m.kind ∙ ap (λ b. cond b (set (places_of old m.kind) n.number (Some at)) (places_of old m.kind)) h)
+          ap (λ ps. place_in ps m.number)
+          (put m.kind ∙ ap (λ b. cond b (set (places_of old m.kind) n.number (Some at)) (places_of old m.kind)) h)
           ∙ in_set_other (places_of old m.kind) n.number at m.number (number_differs (same_kind m.kind n.kind h))
       by false h =
-          ap (λ ps. place_in ps m.number) (put m.kind ∙ ap (λ b. cond b (set (places_of old m.kind) n.number (Some at)) (places_of old m.kind)) h)
+          ap (λ ps. place_in ps m.number)
+          (put m.kind ∙ ap (λ b. cond b (set (places_of old m.kind) n.number (Some at)) (places_of old m.kind)) h)
 
   places_more : (m : KeyNumber) → place_at now m ≡ option_and_then (place_of ((k, (at, e)) ∷ ds)) (key_at names m)
   places_more m = by (key_at names m) refl
     where
       differ : (j : Key) → key_at names m ≡ Some j → is_same j k ≡ false → m ≡ n → ⊥
-      differ j h f s = true≢false (sym (key_itself j) ∙ ap (is_same j) (same_Some j k (sym h ∙ ap (key_at names) s ∙ numbered)) ∙ f)
+      differ j h f s =
+          true≢false (sym (key_itself j) ∙ ap (is_same j) (same_Some j k (sym h ∙ ap (key_at names) s ∙ numbered)) ∙ f)
 
-      with_key : (j : Key) → key_at names m ≡ Some j → (b : Bool) → is_same j k ≡ b → place_at now m ≡ option_map (λ p. p.0) (cond b (Some (at, e)) (lookup (is_same j) ds))
+      with_key : (j : Key) → key_at names m ≡ Some j → (b : Bool) → is_same j k ≡ b
+          → place_at now m ≡ option_map (λ p. p.0) (cond b (Some (at, e)) (lookup (is_same j) ds))
       with_key j h true f = ap (place_at now) (unique m n k (h ∙ ap Some (same_key j k f)) numbered) ∙ own_place
       with_key j h false f = other_place m (differ j h f) ∙ before.place m ∙ ap (option_and_then (place_of ds)) h
 
       by : (o : Option Key) → key_at names m ≡ o → place_at now m ≡ option_and_then (place_of ((k, (at, e)) ∷ ds)) o
-      by None h = other_place m (λ s. none_numbered (sym h ∙ ap (key_at names) s ∙ numbered)) ∙ before.place m ∙ ap (option_and_then (place_of ds)) h
+      by None h = other_place m (λ s. none_numbered (sym h ∙ ap (key_at names) s ∙ numbered)) ∙ before.place m
+          ∙ ap (option_and_then (place_of ds)) h
         where
           none_numbered : None ≡ Some k → ⊥
           none_numbered g = cc
@@ -72,18 +86,24 @@ module _ (names : Names) (unique : IsOneToOne names) (ds : Definitions) (n : Key
   counts_more : (kind : Kind) → place_count (places_of now kind) ≡ key_count (table_of ((k, (at, e)) ∷ ds)) kind
   counts_more kind =
       ap place_count (put kind) ∙ by (is_same_kind kind n.kind) refl
-      ∙ ap (λ (a : Kind). cond (is_same_kind kind a) (cond (is_present (table_of ds) k) (key_count (table_of ds) kind) (key_count (table_of ds) kind + 1)) (key_count (table_of ds) kind)) (sym (kind_at names n k numbered))
+      ∙ ap (λ (a : Kind). cond (is_same_kind kind a)
+      (cond (is_present (table_of ds) k) (key_count (table_of ds) kind) (key_count (table_of ds) kind + 1))
+      (key_count (table_of ds) kind)) (sym (kind_at names n k numbered))
       ∙ sym (count_push (table_of ds) k e kind)
     where
-      at_kind : n.kind ≡ kind → place_count (set (places_of old kind) n.number (Some at)) ≡ cond (is_present (table_of ds) k) (key_count (table_of ds) kind) (key_count (table_of ds) kind + 1)
+      at_kind : n.kind ≡ kind → place_count (set (places_of old kind) n.number (Some at))
+          ≡ cond (is_present (table_of ds) k) (key_count (table_of ds) kind) (key_count (table_of ds) kind + 1)
       at_kind s =
           count_set (places_of old kind) n.number at (subst (λ a. n.number < length (places_of old a)) s room)
           ∙ ap (λ c. cond (is_some (place_in (places_of old kind) n.number)) c (c + 1)) (before.count kind)
           ∙ ap (λ b. cond b (key_count (table_of ds) kind) (key_count (table_of ds) kind + 1))
-          (ap is_some (ap (λ a. place_in (places_of old a) n.number) (sym s) ∙ before.place n ∙ ap (option_and_then (place_of ds)) numbered) ∙ place_present ds k)
+          (ap is_some (ap (λ a. place_in (places_of old a) n.number) (sym s) ∙ before.place n
+          ∙ ap (option_and_then (place_of ds)) numbered) ∙ place_present ds k)
 
-      by : (b : Bool) → is_same_kind kind n.kind ≡ b → place_count (cond b (set (places_of old kind) n.number (Some at)) (places_of old kind)) ≡
-          cond b (cond (is_present (table_of ds) k) (key_count (table_of ds) kind) (key_count (table_of ds) kind + 1)) (key_count (table_of ds) kind)
+      by : (b : Bool) → is_same_kind kind n.kind ≡ b
+          → place_count (cond b (set (places_of old kind) n.number (Some at)) (places_of old kind)) ≡
+          cond b (cond (is_present (table_of ds) k) (key_count (table_of ds) kind) (key_count (table_of ds) kind + 1))
+          (key_count (table_of ds) kind)
       by true h = at_kind (sym (same_kind kind n.kind h))
       by false h = before.count kind
 
@@ -91,17 +111,21 @@ module _ (names : Names) (unique : IsOneToOne names) (ds : Definitions) (n : Key
   last_more = record { place = places_more; count = counts_more }
 
 -- the number of a key is one of a name
-pub number_within : (names : Names) (n : KeyNumber) (k : Key) → key_at names n ≡ Some k → n.number < length (names_of names n.kind)
+pub number_within : (names : Names) (n : KeyNumber) (k : Key) → key_at names n ≡ Some k
+    → n.number < length (names_of names n.kind)
 number_within names n k e = by (slice_get (names_of names n.kind) n.number) refl e
   where
-    by : (o : Option (List ℕ)) → slice_get (names_of names n.kind) n.number ≡ o → option_map (key n.kind) o ≡ Some k → n.number < length (names_of names n.kind)
+    by : (o : Option (List ℕ)) → slice_get (names_of names n.kind) n.number ≡ o → option_map (key n.kind) o ≡ Some k
+        → n.number < length (names_of names n.kind)
     by None h g = cc
     by (Some name) h g = slice_get_within (names_of names n.kind) n.number name h
 
 -- the places with that of a line that is active
-pub last_noted : (names : Names) → IsOneToOne names → (ds : Definitions) (n : KeyNumber) (place : ℕ) (active : Bool) (o : Option (Key × Entry)) (old now : LastPlaces) →
+pub last_noted : (names : Names) → IsOneToOne names → (ds : Definitions) (n : KeyNumber) (place : ℕ) (active : Bool)
+    (o : Option (Key × Entry)) (old now : LastPlaces) →
     active ≡ true → HasRoom names old → AreLast names ds old → Some (key_at names n) ≡ option_map (λ d. Some d.0) o →
-    ((kind : Kind) → places_of now kind ≡ cond (is_same_kind kind n.kind) (set (places_of old kind) n.number (Some place)) (places_of old kind)) →
+    ((kind : Kind) → places_of now kind
+    ≡ cond (is_same_kind kind n.kind) (set (places_of old kind) n.number (Some place)) (places_of old kind)) →
     AreLast names (definition_by place active o ++ ds) now
 last_noted names unique ds n place active None old now a room before e put = cc
 last_noted names unique ds n place active (Some d) old now a room before e put =
@@ -111,11 +135,13 @@ last_noted names unique ds n place active (Some d) old now a room before e put =
     (last_more names unique ds n d.0 place d.1 old now numbered (omega (arith, within, room n.kind)) before put)
 
 -- one definition is the same from behind
-one_back : (place : ℕ) (active : Bool) (o : Option (Key × Entry)) → reverse (definition_by place active o) ≡ definition_by place active o
+one_back : (place : ℕ) (active : Bool) (o : Option (Key × Entry))
+    → reverse (definition_by place active o) ≡ definition_by place active o
 one_back place active None = refl
 one_back place true (Some e) = refl
 one_back place false (Some e) = refl
 
+-- the definitions of two lists of lines are those of the first and then of the second, as much farther
 pub from-append : (at : ℕ) (fs gs : List Bool) (xs ys : List DeckLine) → length fs ≡ length xs →
     definitions_from at (fs ++ gs) (xs ++ ys) ≡ definitions_from at fs xs ++ definitions_from (at + length xs) gs ys
 from-append at [] gs [] ys h = ap (λ n. definitions_from n gs ys) (sym (add-zero at))
@@ -123,24 +149,33 @@ from-append at [] gs (x ∷ xs) ys h = absurd (omega arith)
 from-append at (f ∷ fs) gs [] ys h = absurd (omega arith)
 from-append at (f ∷ fs) gs (x ∷ xs) ys h =
     let place : at + 1 + length xs ≡ at + suc (length xs) = omega arith in
-    ap (λ t. definition_by at f (entry_in x) ++ t) (from-append (at + 1) fs gs xs ys (omega arith) ∙ ap (λ n. definitions_from (at + 1) fs xs ++ definitions_from n gs ys) place)
-    ∙ sym (append_assoc (definition_by at f (entry_in x)) (definitions_from (at + 1) fs xs) (definitions_from (at + suc (length xs)) gs ys))
+    ap (λ t. definition_by at f (entry_in x) ++ t)
+    (from-append (at + 1) fs gs xs ys (omega arith)
+    ∙ ap (λ n. definitions_from (at + 1) fs xs ++ definitions_from n gs ys) place)
+    ∙ sym (append_assoc (definition_by at f (entry_in x)) (definitions_from (at + 1) fs xs)
+    (definitions_from (at + suc (length xs)) gs ys))
 
 -- the definitions with those of one more line
-pub by_step : (flags : List Bool) (lines : List DeckLine) (i : ℕ) (f : Bool) (x : DeckLine) → length flags ≡ length lines → i < length lines →
+pub by_step : (flags : List Bool) (lines : List DeckLine) (i : ℕ) (f : Bool) (x : DeckLine)
+    → length flags ≡ length lines → i < length lines →
     take (i + 1) flags ≡ take i flags ++ f ∷ [] → take (i + 1) lines ≡ take i lines ++ x ∷ [] →
-    definitions_by (take (i + 1) flags) (take (i + 1) lines) ≡ definition_by i f (entry_in x) ++ definitions_by (take i flags) (take i lines)
+    definitions_by (take (i + 1) flags) (take (i + 1) lines) ≡ definition_by i f (entry_in x)
+    ++ definitions_by (take i flags) (take i lines)
 by_step flags lines i f x same h p q =
-    let fits : length (take i flags) ≡ length (take i lines) = omega (arith, same, length-take i flags, length-take i lines) in
+    let fits : length (take i flags) ≡ length (take i lines) =
+    omega (arith, same, length-take i flags, length-take i lines) in
     let place : 0 + length (take i lines) ≡ i = omega (arith, h, length-take i lines) in
     ap (λ fs. definitions_by fs (take (i + 1) lines)) p ∙ ap (λ ls. definitions_by (take i flags ++ f ∷ []) ls) q
     ∙ ap reverse (from-append 0 (take i flags) (f ∷ []) (take i lines) (x ∷ []) fits)
-    ∙ ap (λ n. reverse (definitions_from 0 (take i flags) (take i lines) ++ (definition_by n f (entry_in x) ++ []))) place
+    ∙ ap (λ n. reverse (definitions_from 0 (take i flags) (take i lines) ++ (definition_by n f (entry_in x) ++ [])))
+    place
     ∙ reverse-append (definitions_from 0 (take i flags) (take i lines)) (definition_by i f (entry_in x) ++ [])
-    ∙ ap (λ ds. ds ++ definitions_by (take i flags) (take i lines)) (reverse-append (definition_by i f (entry_in x)) [] ∙ one_back i f (entry_in x))
+    ∙ ap (λ ds. ds ++ definitions_by (take i flags) (take i lines))
+    (reverse-append (definition_by i f (entry_in x)) [] ∙ one_back i f (entry_in x))
 
 -- the same places
-pub last_same : (names : Names) (ds : Definitions) (old now : LastPlaces) → AreLast names ds old → ((kind : Kind) → HasSamePlaces (places_of old kind) (places_of now kind)) → AreLast names ds now
+pub last_same : (names : Names) (ds : Definitions) (old now : LastPlaces) → AreLast names ds old
+    → ((kind : Kind) → HasSamePlaces (places_of old kind) (places_of now kind)) → AreLast names ds now
 last_same names ds old now before same = record {
   place = λ n. (same n.kind).place n.number ∙ before.place n;
   count = λ kind. (same kind).count ∙ before.count kind;
@@ -149,16 +184,21 @@ last_same names ds old now before same = record {
 -- more numbers, of keys that are not defined
 pub last_extended : (names more : Names) (ds : Definitions) (last : LastPlaces) → AreLast names ds last →
     ((n : KeyNumber) (k : Key) → key_at names n ≡ Some k → key_at more n ≡ Some k) →
-    ((n : KeyNumber) (k : Key) → key_at names n ≡ None → key_at more n ≡ Some k → place_of ds k ≡ None) → AreLast more ds last
-last_extended names more ds last before kept new = record { place = λ n. before.place n ∙ by n (key_at names n) refl (key_at more n) refl; count = before.count }
+    ((n : KeyNumber) (k : Key) → key_at names n ≡ None → key_at more n ≡ Some k → place_of ds k ≡ None)
+    → AreLast more ds last
+last_extended names more ds last before kept new =
+    record { place = λ n. before.place n ∙ by n (key_at names n) refl (key_at more n) refl; count = before.count }
   where
-    by : (n : KeyNumber) (o : Option Key) → key_at names n ≡ o → (p : Option Key) → key_at more n ≡ p → option_and_then (place_of ds) (key_at names n) ≡ option_and_then (place_of ds) (key_at more n)
+    by : (n : KeyNumber) (o : Option Key) → key_at names n ≡ o → (p : Option Key) → key_at more n ≡ p
+        → option_and_then (place_of ds) (key_at names n) ≡ option_and_then (place_of ds) (key_at more n)
     by n (Some k) h p g = ap (option_and_then (place_of ds)) (h ∙ sym (kept n k h))
     by n None h None g = ap (option_and_then (place_of ds)) (h ∙ sym g)
-    by n None h (Some k) g = ap (option_and_then (place_of ds)) h ∙ sym (ap (option_and_then (place_of ds)) g ∙ new n k h g)
+    by n None h (Some k) g = ap (option_and_then (place_of ds)) h
+        ∙ sym (ap (option_and_then (place_of ds)) g ∙ new n k h g)
 
 -- no key has a place where no number has
-pub none_last : (names : Names) (last : LastPlaces) → ((kind : Kind) → HasSamePlaces [] (places_of last kind)) → AreLast names [] last
+pub none_last : (names : Names) (last : LastPlaces) → ((kind : Kind) → HasSamePlaces [] (places_of last kind))
+    → AreLast names [] last
 none_last names last same = record {
   place = λ n. (same n.kind).place n.number ∙ by (key_at names n);
   count = λ kind. (same kind).count;

@@ -6,9 +6,11 @@ use Rattle.def_entry.specs.SameKeys.{is_among, is_same}
 use Rattle.deck.specs.Changes.{AreOnce, each_once}
 use Rattle.deck.proofs.Sameness.{key_itself, same_key}
 
+-- a key is among two lists where it is among one of them
 pub among-append : (ks ls : List Key) (k : Key) → is_among (ks ++ ls) k ≡ (is_among ks k || is_among ls k)
 among-append [] ls k = refl
-among-append (x ∷ ks) ls k = ap (λ b. is_same k x || b) (among-append ks ls k) ∙ or_assoc (is_same k x) (is_among ks k) (is_among ls k)
+among-append (x ∷ ks) ls k = ap (λ b. is_same k x || b) (among-append ks ls k)
+    ∙ or_assoc (is_same k x) (is_among ks k) (is_among ls k)
   where
     or_assoc : (a b c : Bool) → (a || (b || c)) ≡ ((a || b) || c)
     or_assoc true b c = refl
@@ -23,12 +25,16 @@ among_filter p [] k = and_false (p k)
     and_false false = refl
 among_filter p (x ∷ ks) k = by (among_filter p ks k) (p x) refl (is_same k x) refl
   where
-    by : is_among (filter p ks) k ≡ (p k && is_among ks k) → (b : Bool) → p x ≡ b → (s : Bool) → is_same k x ≡ s → is_among (cond b (x ∷ filter p ks) (filter p ks)) k ≡ (p k && (s || is_among ks k))
-    by ih true h true e = ap (λ s. s || is_among (filter p ks) k) e ∙ sym (ap (λ b. b && true) (ap p (same_key k x e) ∙ h))
+    by : is_among (filter p ks) k ≡ (p k && is_among ks k) → (b : Bool) → p x ≡ b → (s : Bool) → is_same k x ≡ s
+        → is_among (cond b (x ∷ filter p ks) (filter p ks)) k ≡ (p k && (s || is_among ks k))
+    by ih true h true e = ap (λ s. s || is_among (filter p ks) k) e
+        ∙ sym (ap (λ b. b && true) (ap p (same_key k x e) ∙ h))
     by ih true h false e = ap (λ s. s || is_among (filter p ks) k) e ∙ ih
-    by ih false h true e = ih ∙ ap (λ b. b && is_among ks k) (ap p (same_key k x e) ∙ h) ∙ sym (ap (λ b. b && true) (ap p (same_key k x e) ∙ h))
+    by ih false h true e = ih ∙ ap (λ b. b && is_among ks k) (ap p (same_key k x e) ∙ h)
+        ∙ sym (ap (λ b. b && true) (ap p (same_key k x e) ∙ h))
     by ih false h false e = ih
 
+-- keys that stand once do so where some are left out
 pub once_filter : (p : Key → Bool) (ks : List Key) → AreOnce ks → AreOnce (filter p ks)
 once_filter p [] h = tt
 once_filter p (x ∷ ks) h = by (p x) (once_filter p ks h.1)
@@ -42,7 +48,8 @@ once_filter p (x ∷ ks) h = by (p x) (once_filter p ks h.1)
     by false ih = ih
 
 -- two lists that share no key
-pub once-append : (ks ls : List Key) → AreOnce ks → AreOnce ls → ((k : Key) → is_among ks k ≡ true → is_among ls k ≡ false) → AreOnce (ks ++ ls)
+pub once-append : (ks ls : List Key) → AreOnce ks → AreOnce ls
+    → ((k : Key) → is_among ks k ≡ true → is_among ls k ≡ false) → AreOnce (ks ++ ls)
 once-append [] ls h g apart = g
 once-append (x ∷ ks) ls h g apart = (
   among-append ks ls x ∙ ap (λ b. b || is_among ls x) h.0 ∙ apart x (ap (λ b. b || is_among ks x) (key_itself x)),
@@ -62,10 +69,12 @@ among_each (x ∷ ks) k = by (among_each ks k) (is_among ks x) refl
     absorbed true e h = ap (is_among ks) (same_key k x e) ∙ h
     absorbed false e h = refl
 
-    by : is_among (each_once ks) k ≡ is_among ks k → (b : Bool) → is_among ks x ≡ b → is_among (cond b (each_once ks) (x ∷ each_once ks)) k ≡ (is_same k x || is_among ks k)
+    by : is_among (each_once ks) k ≡ is_among ks k → (b : Bool) → is_among ks x ≡ b
+        → is_among (cond b (each_once ks) (x ∷ each_once ks)) k ≡ (is_same k x || is_among ks k)
     by ih true h = ih ∙ absorbed (is_same k x) refl h
     by ih false h = ap (λ b. is_same k x || b) ih
 
+-- each of these keys stands once
 pub once_each : (ks : List Key) → AreOnce (each_once ks)
 once_each [] = tt
 once_each (x ∷ ks) = by (is_among ks x) refl (once_each ks)

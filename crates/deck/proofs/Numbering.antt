@@ -1,5 +1,6 @@
 -- Keys by their numbers.
-use Rattle.std.proofs.Common.{◌≡◌, ◌++◌, ◌∷◌, ◌+◌, ◌<◌, [], ℕ, zero, suc, List, Bool, length, drop, append_assoc, refl, sym, ap, ◌∙◌, arith, Some, option_map, slice_get}
+use Rattle.std.proofs.Common.{◌≡◌, ◌++◌, ◌∷◌, ◌+◌, ◌<◌, [], ℕ, zero, suc, List, Bool, length, drop, append_assoc, refl}
+use Rattle.std.proofs.Common.{sym, ap, ◌∙◌, arith, Some, option_map, slice_get}
 use Rattle.def_entry.specs.declared.key.Key.{Key}
 use Rattle.def_entry.specs.declared.key.Kind.{Kind}
 use Rattle.def_entry.specs.Keys.{key}
@@ -8,7 +9,8 @@ use Rattle.deck_lines.specs.declared.key_number.KeyNumber.{KeyNumber}
 use Rattle.deck.specs.Numbers.{key_if, keys_where}
 
 -- the name at a place, and those behind it
-pub drop_at : (ns : List (List ℕ)) (i : ℕ) → i < length ns → (name : List ℕ) × (slice_get ns i ≡ Some name) × (drop i ns ≡ name ∷ drop (i + 1) ns)
+pub drop_at : (ns : List (List ℕ)) (i : ℕ) → i < length ns → (name : List ℕ) × (slice_get ns i ≡ Some name)
+    × (drop i ns ≡ name ∷ drop (i + 1) ns)
 drop_at [] i h = absurd (omega arith)
 drop_at (n ∷ ns) zero h = (n, refl, refl)
 drop_at (n ∷ ns) (suc i) h =
@@ -17,14 +19,17 @@ drop_at (n ∷ ns) (suc i) h =
     (p.0, p.1, p.2 ∙ ap (λ j. p.0 ∷ drop j (n ∷ ns)) next)
 
 -- one more number
-pub where_step : (test : KeyNumber → Bool) (names : Names) (kind : Kind) (i : ℕ) (keys now whole : List Key) → i < length (names_of names kind) →
+pub where_step : (test : KeyNumber → Bool) (names : Names) (kind : Kind) (i : ℕ) (keys now whole : List Key)
+    → i < length (names_of names kind) →
     keys ++ keys_where test kind i (drop i (names_of names kind)) ≡ whole →
-    now ≡ keys ++ key_if (test (record { kind = kind; number = i })) (key_at names (record { kind = kind; number = i })) →
+    now ≡ keys ++ key_if (test (record { kind = kind; number = i })) (key_at names (record { kind = kind; number = i }))
+    →
     now ++ keys_where test kind (i + 1) (drop (i + 1) (names_of names kind)) ≡ whole
 where_step test names kind i keys now whole h e f =
     let p = drop_at (names_of names kind) i h in
     let here = key_if (test (record { kind = kind; number = i })) (Some (key kind p.0)) in
     let rest = keys_where test kind (i + 1) (drop (i + 1) (names_of names kind)) in
-    ap (λ ks. ks ++ rest) (f ∙ ap (λ o. keys ++ key_if (test (record { kind = kind; number = i })) (option_map (key kind) o)) p.1)
+    ap (λ ks. ks ++ rest)
+    (f ∙ ap (λ o. keys ++ key_if (test (record { kind = kind; number = i })) (option_map (key kind) o)) p.1)
     ∙ append_assoc keys here rest
     ∙ sym (ap (λ ns. keys ++ keys_where test kind i ns) p.2) ∙ e

@@ -1,5 +1,6 @@
 -- A table has one list of its keys.
-use Rattle.std.proofs.Common.{◌≡◌, ◌∷◌, [], ◌||◌, List, Bool, true, false, T, cond, map, is_some, Option, Some, refl, sym, ap, subst, ◌∙◌, inl, inr}
+use Rattle.std.proofs.Common.{◌≡◌, ◌∷◌, [], ◌||◌, List, Bool, true, false, T, cond, map, is_some, Option, Some, refl}
+use Rattle.std.proofs.Common.{sym, ap, subst, ◌∙◌, inl, inr}
 use Rattle.std.proofs.lemmas.Bool.{and_parts, cases_Bool, false_from_ne_true, true≢false}
 use Rattle.std.proofs.lemmas.Map.Lookups.{btree_set_from_contains}
 use Rattle.std.specs.Cmp.{Equal-is, tied_itself}
@@ -21,15 +22,18 @@ use Rattle.deck.specs.Tables.{Table, is_present, keys_of}
 use Rattle.deck.proofs.Counting.{among}
 use Rattle.deck.proofs.KeyCounts.{counted}
 
+-- a test that holds is true
 told : (b : Bool) → T b → b ≡ true
 told true h = refl
 told false h = absurd h
 
+-- an order that is found to be less is
 less : (o : Ordering) → is_lt o ≡ true → o ≡ Less
 less Less e = refl
 less Equal e = cc
 less Greater e = cc
 
+-- a key below all entries is less than each of their keys
 all_below :
     (k : Key) (es : List (Key × Entry)) → below_all key_cmp k es ≡ true
     → AllByRecursion (λ y. key_cmp k y ≡ Less) (map (λ (e : Key × Entry). e.0) es)
@@ -38,6 +42,7 @@ all_below k (e ∷ es) below =
     let parts = and_parts (is_lt (key_cmp k e.0)) (below_all key_cmp k es) below in
     (less (key_cmp k e.0) parts.0, all_below k es parts.1)
 
+-- the keys of sorted entries are sorted
 sorted :
     (es : List (Key × Entry)) → map_of.is_sorted key_cmp es ≡ true
     → IsStrictlySortedBy key_cmp (map (λ (e : Key × Entry). e.0) es)
@@ -47,9 +52,11 @@ sorted (e ∷ es) order =
     let parts = and_parts (below_all key_cmp e.0 es) (map_of.is_sorted key_cmp es) order in
     (all_below e.0 es parts.0, sorted es parts.1)
 
+-- the entries of a table by key
 abbrev map_of_table : Table → map_of.FinMap key_cmp Entry
 map_of_table table = map_of.from_entries table
 
+-- the keys of a table are in order
 in_order : (table : Table) → IsStrictlySortedBy key_cmp (table_keys table)
 in_order table =
     let m = map_of_table table in
@@ -58,16 +65,19 @@ in_order table =
 -- keys are told to be equal by their order as by themselves
 tells : (k l : Key) → eq_by_cmp key_cmp k l ≡ is_same k l
 tells k l = elim (cases_Bool (is_same k l)) [
-  | inl e ↦ ap is_eq (subst (λ (x : Key). key_cmp k x ≡ Equal) ((same_keys k l).0 e) (tied_itself key_order.total k)) ∙ sym e
+  | inl e ↦ ap is_eq (subst (λ (x : Key). key_cmp k x ≡ Equal) ((same_keys k l).0 e) (tied_itself key_order.total k))
+      ∙ sym e
   | inr e ↦ false_from_ne_true (eq_by_cmp key_cmp k l) (λ t. true≢false (sym ((same_keys k l).1 (exact t)) ∙ e)) ∙ sym e
 ]
   where
     exact : eq_by_cmp key_cmp k l ≡ true → k ≡ l
     exact t = key_order.exact k l ((Equal-is (key_cmp k l)).0 t)
 
+-- a key is among some where one of them is equal by the order
 any_alike : (k : Key) (ks : List Key) → list_any (eq_by_cmp key_cmp k) ks ≡ is_among ks k
 any_alike k ks = ap (λ (t : Key → Bool). list_any t ks) (λ i l. tells k l i)
 
+-- with one entry more there is one where its key is asked for, or where there was one
 with_one : (a b : Bool) → a ≡ b → (v : Entry) (o : Option Entry) → is_some (cond a (Some v) o) ≡ (b || is_some o)
 with_one true b same v o = ap (λ c. c || is_some o) same
 with_one false b same v o = ap (λ c. c || is_some o) same
@@ -80,6 +90,7 @@ contained (e ∷ es) k =
     ∙ with_one (eq_by_cmp key_cmp k e.0) (is_same k e.0) (tells k e.0) e.1 (map_of.get (map_of_table es) k)
     ∙ ap (λ b. is_same k e.0 || b) (contained es k)
 
+-- the law of the one list of keys
 pub one_key_list : KeyListLaw
 one_key_list table keys are =
     btree_set_from_contains key_order.total (record { keys = keys }) (record { keys = table_keys table })
@@ -102,16 +113,19 @@ are_keys table = record { each = each; order = in_order table }
         sym (any_alike k (table_keys table))
         ∙ (sym (map_of.contains_key-keys (map_of_table table) k) ∙ (contained table k ∙ among table k))
 
+-- a key that is less than all of some is not among them
 none_below : (k : Key) (ks : List Key) → AllByRecursion (λ y. key_cmp k y ≡ Less) ks → is_among ks k ≡ false
 none_below k [] h = refl
 none_below k (y ∷ ks) h =
     ap (λ b. b || is_among ks k) (sym (tells k y) ∙ ap is_eq h.0) ∙ none_below k ks h.1
 
+-- keys in strict order stand once each
 once : (ks : List Key) → IsStrictlySortedBy key_cmp ks → AreOnce ks
 unfolding IsStrictlySortedBy
 once [] order = tt
 once (k ∷ ks) order = (none_below k ks order.0, once ks order.1)
 
+-- the law of whole lists
 pub all_whole : WholeLaw
 all_whole table =
     let are = are_keys table in

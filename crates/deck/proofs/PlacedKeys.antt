@@ -35,6 +35,7 @@ module _ (lines : List DeckLine) (ds : Definitions) (placed : AreInPlace lines d
   there_if None place h = cc
   there_if (Some k) place h = there k place h
 
+-- where definitions are in place and the last places are theirs, all keys are placed
 pub all_placed :
     (store : Store) (last : LastPlaces) (ds : Definitions) → AreInPlace store.lines ds → AreLast store.names ds last
     → ArePlaced store last

@@ -1,5 +1,7 @@
 -- What the lines of a deck define, each at its place.
-use Rattle.std.proofs.Common.{◌≡◌, ◌++◌, ◌∷◌, ◌+◌, [], ℕ, List, Bool, true, false, cond, length, refl, sym, ap, subst, ◌∙◌, arith, append_assoc, Option, Some, None, length-append, option_map, slice_get, reverse}
+use Rattle.std.proofs.Common.{◌≡◌, ◌++◌, ◌∷◌, ◌+◌, [], ℕ, List, Bool, true, false, cond, length, refl, sym, ap, subst}
+use Rattle.std.proofs.Common.{◌∙◌, arith, append_assoc, Option, Some, None, length-append, option_map, slice_get}
+use Rattle.std.proofs.Common.{reverse}
 use Rattle.std.proofs.lemmas.List.{reverse-append}
 use Rattle.std.proofs.lemmas.Option.{same_Some}
 use Rattle.std.specs.Bool.{⊤}
@@ -13,7 +15,8 @@ use Rattle.deck_lines.specs.Stores.{definition_at}
 use Rattle.deck_lines.specs.declared.line.DeckLine.{DeckLine}
 use Rattle.deck.specs.Active.{active_lines}
 use Rattle.deck.specs.Numbers.{AreInPlace}
-use Rattle.deck.specs.Tables.{Definitions, definition_by, definitions, definitions_by, definitions_from, entry_at, is_present, place_of, table_of}
+use Rattle.deck.specs.Tables.{Definitions, definition_by, definitions, definitions_by, definitions_from, entry_at}
+use Rattle.deck.specs.Tables.{is_present, place_of, table_of}
 use Rattle.deck.specs.declared.settings.Settings.{Settings}
 use Rattle.deck.proofs.Sameness.{same_key}
 
@@ -22,56 +25,76 @@ abbrev pub EachInPlace : List DeckLine → Definitions → Type 0
 EachInPlace lines [] = ⊤
 EachInPlace lines (d ∷ ds) = (definition_at lines d.1.0 ≡ Some (d.0, d.1.1)) × EachInPlace lines ds
 
-each-append : (lines : List DeckLine) (ds es : Definitions) → EachInPlace lines ds → EachInPlace lines es → EachInPlace lines (ds ++ es)
+-- definitions of two lists that are in place are so together
+each-append : (lines : List DeckLine) (ds es : Definitions) → EachInPlace lines ds → EachInPlace lines es
+    → EachInPlace lines (ds ++ es)
 each-append lines [] es h g = g
 each-append lines (d ∷ ds) es h g = (h.0, each-append lines ds es h.1 g)
 
+-- and in the other order
 each-reverse : (lines : List DeckLine) (ds : Definitions) → EachInPlace lines ds → EachInPlace lines (reverse ds)
 each-reverse lines [] h = tt
 each-reverse lines (d ∷ ds) h =
-    subst (EachInPlace lines) (sym (reverse-append (d ∷ []) ds)) (each-append lines (reverse ds) (d ∷ []) (each-reverse lines ds h.1) (h.0, tt))
+    subst (EachInPlace lines) (sym (reverse-append (d ∷ []) ds))
+    (each-append lines (reverse ds) (d ∷ []) (each-reverse lines ds h.1) (h.0, tt))
 
+-- behind a list stands what comes next
 pub at_length : {A : Type 0} (xs : List A) (y : A) (ys : List A) → slice_get (xs ++ y ∷ ys) (length xs) ≡ Some y
 at_length [] y ys = refl
 at_length (x ∷ xs) y ys = at_length xs y ys
 
-one_in_place : (lines : List DeckLine) (place : ℕ) (active : Bool) (o : Option (Key × Entry)) → definition_at lines place ≡ o → EachInPlace lines (definition_by place active o)
+-- what a line defines is in its place
+one_in_place : (lines : List DeckLine) (place : ℕ) (active : Bool) (o : Option (Key × Entry))
+    → definition_at lines place ≡ o → EachInPlace lines (definition_by place active o)
 one_in_place lines place active None h = tt
 one_in_place lines place true (Some e) h = (h, tt)
 one_in_place lines place false (Some e) h = tt
 
-from_in_place : (fs : List Bool) (xs before lines : List DeckLine) → lines ≡ before ++ xs → EachInPlace lines (definitions_from (length before) fs xs)
+-- so is what lines define from a place on
+from_in_place : (fs : List Bool) (xs before lines : List DeckLine) → lines ≡ before ++ xs
+    → EachInPlace lines (definitions_from (length before) fs xs)
 from_in_place [] xs before lines e = tt
 from_in_place (f ∷ fs) [] before lines e = tt
 from_in_place (f ∷ fs) (x ∷ xs) before lines e =
     let next : length (before ++ x ∷ []) ≡ length before + 1 = omega (arith, length-append before (x ∷ [])) in
     each-append lines (definition_by (length before) f (entry_in x)) (definitions_from (length before + 1) fs xs)
-    (one_in_place lines (length before) f (entry_in x) (ap (λ t. definition_at t (length before)) e ∙ ap (option_and_then entry_in) (at_length before x xs)))
-    (subst (λ n. EachInPlace lines (definitions_from n fs xs)) next (from_in_place fs xs (before ++ x ∷ []) lines (e ∙ sym (append_assoc before (x ∷ []) xs))))
+    (one_in_place lines (length before) f (entry_in x)
+    (ap (λ t. definition_at t (length before)) e ∙ ap (option_and_then entry_in) (at_length before x xs)))
+    (subst (λ n. EachInPlace lines (definitions_from n fs xs)) next
+    (from_in_place fs xs (before ++ x ∷ []) lines (e ∙ sym (append_assoc before (x ∷ []) xs))))
 
 -- what is found by a key stands at its place
 found : (lines : List DeckLine) (ds : Definitions) → EachInPlace lines ds → AreInPlace lines ds
 found lines [] h k v e = cc
 found lines (d ∷ ds) h k v e = by (λ g. found lines ds h.1 k v g) (is_same k d.0) refl e
   where
-    by : (lookup (is_same k) ds ≡ Some v → definition_at lines v.0 ≡ Some (k, v.1)) → (b : Bool) → is_same k d.0 ≡ b → cond b (Some d.1) (lookup (is_same k) ds) ≡ Some v →
+    by : (lookup (is_same k) ds ≡ Some v → definition_at lines v.0 ≡ Some (k, v.1)) → (b : Bool) → is_same k d.0 ≡ b
+        → cond b (Some d.1) (lookup (is_same k) ds) ≡ Some v →
         definition_at lines v.0 ≡ Some (k, v.1)
-    by ih true t g = subst (λ (w : ℕ × Entry). definition_at lines w.0 ≡ Some (k, w.1)) (same_Some d.1 v g) (h.0 ∙ ap (λ j. Some (j, d.1.1)) (sym (same_key k d.0 t)))
+    by ih true t g =
+        subst (λ (w : ℕ × Entry). definition_at lines w.0 ≡ Some (k, w.1)) (same_Some d.1 v g)
+        (h.0 ∙ ap (λ j. Some (j, d.1.1)) (sym (same_key k d.0 t)))
     by ih false t g = ih g
 
+-- so are the definitions of the lines with these flags
 pub in_place_by : (flags : List Bool) (lines : List DeckLine) → AreInPlace lines (definitions_by flags lines)
-in_place_by flags lines = found lines (definitions_by flags lines) (each-reverse lines (definitions_from 0 flags lines) (from_in_place flags lines [] lines refl))
+in_place_by flags lines =
+    found lines (definitions_by flags lines)
+    (each-reverse lines (definitions_from 0 flags lines) (from_in_place flags lines [] lines refl))
 
+-- and those of the active lines
 pub in_place : (settings : Settings) (lines : List DeckLine) → AreInPlace lines (definitions settings lines)
 unfolding definitions
 in_place settings lines = in_place_by (active_lines settings lines) lines
 
 -- an entry is that of the definition that is found
-pub entry_found : (ds : Definitions) (k : Key) → entry_at (table_of ds) k ≡ option_map (λ v. v.1) (lookup (is_same k) ds)
+pub entry_found : (ds : Definitions) (k : Key)
+    → entry_at (table_of ds) k ≡ option_map (λ v. v.1) (lookup (is_same k) ds)
 entry_found [] k = refl
 entry_found (d ∷ ds) k = ap (cond (is_same k d.0) (Some d.1.1)) (entry_found ds k) ∙ by (is_same k d.0)
   where
-    by : (b : Bool) → cond b (Some d.1.1) (option_map (λ v. v.1) (lookup (is_same k) ds)) ≡ option_map (λ v. v.1) (cond b (Some d.1) (lookup (is_same k) ds))
+    by : (b : Bool) → cond b (Some d.1.1) (option_map (λ v. v.1) (lookup (is_same k) ds))
+        ≡ option_map (λ v. v.1) (cond b (Some d.1) (lookup (is_same k) ds))
     by true = refl
     by false = refl
 

@@ -1,5 +1,6 @@
 -- A line that is put at the end of a deck.
-use Rattle.std.proofs.Common.{◌≡◌, ◌++◌, ◌∷◌, ◌+◌, ◌&&◌, [], ℕ, suc, List, Bool, true, false, not, cond, length, refl, ap, ◌∙◌, arith, Option, Some, None, reverse}
+use Rattle.std.proofs.Common.{◌≡◌, ◌++◌, ◌∷◌, ◌+◌, ◌&&◌, [], ℕ, suc, List, Bool, true, false, not, cond, length, refl}
+use Rattle.std.proofs.Common.{ap, ◌∙◌, arith, Option, Some, None, reverse}
 use Rattle.std.proofs.lemmas.List.{reverse-append}
 use Rattle.std.proofs.lemmas.Option.{same_Some}
 use Rattle.std.specs.Option.{option_and_then}
@@ -8,7 +9,8 @@ use Rattle.def_lines.specs.Kinds.{Kind, kind_of}
 use Rattle.def_lines.specs.Kinds as line
 use Rattle.def_entry.specs.declared.key.Key.{Key}
 use Rattle.def_entry.specs.Entries.{Entry}
-use Rattle.deck.specs.Active.{Surroundings, activity, active_lines, is_active, all_hold, behind_line, behind_lines, behind_kind, outer_blocks, start}
+use Rattle.deck.specs.Active.{Surroundings, activity, active_lines, is_active, all_hold, behind_line, behind_lines}
+use Rattle.deck.specs.Active.{behind_kind, outer_blocks, start}
 use Rattle.deck_lines.specs.Blocks.{role_of, same_ending}
 use Rattle.deck_lines.specs.Closed.{blocks_without, blocks_past_role, blocks_past, blocks_after, IsClosed}
 use Rattle.deck_lines.specs.Readings.{defined_by, entry_in, reading_by, reading_of}
@@ -21,23 +23,33 @@ use Rattle.deck_lines.specs.declared.line.Ending.TheVariants.{ByLocale, ByVar, B
 use Rattle.deck_lines.specs.declared.line.Role.TheVariants.{Inside}
 use Rattle.deck.specs.declared.settings.Settings.{Settings}
 
-activity-append : (locale : List ℕ) (place : Surroundings) (xs ys : List DeckLine) → activity locale place (xs ++ ys) ≡ activity locale place xs ++ activity locale (behind_lines locale place xs) ys
+-- which of two lists of lines are in force: the second is behind the first
+activity-append : (locale : List ℕ) (place : Surroundings) (xs ys : List DeckLine)
+    → activity locale place (xs ++ ys) ≡ activity locale place xs ++ activity locale (behind_lines locale place xs) ys
 activity-append locale place [] ys = refl
-activity-append locale place (x ∷ xs) ys = ap (λ t. is_active place x ∷ t) (activity-append locale (behind_line locale place x) xs ys)
+activity-append locale place (x ∷ xs) ys =
+    ap (λ t. is_active place x ∷ t) (activity-append locale (behind_line locale place x) xs ys)
 
+-- all blocks but the innermost are one less
 outer_len : (hs : List Bool) (n : ℕ) → length hs ≡ suc n → length (outer_blocks hs) ≡ n
 outer_len [] n h = absurd (omega arith)
 outer_len (b ∷ hs) n h = omega arith
 
-and_then_pair : {A B : Type 0} (f : A → Option B) (o : Option A) (y : B) → option_and_then f o ≡ Some y → (x : A) × (o ≡ Some x) × (f x ≡ Some y)
+-- a step that gives something had something to go on with
+and_then_pair : {A B : Type 0} (f : A → Option B) (o : Option A) (y : B) → option_and_then f o ≡ Some y
+    → (x : A) × (o ≡ Some x) × (f x ≡ Some y)
 and_then_pair f None y e = cc
 and_then_pair f (Some x) y e = (x, refl, e)
 
-set_holds : (c : Bool) (place : Surroundings) (vars : Pairs) → (cond c (record place { vars = vars }) place).holds ≡ place.holds
+-- a variable that is set leaves which blocks hold
+set_holds : (c : Bool) (place : Surroundings) (vars : Pairs)
+    → (cond c (record place { vars = vars }) place).holds ≡ place.holds
 set_holds true place vars = refl
 set_holds false place vars = refl
 
-closed_len : (ending : Ending) (bs cs : List Ending) (hs : List Bool) → blocks_without ending bs ≡ Some cs → length hs ≡ length bs → length (outer_blocks hs) ≡ length cs
+-- where a block is closed, one less holds or not
+closed_len : (ending : Ending) (bs cs : List Ending) (hs : List Bool) → blocks_without ending bs ≡ Some cs
+    → length hs ≡ length bs → length (outer_blocks hs) ≡ length cs
 closed_len ending [] cs hs e h = cc
 closed_len ending (b ∷ bs) cs hs e h = by (same_ending ending b) e
   where
@@ -46,7 +58,9 @@ closed_len ending (b ∷ bs) cs hs e h = by (same_ending ending b) e
     by false g = cc
 
 -- as many blocks hold or do not as are open
-holds_by : (locale : List ℕ) (place : Surroundings) (bs cs : List Ending) (kind : Kind) → blocks_past_role bs (role_of kind) ≡ Some cs → length place.holds ≡ length bs → length (behind_kind locale place kind).holds ≡ length cs
+holds_by : (locale : List ℕ) (place : Surroundings) (bs cs : List Ending) (kind : Kind)
+    → blocks_past_role bs (role_of kind) ≡ Some cs → length place.holds ≡ length bs
+    → length (behind_kind locale place kind).holds ≡ length cs
 holds_by locale place bs cs (line.Locale l) e h = ap suc h ∙ ap length (same_Some _ cs e)
 holds_by locale place bs cs (line.Var v vs) e h = ap suc h ∙ ap length (same_Some _ cs e)
 holds_by locale place bs cs (line.VarNot v vs) e h = ap suc h ∙ ap length (same_Some _ cs e)
@@ -64,29 +78,39 @@ holds_by locale place bs cs line.UnitList e h = h ∙ ap length (same_Some bs cs
 holds_by locale place bs cs line.UnknownDirective e h = h ∙ ap length (same_Some bs cs e)
 holds_by locale place bs cs line.BadDirective e h = h ∙ ap length (same_Some bs cs e)
 
-holds_past : (locale : List ℕ) (place : Surroundings) (bs cs : List Ending) (x : DeckLine) → blocks_past bs x ≡ Some cs → length place.holds ≡ length bs → length (behind_line locale place x).holds ≡ length cs
+-- behind a line it is told of each open block whether it holds
+holds_past : (locale : List ℕ) (place : Surroundings) (bs cs : List Ending) (x : DeckLine) → blocks_past bs x ≡ Some cs
+    → length place.holds ≡ length bs → length (behind_line locale place x).holds ≡ length cs
 unfolding blocks_past behind_line
 holds_past locale place bs cs x e h = by x.mark e
   where
-    by : (m : Bool) → cond m (Some bs) (blocks_past_role bs (role_of (kind_of x.text))) ≡ Some cs → length (cond m place (behind_kind locale place (kind_of x.text))).holds ≡ length cs
+    by : (m : Bool) → cond m (Some bs) (blocks_past_role bs (role_of (kind_of x.text))) ≡ Some cs
+        → length (cond m place (behind_kind locale place (kind_of x.text))).holds ≡ length cs
     by true g = h ∙ ap length (same_Some bs cs g)
     by false g = holds_by locale place bs cs (kind_of x.text) g h
 
-holds_after : (locale : List ℕ) (lines : List DeckLine) (place : Surroundings) (bs cs : List Ending) → blocks_after bs lines ≡ Some cs → length place.holds ≡ length bs → length (behind_lines locale place lines).holds ≡ length cs
+-- so it is behind lines
+holds_after : (locale : List ℕ) (lines : List DeckLine) (place : Surroundings) (bs cs : List Ending)
+    → blocks_after bs lines ≡ Some cs → length place.holds ≡ length bs
+    → length (behind_lines locale place lines).holds ≡ length cs
 holds_after locale [] place bs cs e h = h ∙ ap length (same_Some bs cs e)
 holds_after locale (x ∷ lines) place bs cs e h =
     let p = and_then_pair (λ now. blocks_after now lines) (blocks_past bs x) cs e in
     holds_after locale lines (behind_line locale place x) p.0 cs p.2 (holds_past locale place bs p.0 x p.1 h)
 
+-- a list of length 0 is empty
 no_length : {A : Type 0} (xs : List A) → length xs ≡ 0 → xs ≡ []
 no_length [] h = refl
 no_length (x ∷ xs) h = absurd (omega arith)
 
 -- no block is around what stands behind a closed deck
-none_around : (settings : Settings) (lines : List DeckLine) → IsClosed lines → (behind_lines settings.locale (start settings) lines).holds ≡ []
+none_around : (settings : Settings) (lines : List DeckLine) → IsClosed lines
+    → (behind_lines settings.locale (start settings) lines).holds ≡ []
 none_around settings lines closed = no_length _ (holds_after settings.locale lines (start settings) [] [] closed refl)
 
-blocks_after-append : (xs ys : List DeckLine) (bs cs : List Ending) → blocks_after bs xs ≡ Some cs → blocks_after bs (xs ++ ys) ≡ blocks_after cs ys
+-- the blocks behind two lists of lines are those of the second behind the first
+blocks_after-append : (xs ys : List DeckLine) (bs cs : List Ending) → blocks_after bs xs ≡ Some cs
+    → blocks_after bs (xs ++ ys) ≡ blocks_after cs ys
 blocks_after-append [] ys bs cs e = ap (λ b. blocks_after b ys) (same_Some bs cs e)
 blocks_after-append (x ∷ xs) ys bs cs e =
     let p = and_then_pair (λ now. blocks_after now xs) (blocks_past bs x) cs e in
@@ -101,7 +125,9 @@ plain_by x e h = by x.mark h
     by true g = cc
     by false g = refl
 
-inside_by : (text : List ℕ) (e : Key × Entry) (kind : Kind) → defined_by (reading_by text kind) ≡ Some e → role_of kind ≡ Inside
+-- a reading that defines a key opens and closes no block
+inside_by : (text : List ℕ) (e : Key × Entry) (kind : Kind) → defined_by (reading_by text kind) ≡ Some e
+    → role_of kind ≡ Inside
 inside_by text e line.Definition h = refl
 inside_by text e line.UnitList h = refl
 inside_by text e (line.Include n) h = refl
@@ -119,27 +145,33 @@ inside_by text e (line.Set v x) h = refl
 inside_by text e (line.Message t) h = refl
 inside_by text e line.Prompt h = refl
 
+-- nor does a line that defines one
 pub inside : (x : DeckLine) (e : Key × Entry) → entry_in x ≡ Some e → role_of (kind_of x.text) ≡ Inside
 unfolding entry_in reading_of
 inside x e h = by x.mark h
   where
-    by : (m : Bool) → cond m None (defined_by (reading_by x.text (kind_of x.text))) ≡ Some e → role_of (kind_of x.text) ≡ Inside
+    by : (m : Bool) → cond m None (defined_by (reading_by x.text (kind_of x.text))) ≡ Some e
+        → role_of (kind_of x.text) ≡ Inside
     by true g = cc
     by false g = inside_by x.text e (kind_of x.text) g
 
-module _ (settings : Settings) (lines : List DeckLine) (closed : IsClosed lines) (x : DeckLine) (e : Key × Entry) (defines : entry_in x ≡ Some e) where
+module _ (settings : Settings) (lines : List DeckLine) (closed : IsClosed lines) (x : DeckLine) (e : Key × Entry)
+    (defines : entry_in x ≡ Some e) where
   pub closed_push : IsClosed (lines ++ x ∷ [])
   unfolding blocks_past
   closed_push =
       blocks_after-append lines (x ∷ []) [] [] closed
-      ∙ ap (λ m. option_and_then (λ now. blocks_after now []) (cond m (Some []) (blocks_past_role [] (role_of (kind_of x.text))))) (plain_by x e defines)
+      ∙ ap (λ m. option_and_then (λ now. blocks_after now [])
+      (cond m (Some []) (blocks_past_role [] (role_of (kind_of x.text))))) (plain_by x e defines)
       ∙ ap (λ r. option_and_then (λ now. blocks_after now []) (blocks_past_role [] r)) (inside x e defines)
 
   active_push : is_active (behind_lines settings.locale (start settings) lines) x ≡ true
-  active_push = ap (λ m. not m && all_hold (behind_lines settings.locale (start settings) lines)) (plain_by x e defines) ∙ ap (λ (hs : List Bool). all_hold (record { holds = hs; vars = [] })) (none_around settings lines closed)
+  active_push = ap (λ m. not m && all_hold (behind_lines settings.locale (start settings) lines)) (plain_by x e defines)
+      ∙ ap (λ (hs : List Bool). all_hold (record { holds = hs; vars = [] })) (none_around settings lines closed)
 
   last_one : (n : ℕ) (active : Bool) → active ≡ true → definition_by n active (entry_in x) ++ [] ≡ (e.0, (n, e.1)) ∷ []
-  last_one n active h = ap (λ a. definition_by n a (entry_in x) ++ []) h ∙ ap (λ o. definition_by n true o ++ []) defines
+  last_one n active h = ap (λ a. definition_by n a (entry_in x) ++ []) h
+      ∙ ap (λ o. definition_by n true o ++ []) defines
 
   -- it comes before all that were definitions
   pub placed_push : definitions settings (lines ++ x ∷ []) ≡ (e.0, (length lines, e.1)) ∷ definitions settings lines
@@ -147,9 +179,12 @@ module _ (settings : Settings) (lines : List DeckLine) (closed : IsClosed lines)
   placed_push =
       let flags = active_lines settings lines in
       let place = behind_lines settings.locale (start settings) lines in
-      ap (λ fs. reverse (definitions_from 0 fs (lines ++ x ∷ []))) (activity-append settings.locale (start settings) lines (x ∷ []))
-      ∙ ap reverse (from-append 0 flags (is_active place x ∷ []) lines (x ∷ []) (length-activity settings.locale (start settings) lines))
-      ∙ ap (λ t. reverse (definitions_from 0 flags lines ++ t)) (last_one (0 + length lines) (is_active place x) active_push)
+      ap (λ fs. reverse (definitions_from 0 fs (lines ++ x ∷ [])))
+      (activity-append settings.locale (start settings) lines (x ∷ []))
+      ∙ ap reverse (from-append 0 flags (is_active place x ∷ []) lines (x ∷ [])
+      (length-activity settings.locale (start settings) lines))
+      ∙ ap (λ t. reverse (definitions_from 0 flags lines ++ t))
+      (last_one (0 + length lines) (is_active place x) active_push)
       ∙ ap (λ n. reverse (definitions_from 0 flags lines ++ (e.0, (n, e.1)) ∷ [])) (zero_plus (length lines))
       ∙ reverse-append (definitions_from 0 flags lines) ((e.0, (length lines, e.1)) ∷ [])
     where

@@ -1,5 +1,6 @@
 -- What a splice leaves, and its inverse.
-use Rattle.std.proofs.Common.{◌≡◌, ◌++◌, ◌∷◌, ◌+◌, ◌≤◌, [], ℕ, zero, suc, List, Bool, true, false, length, take, drop, refl, sym, ap, subst, ◌∙◌, arith, Some, None, Ok, option_map}
+use Rattle.std.proofs.Common.{◌≡◌, ◌++◌, ◌∷◌, ◌+◌, ◌≤◌, [], ℕ, zero, suc, List, Bool, true, false, length, take, drop}
+use Rattle.std.proofs.Common.{refl, sym, ap, subst, ◌∙◌, arith, Some, None, Ok, option_map}
 use Rattle.def_entry.specs.declared.key.Key.{Key}
 use Rattle.def_entry.specs.Keys.{key}
 use Rattle.deck_lines.specs.Closed.{IsClosed}
@@ -27,11 +28,14 @@ front_of zero xs ys h = refl
 front_of (suc at) [] ys h = absurd (omega arith)
 front_of (suc at) (x ∷ xs) ys h = ap (λ t. x ∷ t) (front_of at xs ys (omega arith))
 
+-- behind the first of two lists stands the second
 past : {A : Type 0} (ys zs : List A) → drop (length ys) (ys ++ zs) ≡ zs
 past [] zs = refl
 past (y ∷ ys) zs = past ys zs
 
-rest_of : {A : Type 0} (at : ℕ) (xs ys zs : List A) → at ≤ length xs → drop (at + length ys) (take at xs ++ (ys ++ zs)) ≡ zs
+-- behind what was put stands what stood behind
+rest_of : {A : Type 0} (at : ℕ) (xs ys zs : List A) → at ≤ length xs
+    → drop (at + length ys) (take at xs ++ (ys ++ zs)) ≡ zs
 rest_of zero xs ys zs h = ap (λ n. drop n (ys ++ zs)) (zero_plus (length ys)) ∙ past ys zs
   where
     zero_plus : (n : ℕ) → 0 + n ≡ n
@@ -42,7 +46,8 @@ rest_of (suc at) (x ∷ xs) ys zs h =
     ap (λ n. drop n (x ∷ (take at xs ++ (ys ++ zs)))) next ∙ rest_of at xs ys zs (omega arith)
 
 -- a list in three parts
-parts_of : {A : Type 0} (at cut : ℕ) (xs : List A) → at + cut ≤ length xs → take at xs ++ (take cut (drop at xs) ++ drop (at + cut) xs) ≡ xs
+parts_of : {A : Type 0} (at cut : ℕ) (xs : List A) → at + cut ≤ length xs
+    → take at xs ++ (take cut (drop at xs) ++ drop (at + cut) xs) ≡ xs
 parts_of zero cut xs h = ap (λ n. take cut xs ++ drop n xs) (zero_plus cut) ∙ two cut xs
   where
     zero_plus : (n : ℕ) → 0 + n ≡ n
@@ -55,15 +60,18 @@ parts_of zero cut xs h = ap (λ n. take cut xs ++ drop n xs) (zero_plus cut) ∙
 parts_of (suc at) cut [] h = absurd (omega arith)
 parts_of (suc at) cut (x ∷ xs) h =
     let next : suc at + cut ≡ suc (at + cut) = omega arith in
-    ap (λ n. x ∷ (take at xs ++ (take cut (drop at xs) ++ drop n (x ∷ xs)))) next ∙ ap (λ t. x ∷ t) (parts_of at cut xs (omega arith))
+    ap (λ n. x ∷ (take at xs ++ (take cut (drop at xs) ++ drop n (x ∷ xs)))) next
+    ∙ ap (λ t. x ∷ t) (parts_of at cut xs (omega arith))
 
+-- the law of inverses
 pub undone : InverseLaw
 undone s d h =
     let xs : List DeckLine = d.lines in
     let front = front_of s.at xs (s.put ++ drop (s.at + s.cut) xs) (omega (arith, h)) in
     let rest = rest_of s.at xs s.put (drop (s.at + s.cut) xs) (omega (arith, h)) in
     ap (λ (ls : List DeckLine). record d { lines = ls })
-    (ap (λ t. t ++ (take s.cut (drop s.at xs) ++ drop (s.at + length s.put) (take s.at xs ++ (s.put ++ drop (s.at + s.cut) xs)))) front
+    (ap (λ t. t ++ (take s.cut (drop s.at xs)
+    ++ drop (s.at + length s.put) (take s.at xs ++ (s.put ++ drop (s.at + s.cut) xs)))) front
     ∙ ap (λ t. take s.at xs ++ (take s.cut (drop s.at xs) ++ t)) rest
     ∙ parts_of s.at s.cut xs h)
 
@@ -78,7 +86,8 @@ number_of names k e =
     (record { kind = k.kind; number = p.0 }, ap (option_map (key k.kind)) p.1)
 
 -- last places stay where more keys have numbers
-pub indexed_read : (old new : Store) (settings : Settings) (last : LastPlaces) → IsNumbering old → IsNumbering new → new.lines ≡ old.lines → IsExtended old.names new.names →
+pub indexed_read : (old new : Store) (settings : Settings) (last : LastPlaces) → IsNumbering old → IsNumbering new
+    → new.lines ≡ old.lines → IsExtended old.names new.names →
     IsIndexed old settings last → IsIndexed new settings last
 indexed_read old new settings last numbering more lines wider before = record {
   closed = subst IsClosed (sym lines) before.closed;
@@ -87,7 +96,8 @@ indexed_read old new settings last numbering more lines wider before = record {
       (λ n k none some. unplaced old settings k numbering (fresh n k none some (is_numbered old.names k) refl)));
 }
   where
-    fresh : (n : KeyNumber) (k : Key) → key_at old.names n ≡ None → key_at new.names n ≡ Some k → (b : Bool) → is_numbered old.names k ≡ b → is_numbered old.names k ≡ false
+    fresh : (n : KeyNumber) (k : Key) → key_at old.names n ≡ None → key_at new.names n ≡ Some k → (b : Bool)
+        → is_numbered old.names k ≡ b → is_numbered old.names k ≡ false
     fresh n k none some false e = e
     fresh n k none some true e =
         let p = number_of old.names k e in
@@ -97,26 +107,37 @@ indexed_read old new settings last numbering more lines wider before = record {
         never q = cc
 
 -- last places of the lines that a splice leaves
-pub indexed_spliced : (s : Splice) (d : Contents) (store now : Store) (last : LastPlaces) → store.lines ≡ d.lines → now.lines ≡ spliced_lines s store.lines → now.names ≡ store.names →
-    IsClosed (spliced_lines s d.lines) → AreLast store.names (definitions s.settings (spliced_lines s d.lines)) last → IsIndexed now s.settings last
+pub indexed_spliced : (s : Splice) (d : Contents) (store now : Store) (last : LastPlaces) → store.lines ≡ d.lines
+    → now.lines ≡ spliced_lines s store.lines → now.names ≡ store.names →
+    IsClosed (spliced_lines s d.lines) → AreLast store.names (definitions s.settings (spliced_lines s d.lines)) last
+    → IsIndexed now s.settings last
 indexed_spliced s d store now last same put names closed places =
     let lines : now.lines ≡ spliced_lines s d.lines = put ∙ ap (spliced_lines s) same in
     record {
       closed = subst IsClosed (sym lines) closed;
-      places = subst (λ ls. AreLast now.names (definitions s.settings ls) last) (sym lines) (subst (λ (ns : Names). AreLast ns (definitions s.settings (spliced_lines s d.lines)) last) (sym names) places);
+      places = subst (λ ls. AreLast now.names (definitions s.settings ls) last) (sym lines)
+          (subst (λ (ns : Names). AreLast ns (definitions s.settings (spliced_lines s d.lines)) last)
+          (sym names) places);
     }
 
 -- what a splice answers: the deck, the keys that it changes, and its inverse
-pub spliced : (s : Splice) (d : Contents) (settings : Settings) (notices : List (List ℕ)) (lines before now gone : List DeckLine) (count : ℕ) (keys : List Key) →
-    record { lines = lines; settings = settings; notices = notices } ≡ d → before ≡ lines → now ≡ spliced_lines s before → gone ≡ take s.cut (drop s.at before) → count ≡ length s.put →
-    IsTableChange (table_of (definitions settings lines)) (table_of (definitions s.settings (spliced_lines s lines))) keys →
-    IsSpliced s d (record { lines = now; settings = s.settings; notices = notices }) (Ok (keys, record { at = s.at; cut = count; put = gone; settings = settings }))
+pub spliced : (s : Splice) (d : Contents) (settings : Settings) (notices : List (List ℕ))
+    (lines before now gone : List DeckLine) (count : ℕ) (keys : List Key) →
+    record { lines = lines; settings = settings; notices = notices } ≡ d → before ≡ lines → now ≡ spliced_lines s before
+    → gone ≡ take s.cut (drop s.at before) → count ≡ length s.put →
+    IsTableChange (table_of (definitions settings lines)) (table_of (definitions s.settings (spliced_lines s lines)))
+    keys →
+    IsSpliced s d (record { lines = now; settings = s.settings; notices = notices })
+    (Ok (keys, record { at = s.at; cut = count; put = gone; settings = settings }))
 spliced s d settings notices lines before now gone count keys view same put went counted changed =
     let is : now ≡ spliced_lines s lines = put ∙ ap (spliced_lines s) same in
     let with_lines : List DeckLine → Contents = λ ls. record { lines = ls; settings = s.settings; notices = notices } in
     let back : ℕ → List DeckLine → Splice = λ n ls. record { at = s.at; cut = n; put = ls; settings = settings } in
-    subst (λ (e : Contents). IsSpliced s e (record { lines = now; settings = s.settings; notices = notices }) (Ok (keys, record { at = s.at; cut = count; put = gone; settings = settings }))) view (
+    subst (λ (e : Contents). IsSpliced s e (record { lines = now; settings = s.settings; notices = notices })
+    (Ok (keys, record { at = s.at; cut = count; put = gone; settings = settings }))) view (
       ap with_lines is,
-      subst (λ (ls : List DeckLine). IsTableChange (table_of (definitions settings lines)) (table_of (definitions s.settings ls)) keys) (sym is) changed,
-      ap (λ n. back n gone) counted ∙ ap (back (length s.put)) (went ∙ ap (λ (ls : List DeckLine). take s.cut (drop s.at ls)) same),
+      subst (λ (ls : List DeckLine). IsTableChange (table_of (definitions settings lines))
+          (table_of (definitions s.settings ls)) keys) (sym is) changed,
+      ap (λ n. back n gone) counted
+          ∙ ap (back (length s.put)) (went ∙ ap (λ (ls : List DeckLine). take s.cut (drop s.at ls)) same),
     )

@@ -18,6 +18,7 @@ one_at_most place active None = omega arith
 one_at_most place true (Some p) = omega arith
 one_at_most place false (Some p) = omega arith
 
+-- lines define no more keys than there are lines
 from_short : (place : ℕ) (flags : List Bool) (lines : List DeckLine)
     → length (definitions_from place flags lines) ≤ length lines
 from_short place [] lines = omega arith
@@ -30,6 +31,7 @@ from_short place (f ∷ flags) (x ∷ lines) =
       length-append (definition_by place f (entry_in x)) (definitions_from (place + 1) flags lines),
     )
 
+-- so a table has no more entries than there are lines
 short : (d : Contents) → length (table d) ≤ length d.lines
 unfolding definitions
 short d =
@@ -39,6 +41,7 @@ short d =
     ≡ length (definitions_from 0 (active_lines d.settings d.lines) d.lines) = length-reverse _ in
     omega (arith, mapped, turned, from_short 0 (active_lines d.settings d.lines) d.lines)
 
+-- the law of tables
 pub of_lines : TableLaw
 of_lines = record {
   short = short;

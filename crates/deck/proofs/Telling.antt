@@ -1,9 +1,11 @@
 -- What lines say, one line after another.
-use Rattle.std.proofs.Common.{◌≡◌, ◌++◌, ◌∷◌, ◌+◌, ◌<◌, ◌≤◌, [], ℕ, zero, suc, List, Bool, true, false, cond, length, drop, get_or, append_assoc, refl, sym, ap, ◌∙◌, arith}
+use Rattle.std.proofs.Common.{◌≡◌, ◌++◌, ◌∷◌, ◌+◌, ◌<◌, ◌≤◌, [], ℕ, zero, suc, List, Bool, true, false, cond, length}
+use Rattle.std.proofs.Common.{drop, get_or, append_assoc, refl, sym, ap, ◌∙◌, arith}
 use Rattle.std.proofs.lemmas.List.{drop_all}
 use Rattle.deck_lines.specs.declared.line.DeckLine.{DeckLine}
 use Rattle.deck.specs.Messages.{in_turn, where_true}
 
+-- from a place on stands the flag there, and then those behind it
 flag_at : (fs : List Bool) (i : ℕ) → i < length fs → drop i fs ≡ get_or fs i false ∷ drop (i + 1) fs
 flag_at [] i h = absurd (omega arith)
 flag_at (f ∷ fs) zero h = refl
@@ -12,8 +14,10 @@ flag_at (f ∷ fs) (suc i) h =
     flag_at fs i (omega arith) ∙ ap (λ j. get_or fs i false ∷ drop j (f ∷ fs)) next
 
 -- one more line
-pub told_step : (say : DeckLine → List (List ℕ)) (fs : List Bool) (lines : List DeckLine) (i : ℕ) (x : DeckLine) (texts now whole : List (List ℕ)) → i < length fs →
-    drop i lines ≡ x ∷ drop (i + 1) lines → texts ++ in_turn say (where_true (drop i fs) (drop i lines)) ≡ whole → now ≡ texts ++ cond (get_or fs i false) (say x) [] →
+pub told_step : (say : DeckLine → List (List ℕ)) (fs : List Bool) (lines : List DeckLine) (i : ℕ) (x : DeckLine)
+    (texts now whole : List (List ℕ)) → i < length fs →
+    drop i lines ≡ x ∷ drop (i + 1) lines → texts ++ in_turn say (where_true (drop i fs) (drop i lines)) ≡ whole
+    → now ≡ texts ++ cond (get_or fs i false) (say x) [] →
     now ++ in_turn say (where_true (drop (i + 1) fs) (drop (i + 1) lines)) ≡ whole
 told_step say fs lines i x texts now whole h at e f =
     let rest = where_true (drop (i + 1) fs) (drop (i + 1) lines) in
@@ -22,12 +26,14 @@ told_step say fs lines i x texts now whole h at e f =
     ∙ sym (ap (λ ls. texts ++ in_turn say (where_true (get_or fs i false ∷ drop (i + 1) fs) ls)) at)
     ∙ sym (ap (λ t. texts ++ in_turn say (where_true t (drop i lines))) (flag_at fs i h)) ∙ e
   where
-    by : (b : Bool) (rest : List DeckLine) → cond b (say x) [] ++ in_turn say rest ≡ in_turn say (cond b (x ∷ rest) rest)
+    by : (b : Bool) (rest : List DeckLine)
+        → cond b (say x) [] ++ in_turn say rest ≡ in_turn say (cond b (x ∷ rest) rest)
     by true rest = refl
     by false rest = refl
 
 -- nothing is left
-pub told_all : (say : DeckLine → List (List ℕ)) (fs : List Bool) (lines : List DeckLine) (i : ℕ) → length lines ≤ i → in_turn say (where_true (drop i fs) (drop i lines)) ≡ []
+pub told_all : (say : DeckLine → List (List ℕ)) (fs : List Bool) (lines : List DeckLine) (i : ℕ) → length lines ≤ i
+    → in_turn say (where_true (drop i fs) (drop i lines)) ≡ []
 told_all say fs lines i h = ap (λ ls. in_turn say (where_true (drop i fs) ls)) (drop_all i lines h) ∙ none (drop i fs)
   where
     none : (gs : List Bool) → in_turn say (where_true gs []) ≡ []

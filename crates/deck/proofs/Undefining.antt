@@ -43,6 +43,7 @@ set_same [] n x h = absurd (omega arith)
 set_same (p ∷ ps) zero x h = refl
 set_same (p ∷ ps) (suc n) x h = set_same ps n x (omega arith)
 
+-- a place that is taken out leaves all others
 set_other : (ps : List (Option ℕ)) (n : ℕ) (x : Option ℕ) (m : ℕ) → (m ≡ n → ⊥)
     → place_in (set ps n x) m ≡ place_in ps m
 set_other [] n x m h = refl
@@ -65,6 +66,7 @@ count_none (Some q ∷ ps) (suc n) h =
     more true c = refl
     more false c = refl
 
+-- it is counted no more, unless another comes in its stead
 count_other : (ps : List (Option ℕ)) (n : ℕ) (x : Option ℕ) → is_some (place_in ps n) ≡ true →
     place_count (set ps n x) + 1 ≡ cond (is_some x) (place_count ps + 1) (place_count ps)
 count_other [] zero x h = cc
@@ -79,6 +81,7 @@ count_other (Some q ∷ ps) (suc n) x h = ap (λ c. c + 1) (count_other ps n x h
     more true c = refl
     more false c = refl
 
+-- a number with a place is within
 place_within : (ps : List (Option ℕ)) (n p : ℕ) → place_in ps n ≡ Some p → n < length ps
 place_within ps n p h = by (slice_get ps n) refl h
   where
@@ -318,6 +321,7 @@ pub last_at : (lines front : List DeckLine) (x : DeckLine) (n : ℕ) → lines �
     → n - 1 ≡ length front
 last_at lines front x n is count = omega (arith, ap length is, count, length-append front (x ∷ []))
 
+-- all lines but the last are the front
 pub front_taken : (lines front : List DeckLine) (x : DeckLine) (n : ℕ) → lines ≡ front ++ x ∷ [] → n ≡ length lines
     → take (n - 1) lines ≡ front
 front_taken lines front x n is count =

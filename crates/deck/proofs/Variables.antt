@@ -4,20 +4,24 @@ use Rattle.std.specs.Str.{bytes_eq}
 use Rattle.units_io.specs.Named.{HasNoName, Pairs, value_of}
 
 -- a value in the first part
-pub value_first : (ps qs : Pairs) (name value : List ℕ) → value_of ps name ≡ Some value → value_of (ps ++ qs) name ≡ Some value
+pub value_first : (ps qs : Pairs) (name value : List ℕ) → value_of ps name ≡ Some value
+    → value_of (ps ++ qs) name ≡ Some value
 value_first [] qs name value e = cc
 value_first (p ∷ ps) qs name value e = by (bytes_eq name p.0) (λ h. value_first ps qs name value h) e
   where
-    by : (b : Bool) → (value_of ps name ≡ Some value → value_of (ps ++ qs) name ≡ Some value) → cond b (Some p.1) (value_of ps name) ≡ Some value → cond b (Some p.1) (value_of (ps ++ qs) name) ≡ Some value
+    by : (b : Bool) → (value_of ps name ≡ Some value → value_of (ps ++ qs) name ≡ Some value)
+        → cond b (Some p.1) (value_of ps name) ≡ Some value → cond b (Some p.1) (value_of (ps ++ qs) name) ≡ Some value
     by true ih h = h
     by false ih h = ih h
 
 -- a name that the first part lacks
-pub value_second : (ps qs : Pairs) (name : List ℕ) → value_of ps name ≡ None → value_of (ps ++ qs) name ≡ value_of qs name
+pub value_second : (ps qs : Pairs) (name : List ℕ) → value_of ps name ≡ None
+    → value_of (ps ++ qs) name ≡ value_of qs name
 value_second [] qs name e = refl
 value_second (p ∷ ps) qs name e = by (bytes_eq name p.0) (λ h. value_second ps qs name h) e
   where
-    by : (b : Bool) → (value_of ps name ≡ None → value_of (ps ++ qs) name ≡ value_of qs name) → cond b (Some p.1) (value_of ps name) ≡ None → cond b (Some p.1) (value_of (ps ++ qs) name) ≡ value_of qs name
+    by : (b : Bool) → (value_of ps name ≡ None → value_of (ps ++ qs) name ≡ value_of qs name)
+        → cond b (Some p.1) (value_of ps name) ≡ None → cond b (Some p.1) (value_of (ps ++ qs) name) ≡ value_of qs name
     by true ih h = cc
     by false ih h = ih h
 
@@ -26,6 +30,7 @@ pub no_name_both : (ps qs : Pairs) (name : List ℕ) → HasNoName ps name → H
 no_name_both [] qs name h g = g
 no_name_both (p ∷ ps) qs name h g = (h.0, no_name_both ps qs name h.1 g)
 
+-- a name that two lists do not have the second does not have
 pub no_name_second : (ps qs : Pairs) (name : List ℕ) → HasNoName (ps ++ qs) name → HasNoName qs name
 no_name_second [] qs name h = h
 no_name_second (p ∷ ps) qs name h = no_name_second ps qs name h.1

@@ -1,5 +1,6 @@
 -- What edits make of a deck, and why they are refused.
-use Rattle.std.specs.Prelude.{◌≡◌, ◌⊎◌, ◌+◌, ◌++◌, ℕ, List, [], ◌∷◌, take, drop, if◌then◌else◌, Option, Some, None, Result, Ok, Err}
+use Rattle.std.specs.Prelude.{◌≡◌, ◌⊎◌, ◌+◌, ◌++◌, ℕ, List, [], ◌∷◌, take, drop, if◌then◌else◌, Option, Some, None}
+use Rattle.std.specs.Prelude.{Result, Ok, Err}
 use Rattle.def_lines.specs.Kinds.{kind_of}
 use Rattle.def_entry.specs.declared.fault.EntryFault.{EntryFault}
 use Rattle.def_entry.specs.declared.fault.EntryFault.TheVariants.{BadForm}

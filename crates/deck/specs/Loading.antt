@@ -117,6 +117,11 @@ abbrev pub MayFailBy : Option FileMap → List ℕ → Excerpt → DeckFault →
 MayFailBy files name before OutOfMemory = ⊤
 MayFailBy files name before fault = MayComeTo files name before (Err fault)
 
+-- a load comes to its result by what fetches may answer, with what it leaves where it does not fail
+abbrev pub IsEnd : {T : Type 0} → Option FileMap → List ℕ → Excerpt → (T → Excerpt) → Result T DeckFault → Type 0
+IsEnd files name before left result =
+    MatchResult result (λ end. MayComeTo files name before (Ok (left end))) (MayFailBy files name before)
+
 -- the count of failed fetches after a load, which ends with the first that fails
 abbrev pub faults_after_load : {T : Type 0} → ℕ → Result T DeckFault → ℕ
 faults_after_load faults (Err ReadFailed) = next faults

@@ -1,7 +1,7 @@
 //! A deck, with its entries by key.
 
 ghost use Rattle.std.specs.Prelude.{◌≡◌, ◌≤◌, false, length, map, option_map, IfOk, OnOk};
-ghost use Rattle.def_entry.specs.Keys.{key as key_named};
+ghost use Rattle.def_entry.specs.Keys as key_spec;
 ghost use Rattle.def_entry.specs.Views.{entry_view};
 ghost use Rattle.deck_lines.specs.Closed.{IsClosed};
 ghost use Rattle.deck_lines.specs.Limits.{most_lines, pass_limit};
@@ -30,6 +30,7 @@ use deck_lines::LineStore;
 use def_entry::{Entry, Key, Kind};
 use def_lines::Lines;
 pub use keys::BorrowedKey;
+pub use near::PlacedEntry;
 use std::alloc::{AllocError, Global};
 use std::marker::Model;
 use units_io::Texts;
@@ -89,7 +90,7 @@ impl Deck {
     /// The entry of the last active line of a key. It takes no memory.
     pub fn entry(&self, kind: Kind, name: &[u8]) -> Option<Entry<'_>>
         ensures { option_map entry_view result
-            ≡ tables.entry_at (tables.table self.now) (key_named kind name.now) }
+            ≡ tables.entry_at (tables.table self.now) (key_spec.key kind name.now) }
     {
         let Some(place) = self.place_of(kind, name) else {
             return None;
@@ -141,9 +142,10 @@ impl Deck {
         &self.settings
     }
 
-    /// The place in `lines`, from 0, of the last active line of a key, or `None` where there is none. It takes no memory.
+    /// The place in `lines`, from 0, of the last active line of a key, or `None` where there is
+    /// none. It takes no memory.
     pub fn place_of(&self, kind: Kind, name: &[u8]) -> Option<usize>
-        ensures { result ≡ tables.last_place self.now.settings self.now.lines (key_named kind name.now) }
+        ensures { result ≡ tables.last_place self.now.settings self.now.lines (key_spec.key kind name.now) }
     {
         let Some(number) = self.store.number_of(kind, name) else {
             return None;

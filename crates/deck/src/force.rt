@@ -3,4 +3,4 @@
 mod flags;
 mod surroundings;
 
-pub use flags::{active_flags, edited_flags};
+pub(crate) use flags::{active_flags, edited_flags};

@@ -10,7 +10,7 @@ mod places;
 mod settings;
 mod splice;
 
-pub use deck::{BorrowedKey, Deck};
+pub use deck::{BorrowedKey, Deck, PlacedEntry};
 pub use fault::DeckFault;
 pub use laws::{
     changes_are_computed, key_lists_are_one, splices_are_undone, table_keys_are_whole,

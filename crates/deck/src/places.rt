@@ -5,5 +5,5 @@ mod kind_places;
 mod last_places;
 mod pass;
 
-pub use changes::{changed_key, changed_keys, keys_between};
-pub use last_places::LastPlaces;
+pub(crate) use changes::{changed_key, changed_keys, keys_between};
+pub(crate) use last_places::LastPlaces;

@@ -1,5 +1,6 @@
 -- Drafts, one excerpt behind another.
-use Rattle.std.proofs.Common.{◌≡◌, ◌++◌, ◌∷◌, [], ℕ, List, true, refl, sym, ap, subst, ◌∙◌, arith, length, append_assoc, length-append, Result, Ok, Err, Some, OnOk, OnErr}
+use Rattle.std.proofs.Common.{◌≡◌, ◌++◌, ◌∷◌, [], ℕ, List, true, refl, sym, ap, subst, ◌∙◌, arith, length, append_assoc}
+use Rattle.std.proofs.Common.{length-append, Result, Ok, Err, Some, OnOk, OnErr}
 use Rattle.std.proofs.lemmas.Bool.Decides.{nat_tests}
 use Rattle.std.proofs.lemmas.List.Sums.{sum_by-append}
 use Rattle.deck_lines.specs.Closed.{blocks_after, IsClosed}
@@ -16,16 +17,20 @@ use Rattle.deck_lines.specs.declared.line.DeckLine.{DeckLine}
 use Rattle.deck_lines.specs.declared.line.Ending.{Ending}
 use Rattle.deck_lines.proofs.Closing.{after-append, after_more}
 
+-- nothing behind a list changes nothing
 append_nil : {A : Type 0} (xs : List A) → xs ++ [] ≡ xs
 append_nil [] = refl
 append_nil (x ∷ xs) = ap (λ t. x ∷ t) (append_nil xs)
 
-with_definitions-append : (xs ys : List DeckLine) (names : Names) → with_definitions names (xs ++ ys) ≡ with_definitions (with_definitions names xs) ys
+-- the names of two lists of lines are those of the second behind the first
+with_definitions-append : (xs ys : List DeckLine) (names : Names)
+    → with_definitions names (xs ++ ys) ≡ with_definitions (with_definitions names xs) ys
 with_definitions-append [] ys names = refl
 with_definitions-append (x ∷ xs) ys names = with_definitions-append xs ys (with_definition names (entry_in x))
 
 -- lines behind lines
-pub with_lines-append : (store : Store) (xs ys : List DeckLine) → with_lines (with_lines store xs) ys ≡ with_lines store (xs ++ ys)
+pub with_lines-append : (store : Store) (xs ys : List DeckLine)
+    → with_lines (with_lines store xs) ys ≡ with_lines store (xs ++ ys)
 with_lines-append store xs ys =
     let made : List DeckLine → Names → Store = λ lines names. record { lines = lines; names = names } in
     ap (λ lines. made lines (with_definitions (with_definitions store.names xs) ys)) (append_assoc store.lines xs ys)
@@ -36,7 +41,8 @@ pub with_lines-nil : (store : Store) → with_lines store [] ≡ store
 with_lines-nil store = ap (λ lines. record { lines = lines; names = store.names }) (append_nil store.lines)
 
 -- an excerpt behind an excerpt
-pub with_excerpt-in_turn : (draft : Draft) (a b : Excerpt) → with_excerpt (with_excerpt draft a) b ≡ with_excerpt draft (in_turn a b)
+pub with_excerpt-in_turn : (draft : Draft) (a b : Excerpt)
+    → with_excerpt (with_excerpt draft a) b ≡ with_excerpt draft (in_turn a b)
 with_excerpt-in_turn draft a b =
     let made : Store → List (List ℕ) → Draft = λ store notices. record { store = store; notices = notices } in
     ap (λ store. made store ((draft.notices ++ a.notices) ++ b.notices)) (with_lines-append draft.store a.lines b.lines)
@@ -45,16 +51,20 @@ with_excerpt-in_turn draft a b =
 -- lines that pass a limit still pass it with more behind them
 pub passes_more : (xs ys : List DeckLine) → pass_limit xs ≡ true → pass_limit (xs ++ ys) ≡ true
 unfolding pass_limit
-passes_more xs ys h = grind (arith, nat_tests, length-append {A = DeckLine} xs ys, sum_by-append (λ line. length line.text) xs ys)
+passes_more xs ys h =
+    grind (arith, nat_tests, length-append {A = DeckLine} xs ys, sum_by-append (λ line. length line.text) xs ys)
 
 -- a part that failed fails the whole
-pub failed : (mid part more whole : List DeckLine) (fault : LoadFault) → MayEnd (mid ++ part) fault → mid ++ (part ++ more) ≡ whole → MayEnd whole fault
-failed mid part more whole DeckFull h e = sym (ap pass_limit (append_assoc mid part more ∙ e)) ∙ passes_more (mid ++ part) more h
+pub failed : (mid part more whole : List DeckLine) (fault : LoadFault) → MayEnd (mid ++ part) fault
+    → mid ++ (part ++ more) ≡ whole → MayEnd whole fault
+failed mid part more whole DeckFull h e = sym (ap pass_limit (append_assoc mid part more ∙ e))
+    ∙ passes_more (mid ++ part) more h
 failed mid part more whole ReadFailed h e = tt
 failed mid part more whole OutOfMemory h e = tt
 
 -- two parts one after the other
-pub then_load : (before mid after : Draft) (first second : Excerpt) (r : Result (Unit {0}) LoadFault) → mid ≡ with_excerpt before first → IsLoad mid second r after → IsLoad before (in_turn first second) r after
+pub then_load : (before mid after : Draft) (first second : Excerpt) (r : Result (Unit {0}) LoadFault)
+    → mid ≡ with_excerpt before first → IsLoad mid second r after → IsLoad before (in_turn first second) r after
 then_load before mid after first second (Ok u) e h =
     h ∙ ap (λ (d : Draft). with_excerpt d second) e ∙ with_excerpt-in_turn before first second
 then_load before mid after first second (Err fault) e h =
@@ -70,57 +80,72 @@ same_extends before after e = record { lines = []; put = e ∙ sym (with_lines-n
 pub then_extends : (before mid after : Store) → Extends before mid → Extends mid after → Extends before after
 then_extends before mid after first second = record {
   lines = first.lines ++ second.lines;
-  put = second.put ∙ ap (λ (s : Store). with_lines s second.lines) first.put ∙ with_lines-append before first.lines second.lines;
+  put = second.put ∙ ap (λ (s : Store). with_lines s second.lines) first.put
+      ∙ with_lines-append before first.lines second.lines;
 }
 
 -- a load that was put, or after which lines stand behind those before
-pub load_leads : (from to : List Ending) (before after : Draft) (excerpt : Excerpt) (r : Result (Unit {0}) LoadFault) → blocks_after from excerpt.lines ≡ Some to →
+pub load_leads : (from to : List Ending) (before after : Draft) (excerpt : Excerpt) (r : Result (Unit {0}) LoadFault)
+    → blocks_after from excerpt.lines ≡ Some to →
     IsLoad before excerpt r after → Extends before.store after.store → Leads from to before.store after.store r
-load_leads from to before after excerpt (Ok u) b told e = record { lines = excerpt.lines; put = ap (λ (d : Draft). d.store) told; leads = b }
+load_leads from to before after excerpt (Ok u) b told e =
+    record { lines = excerpt.lines; put = ap (λ (d : Draft). d.store) told; leads = b }
 load_leads from to before after excerpt (Err fault) b told e = record { lines = e.lines; put = e.put; leads = tt }
 
 -- a load that was put, or after which the store stayed
-pub one_leads : (from to : List Ending) (before after : Draft) (excerpt : Excerpt) (r : Result (Unit {0}) LoadFault) → blocks_after from excerpt.lines ≡ Some to →
+pub one_leads : (from to : List Ending) (before after : Draft) (excerpt : Excerpt) (r : Result (Unit {0}) LoadFault)
+    → blocks_after from excerpt.lines ≡ Some to →
     IsLoad before excerpt r after → OnErr r (after.store ≡ before.store) → Leads from to before.store after.store r
-one_leads from to before after excerpt (Ok u) b told e = record { lines = excerpt.lines; put = ap (λ (d : Draft). d.store) told; leads = b }
+one_leads from to before after excerpt (Ok u) b told e =
+    record { lines = excerpt.lines; put = ap (λ (d : Draft). d.store) told; leads = b }
 one_leads from to before after excerpt (Err fault) b told e =
     let stayed = same_extends before.store after.store e in
     record { lines = stayed.lines; put = stayed.put; leads = tt }
 
 -- nothing was put
-pub none_leads : (from to : List Ending) (before after : Store) (fault : LoadFault) → after ≡ before → Leads from to before after (Err fault)
+pub none_leads : (from to : List Ending) (before after : Store) (fault : LoadFault) → after ≡ before
+    → Leads from to before after (Err fault)
 none_leads from to before after fault e =
     let stayed = same_extends before after e in
     record { lines = stayed.lines; put = stayed.put; leads = tt }
 
 -- lines lead on
-pub then_leads : (from mid to : List Ending) (before between after : Store) (u : Unit {0}) (r : Result (Unit {0}) LoadFault) → Leads from mid before between (Ok u) → Leads mid to between after r → Leads from to before after r
+pub then_leads : (from mid to : List Ending) (before between after : Store) (u : Unit {0})
+    (r : Result (Unit {0}) LoadFault) → Leads from mid before between (Ok u) → Leads mid to between after r
+    → Leads from to before after r
 then_leads from mid to before between after u (Ok v) first second = record {
   lines = first.lines ++ second.lines;
-  put = second.put ∙ ap (λ (s : Store). with_lines s second.lines) first.put ∙ with_lines-append before first.lines second.lines;
+  put = second.put ∙ ap (λ (s : Store). with_lines s second.lines) first.put
+      ∙ with_lines-append before first.lines second.lines;
   leads = after-append first.lines second.lines from mid first.leads ∙ second.leads;
 }
 then_leads from mid to before between after u (Err fault) first second = record {
   lines = first.lines ++ second.lines;
-  put = second.put ∙ ap (λ (s : Store). with_lines s second.lines) first.put ∙ with_lines-append before first.lines second.lines;
+  put = second.put ∙ ap (λ (s : Store). with_lines s second.lines) first.put
+      ∙ with_lines-append before first.lines second.lines;
   leads = tt;
 }
 
 -- what is closed leads from any blocks to the same
-pub leads_inside : (blocks : List Ending) (before after : Store) (r : Result (Unit {0}) LoadFault) → Leads [] [] before after r → Leads blocks blocks before after r
-leads_inside blocks before after (Ok u) h = record { lines = h.lines; put = h.put; leads = after_more h.lines [] [] blocks h.leads }
+pub leads_inside : (blocks : List Ending) (before after : Store) (r : Result (Unit {0}) LoadFault)
+    → Leads [] [] before after r → Leads blocks blocks before after r
+leads_inside blocks before after (Ok u) h =
+    record { lines = h.lines; put = h.put; leads = after_more h.lines [] [] blocks h.leads }
 leads_inside blocks before after (Err fault) h = record { lines = h.lines; put = h.put; leads = tt }
 
 -- lines that are closed behind lines that are closed
-pub closed_behind : (before after : Store) (r : Result (Unit {0}) LoadFault) → Leads [] [] before after r → OnOk r (IsClosed before.lines → IsClosed after.lines)
+pub closed_behind : (before after : Store) (r : Result (Unit {0}) LoadFault) → Leads [] [] before after r
+    → OnOk r (IsClosed before.lines → IsClosed after.lines)
 closed_behind before after (Ok u) h = λ closed.
     ap (λ (s : Store). blocks_after [] s.lines) h.put ∙ after-append before.lines h.lines [] [] closed ∙ h.leads
 closed_behind before after (Err fault) h = tt
 
 -- an excerpt that was put
-pub extended : (before after : Draft) (excerpt : Excerpt) → after ≡ with_excerpt before excerpt → Extends before.store after.store
+pub extended : (before after : Draft) (excerpt : Excerpt) → after ≡ with_excerpt before excerpt
+    → Extends before.store after.store
 extended before after excerpt e = record { lines = excerpt.lines; put = ap (λ (d : Draft). d.store) e }
 
 -- what was put leads or fails: lines stand behind those before
-pub leads_extends : (from to : List Ending) (before after : Store) (r : Result (Unit {0}) LoadFault) → Leads from to before after r → Extends before after
+pub leads_extends : (from to : List Ending) (before after : Store) (r : Result (Unit {0}) LoadFault)
+    → Leads from to before after r → Extends before after
 leads_extends from to before after r h = record { lines = h.lines; put = h.put }

@@ -19,6 +19,7 @@ use Rattle.deck_lines.specs.Stores.{definition_at}
 use Rattle.deck_lines.specs.declared.line.DeckLine.{DeckLine}
 use Rattle.deck_lines.specs.declared.store.definitions.Definition.{Definition}
 
+-- a reading that defines an entry is of a line that gives it
 of_definition : (e : Key × Entry) (r : Result (Key × Entry) EntryFault) → defined_by (of_entry r) ≡ Some e → r ≡ Ok e
 of_definition e (Ok x) h = ap Ok (same_Some x e h)
 of_definition e (Err f) h = cc
@@ -43,6 +44,7 @@ reads_by text e (line.Set v x) h = cc
 reads_by text e (line.Message t) h = cc
 reads_by text e line.Prompt h = cc
 
+-- the entry of a line of a deck is that of its text
 pub reads : (x : DeckLine) (e : Key × Entry) → entry_in x ≡ Some e → entry_of x.text ≡ Ok e
 unfolding entry_in reading_of
 reads x e h = by x.mark h

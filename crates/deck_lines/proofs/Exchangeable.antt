@@ -1,5 +1,6 @@
 -- Lines that may be put in the place of others.
-use Rattle.std.proofs.Common.{◌≡◌, ◌∷◌, ◌+◌, ◌-◌, ◌<◌, ◌≤◌, ◌↔◌, [], ℕ, Bool, true, false, List, length, reverse, eqb, eq-eqb, refl, sym, ap, ◌∙◌, arith, Some, None, Result, Ok, Err}
+use Rattle.std.proofs.Common.{◌≡◌, ◌∷◌, ◌+◌, ◌-◌, ◌<◌, ◌≤◌, ◌↔◌, [], ℕ, Bool, true, false, List, length, reverse, eqb}
+use Rattle.std.proofs.Common.{eq-eqb, refl, sym, ap, ◌∙◌, arith, Some, None, Result, Ok, Err}
 use Rattle.std.specs.Prelude.{IfOk}
 use Rattle.std.proofs.lemmas.Bool.{eqb-true, false≢true}
 use Rattle.std.proofs.lemmas.Bool.Decides.{nat_tests}
@@ -21,34 +22,43 @@ module _ (all xs rest : List DeckLine) (x : DeckLine) (e : xs ≡ x ∷ rest) wh
   texts = ap text_len e ∙ sum_by-cons (λ (l : DeckLine). length l.text) x rest
 
   -- the texts of lines as far as one, and there is no room for it
-  pub too_long : (len room : ℕ) → len ≡ length x.text → text_len xs + most_bytes ≡ text_len all + room → room < len → text_len all ≤ most_bytes → ⊥
+  pub too_long : (len room : ℕ) → len ≡ length x.text → text_len xs + most_bytes ≡ text_len all + room → room < len
+      → text_len all ≤ most_bytes → ⊥
   too_long len room f h l m = omega (arith, f, h, l, m, texts)
 
   -- and there is
-  pub texts_more : (len room : ℕ) → len ≡ length x.text → text_len xs + most_bytes ≡ text_len all + room → len ≤ room → text_len rest + most_bytes ≡ text_len all + (room - len)
+  pub texts_more : (len room : ℕ) → len ≡ length x.text → text_len xs + most_bytes ≡ text_len all + room → len ≤ room
+      → text_len rest + most_bytes ≡ text_len all + (room - len)
   texts_more len room f h l = omega (arith, f, h, l, texts)
 
   -- the blocks of lines as far as one, behind which none are told
-  pub not_closed : (blocks : List Ending) → blocks_after blocks xs ≡ blocks_after [] all → blocks_past blocks x ≡ None → IsClosed all → ⊥
+  pub not_closed : (blocks : List Ending) → blocks_after blocks xs ≡ blocks_after [] all → blocks_past blocks x ≡ None
+      → IsClosed all → ⊥
   not_closed blocks h f closed =
-      let none : None ≡ Some [] = sym (ap (blocks_after blocks) e ∙ ap (option_and_then (λ now. blocks_after now rest)) f) ∙ h ∙ closed in
+      let none : None ≡ Some [] =
+      sym (ap (blocks_after blocks) e ∙ ap (option_and_then (λ now. blocks_after now rest)) f) ∙ h ∙ closed in
       cc
 
   -- and behind which some are
-  pub blocks_more : (blocks now : List Ending) → blocks_after blocks xs ≡ blocks_after [] all → blocks_past blocks x ≡ Some now → blocks_after now rest ≡ blocks_after [] all
-  blocks_more blocks now h f = sym (ap (blocks_after blocks) e ∙ ap (option_and_then (λ bs. blocks_after bs rest)) f) ∙ h
+  pub blocks_more : (blocks now : List Ending) → blocks_after blocks xs ≡ blocks_after [] all
+      → blocks_past blocks x ≡ Some now → blocks_after now rest ≡ blocks_after [] all
+  blocks_more blocks now h f = sym (ap (blocks_after blocks) e ∙ ap (option_and_then (λ bs. blocks_after bs rest)) f)
+      ∙ h
 
 -- no block is open
 pub none_open : (items : List Ending) → Some (reverse items) ≡ Some [] → items ≡ []
 none_open [] e = refl
-none_open (i ∷ items) e = absurd (omega (arith, length-reverse (i ∷ items), ap length (same_Some (reverse (i ∷ items)) [] e)))
+none_open (i ∷ items) e =
+    absurd (omega (arith, length-reverse (i ∷ items), ap length (same_Some (reverse (i ∷ items)) [] e)))
 
+-- a list of length 0 is empty
 no_items : (items : List Ending) → length items ≡ 0 → items ≡ []
 no_items [] e = refl
 no_items (i ∷ items) e = absurd (omega (arith, e))
 
 -- behind all lines
-pub at_end : (all : List DeckLine) (items : List Ending) (count room : ℕ) (empty : Bool) → empty ≡ eqb count 0 → count ≡ length items →
+pub at_end : (all : List DeckLine) (items : List Ending) (count room : ℕ) (empty : Bool) → empty ≡ eqb count 0
+    → count ≡ length items →
     blocks_after (reverse items) [] ≡ blocks_after [] all → text_len [] + most_bytes ≡ text_len all + room →
     (empty ≡ true) ↔ (IsClosed all × (text_len all ≤ most_bytes))
 at_end all items count room empty e c h t = (
@@ -57,15 +67,22 @@ at_end all items count room empty e c h t = (
 )
 
 -- lines are within the limits where they are few and their texts are
-pub few_and_small : (lines : List DeckLine) → length lines ≤ most_lines → text_len lines ≤ most_bytes → pass_limit lines ≡ false
+pub few_and_small : (lines : List DeckLine) → length lines ≤ most_lines → text_len lines ≤ most_bytes
+    → pass_limit lines ≡ false
 unfolding pass_limit
 few_and_small lines few small = grind (arith, nat_tests, few, small)
 
 module _ (at cut : ℕ) (put lines : List DeckLine) where
   pub exchangeable : (can : Bool) → at + cut ≤ length lines → length (exchanged_lines at cut put lines) ≤ most_lines →
-      (can ≡ true) ↔ (IsClosed (exchanged_lines at cut put lines) × (text_len (exchanged_lines at cut put lines) ≤ most_bytes)) → (can ≡ true) ↔ CanExchange at cut put lines
+      (can ≡ true) ↔ (IsClosed (exchanged_lines at cut put lines)
+      × (text_len (exchanged_lines at cut put lines) ≤ most_bytes)) → (can ≡ true) ↔ CanExchange at cut put lines
   exchangeable can places few is = (
-    λ y. record { places = places; closed = (is.0 y).0; within = few_and_small (exchanged_lines at cut put lines) few (is.0 y).1 },
+    λ y. record {
+      places = places;
+      closed = (is.0 y).0;
+      within =
+          few_and_small (exchanged_lines at cut put lines) few (is.0 y).1;
+    },
     λ c. is.1 (c.closed, few_bytes (exchanged_lines at cut put lines) c.within),
   )
 
@@ -74,12 +91,19 @@ module _ (at cut : ℕ) (put lines : List DeckLine) where
   not_there past = (λ t. absurd (false≢true t), λ c. absurd (omega (arith, past, c.places)))
 
   -- and not too many lines
-  pub too_many : at + cut ≤ length lines → most_lines < length lines - cut + length put → (false ≡ true) ↔ CanExchange at cut put lines
+  pub too_many : at + cut ≤ length lines → most_lines < length lines - cut + length put
+      → (false ≡ true) ↔ CanExchange at cut put lines
   too_many places many = (
     λ t. absurd (false≢true t),
-    λ c. absurd (omega (arith, many, exchanged_len lines put at cut places, few_lines (exchanged_lines at cut put lines) c.within)),
+    λ c. absurd (omega (
+      arith,
+      many,
+      exchanged_len lines put at cut places,
+      few_lines (exchanged_lines at cut put lines) c.within,
+    )),
   )
 
+-- what follows from a property holds of an answer that has it
 pub if_ok : {A E : Type 0} (r : Result A E) {P Q : A → Type 0} → IfOk r P → ((x : A) → P x → Q x) → IfOk r Q
 if_ok (Ok x) h f = f x h
 if_ok (Err e) h f = tt

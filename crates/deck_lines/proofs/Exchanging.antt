@@ -1,5 +1,6 @@
 -- Parts of lists exchanged.
-use Rattle.std.proofs.Common.{◌≡◌, ◌++◌, ◌∷◌, ◌+◌, ◌-◌, ◌<◌, ◌≤◌, [], ℕ, zero, suc, List, Bool, length, take, drop, refl, ap, ◌∙◌, arith, length-append, length-drop, length-take, Some, slice_get}
+use Rattle.std.proofs.Common.{◌≡◌, ◌++◌, ◌∷◌, ◌+◌, ◌-◌, ◌<◌, ◌≤◌, [], ℕ, zero, suc, List, Bool, length, take, drop}
+use Rattle.std.proofs.Common.{refl, ap, ◌∙◌, arith, length-append, length-drop, length-take, Some, slice_get}
 use Rattle.std.proofs.lemmas.List.Sums.{sum_by-append}
 use Rattle.def_lines.specs.declared.line.Line.{Line}
 use Rattle.deck_lines.specs.Limits.{bytes_in, most_bytes, most_lines}
@@ -8,7 +9,8 @@ use Rattle.deck_lines.specs.Within.{IsWithin}
 use Rattle.deck_lines.proofs.Keeping.{marks_append, marks_bytes, marks_drop, marks_take}
 
 -- a list in three parts
-pub parts_of : {A : Type 0} (at cut : ℕ) (xs : List A) → at + cut ≤ length xs → take at xs ++ (take cut (drop at xs) ++ drop (at + cut) xs) ≡ xs
+pub parts_of : {A : Type 0} (at cut : ℕ) (xs : List A) → at + cut ≤ length xs
+    → take at xs ++ (take cut (drop at xs) ++ drop (at + cut) xs) ≡ xs
 parts_of zero cut xs h = ap (λ n. take cut xs ++ drop n xs) (zero_plus cut) ∙ two cut xs
   where
     zero_plus : (n : ℕ) → 0 + n ≡ n
@@ -21,10 +23,12 @@ parts_of zero cut xs h = ap (λ n. take cut xs ++ drop n xs) (zero_plus cut) ∙
 parts_of (suc at) cut [] h = absurd (omega arith)
 parts_of (suc at) cut (x ∷ xs) h =
     let next : suc at + cut ≡ suc (at + cut) = omega arith in
-    ap (λ n. x ∷ (take at xs ++ (take cut (drop at xs) ++ drop n (x ∷ xs)))) next ∙ ap (λ t. x ∷ t) (parts_of at cut xs (omega arith))
+    ap (λ n. x ∷ (take at xs ++ (take cut (drop at xs) ++ drop n (x ∷ xs)))) next
+    ∙ ap (λ t. x ∷ t) (parts_of at cut xs (omega arith))
 
 -- the item at a place alone
-pub one_at : {A : Type 0} (place : ℕ) (xs : List A) (x : A) → slice_get xs place ≡ Some x → take 1 (drop place xs) ≡ x ∷ []
+pub one_at : {A : Type 0} (place : ℕ) (xs : List A) (x : A) → slice_get xs place ≡ Some x
+    → take 1 (drop place xs) ≡ x ∷ []
 one_at place [] x e = absurd (cc)
 one_at zero (y ∷ ys) x e =
     let same : y ≡ x = cc in
@@ -38,12 +42,15 @@ all_of zero (x ∷ xs) h = absurd (omega arith)
 all_of (suc n) [] h = refl
 all_of (suc n) (x ∷ xs) h = ap (λ t. x ∷ t) (all_of n xs (omega arith))
 
-module _ (ls put : List Line) (ms more : List Bool) (at cut : ℕ) (each : length ms ≡ length ls) (with : length more ≡ length put) where
+module _ (ls put : List Line) (ms more : List Bool) (at cut : ℕ) (each : length ms ≡ length ls)
+    (with : length more ≡ length put) where
   -- lines with their marks, others in the place of some
-  pub marks_exchange : with_marks (take at ls ++ (put ++ drop (at + cut) ls)) (take at ms ++ (more ++ drop (at + cut) ms))
+  pub marks_exchange : with_marks (take at ls ++ (put ++ drop (at + cut) ls))
+      (take at ms ++ (more ++ drop (at + cut) ms))
       ≡ take at (with_marks ls ms) ++ (with_marks put more ++ drop (at + cut) (with_marks ls ms))
   marks_exchange =
-      marks_append (take at ls) (put ++ drop (at + cut) ls) (take at ms) (more ++ drop (at + cut) ms) (omega (arith, each, length-take at ls, length-take at ms))
+      marks_append (take at ls) (put ++ drop (at + cut) ls) (take at ms) (more ++ drop (at + cut) ms)
+      (omega (arith, each, length-take at ls, length-take at ms))
       ∙ ap (λ t. t ++ with_marks (put ++ drop (at + cut) ls) (more ++ drop (at + cut) ms)) (marks_take at ls ms)
       ∙ ap (λ t. take at (with_marks ls ms) ++ t)
       (marks_append put (drop (at + cut) ls) more (drop (at + cut) ms) with
@@ -64,7 +71,9 @@ module _ (ls put : List Line) (ms more : List Bool) (at cut : ℕ) (each : lengt
     length-drop (at + cut) ls,
   )
 
-  bytes_after : at + cut ≤ length ls → bytes_in (take at ls ++ (put ++ drop (at + cut) ls)) + bytes_in (take cut (drop at ls)) ≡ bytes_in ls + bytes_in put
+  bytes_after : at + cut ≤ length ls
+      → bytes_in (take at ls ++ (put ++ drop (at + cut) ls)) + bytes_in (take cut (drop at ls))
+      ≡ bytes_in ls + bytes_in put
   bytes_after h =
       omega (
         arith,
@@ -76,18 +85,27 @@ module _ (ls put : List Line) (ms more : List Bool) (at cut : ℕ) (each : lengt
       )
 
   -- are within the limits where these are not passed
-  pub within_exchange : (bytes less : ℕ) → IsWithin ls ms bytes → at + cut ≤ length ls → less + bytes_in (take cut (drop at ls)) ≡ bytes + bytes_in put →
+  pub within_exchange : (bytes less : ℕ) → IsWithin ls ms bytes → at + cut ≤ length ls
+      → less + bytes_in (take cut (drop at ls)) ≡ bytes + bytes_in put →
       length (take at ls ++ (put ++ drop (at + cut) ls)) ≤ most_lines → less ≤ most_bytes →
       IsWithin (take at ls ++ (put ++ drop (at + cut) ls)) (take at ms ++ (more ++ drop (at + cut) ms)) less
   within_exchange bytes less kept h e few small = record {
     marked = long;
-    total = omega (arith, e, kept.total, bytes_after h, marks_bytes ls ms each, marks_bytes (take at ls ++ (put ++ drop (at + cut) ls)) (take at ms ++ (more ++ drop (at + cut) ms)) long);
+    total = omega (
+      arith,
+      e,
+      kept.total,
+      bytes_after h,
+      marks_bytes ls ms each,
+      marks_bytes (take at ls ++ (put ++ drop (at + cut) ls)) (take at ms ++ (more ++ drop (at + cut) ms)) long,
+    );
     few = few;
     small = small;
   }
 
 -- without the line at a place
-module _ (ls : List Line) (ms : List Bool) (bytes place : ℕ) (kept : IsWithin ls ms bytes) (line : Line) (at : slice_get ls place ≡ Some line) (within : place < length ls) where
+module _ (ls : List Line) (ms : List Bool) (bytes place : ℕ) (kept : IsWithin ls ms bytes) (line : Line)
+    (at : slice_get ls place ≡ Some line) (within : place < length ls) where
   one_byte : bytes_in (take 1 (drop place ls)) ≡ length line.text
   one_byte = ap bytes_in (one_at place ls line at) ∙ zero_plus (length line.text)
     where
@@ -95,13 +113,30 @@ module _ (ls : List Line) (ms : List Bool) (bytes place : ℕ) (kept : IsWithin 
       zero_plus n = omega arith
 
   pub bytes_at : length line.text ≤ bytes
-  bytes_at = omega (arith, one_byte, kept.total, marks_bytes ls ms kept.marked, bytes_after ls [] ms [] place 1 kept.marked refl (omega (arith, within)))
+  bytes_at = omega (
+    arith,
+    one_byte,
+    kept.total,
+    marks_bytes ls ms kept.marked,
+    bytes_after ls [] ms [] place 1 kept.marked refl (omega (arith, within)),
+  )
 
-  pub within_without : (less : ℕ) → less + length line.text ≡ bytes → IsWithin (take place ls ++ drop (place + 1) ls) (take place ms ++ drop (place + 1) ms) less
+  pub within_without : (less : ℕ) → less + length line.text ≡ bytes
+      → IsWithin (take place ls ++ drop (place + 1) ls) (take place ms ++ drop (place + 1) ms) less
   within_without less e =
-      within_exchange ls [] ms [] place 1 kept.marked refl bytes less kept (omega (arith, within)) (omega (arith, e, one_byte))
-      (omega (arith, kept.few, within, length-append (take place ls) (drop (place + 1) ls), length-take place ls, length-drop (place + 1) ls)) (omega (arith, e, kept.small))
+      within_exchange ls [] ms [] place 1 kept.marked refl bytes less kept (omega (arith, within))
+      (omega (arith, e, one_byte))
+      (omega (
+        arith,
+        kept.few,
+        within,
+        length-append (take place ls) (drop (place + 1) ls),
+        length-take place ls,
+        length-drop (place + 1) ls,
+      )) (omega (arith, e, kept.small))
 
   -- the same, where each list is told
-  pub within_removed : (n : ℕ) (ls' : List Line) (ms' : List Bool) → n ≡ length line.text → ls' ≡ take place ls ++ drop (place + 1) ls → ms' ≡ take place ms ++ drop (place + 1) ms → IsWithin ls' ms' (bytes - n)
+  pub within_removed : (n : ℕ) (ls' : List Line) (ms' : List Bool) → n ≡ length line.text
+      → ls' ≡ take place ls ++ drop (place + 1) ls → ms' ≡ take place ms ++ drop (place + 1) ms
+      → IsWithin ls' ms' (bytes - n)
   within_removed n ls' ms' e p q = rw (p, q) (within_without (bytes - n) (omega (arith, e, bytes_at)))

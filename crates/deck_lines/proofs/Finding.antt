@@ -1,16 +1,21 @@
 -- Items of lists of which parts are exchanged.
-use Rattle.std.proofs.Common.{◌≡◌, ◌++◌, ◌∷◌, ◌+◌, ◌-◌, ◌<◌, ◌≤◌, ◌⊎◌, [], ℕ, zero, suc, List, length, take, drop, inl, inr, refl, sym, ap, ◌∙◌, arith, length-append, length-drop, length-take, Some, None, slice_get}
+use Rattle.std.proofs.Common.{◌≡◌, ◌++◌, ◌∷◌, ◌+◌, ◌-◌, ◌<◌, ◌≤◌, ◌⊎◌, [], ℕ, zero, suc, List, length, take, drop, inl}
+use Rattle.std.proofs.Common.{inr, refl, sym, ap, ◌∙◌, arith, length-append, length-drop, length-take, Some, None}
+use Rattle.std.proofs.Common.{slice_get}
 use Rattle.std.proofs.lemmas.List.{append-nil, drop_all}
 use Rattle.std.proofs.lemmas.Option.{same_Some, slice_get_past}
 use Rattle.deck_lines.proofs.Exchanging.{all_of}
 
 -- an item of two lists is one of the first or of the second
-pub get_append : {A : Type 0} (xs ys : List A) (i : ℕ) (x : A) → slice_get (xs ++ ys) i ≡ Some x → (slice_get xs i ≡ Some x) ⊎ ((j : ℕ) × (slice_get ys j ≡ Some x))
+pub get_append : {A : Type 0} (xs ys : List A) (i : ℕ) (x : A) → slice_get (xs ++ ys) i ≡ Some x
+    → (slice_get xs i ≡ Some x) ⊎ ((j : ℕ) × (slice_get ys j ≡ Some x))
 get_append [] ys i x e = inr (i, e)
 get_append (y ∷ xs) ys zero x e = inl e
 get_append (y ∷ xs) ys (suc i) x e = get_append xs ys i x e
 
-pub get_take : {A : Type 0} (n : ℕ) (xs : List A) (i : ℕ) (x : A) → slice_get (take n xs) i ≡ Some x → slice_get xs i ≡ Some x
+-- what stands at a place of a front stands there in the whole
+pub get_take : {A : Type 0} (n : ℕ) (xs : List A) (i : ℕ) (x : A) → slice_get (take n xs) i ≡ Some x
+    → slice_get xs i ≡ Some x
 get_take zero xs i x e = cc
 get_take (suc n) [] i x e = cc
 get_take (suc n) (y ∷ xs) zero x e = e
@@ -23,7 +28,8 @@ inside_got (y ∷ xs) zero x e = omega arith
 inside_got (y ∷ xs) (suc i) x e = omega (arith, inside_got xs i x e)
 
 -- of two lists with one item, a place in the first, and a place in the second
-pub found_inside : {A : Type 0} (xs ys : List A) (i j : ℕ) → i < length xs → slice_get xs i ≡ slice_get ys j → j < length ys
+pub found_inside : {A : Type 0} (xs ys : List A) (i j : ℕ) → i < length xs → slice_get xs i ≡ slice_get ys j
+    → j < length ys
 found_inside [] ys i j h e = absurd (omega arith)
 found_inside (x ∷ xs) ys zero j h e = inside_got ys j x (sym e)
 found_inside (x ∷ xs) ys (suc i) j h e = found_inside xs ys i j (omega arith) e
@@ -46,7 +52,9 @@ at_drop (suc n) (y ∷ xs) i = at_drop n xs i ∙ ap (slice_get (y ∷ xs)) (nex
     next : (m j : ℕ) → suc (m + j) ≡ suc m + j
     next m j = omega arith
 
-pub get_drop : {A : Type 0} (n : ℕ) (xs : List A) (i : ℕ) (x : A) → slice_get (drop n xs) i ≡ Some x → slice_get xs (n + i) ≡ Some x
+-- what stands in the rest stands as much farther in the whole
+pub get_drop : {A : Type 0} (n : ℕ) (xs : List A) (i : ℕ) (x : A) → slice_get (drop n xs) i ≡ Some x
+    → slice_get xs (n + i) ≡ Some x
 get_drop n xs i x e = sym (at_drop n xs i) ∙ e
 
 -- an item of the first of two lists, and one of the second
@@ -55,6 +63,7 @@ at_first [] ys i h = absurd (omega arith)
 at_first (x ∷ xs) ys zero h = refl
 at_first (x ∷ xs) ys (suc i) h = at_first xs ys i (omega arith)
 
+-- behind the first of two lists stands what stands in the second
 pub at_second : {A : Type 0} (xs ys : List A) (i : ℕ) → slice_get (xs ++ ys) (length xs + i) ≡ slice_get ys i
 at_second [] ys i = ap (slice_get ys) (zero_plus i)
   where
@@ -65,6 +74,7 @@ at_second (x ∷ xs) ys i = ap (slice_get (x ∷ (xs ++ ys))) (next (length xs) 
     next : (m j : ℕ) → suc m + j ≡ suc (m + j)
     next m j = omega arith
 
+-- a place within a front has the same there
 pub at_front : {A : Type 0} (n : ℕ) (xs : List A) (i : ℕ) → i < n → slice_get (take n xs) i ≡ slice_get xs i
 at_front zero xs i h = absurd (omega arith)
 at_front (suc n) [] i h = refl
@@ -76,26 +86,41 @@ module _ {A : Type 0} (xs ys : List A) (at cut : ℕ) (h : at + cut ≤ length x
   front_len : length (take at xs) ≡ at
   front_len = omega (arith, h, length-take at xs)
 
-  pub exchanged_front : (place : ℕ) → place < at → slice_get (take at xs ++ (ys ++ drop (at + cut) xs)) place ≡ slice_get xs place
-  exchanged_front place l = at_first (take at xs) (ys ++ drop (at + cut) xs) place (omega (arith, l, front_len)) ∙ at_front at xs place l
+  pub exchanged_front : (place : ℕ) → place < at → slice_get (take at xs ++ (ys ++ drop (at + cut) xs)) place
+      ≡ slice_get xs place
+  exchanged_front place l = at_first (take at xs) (ys ++ drop (at + cut) xs) place (omega (arith, l, front_len))
+      ∙ at_front at xs place l
 
-  past_front : (place j : ℕ) → place ≡ at + j → slice_get (take at xs ++ (ys ++ drop (at + cut) xs)) place ≡ slice_get (ys ++ drop (at + cut) xs) j
+  past_front : (place j : ℕ) → place ≡ at + j → slice_get (take at xs ++ (ys ++ drop (at + cut) xs)) place
+      ≡ slice_get (ys ++ drop (at + cut) xs) j
   past_front place j e =
       let same : place ≡ length (take at xs) + j = omega (arith, e, front_len) in
-      ap (slice_get (take at xs ++ (ys ++ drop (at + cut) xs))) same ∙ at_second (take at xs) (ys ++ drop (at + cut) xs) j
+      ap (slice_get (take at xs ++ (ys ++ drop (at + cut) xs))) same
+      ∙ at_second (take at xs) (ys ++ drop (at + cut) xs) j
 
-  pub exchanged_put : (place j : ℕ) → place ≡ at + j → j < length ys → slice_get (take at xs ++ (ys ++ drop (at + cut) xs)) place ≡ slice_get ys j
+  pub exchanged_put : (place j : ℕ) → place ≡ at + j → j < length ys
+      → slice_get (take at xs ++ (ys ++ drop (at + cut) xs)) place ≡ slice_get ys j
   exchanged_put place j e l = past_front place j e ∙ at_first ys (drop (at + cut) xs) j l
 
-  pub exchanged_behind : (place k : ℕ) → place ≡ at + (length ys + k) → slice_get (take at xs ++ (ys ++ drop (at + cut) xs)) place ≡ slice_get xs (at + cut + k)
-  exchanged_behind place k e = past_front place (length ys + k) e ∙ at_second ys (drop (at + cut) xs) k ∙ at_drop (at + cut) xs k
+  pub exchanged_behind : (place k : ℕ) → place ≡ at + (length ys + k)
+      → slice_get (take at xs ++ (ys ++ drop (at + cut) xs)) place ≡ slice_get xs (at + cut + k)
+  exchanged_behind place k e = past_front place (length ys + k) e ∙ at_second ys (drop (at + cut) xs) k
+      ∙ at_drop (at + cut) xs k
 
-  pub exchanged_past : (place k : ℕ) → place ≡ at + (length ys + k) → length xs - (at + cut) ≤ k → slice_get (take at xs ++ (ys ++ drop (at + cut) xs)) place ≡ None
+  pub exchanged_past : (place k : ℕ) → place ≡ at + (length ys + k) → length xs - (at + cut) ≤ k
+      → slice_get (take at xs ++ (ys ++ drop (at + cut) xs)) place ≡ None
   exchanged_past place k e l = exchanged_behind place k e ∙ slice_get_past xs (at + cut + k) (omega (arith, l, h))
 
   pub exchanged_len : length (take at xs ++ (ys ++ drop (at + cut) xs)) ≡ length xs - cut + length ys
   exchanged_len =
-      omega (arith, h, length-append (take at xs) (ys ++ drop (at + cut) xs), length-append ys (drop (at + cut) xs), length-take at xs, length-drop (at + cut) xs)
+      omega (
+        arith,
+        h,
+        length-append (take at xs) (ys ++ drop (at + cut) xs),
+        length-append ys (drop (at + cut) xs),
+        length-take at xs,
+        length-drop (at + cut) xs,
+      )
 
 -- the item at a place, and those behind it
 pub drop_found : {A : Type 0} (xs : List A) (i : ℕ) (x : A) → slice_get xs i ≡ Some x → drop i xs ≡ x ∷ drop (i + 1) xs

@@ -1,5 +1,7 @@
 -- Lines with their marks, within the limits.
-use Rattle.std.proofs.Common.{◌≡◌, ◌++◌, ◌∷◌, ◌+◌, ◌-◌, ◌<◌, ◌≤◌, [], ℕ, zero, suc, List, Bool, true, false, not, length, map, take, drop, reverse, refl, append_assoc, sym, ap, ◌∙◌, arith, length-append, length-take, Some, slice_get, get_or}
+use Rattle.std.proofs.Common.{◌≡◌, ◌++◌, ◌∷◌, ◌+◌, ◌-◌, ◌<◌, ◌≤◌, [], ℕ, zero, suc, List, Bool, true, false, not}
+use Rattle.std.proofs.Common.{length, map, take, drop, reverse, refl, append_assoc, sym, ap, ◌∙◌, arith, length-append}
+use Rattle.std.proofs.Common.{length-take, Some, slice_get, get_or}
 use Rattle.std.specs.Prelude.{nat_le}
 use Rattle.std.proofs.lemmas.Bool.Decides.{nat_tests}
 use Rattle.std.proofs.lemmas.List.{length-map, reverse-append}
@@ -11,7 +13,8 @@ use Rattle.deck_lines.specs.declared.line.DeckLine.{DeckLine}
 use Rattle.deck_lines.specs.Within.{IsWithin}
 
 -- one more line with its mark
-pub marks_push : (ls : List Line) (ms : List Bool) (l : Line) (m : Bool) → length ms ≡ length ls → with_marks (ls ++ l ∷ []) (ms ++ m ∷ []) ≡ with_marks ls ms ++ with_mark m l ∷ []
+pub marks_push : (ls : List Line) (ms : List Bool) (l : Line) (m : Bool) → length ms ≡ length ls
+    → with_marks (ls ++ l ∷ []) (ms ++ m ∷ []) ≡ with_marks ls ms ++ with_mark m l ∷ []
 marks_push [] [] l m h = refl
 marks_push [] (n ∷ ms) l m h = absurd (omega arith)
 marks_push (k ∷ ls) [] l m h = absurd (omega arith)
@@ -39,14 +42,16 @@ marks_bytes (k ∷ ls) (n ∷ ms) h =
     ∙ sym (sum_by-cons (λ (x : Line). length x.text) k ls)
 
 -- the first of them
-pub marks_take : (n : ℕ) (ls : List Line) (ms : List Bool) → with_marks (take n ls) (take n ms) ≡ take n (with_marks ls ms)
+pub marks_take : (n : ℕ) (ls : List Line) (ms : List Bool)
+    → with_marks (take n ls) (take n ms) ≡ take n (with_marks ls ms)
 marks_take zero ls ms = refl
 marks_take (suc n) [] ms = refl
 marks_take (suc n) (k ∷ ls) [] = refl
 marks_take (suc n) (k ∷ ls) (m ∷ ms) = ap (λ t. with_mark m k ∷ t) (marks_take n ls ms)
 
 -- and the others
-pub marks_drop : (n : ℕ) (ls : List Line) (ms : List Bool) → length ms ≡ length ls → with_marks (drop n ls) (drop n ms) ≡ drop n (with_marks ls ms)
+pub marks_drop : (n : ℕ) (ls : List Line) (ms : List Bool) → length ms ≡ length ls
+    → with_marks (drop n ls) (drop n ms) ≡ drop n (with_marks ls ms)
 marks_drop zero ls ms h = refl
 marks_drop (suc n) [] [] h = refl
 marks_drop (suc n) [] (m ∷ ms) h = absurd (omega arith)
@@ -54,7 +59,8 @@ marks_drop (suc n) (k ∷ ls) [] h = absurd (omega arith)
 marks_drop (suc n) (k ∷ ls) (m ∷ ms) h = marks_drop n ls ms (omega arith)
 
 -- one list of lines behind another
-pub marks_append : (ls rest : List Line) (ms more : List Bool) → length ms ≡ length ls → with_marks (ls ++ rest) (ms ++ more) ≡ with_marks ls ms ++ with_marks rest more
+pub marks_append : (ls rest : List Line) (ms more : List Bool) → length ms ≡ length ls
+    → with_marks (ls ++ rest) (ms ++ more) ≡ with_marks ls ms ++ with_marks rest more
 marks_append [] rest [] more h = refl
 marks_append [] rest (m ∷ ms) more h = absurd (omega arith)
 marks_append (k ∷ ls) rest [] more h = absurd (omega arith)
@@ -67,29 +73,58 @@ module _ (ls : List Line) (ms : List Bool) (bytes : ℕ) (kept : IsWithin ls ms 
   kept_within = grind (arith, nat_tests, kept.few, kept.small, kept.total, marks_len ls ms kept.marked)
 
   -- whether one line more is
-  pub room_test : (line : DeckLine) (n : ℕ) → length line.text ≡ n → length ls < 100000 → pass_limit (with_marks ls ms ++ line ∷ []) ≡ not (nat_le n (67108864 - bytes))
+  pub room_test : (line : DeckLine) (n : ℕ) → length line.text ≡ n → length ls < 100000
+      → pass_limit (with_marks ls ms ++ line ∷ []) ≡ not (nat_le n (67108864 - bytes))
   unfolding pass_limit
-  room_test line n e few = grind (arith, nat_tests, e, few, kept.small, kept.total, marks_len ls ms kept.marked, length-append (with_marks ls ms) (line ∷ []), sum_by-append (λ (x : DeckLine). length x.text) (with_marks ls ms) (line ∷ []))
+  room_test line n e few =
+      grind (
+        arith,
+        nat_tests,
+        e,
+        few,
+        kept.small,
+        kept.total,
+        marks_len ls ms kept.marked,
+        length-append (with_marks ls ms) (line ∷ []),
+        sum_by-append (λ (x : DeckLine). length x.text) (with_marks ls ms) (line ∷ []),
+      )
 
   pub full_lines : (line : DeckLine) → 100000 ≤ length ls → pass_limit (with_marks ls ms ++ line ∷ []) ≡ true
   unfolding pass_limit
-  full_lines line many = grind (arith, nat_tests, many, marks_len ls ms kept.marked, length-append (with_marks ls ms) (line ∷ []))
+  full_lines line many =
+      grind (arith, nat_tests, many, marks_len ls ms kept.marked, length-append (with_marks ls ms) (line ∷ []))
 
   -- where one line more is within the limits
   pub room_lines : (line : DeckLine) → pass_limit (with_marks ls ms ++ line ∷ []) ≡ false → length ls < 100000
   unfolding pass_limit
-  room_lines line e = grind (arith, nat_tests, e, marks_len ls ms kept.marked, length-append (with_marks ls ms) (line ∷ []))
+  room_lines line e =
+      grind (arith, nat_tests, e, marks_len ls ms kept.marked, length-append (with_marks ls ms) (line ∷ []))
 
-  pub room_bytes : (line : DeckLine) → pass_limit (with_marks ls ms ++ line ∷ []) ≡ false → length line.text ≤ 67108864 - bytes
+  pub room_bytes : (line : DeckLine) → pass_limit (with_marks ls ms ++ line ∷ []) ≡ false
+      → length line.text ≤ 67108864 - bytes
   unfolding pass_limit
-  room_bytes line e = grind (arith, nat_tests, e, kept.small, kept.total, sum_by-append (λ (x : DeckLine). length x.text) (with_marks ls ms) (line ∷ []))
+  room_bytes line e =
+      grind (
+        arith,
+        nat_tests,
+        e,
+        kept.small,
+        kept.total,
+        sum_by-append (λ (x : DeckLine). length x.text) (with_marks ls ms) (line ∷ []),
+      )
 
   -- one line more
-  pub within_push : (l : Line) (m : Bool) (n : ℕ) (ls' : List Line) (ms' : List Bool) → pass_limit (with_marks ls ms ++ with_mark m l ∷ []) ≡ false →
+  pub within_push : (l : Line) (m : Bool) (n : ℕ) (ls' : List Line) (ms' : List Bool)
+      → pass_limit (with_marks ls ms ++ with_mark m l ∷ []) ≡ false →
       n ≡ length l.text → ls' ≡ ls ++ l ∷ [] → ms' ≡ ms ++ m ∷ [] → IsWithin ls' ms' (bytes + n)
   within_push l m n ls' ms' within e p q = rw (p, q, e) (record {
     marked = omega (arith, kept.marked, length-append ls (l ∷ []), length-append ms (m ∷ []));
-    total = omega (arith, kept.total, ap text_len (marks_push ls ms l m kept.marked), sum_by-append (λ (x : DeckLine). length x.text) (with_marks ls ms) (with_mark m l ∷ []));
+    total = omega (
+      arith,
+      kept.total,
+      ap text_len (marks_push ls ms l m kept.marked),
+      sum_by-append (λ (x : DeckLine). length x.text) (with_marks ls ms) (with_mark m l ∷ []),
+    );
     few = omega (arith, room_lines (with_mark m l) within, length-append ls (l ∷ []));
     small = omega (arith, room_bytes (with_mark m l) within, kept.small);
   })
@@ -98,7 +133,14 @@ module _ (ls : List Line) (ms : List Bool) (bytes : ℕ) (kept : IsWithin ls ms 
   pub within_take : (n less : ℕ) → less + bytes_in (drop n ls) ≡ bytes → IsWithin (take n ls) (take n ms) less
   within_take n less e = record {
     marked = long;
-    total = omega (arith, e, kept.total, marks_bytes ls ms kept.marked, marks_bytes (take n ls) (take n ms) long, sum_by-take-drop (λ (x : Line). length x.text) ls n);
+    total = omega (
+      arith,
+      e,
+      kept.total,
+      marks_bytes ls ms kept.marked,
+      marks_bytes (take n ls) (take n ms) long,
+      sum_by-take-drop (λ (x : Line). length x.text) ls n,
+    );
     few = omega (arith, kept.few, length-take n ls);
     small = omega (arith, e, kept.small);
   }
@@ -108,17 +150,22 @@ module _ (ls : List Line) (ms : List Bool) (bytes : ℕ) (kept : IsWithin ls ms 
 
   -- the bytes of some of the lines
   pub bytes_behind : (n : ℕ) → bytes_in (drop n ls) ≤ bytes
-  bytes_behind n = omega (arith, kept.total, marks_bytes ls ms kept.marked, sum_by-take-drop (λ (x : Line). length x.text) ls n)
+  bytes_behind n =
+      omega (arith, kept.total, marks_bytes ls ms kept.marked, sum_by-take-drop (λ (x : Line). length x.text) ls n)
 
   -- the same, where each list is told
-  pub within_took : (n some : ℕ) (ls' : List Line) (ms' : List Bool) → some ≡ bytes_in (drop n ls) → ls' ≡ take n ls → ms' ≡ take n ms → IsWithin ls' ms' (bytes - some)
+  pub within_took : (n some : ℕ) (ls' : List Line) (ms' : List Bool) → some ≡ bytes_in (drop n ls) → ls' ≡ take n ls
+      → ms' ≡ take n ms → IsWithin ls' ms' (bytes - some)
   within_took n some ls' ms' e p q = rw (p, q) (within_take n (bytes - some) (omega (arith, e, bytes_behind n)))
 
 -- lines with their marks, where the last goes to the end of others that are turned
-pub marks_pop : (ls ls' : List Line) (ms ms' : List Bool) (l : Line) (m : Bool) (into into' all : List DeckLine) → ls ≡ ls' ++ l ∷ [] → ms ≡ ms' ++ m ∷ [] → length ms ≡ length ls →
-    into' ≡ into ++ with_mark m l ∷ [] → with_marks ls ms ++ reverse into ≡ all → with_marks ls' ms' ++ reverse into' ≡ all
+pub marks_pop : (ls ls' : List Line) (ms ms' : List Bool) (l : Line) (m : Bool) (into into' all : List DeckLine)
+    → ls ≡ ls' ++ l ∷ [] → ms ≡ ms' ++ m ∷ [] → length ms ≡ length ls →
+    into' ≡ into ++ with_mark m l ∷ [] → with_marks ls ms ++ reverse into ≡ all
+    → with_marks ls' ms' ++ reverse into' ≡ all
 marks_pop ls ls' ms ms' l m into into' all p q h e is =
-    let long : length ms' ≡ length ls' = omega (arith, h, ap length p, ap length q, length-append ls' (l ∷ []), length-append ms' (m ∷ [])) in
+    let long : length ms' ≡ length ls' =
+    omega (arith, h, ap length p, ap length q, length-append ls' (l ∷ []), length-append ms' (m ∷ [])) in
     ap (λ t. with_marks ls' ms' ++ reverse t) e
     ∙ ap (λ t. with_marks ls' ms' ++ t) (reverse-append into (with_mark m l ∷ []))
     ∙ sym (append_assoc (with_marks ls' ms') (with_mark m l ∷ []) (reverse into))
@@ -132,13 +179,16 @@ pub marks_on : (put : List DeckLine) → with_marks (map unmarked put) (map mark
 marks_on [] = refl
 marks_on (l ∷ put) = ap (λ t. l ∷ t) (marks_on put)
 
+-- the bytes of lines are those of their texts
 pub bytes_on : (put : List DeckLine) → bytes_in (map unmarked put) ≡ text_len put
 bytes_on put =
-    let each : length (map mark_of put) ≡ length (map unmarked put) = length-map put mark_of ∙ sym (length-map put unmarked) in
+    let each : length (map mark_of put) ≡ length (map unmarked put) = length-map put mark_of
+    ∙ sym (length-map put unmarked) in
     sym (marks_bytes (map unmarked put) (map mark_of put) each) ∙ ap text_len (marks_on put)
 
 -- the line at a place, with its mark
-pub marks_get : (ls : List Line) (ms : List Bool) (i : ℕ) (l : Line) (m : Bool) → length ms ≡ length ls → i < length ls →
+pub marks_get : (ls : List Line) (ms : List Bool) (i : ℕ) (l : Line) (m : Bool) → length ms ≡ length ls → i < length ls
+    →
     l ≡ get_or ls i l → m ≡ get_or ms i false → slice_get (with_marks ls ms) i ≡ Some (with_mark m l)
 marks_get [] ms i l m h g e f = absurd (omega arith)
 marks_get (k ∷ ls) [] i l m h g e f = absurd (omega arith)

@@ -1,5 +1,6 @@
 -- Keys and their numbers.
-use Rattle.std.proofs.Common.{◌≡◌, ℕ, List, refl, sym, ap, subst, ◌∙◌, inl, inr, ◌⊎◌, Option, Some, None, option_map, slice_get, []}
+use Rattle.std.proofs.Common.{◌≡◌, ℕ, List, refl, sym, ap, subst, ◌∙◌, inl, inr, ◌⊎◌, Option, Some, None, option_map}
+use Rattle.std.proofs.Common.{slice_get, []}
 use Rattle.def_entry.specs.Entries.{Entry, Primitive}
 use Rattle.def_entry.specs.Keys.{key}
 use Rattle.def_entry.specs.declared.key.Key.{Key}
@@ -11,7 +12,9 @@ use Rattle.deck_lines.specs.declared.key_number.KeyNumber.{KeyNumber}
 use Rattle.deck_lines.proofs.Numbering.{IsDistinct, distinct_put, kept_at}
 
 -- the names of a kind, where those of one kind are replaced
-kinds : (names : Names) (a b : Kind) (these : List (List ℕ)) → ((a ≡ b) × (names_of (with_names names a these) b ≡ these)) ⊎ (names_of (with_names names a these) b ≡ names_of names b)
+kinds : (names : Names) (a b : Kind) (these : List (List ℕ))
+    → ((a ≡ b) × (names_of (with_names names a these) b ≡ these))
+    ⊎ (names_of (with_names names a these) b ≡ names_of names b)
 kinds names kind.Unit kind.Unit these = inl (refl, refl)
 kinds names kind.Unit kind.Prefix these = inr refl
 kinds names kind.Unit kind.Func these = inr refl
@@ -30,7 +33,8 @@ kinds names kind.List kind.Func these = inr refl
 kinds names kind.List kind.List these = inl (refl, refl)
 
 -- a key that was found among names
-pub found_key : (a : Kind) (o : Option (List ℕ)) (k : Key) → option_map (key a) o ≡ Some k → (a ≡ k.kind) × (o ≡ Some k.name)
+pub found_key : (a : Kind) (o : Option (List ℕ)) (k : Key) → option_map (key a) o ≡ Some k
+    → (a ≡ k.kind) × (o ≡ Some k.name)
 found_key a None k e = absurd (cc)
 found_key a (Some name) k e =
     let same : key a name ≡ k = cc in
@@ -46,10 +50,12 @@ one_each names each m n k p q =
     (subst (λ a. slice_get (names_of names a) n.number ≡ Some k.name) too.0 too.1) in
     λ i. record { kind = (at.0 ∙ sym too.0) i; number = one i }
 
+-- where no key has two numbers, the names of each kind are different
 distinct_each : (names : Names) → IsOneToOne names → (a : Kind) → IsDistinct (names_of names a)
 distinct_each names one a i j x p q =
     ap (λ (n : KeyNumber). n.number)
-    (one (record { kind = a; number = i }) (record { kind = a; number = j }) (key a x) (ap (option_map (key a)) p) (ap (option_map (key a)) q))
+    (one (record { kind = a; number = i }) (record { kind = a; number = j }) (key a x) (ap (option_map (key a)) p)
+    (ap (option_map (key a)) q))
 
 -- no key has two numbers where one more has one
 pub one_to_one : (names : Names) (d : Option (Key × Entry)) → IsOneToOne names → IsOneToOne (with_definition names d)
@@ -61,7 +67,8 @@ one_to_one names (Some d) one = one_each (with_key names d.0) each
 
     each : (a : Kind) → IsDistinct (names_of (with_key names k) a)
     each a = elim (kinds names k.kind a (with_name k.name (names_of names k.kind))) [
-      | inl h ↦ subst IsDistinct (sym h.1) (distinct_put k.name (names_of names k.kind) (distinct_each names one k.kind))
+      | inl h ↦ subst IsDistinct (sym h.1)
+          (distinct_put k.name (names_of names k.kind) (distinct_each names one k.kind))
       | inr h ↦ subst IsDistinct (sym h) (distinct_each names one a)
     ]
 
@@ -80,18 +87,24 @@ extended names (Some d) n k e = ap (option_map (key n.kind)) stays ∙ sym (ap (
     stays = elim (kinds names put.kind n.kind (with_name put.name (names_of names put.kind))) [
       | inl h ↦
           ap (λ these. slice_get these n.number) h.1
-          ∙ kept_at put.name (names_of names put.kind) n.number k.name (subst (λ a. slice_get (names_of names a) n.number ≡ Some k.name) (sym h.0) at)
+          ∙ kept_at put.name (names_of names put.kind) n.number k.name
+          (subst (λ a. slice_get (names_of names a) n.number ≡ Some k.name) (sym h.0) at)
       | inr h ↦ ap (λ these. slice_get these n.number) h ∙ at
     ]
 
 -- the same, for one key
 pub key_extended : (names room more : Names) (k : Key) → room ≡ names → more ≡ with_key room k → IsExtended names more
 key_extended names room more k p q n l e =
-    ap (λ (t : Names). key_at t n) q ∙ extended room (Some (k, record { text = []; what = Primitive })) n l (ap (λ (t : Names). key_at t n) p ∙ e)
+    ap (λ (t : Names). key_at t n) q
+    ∙ extended room (Some (k, record { text = []; what = Primitive })) n l (ap (λ (t : Names). key_at t n) p ∙ e)
 
-pub key_one_to_one : (names room more : Names) (k : Key) → room ≡ names → more ≡ with_key room k → IsOneToOne names → IsOneToOne more
+-- a key more leaves it so that no key has two numbers
+pub key_one_to_one : (names room more : Names) (k : Key) → room ≡ names → more ≡ with_key room k → IsOneToOne names
+    → IsOneToOne more
 key_one_to_one names room more k p q one =
-    subst IsOneToOne (sym q) (one_to_one room (Some (k, record { text = []; what = Primitive })) (subst IsOneToOne (sym p) one))
+    subst IsOneToOne (sym q)
+    (one_to_one room (Some (k, record { text = []; what = Primitive })) (subst IsOneToOne (sym p) one))
 
+-- the same names extend each other
 pub same_extended : (names more : Names) → more ≡ names → IsExtended names more
 same_extended names more p n l e = ap (λ (t : Names). key_at t n) p ∙ e

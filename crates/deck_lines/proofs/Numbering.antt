@@ -1,5 +1,7 @@
 -- Names and their numbers.
-use Rattle.std.proofs.Common.{◌≡◌, ◌++◌, ◌∷◌, ◌+◌, ◌||◌, [], ℕ, zero, suc, List, Bool, true, false, true≢false, not, cond, length, map, refl, sym, ap, subst, ◌∙◌, inl, inr, ◌⊎◌, arith, Option, Some, None, option_map, slice_get, get_or}
+use Rattle.std.proofs.Common.{◌≡◌, ◌++◌, ◌∷◌, ◌+◌, ◌||◌, [], ℕ, zero, suc, List, Bool, true, false, true≢false, not}
+use Rattle.std.proofs.Common.{cond, length, map, refl, sym, ap, subst, ◌∙◌, inl, inr, ◌⊎◌, arith, Option, Some, None}
+use Rattle.std.proofs.Common.{option_map, slice_get, get_or}
 use Rattle.std.specs.Prelude.{MatchOption, is_some}
 use Rattle.std.specs.List.{list_any, position, position_or_len}
 use Rattle.std.specs.Str.{bytes_eq}
@@ -14,6 +16,7 @@ use Rattle.deck_lines.specs.Names.{with_name}
 pub same_name : (a b : List ℕ) → bytes_eq a b ≡ true → a ≡ b
 same_name a b h = (bytes_decides a b).0 h
 
+-- what is there twice is one
 pub some_one : {A : Type 0} (x y : A) → Some x ≡ Some y → x ≡ y
 some_one x y e = cc
 
@@ -24,7 +27,8 @@ module _ {K : Type 0} (items : K → List ℕ) (name : List ℕ) where
   any_seen (k ∷ ks) = ap (λ b. bytes_eq name (items k) || b) (any_seen ks)
 
   -- and where
-  pub place_seen : (ks : List K) → position_or_len (bytes_eq name) (map items ks) ≡ position_or_len (λ k. bytes_eq name (items k)) ks
+  pub place_seen : (ks : List K)
+      → position_or_len (bytes_eq name) (map items ks) ≡ position_or_len (λ k. bytes_eq name (items k)) ks
   place_seen [] = refl
   place_seen (k ∷ ks) = ap (λ n. cond (not (bytes_eq name (items k))) (1 + n) 0) (place_seen ks)
 
@@ -49,51 +53,62 @@ name_found items name (k ∷ ks) i e =
     ∙ ap Some (sym (same_name name (items (get_or (k ∷ ks) i k)) at.1))
 
 -- what a look-up of a name tells
-pub number_seen : {K : Type 0} (items : K → List ℕ) (name : List ℕ) (ks : List K) (r : Option ℕ) (names : List (List ℕ)) → map items ks ≡ names →
+pub number_seen : {K : Type 0} (items : K → List ℕ) (name : List ℕ) (ks : List K) (r : Option ℕ) (names : List (List ℕ))
+    → map items ks ≡ names →
     r ≡ position (λ k. bytes_eq name (items k)) ks → is_some r ≡ list_any (λ k. bytes_eq name (items k)) ks →
     MatchOption r (list_any (bytes_eq name) names ≡ false) (λ n. slice_get names n ≡ Some name)
-number_seen items name ks None names e at found = ap (list_any (bytes_eq name)) (sym e) ∙ any_seen items name ks ∙ sym found
-number_seen items name ks (Some n) names e at found = ap (λ l. slice_get l n) (sym e) ∙ name_found items name ks n (sym at)
+number_seen items name ks None names e at found = ap (list_any (bytes_eq name)) (sym e) ∙ any_seen items name ks
+    ∙ sym found
+number_seen items name ks (Some n) names e at found = ap (λ l. slice_get l n) (sym e)
+    ∙ name_found items name ks n (sym at)
 
+-- a name is at its place where it was absent, and else where it was
 abbrev At : List ℕ → List ℕ → List (List ℕ) → Bool → Type 0
 At name x xs b =
     slice_get (cond (b || list_any (bytes_eq name) xs) (x ∷ xs) (x ∷ xs ++ name ∷ []))
     (cond (not b) (1 + position_or_len (bytes_eq name) xs) 0) ≡ Some name
 
 -- a name has the number at which it is put
-pub put_at : (name : List ℕ) (names : List (List ℕ)) → slice_get (with_name name names) (position_or_len (bytes_eq name) names) ≡ Some name
+pub put_at : (name : List ℕ) (names : List (List ℕ))
+    → slice_get (with_name name names) (position_or_len (bytes_eq name) names) ≡ Some name
 put_at name [] = refl
 put_at name (x ∷ xs) = by (bytes_eq name x) refl (put_at name xs)
   where
-    behind : (c : Bool) (ys : List (List ℕ)) (n : ℕ) → slice_get (cond c (x ∷ xs) (x ∷ ys)) (suc n) ≡ slice_get (cond c xs ys) n
+    behind : (c : Bool) (ys : List (List ℕ)) (n : ℕ)
+        → slice_get (cond c (x ∷ xs) (x ∷ ys)) (suc n) ≡ slice_get (cond c xs ys) n
     behind true ys n = refl
     behind false ys n = refl
 
     next : (n : ℕ) → 1 + n ≡ suc n
     next n = omega arith
 
-    by : (b : Bool) → bytes_eq name x ≡ b → slice_get (with_name name xs) (position_or_len (bytes_eq name) xs) ≡ Some name → At name x xs (bytes_eq name x)
+    by : (b : Bool) → bytes_eq name x ≡ b → slice_get (with_name name xs) (position_or_len (bytes_eq name) xs)
+        ≡ Some name → At name x xs (bytes_eq name x)
     by true e rest = subst (At name x xs) (sym e) (ap Some (sym (same_name name x e)))
     by false e rest =
         subst (At name x xs) (sym e)
-        (ap (slice_get (cond (list_any (bytes_eq name) xs) (x ∷ xs) (x ∷ xs ++ name ∷ []))) (next (position_or_len (bytes_eq name) xs))
+        (ap (slice_get (cond (list_any (bytes_eq name) xs) (x ∷ xs) (x ∷ xs ++ name ∷ [])))
+        (next (position_or_len (bytes_eq name) xs))
         ∙ behind (list_any (bytes_eq name) xs) (xs ++ name ∷ []) (position_or_len (bytes_eq name) xs)
         ∙ rest)
 
 -- a name that stands somewhere is among them
-pub found_is_any : (name : List ℕ) (names : List (List ℕ)) (i : ℕ) → slice_get names i ≡ Some name → list_any (bytes_eq name) names ≡ true
+pub found_is_any : (name : List ℕ) (names : List (List ℕ)) (i : ℕ) → slice_get names i ≡ Some name
+    → list_any (bytes_eq name) names ≡ true
 found_is_any name [] i e = absurd (cc)
 found_is_any name (x ∷ xs) zero e =
     let same : name ≡ x = sym (some_one x name e) in
     ap (λ b. b || list_any (bytes_eq name) xs) ((bytes_decides name x).1 same)
-found_is_any name (x ∷ xs) (suc i) e = ap (λ b. bytes_eq name x || b) (found_is_any name xs i e) ∙ either (bytes_eq name x)
+found_is_any name (x ∷ xs) (suc i) e = ap (λ b. bytes_eq name x || b) (found_is_any name xs i e)
+    ∙ either (bytes_eq name x)
   where
     either : (b : Bool) → (b || true) ≡ true
     either true = refl
     either false = refl
 
 -- names keep their numbers where one more is put
-pub kept_at : (name : List ℕ) (names : List (List ℕ)) (i : ℕ) (x : List ℕ) → slice_get names i ≡ Some x → slice_get (with_name name names) i ≡ Some x
+pub kept_at : (name : List ℕ) (names : List (List ℕ)) (i : ℕ) (x : List ℕ) → slice_get names i ≡ Some x
+    → slice_get (with_name name names) i ≡ Some x
 kept_at name names i x e = by (list_any (bytes_eq name) names)
   where
     front : (xs : List (List ℕ)) (n : ℕ) → slice_get xs n ≡ Some x → slice_get (xs ++ name ∷ []) n ≡ Some x
@@ -110,7 +125,8 @@ abbrev pub IsDistinct : List (List ℕ) → Type 0
 IsDistinct names = (i j : ℕ) (x : List ℕ) → slice_get names i ≡ Some x → slice_get names j ≡ Some x → i ≡ j
 
 -- what stands at a place with a name more: one of the others, or it
-behind_all : (xs : List (List ℕ)) (y : List ℕ) (i : ℕ) (x : List ℕ) → slice_get (xs ++ y ∷ []) i ≡ Some x → (slice_get xs i ≡ Some x) ⊎ ((i ≡ length xs) × (y ≡ x))
+behind_all : (xs : List (List ℕ)) (y : List ℕ) (i : ℕ) (x : List ℕ) → slice_get (xs ++ y ∷ []) i ≡ Some x
+    → (slice_get xs i ≡ Some x) ⊎ ((i ≡ length xs) × (y ≡ x))
 behind_all [] y zero x e = inr (refl, some_one y x e)
 behind_all [] y (suc i) x e = absurd (cc)
 behind_all (z ∷ xs) y zero x e = inl e

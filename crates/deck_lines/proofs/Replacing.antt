@@ -1,5 +1,6 @@
 -- Lines with their marks exchanged, within the limits.
-use Rattle.std.proofs.Common.{◌≡◌, ◌++◌, ◌+◌, ◌-◌, ◌≤◌, ℕ, List, Bool, false, length, map, take, drop, sym, ap, ◌∙◌, arith}
+use Rattle.std.proofs.Common.{◌≡◌, ◌++◌, ◌+◌, ◌-◌, ◌≤◌, ℕ, List, Bool, false, length, map, take, drop, sym, ap, ◌∙◌}
+use Rattle.std.proofs.Common.{arith}
 use Rattle.std.proofs.lemmas.Bool.Decides.{nat_tests}
 use Rattle.std.proofs.lemmas.List.{length-map}
 use Rattle.std.proofs.lemmas.List.Sums.{sum_by-append}
@@ -11,36 +12,49 @@ use Rattle.deck_lines.specs.declared.line.DeckLine.{DeckLine}
 use Rattle.deck_lines.proofs.Exchanging.{long, marks_exchange, parts_of}
 use Rattle.deck_lines.proofs.Keeping.{marks_drop, marks_len, marks_on, marks_take}
 
+-- lines within the limits are at most 100,000
 pub few_lines : (lines : List DeckLine) → pass_limit lines ≡ false → length lines ≤ 100000
 unfolding pass_limit
 few_lines lines e = grind (arith, nat_tests, e)
 
+-- and have at most 67,108,864 bytes
 pub few_bytes : (lines : List DeckLine) → pass_limit lines ≡ false → text_len lines ≤ 67108864
 unfolding pass_limit
 few_bytes lines e = grind (arith, nat_tests, e)
 
 -- the bytes of lines, others in the place of some
 bytes_exchange : (lines put : List DeckLine) (at cut : ℕ) → at + cut ≤ length lines →
-    text_len (take at lines ++ (put ++ drop (at + cut) lines)) + text_len (take cut (drop at lines)) ≡ text_len lines + text_len put
+    text_len (take at lines ++ (put ++ drop (at + cut) lines)) + text_len (take cut (drop at lines))
+    ≡ text_len lines + text_len put
 bytes_exchange lines put at cut h =
     omega (
       arith,
       ap text_len (parts_of at cut lines h),
       sum_by-append (λ (l : DeckLine). length l.text) (take at lines) (put ++ drop (at + cut) lines),
       sum_by-append (λ (l : DeckLine). length l.text) put (drop (at + cut) lines),
-      sum_by-append (λ (l : DeckLine). length l.text) (take at lines) (take cut (drop at lines) ++ drop (at + cut) lines),
+      sum_by-append (λ (l : DeckLine). length l.text) (take at lines)
+          (take cut (drop at lines) ++ drop (at + cut) lines),
       sum_by-append (λ (l : DeckLine). length l.text) (take cut (drop at lines)) (drop (at + cut) lines),
     )
 
 -- no more bytes than in all
-bytes_of_part : (lines put : List DeckLine) (at cut : ℕ) → text_len put ≤ text_len (take at lines ++ (put ++ drop (at + cut) lines))
+bytes_of_part : (lines put : List DeckLine) (at cut : ℕ)
+    → text_len put ≤ text_len (take at lines ++ (put ++ drop (at + cut) lines))
 bytes_of_part lines put at cut =
-    omega (arith, sum_by-append (λ (l : DeckLine). length l.text) (take at lines) (put ++ drop (at + cut) lines), sum_by-append (λ (l : DeckLine). length l.text) put (drop (at + cut) lines))
+    omega (
+      arith,
+      sum_by-append (λ (l : DeckLine). length l.text) (take at lines) (put ++ drop (at + cut) lines),
+      sum_by-append (λ (l : DeckLine). length l.text) put (drop (at + cut) lines),
+    )
 
-pub put_fits : (lines put : List DeckLine) (at cut : ℕ) → pass_limit (take at lines ++ (put ++ drop (at + cut) lines)) ≡ false → text_len put ≤ 67108864
-put_fits lines put at cut within = omega (arith, bytes_of_part lines put at cut, few_bytes (take at lines ++ (put ++ drop (at + cut) lines)) within)
+-- lines that are put among others within the limits are within them
+pub put_fits : (lines put : List DeckLine) (at cut : ℕ) → pass_limit (take at lines ++ (put ++ drop (at + cut) lines))
+    ≡ false → text_len put ≤ 67108864
+put_fits lines put at cut within =
+    omega (arith, bytes_of_part lines put at cut, few_bytes (take at lines ++ (put ++ drop (at + cut) lines)) within)
 
-module _ (ls : List Line) (ms : List Bool) (bytes : ℕ) (kept : IsWithin ls ms bytes) (put : List DeckLine) (at cut : ℕ) (h : at + cut ≤ length ls)
+module _ (ls : List Line) (ms : List Bool) (bytes : ℕ) (kept : IsWithin ls ms bytes) (put : List DeckLine) (at cut : ℕ)
+    (h : at + cut ≤ length ls)
     (within : pass_limit (take at (with_marks ls ms) ++ (put ++ drop (at + cut) (with_marks ls ms))) ≡ false) where
   same : length (map mark_of put) ≡ length (map unmarked put)
   same = length-map put mark_of ∙ sym (length-map put unmarked)
@@ -52,22 +66,52 @@ module _ (ls : List Line) (ms : List Bool) (bytes : ℕ) (kept : IsWithin ls ms 
   gone_marked = marks_take cut (drop at ls) (drop at ms) ∙ ap (take cut) (marks_drop at ls ms kept.marked)
 
   pub gone_small : text_len (take cut (drop at (with_marks ls ms))) ≤ bytes
-  gone_small = omega (arith, kept.total, bytes_of_part (with_marks ls ms) (take cut (drop at (with_marks ls ms))) at cut, ap text_len (parts_of at cut (with_marks ls ms) places))
+  gone_small = omega (
+    arith,
+    kept.total,
+    bytes_of_part (with_marks ls ms) (take cut (drop at (with_marks ls ms))) at cut,
+    ap text_len (parts_of at cut (with_marks ls ms) places),
+  )
 
-  pub exchanged : (ls' : List Line) (ms' : List Bool) → ls' ≡ take at ls ++ (map unmarked put ++ drop (at + cut) ls) → ms' ≡ take at ms ++ (map mark_of put ++ drop (at + cut) ms) →
+  pub exchanged : (ls' : List Line) (ms' : List Bool) → ls' ≡ take at ls ++ (map unmarked put ++ drop (at + cut) ls)
+      → ms' ≡ take at ms ++ (map mark_of put ++ drop (at + cut) ms) →
       with_marks ls' ms' ≡ take at (with_marks ls ms) ++ (put ++ drop (at + cut) (with_marks ls ms))
   exchanged ls' ms' p q =
       ap (λ t. with_marks t ms') p ∙ ap (with_marks (take at ls ++ (map unmarked put ++ drop (at + cut) ls))) q
       ∙ marks_exchange ls (map unmarked put) ms (map mark_of put) at cut kept.marked same
       ∙ ap (λ t. take at (with_marks ls ms) ++ (t ++ drop (at + cut) (with_marks ls ms))) (marks_on put)
 
-  pub within_exchanged : (ls' : List Line) (ms' : List Bool) (len some : ℕ) → ls' ≡ take at ls ++ (map unmarked put ++ drop (at + cut) ls) → ms' ≡ take at ms ++ (map mark_of put ++ drop (at + cut) ms) →
-      len ≡ text_len put → some ≡ text_len (take cut (drop at (with_marks ls ms))) → IsWithin ls' ms' (bytes + len - some)
+  pub within_exchanged : (ls' : List Line) (ms' : List Bool) (len some : ℕ)
+      → ls' ≡ take at ls ++ (map unmarked put ++ drop (at + cut) ls)
+      → ms' ≡ take at ms ++ (map mark_of put ++ drop (at + cut) ms) →
+      len ≡ text_len put → some ≡ text_len (take cut (drop at (with_marks ls ms)))
+      → IsWithin ls' ms' (bytes + len - some)
   within_exchanged ls' ms' len some p q e f = record {
     marked = each;
-    total = omega (arith, e, f, gone_small, kept.total, ap text_len (exchanged ls' ms' p q), bytes_exchange (with_marks ls ms) put at cut places);
-    few = omega (arith, marks_len ls' ms' each, ap length (exchanged ls' ms' p q), few_lines (take at (with_marks ls ms) ++ (put ++ drop (at + cut) (with_marks ls ms))) within);
-    small = omega (arith, e, f, gone_small, kept.total, bytes_exchange (with_marks ls ms) put at cut places, few_bytes (take at (with_marks ls ms) ++ (put ++ drop (at + cut) (with_marks ls ms))) within);
+    total = omega (
+      arith,
+      e,
+      f,
+      gone_small,
+      kept.total,
+      ap text_len (exchanged ls' ms' p q),
+      bytes_exchange (with_marks ls ms) put at cut places,
+    );
+    few = omega (
+      arith,
+      marks_len ls' ms' each,
+      ap length (exchanged ls' ms' p q),
+      few_lines (take at (with_marks ls ms) ++ (put ++ drop (at + cut) (with_marks ls ms))) within,
+    );
+    small = omega (
+      arith,
+      e,
+      f,
+      gone_small,
+      kept.total,
+      bytes_exchange (with_marks ls ms) put at cut places,
+      few_bytes (take at (with_marks ls ms) ++ (put ++ drop (at + cut) (with_marks ls ms))) within,
+    );
   }
     where
       each : length ms' ≡ length ls'

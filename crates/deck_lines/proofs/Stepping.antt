@@ -42,10 +42,12 @@ then_outcome (Fails line ∷ first) rest before = by (pass_limit (before.lines +
     by true = refl
     by false = refl
 
+-- what the first steps lead to is where the others begin
 put_first : (first rest : List Step) (before now : Excerpt) → outcome_of before first ≡ Ok now
     → outcome_of before (first ++ rest) ≡ outcome_of now rest
 put_first first rest before now e = then_outcome first rest before ∙ ap (λ r. r >>= λ now. outcome_of now rest) e
 
+-- a fault of the first steps is one of all
 fail_first : (first rest : List Step) (before : Excerpt) (fault : LoadFault) → outcome_of before first ≡ Err fault
     → outcome_of before (first ++ rest) ≡ Err fault
 fail_first first rest before fault e = then_outcome first rest before ∙ ap (λ r. r >>= λ now. outcome_of now rest) e
@@ -64,6 +66,7 @@ ends_on reads left before now after DeckFull on h = on h.0 h.1 h.2
 ends_on reads left before now after ReadFailed on h = on h.0 h.1 h.2
 ends_on reads left before now after OutOfMemory on h = tt
 
+-- a load that was led somewhere ends where it ends from there
 pub led_ends : (reads left : List Step → Type 0) (before now after : Draft) (r : Result (Unit {0}) LoadFault)
     → LeadTo reads before left now → EndsBy left now r after → EndsBy reads before r after
 led_ends reads left before now after (Ok u) so_far h =
@@ -76,11 +79,13 @@ led_ends reads left before now after (Err fault) so_far h =
 abbrev outcome_by : Bool → Excerpt → Result Excerpt LoadFault
 outcome_by b now = cond b (Err DeckFull) (Ok now)
 
+-- one excerpt puts its lines, unless they pass a limit
 one_outcome : (before e : Excerpt) → outcome_of before (Gives e ∷ []) ≡ outcome_by
     (pass_limit (before.lines ++ e.lines)) (in_turn before e)
 unfolding outcome_of
 one_outcome before e = refl
 
+-- a load of one excerpt ends by that step
 pub one_step : (reads : List Step → Type 0) (before after : Draft) (e : Excerpt) (r : Result (Unit {0}) LoadFault)
     → reads (Gives e ∷ []) → IsLoad before e r after → ReadsNone r
     → OnOk r (pass_limit after.store.lines ≡ false) → EndsBy reads before r after
@@ -97,9 +102,11 @@ one_step reads before after e (Err DeckFull) h told none within =
 one_step reads before after e (Err ReadFailed) h told none within = absurd (none refl)
 one_step reads before after e (Err OutOfMemory) h told none within = tt
 
+-- the fault of an include line without room, or of its fetch
 abbrev full_or_failed : Bool → Result Excerpt LoadFault
 full_or_failed b = cond b (Err DeckFull) (Err ReadFailed)
 
+-- an include line whose fetch fails ends so
 failing : (before : Excerpt) (line : DeckLine) → outcome_of before (Fails line ∷ []) ≡ full_or_failed
     (pass_limit (before.lines ++ line ∷ []))
 unfolding outcome_of
@@ -114,6 +121,7 @@ may_fail : (files : Option FileMap) (name : List ℕ) → MayAnswer files name (
 may_fail None name = tt
 may_fail (Some m) name = tt
 
+-- an include line has some steps
 pub some_below : (files : Option FileMap) (depth : ℕ) (includer name : List ℕ) (line : Line)
     → (steps : List Step) × AreStepsBelow files depth includer name line steps
 unfolding AreStepsBelow
@@ -146,6 +154,7 @@ abbrev IsAlone : Reading → Type 0
 IsAlone (Includes word) = ⊥
 IsAlone reading = ⊤
 
+-- a line that includes nothing ends by its own excerpt
 pub alone_ends : (includes : List ℕ → Line → List Step → Type 0) (file : List ℕ) (blocks : List Block) (x : Line)
     (reading : Reading) (before after : Draft) (r : Result (Unit {0}) LoadFault) → IsAlone reading
     → reading ≡ reading_of x.text → IsLoad before (line_excerpt (λ word. NotRead []) file blocks x reading) r after

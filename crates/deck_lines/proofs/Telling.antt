@@ -24,6 +24,7 @@ use Rattle.deck_lines.specs.declared.line.DeckLine.{DeckLine}
 use Rattle.deck_lines.proofs.Drafting.{passes_more}
 use Rattle.deck_lines.proofs.Stepping.{then_outcome}
 
+-- an excerpt of these lines and notices
 abbrev made : List DeckLine → List (List ℕ) → Excerpt
 made lines notices = record { lines = lines; notices = notices }
 
@@ -33,11 +34,13 @@ given [] = made [] []
 given (Gives excerpt ∷ steps) = in_turn excerpt (given steps)
 given (Fails line ∷ steps) = given steps
 
+-- of three excerpts the first two or the last two may be put together first
 in_turn-in_turn : (a b c : Excerpt) → in_turn (in_turn a b) c ≡ in_turn a (in_turn b c)
 in_turn-in_turn a b c =
     ap (λ lines. made lines ((a.notices ++ b.notices) ++ c.notices)) (append_assoc a.lines b.lines c.lines)
     ∙ ap (made (a.lines ++ (b.lines ++ c.lines))) (append_assoc a.notices b.notices c.notices)
 
+-- an empty excerpt adds nothing
 in_turn-none : (a : Excerpt) → in_turn a (made [] []) ≡ a
 in_turn-none a = ap (λ lines. made lines (a.notices ++ [])) (append-nil a.lines)
     ∙ ap (made a.lines) (append-nil a.notices)
@@ -47,6 +50,7 @@ given-one : (a : Excerpt) → given (Gives a ∷ []) ≡ a
 unfolding given
 given-one a = in_turn-none a
 
+-- what two lists of steps give is what they give in turn
 given-append : (first rest : List Step) → given (first ++ rest) ≡ in_turn (given first) (given rest)
 unfolding given
 given-append [] rest = refl
@@ -132,6 +136,7 @@ answer_given m depth includer name line (Err fetch.TooLong) steps each may h all
 answer_given m depth includer name line (Err fetch.Failed) steps each may h all = absurd (subst AreAllGiven h all)
 answer_given m depth includer name line (Err fetch.OutOfMemory) steps each may h all = absurd h
 
+-- where no fetch fails, the steps of an include give its excerpt
 below_given : (m : FileMap) (depth : ℕ) (includer name : List ℕ) (line : Line) (steps : List Step)
     → AreStepsBelow (Some m) depth includer name line steps → AreAllGiven steps
     → given steps ≡ include_excerpt includer line (included_below m depth name)
@@ -142,6 +147,7 @@ below_given m (suc depth) includer name line steps h all =
     answer_given m depth includer name line h.0 steps
     (λ word x part. below_given m depth name (beside name word) x part) h.1 h.2 all
 
+-- the law of told files
 pub told_law : ToldLaw
 unfolding deck_of
 told_law files name bytes steps before h all fits =
@@ -152,9 +158,11 @@ told_law files name bytes steps before h all fits =
     (λ word x part. below_given files most_depth name (beside name word) x part)
     (shown (logical_lines bytes)) [] steps h all)
 
+-- the law of the first steps
 pub first_law : FirstLaw
 first_law before first rest = then_outcome first rest before
 
+-- the law of a failed fetch
 pub fail_law : FailLaw
 unfolding outcome_of
 fail_law before now first rest line e fits =

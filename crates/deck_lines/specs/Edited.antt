@@ -25,6 +25,7 @@ abbrev pub unedited : Store → Edited
 unedited store = record { before = store.lines; after = store.lines; names = store.names }
 
 -- the lines to go are there, and these are what the lines to be put define, of which each key has a number
-pub record ArePut (store : Store) (at cut : ℕ) (put : List DeckLine) (definitions : List (Option Definition)) : Type 0 where
+pub record ArePut (store : Store) (at cut : ℕ) (put : List DeckLine)
+    (definitions : List (Option Definition)) : Type 0 where
   pub places : at + cut ≤ length store.lines
   pub defined : IsDefined store.names definitions (map entry_in put)

@@ -25,6 +25,7 @@ pub enum LoadFault {
     DeckFull,
     /// An included file could not be read.
     ReadFailed,
+    /// Want of memory.
     OutOfMemory,
 }
 

@@ -1,4 +1,5 @@
-//! The lines of a deck: those of a definition file with its includes, each with its mark and what it defines, and the notices.
+//! The lines of a deck: those of a definition file with its includes, each with its mark and what
+//! it defines, and the notices.
 #![tactic(auto)]
 
 mod draft;

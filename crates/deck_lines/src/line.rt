@@ -1,7 +1,7 @@
 //! The lines of a deck, and its blocks.
 
 ghost use Rattle.std.specs.Prelude.{◌≡◌, ◌<◌, Some, length, slice_get};
-ghost use Rattle.deck_lines.specs.Blocks.{same_ending as same_end};
+ghost use Rattle.deck_lines.specs.Blocks as spec;
 ghost use Rattle.deck_lines.specs.Marks.{with_marks};
 
 use def_lines::Line;
@@ -70,14 +70,17 @@ impl<'a> MarkedLines<'a> {
 /// Which line closes a block.
 #[derive(Clone, Copy, Debug, PartialEq, Eq)]
 pub enum Ending {
+    /// `!endlocale` does.
     ByLocale,
+    /// `!endvar` does.
     ByVar,
+    /// `!endutf8` does.
     ByUtf8,
 }
 
 /// Whether two ends are one.
 pub(crate) fn same_ending(ending: Ending, other: Ending) -> bool
-    ensures { result ≡ same_end ending other }
+    ensures { result ≡ spec.same_ending ending other }
 {
     matches!(
         (ending, other),
@@ -90,8 +93,11 @@ pub(crate) fn same_ending(ending: Ending, other: Ending) -> bool
 /// What a line does to the blocks around it.
 #[derive(Clone, Copy, Debug, PartialEq, Eq)]
 pub enum Role {
+    /// It opens a block, which this ends.
     Opens(Ending),
+    /// It ends such a block.
     Closes(Ending),
+    /// It does neither.
     Inside,
 }
 

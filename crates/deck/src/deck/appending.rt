@@ -1,6 +1,7 @@
 //! The deck of a file behind the lines of a deck.
 
-ghost use Rattle.std.specs.Prelude.{◌≡◌, ◌⊎◌, ◌≤◌, [], Some, Ok, Err, true, false, IfOk, IfErr, MatchResult, OnOk, OnErr};
+ghost use Rattle.std.specs.Prelude.{◌≡◌, ◌⊎◌, ◌≤◌, [], Some, Ok, Err, true, false, IfOk, IfErr, MatchResult, OnOk};
+ghost use Rattle.std.specs.Prelude.{OnErr};
 ghost use Rattle.units_io.specs.FileMap.{FileMap};
 ghost use Rattle.deck_lines.specs.Limits.{pass_limit};
 ghost use Rattle.deck_lines.specs.Loads.{Extends};
@@ -33,11 +34,10 @@ impl Deck {
         files: &mut F,
         name: &[u8],
     ) -> Result<Keys, DeckFault>
-        ensures told { (m : FileMap) → F.files files.old ≡ Some m → loading.IsAppended (loading.after_append m name.now self.old) self.new result }
-        ensures ends { MatchResult result
-            (λ _. loading.MayComeTo (F.files files.old) name.now (loading.lines_alone self.old.lines)
-            (Ok (loading.excerpt_of self.new)))
-            (loading.MayFailBy (F.files files.old) name.now (loading.lines_alone self.old.lines)) }
+        ensures told { (m : FileMap) → F.files files.old ≡ Some m
+            → loading.IsAppended (loading.after_append m name.now self.old) self.new result }
+        ensures ends { loading.IsEnd (F.files files.old) name.now (loading.lines_alone self.old.lines)
+            (λ _. loading.excerpt_of self.new) result }
         ensures changed { IfOk result (λ keys. IsChange self.old self.new keys) }
         ensures settings { self.new.settings ≡ self.old.settings }
         ensures err { OnErr result (self.new ≡ self.old) }
@@ -46,7 +46,7 @@ impl Deck {
         ensures stores { F.store_faults files.new ≡ F.store_faults files.old }
         ensures counted { F.faults files.new ≡ loading.faults_after_load (F.faults files.old) result }
     {
-        let end = append_file(
+        let FileEnd { changes, notices } = append_file(
             alloc,
             files,
             &mut self.store,
@@ -54,19 +54,24 @@ impl Deck {
             &self.settings,
             name,
         )?;
-        self.last = end.last;
-        self.notices = end.notices;
-        Ok(end.keys)
+        self.last = changes.last;
+        self.notices = notices;
+        Ok(changes.keys)
     }
 }
 
-// What is kept of a deck behind whose lines the deck of a file stands: the last places, the notices of
-// the file, and the keys that it changes.
+// Last places, and the keys whose entries differ from those at the last places before.
+#[derive(Drop)]
+struct PlaceChanges {
+    last: LastPlaces,
+    keys: Keys,
+}
+
+// What the deck of a file changes behind whose lines it stands, and the notices of that file.
 #[derive(Drop)]
 struct FileEnd {
-    last: LastPlaces,
+    changes: PlaceChanges,
     notices: Notices,
-    keys: Keys,
 }
 
 // Puts the deck of a file behind the lines of a deck. After a refusal these are as before.
@@ -83,13 +88,12 @@ fn append_file<F: Files>(
         MatchResult result
         (λ end. loading.after_append m name.now d ≡ Ok (record d { lines = store.new.lines; notices = end.notices }))
         (λ fault. loading.MayFail fault ⊎ (loading.after_append m name.now d ≡ Err fault)) }
-    ensures ends { MatchResult result
-        (λ end. loading.MayComeTo (F.files files.old) name.now (loading.lines_alone store.old.lines)
-        (Ok (record { lines = store.new.lines; notices = end.notices })))
-        (loading.MayFailBy (F.files files.old) name.now (loading.lines_alone store.old.lines)) }
-    ensures indexed { IfOk result (λ end. IsIndexed store.new settings.now end.last) }
+    ensures ends { loading.IsEnd (F.files files.old) name.now (loading.lines_alone store.old.lines)
+        (λ end. record { lines = store.new.lines; notices = end.notices }) result }
+    ensures indexed { IfOk result (λ end. IsIndexed store.new settings.now end.changes.last) }
     ensures changed { IfOk result (λ end. IsTableChange
-        (table_of (definitions settings.now store.old.lines)) (table_of (definitions settings.now store.new.lines)) end.keys) }
+        (table_of (definitions settings.now store.old.lines))
+        (table_of (definitions settings.now store.new.lines)) end.changes.keys) }
     ensures lines { OnErr result (store.new.lines ≡ store.old.lines) }
     ensures stays { OnErr result (IsIndexed store.new settings.now last.now) }
     ensures answers { IfErr result (λ fault. loading.is_load_fault fault ≡ true) }
@@ -98,18 +102,12 @@ fn append_file<F: Files>(
     ensures counted { F.faults files.new ≡ loading.faults_after_load (F.faults files.old) result }
 {
     let len = store.len();
-    let mut draft = Draft {
-        store: mem::replace(store, LineStore::new(alloc)),
-        notices: Notices::new(alloc),
-    };
+    let mut draft = draft_of(alloc, store);
     let changes = load_changes(alloc, files, &mut draft, last, settings, name);
     *store = draft.store;
+    let notices = draft.notices;
     match changes {
-        Ok(changes) => Ok(FileEnd {
-            last: changes.last,
-            notices: draft.notices,
-            keys: changes.keys,
-        }),
+        Ok(changes) => Ok(FileEnd { changes, notices }),
         Err(fault) => {
             store.truncate(len);
             Err(fault)
@@ -117,11 +115,15 @@ fn append_file<F: Files>(
     }
 }
 
-// Last places, and the keys whose entries differ from those at the last places before.
-#[derive(Drop)]
-struct PlaceChanges {
-    last: LastPlaces,
-    keys: Keys,
+// A draft of the lines of a store, which are taken out of it.
+fn draft_of(alloc: Global, store: &mut LineStore) -> Draft
+    ensures store { result.store ≡ store.old }
+    ensures notices { result.notices ≡ [] }
+{
+    Draft {
+        store: mem::replace(store, LineStore::new(alloc)),
+        notices: Notices::new(alloc),
+    }
 }
 
 // Puts the deck of a file behind the lines in a draft, and finds what that changes.
@@ -138,15 +140,14 @@ fn load_changes<F: Files>(
     requires numbering { IsNumbering draft.old.store }
     ensures told { (m : FileMap) (d : Contents) → F.files files.old ≡ Some m → d.lines ≡ draft.old.store.lines →
         loading.IsRead (loading.after_append m name.now d) d draft.new.store.lines draft.new.notices result }
-    ensures ends { MatchResult result
-        (λ _. loading.MayComeTo (F.files files.old) name.now (loading.lines_alone draft.old.store.lines)
-        (Ok (excerpt_in draft.new)))
-        (loading.MayFailBy (F.files files.old) name.now (loading.lines_alone draft.old.store.lines)) }
+    ensures ends { loading.IsEnd (F.files files.old) name.now (loading.lines_alone draft.old.store.lines)
+        (λ _. excerpt_in draft.new) result }
     ensures within { OnOk result (pass_limit draft.new.store.lines ≡ false) }
     ensures extends { Extends draft.old.store draft.new.store }
     ensures indexed { IfOk result (λ now. IsIndexed draft.new.store settings.now now.last) }
     ensures changed { IfOk result (λ now. IsTableChange
-        (table_of (definitions settings.now draft.old.store.lines)) (table_of (definitions settings.now draft.new.store.lines)) now.keys) }
+        (table_of (definitions settings.now draft.old.store.lines))
+        (table_of (definitions settings.now draft.new.store.lines)) now.keys) }
     ensures answers { IfErr result (λ fault. loading.is_load_fault fault ≡ true) }
     ensures kept { F.files files.new ≡ F.files files.old }
     ensures stores { F.store_faults files.new ≡ F.store_faults files.old }

@@ -1,6 +1,7 @@
 //! A line put at the end.
 
-ghost use Rattle.std.specs.Prelude.{◌≡◌, ◌<◌, ◌++◌, ◌∷◌, ◌⊎◌, [], Some, Err, not, false, length, IfOk, IfErr, OnErr, OnOk};
+ghost use Rattle.std.specs.Prelude.{◌≡◌, ◌<◌, ◌++◌, ◌∷◌, ◌⊎◌, [], Some, Err, not, false, length, IfOk, IfErr, OnErr};
+ghost use Rattle.std.specs.Prelude.{OnOk};
 ghost use Rattle.def_lines.specs.Blanks.{trimmed};
 ghost use Rattle.def_entry.specs.Seen.{seen_entry};
 ghost use Rattle.def_entry.specs.Views.{entry_view};
@@ -9,14 +10,14 @@ ghost use Rattle.deck_lines.specs.Limits.{pass_limit};
 ghost use Rattle.deck_lines.specs.Marks.{plain_line, with_mark};
 ghost use Rattle.deck_lines.specs.Names.{names_of};
 ghost use Rattle.deck_lines.specs.Readings.{entry_in};
-ghost use Rattle.deck_lines.specs.Stores.{with_line as stored_with};
+ghost use Rattle.deck_lines.specs.Stores as stores;
 ghost use Rattle.deck.specs.Changes.{IsChange};
 ghost use Rattle.deck.specs.Decks.{Contents};
 ghost use Rattle.deck.specs.Edits as edit;
 ghost use Rattle.deck.specs.LastPlaces.{IsIndexed, places_of};
 ghost use Rattle.deck.specs.Undefining as undefining;
 ghost use Rattle.deck.specs.declared.fault.DeckFault.TheVariants.{OutOfMemory};
-ghost use Rattle.deck.specs.declared.settings.Settings.{Settings as SettingsValue};
+ghost use Rattle.deck.specs.declared.settings.Settings as settings_spec;
 
 use super::Deck;
 use crate::fault::DeckFault;
@@ -117,9 +118,9 @@ fn put_definition(
 ) -> Result<(), AllocError>
     requires defines { entry_in (with_mark false line) ≡ Some (seen_entry line.text definition) }
     requires within { pass_limit (store.old.lines ++ with_mark false line ∷ []) ≡ false }
-    ensures ok { OnOk result (store.new ≡ stored_with store.old (with_mark false line)) }
+    ensures ok { OnOk result (store.new ≡ stores.with_line store.old (with_mark false line)) }
     ensures err { OnErr result (store.new ≡ store.old) }
-    ensures indexed { (settings : SettingsValue) → IsIndexed store.old settings last.old
+    ensures indexed { (settings : settings_spec.Settings) → IsIndexed store.old settings last.old
         → IsIndexed store.new settings last.new }
 {
     let kind = definition.0.kind;
@@ -137,10 +138,11 @@ fn put_in_room(
 ) -> Result<(), AllocError>
     requires defines { entry_in (with_mark false line) ≡ Some (seen_entry line.text definition) }
     requires within { pass_limit (store.old.lines ++ with_mark false line ∷ []) ≡ false }
-    requires room { length (names_of store.old.names definition.0.kind) < length (places_of last.old definition.0.kind) }
-    ensures ok { OnOk result (store.new ≡ stored_with store.old (with_mark false line)) }
+    requires room { length (names_of store.old.names definition.0.kind)
+        < length (places_of last.old definition.0.kind) }
+    ensures ok { OnOk result (store.new ≡ stores.with_line store.old (with_mark false line)) }
     ensures err { OnErr result (store.new ≡ store.old) }
-    ensures indexed { (settings : SettingsValue) → IsIndexed store.old settings last.old
+    ensures indexed { (settings : settings_spec.Settings) → IsIndexed store.old settings last.old
         → IsIndexed store.new settings last.new }
 {
     let place = store.len();

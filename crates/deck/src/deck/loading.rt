@@ -1,6 +1,6 @@
 //! Decks of files and of texts.
 
-ghost use Rattle.std.specs.Prelude.{◌≡◌, ◌≤◌, [], Ok, Some, true, length, IfOk, IfErr, MatchResult, OnOk};
+ghost use Rattle.std.specs.Prelude.{◌≡◌, ◌≤◌, [], Some, true, length, IfOk, IfErr, OnOk};
 ghost use Rattle.units_io.specs.FileMap.{FileMap, longest_file};
 ghost use Rattle.deck_lines.specs.Closed.{IsClosed};
 ghost use Rattle.deck_lines.specs.Loads.{Extends};
@@ -43,10 +43,9 @@ impl Deck {
         name: &[u8],
         settings: Settings,
     ) -> Result<Deck, DeckFault>
-        ensures told { (m : FileMap) → F.files files.old ≡ Some m → loading.IsLoaded (loading.after_load m name.now settings) result }
-        ensures ends { MatchResult result
-            (λ d. loading.MayComeTo (F.files files.old) name.now (loading.lines_alone []) (Ok (loading.excerpt_of d)))
-            (loading.MayFailBy (F.files files.old) name.now (loading.lines_alone [])) }
+        ensures told { (m : FileMap) → F.files files.old ≡ Some m
+            → loading.IsLoaded (loading.after_load m name.now settings) result }
+        ensures ends { loading.IsEnd (F.files files.old) name.now (loading.lines_alone []) loading.excerpt_of result }
         ensures settings { IfOk result (λ d. d.settings ≡ settings) }
         ensures answers { IfErr result (λ fault. loading.is_load_fault fault ≡ true) }
         ensures kept { F.files files.new ≡ F.files files.old }
@@ -67,10 +66,9 @@ pub(crate) fn load_file<F: Files>(
     name: &[u8],
 ) -> Result<(), DeckFault>
     requires { draft.old.notices ≡ [] }
-    ensures told { (m : FileMap) (d : Contents) → F.files files.old ≡ Some m → d.lines ≡ draft.old.store.lines → loading.IsRead (loading.after_append m name.now d) d draft.new.store.lines draft.new.notices result }
-    ensures ends { MatchResult result
-        (λ _. loading.MayComeTo (F.files files.old) name.now (excerpt_in draft.old) (Ok (excerpt_in draft.new)))
-        (loading.MayFailBy (F.files files.old) name.now (excerpt_in draft.old)) }
+    ensures told { (m : FileMap) (d : Contents) → F.files files.old ≡ Some m → d.lines ≡ draft.old.store.lines
+        → loading.IsRead (loading.after_append m name.now d) d draft.new.store.lines draft.new.notices result }
+    ensures ends { loading.IsEnd (F.files files.old) name.now (excerpt_in draft.old) (λ _. excerpt_in draft.new) result }
     ensures extends { Extends draft.old.store draft.new.store }
     ensures closed { OnOk result (IsClosed draft.old.store.lines → IsClosed draft.new.store.lines) }
     ensures answers { IfErr result (λ fault. loading.is_load_fault fault ≡ true) }

@@ -1,8 +1,8 @@
-//! Entries near which a caller has been before.
+//! Entries with their places, and entries near which a caller has been before.
 
-ghost use Rattle.std.specs.Prelude.{◌≡◌, Some, option_map};
+ghost use Rattle.std.specs.Prelude.{◌≡◌, Some, option_map, IfSome};
 ghost use Rattle.std.specs.Bool.{OnTrue};
-ghost use Rattle.def_entry.specs.Keys.{key as key_named};
+ghost use Rattle.def_entry.specs.Keys as keys;
 ghost use Rattle.def_entry.specs.Views.{entry_view};
 ghost use Rattle.deck_lines.specs.Names.{key_at};
 ghost use Rattle.deck.specs.Tables as tables;
@@ -11,12 +11,39 @@ use super::Deck;
 use deck_lines::{KeyNumber, LineStore};
 use def_entry::{Entry, Kind};
 
+/// An entry, and where it stands.
+#[derive(Drop)]
+pub struct PlacedEntry<'a> {
+    /// The place of its line in `lines`, from 0.
+    pub place: usize,
+    /// The entry.
+    pub entry: Entry<'a>,
+}
+
 impl Deck {
+    /// `entry` and `place_of` by one look-up. It takes no memory.
+    pub fn placed_entry(&self, kind: Kind, name: &[u8]) -> Option<PlacedEntry<'_>>
+        ensures entry { option_map (λ p. entry_view p.entry) result
+            ≡ tables.entry_at (tables.table self.now) (keys.key kind name.now) }
+        ensures place { IfSome result (λ p. tables.last_place self.now.settings self.now.lines
+            (keys.key kind name.now) ≡ Some p.place) }
+    {
+        let Some(place) = self.place_of(kind, name) else {
+            return None;
+        };
+        match self.store.entry(place) {
+            Some(entry) => Some(PlacedEntry { place, entry }),
+            None => None,
+        }
+    }
+
     /// `entry`, which finds at once a key whose last active line stands at the place `near`, as it does for who has
     /// asked for the place before. A key whose line stands elsewhere is looked up. It takes no memory.
+    // Inlined, so that who asks for what an entry says does not pay for its text.
+    #[inline(always)]
     pub fn entry_near(&self, near: usize, kind: Kind, name: &[u8]) -> Option<Entry<'_>>
         ensures { option_map entry_view result
-            ≡ tables.entry_at (tables.table self.now) (key_named kind name.now) }
+            ≡ tables.entry_at (tables.table self.now) (keys.key kind name.now) }
     {
         if self.is_last_place(near, kind, name) {
             return self.store.entry(near);
@@ -26,7 +53,7 @@ impl Deck {
 
     // Whether a place is known, by what stands there, to be that of the last active line of a key.
     fn is_last_place(&self, place: usize, kind: Kind, name: &[u8]) -> bool
-        ensures { OnTrue result (tables.last_place self.now.settings self.now.lines (key_named kind name.now)
+        ensures { OnTrue result (tables.last_place self.now.settings self.now.lines (keys.key kind name.now)
             ≡ Some place) }
     {
         let Some(number) = self.store.key_number(place) else {
@@ -41,7 +68,7 @@ impl Deck {
 
 // Whether this is the number of a key.
 fn is_number_of(store: &LineStore, number: KeyNumber, kind: Kind, name: &[u8]) -> bool
-    ensures { OnTrue result (key_at store.now.names number ≡ Some (key_named kind name.now)) }
+    ensures { OnTrue result (key_at store.now.names number ≡ Some (keys.key kind name.now)) }
 {
     match store.name(number) {
         Some(own) => number.kind == kind && own == name,

@@ -42,35 +42,27 @@ impl Deck {
         else {
             return Err((change, AllocError));
         };
-        let Splice {
-            at,
-            cut,
-            put,
-            settings,
-        } = change;
-        let put_len = put.len();
-        let gone = match self
-            .store
-            .exchange(alloc, at, cut, put, changes.definitions)
-        {
+        let put_len = change.put.len();
+        let gone = match self.store.exchange(
+            alloc,
+            change.at,
+            change.cut,
+            change.put,
+            changes.definitions,
+        ) {
             Ok(gone) => gone,
             Err(refused) => {
                 let put = refused.value;
-                let change = Splice {
-                    at,
-                    cut,
-                    put,
-                    settings,
-                };
-                return Err((change, AllocError));
+                return Err((Splice { put, ..change }, AllocError));
             }
         };
         self.last = changes.last;
+        let settings = mem::replace(&mut self.settings, change.settings);
         let inverse = Splice {
-            at,
+            at: change.at,
             cut: put_len,
             put: gone,
-            settings: mem::replace(&mut self.settings, settings),
+            settings,
         };
         Ok((changes.keys, inverse))
     }

@@ -9,7 +9,7 @@ use deck_lines::{EditedLines, LineStore};
 use std::alloc::{AllocError, Global};
 
 /// Of each line of a store, whether it is active under the settings.
-pub fn active_flags(
+pub(crate) fn active_flags(
     alloc: Global,
     store: &LineStore,
     settings: &Settings,
@@ -20,7 +20,7 @@ pub fn active_flags(
 }
 
 /// Of each line after an edit, whether it is active under the settings.
-pub fn edited_flags(
+pub(crate) fn edited_flags(
     alloc: Global,
     edited: &EditedLines<'_>,
     settings: &Settings,

@@ -14,7 +14,7 @@ use units_io::{Text, Vars};
 /// Which blocks around a place hold, how many of them do not, and the variables in force: those of
 /// the settings, and those that lines have put in force.
 #[derive(Drop)]
-pub struct Surroundings<'a> {
+pub(crate) struct Surroundings<'a> {
     holds: Vec<bool>,
     failing: usize,
     base: &'a Vars,
@@ -35,7 +35,7 @@ impl<'a> Model for Surroundings<'a> {
 
 impl<'a> Surroundings<'a> {
     /// At the start of a deck, where these variables are in force.
-    pub fn start(alloc: Global, vars: &'a Vars) -> Surroundings<'a>
+    pub(crate) fn start(alloc: Global, vars: &'a Vars) -> Surroundings<'a>
         ensures { result ≡ record { holds = []; vars = vars.now } }
     {
         Surroundings {
@@ -47,7 +47,7 @@ impl<'a> Surroundings<'a> {
     }
 
     /// Whether a line there is active, which takes the same time in any depth.
-    pub fn is_active(&self, mark: bool) -> bool
+    pub(crate) fn is_active(&self, mark: bool) -> bool
         ensures { (line : DeckLine) → line.mark ≡ mark → result ≡ spec.is_active self.now line }
     {
         !mark && self.all_hold()
@@ -55,7 +55,7 @@ impl<'a> Surroundings<'a> {
 
     /// Goes behind a line.
     #[tactic(auto, unfolding(crate::specs::Active::behind_line))]
-    pub fn pass(
+    pub(crate) fn pass(
         &mut self,
         alloc: Global,
         locale: &[u8],

@@ -18,7 +18,7 @@ use std::alloc::{AllocError, Global};
 use units_io::Text;
 
 /// The keys whose entries differ between two sets of last places in these lines.
-pub fn changed_keys(
+pub(crate) fn changed_keys(
     alloc: Global,
     store: &LineStore,
     before: &LastPlaces,
@@ -32,13 +32,14 @@ pub fn changed_keys(
 }
 
 /// The keys whose entries differ between last places before an edit and last places after it.
-pub fn keys_between(
+pub(crate) fn keys_between(
     alloc: Global,
     edited: &EditedLines<'_>,
     before: &LastPlaces,
     after: &LastPlaces,
 ) -> Result<Keys, AllocError>
-    ensures { IfOk result (λ keys. (ds es : Definitions) → AreInPlace edited.now.before ds → AreInPlace edited.now.after es
+    ensures { IfOk result (λ keys. (ds es : Definitions)
+        → AreInPlace edited.now.before ds → AreInPlace edited.now.after es
         → AreLast edited.now.names ds before.now → AreLast edited.now.names es after.now
         → IsTableChange (table_of ds) (table_of es) keys) }
 {
@@ -52,7 +53,7 @@ pub fn keys_between(
 }
 
 /// The key of this number, where the entries differ at a place and at another one.
-pub fn changed_key(
+pub(crate) fn changed_key(
     alloc: Global,
     store: &LineStore,
     n: KeyNumber,

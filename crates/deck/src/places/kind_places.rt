@@ -8,7 +8,7 @@ use std::marker::Model;
 
 /// The places of the keys of one kind, by the numbers of the keys, and how many places there are.
 #[derive(Drop)]
-pub struct KindPlaces {
+pub(crate) struct KindPlaces {
     places: Vec<Option<usize>>,
     count: usize,
 }
@@ -26,7 +26,7 @@ impl Model for KindPlaces {
 
 impl KindPlaces {
     /// No place.
-    pub fn new(alloc: Global) -> KindPlaces
+    pub(crate) fn new(alloc: Global) -> KindPlaces
         ensures { result ≡ [] }
     {
         KindPlaces {
@@ -36,7 +36,7 @@ impl KindPlaces {
     }
 
     /// The place of the key of this number.
-    pub fn get(&self, number: usize) -> Option<usize>
+    pub(crate) fn get(&self, number: usize) -> Option<usize>
         ensures { result ≡ spec.place_in self.now number }
     {
         match self.places.get(number) {
@@ -46,14 +46,14 @@ impl KindPlaces {
     }
 
     /// How many keys have a place.
-    pub fn count(&self) -> usize
+    pub(crate) fn count(&self) -> usize
         ensures { result ≡ spec.place_count self.now }
     {
         self.count
     }
 
     /// Makes room for the place of the key of this number. All places stay.
-    pub fn make_room(&mut self, number: usize) -> Result<(), AllocError>
+    pub(crate) fn make_room(&mut self, number: usize) -> Result<(), AllocError>
         ensures same { spec.HasSamePlaces self.old self.new }
         ensures ok { OnOk result (number < length self.new) }
     {
@@ -64,7 +64,7 @@ impl KindPlaces {
     }
 
     /// Gives the key of this number a place. It takes no memory.
-    pub fn put(&mut self, number: usize, place: usize)
+    pub(crate) fn put(&mut self, number: usize, place: usize)
         requires { number < length self.old }
         ensures { self.new ≡ set self.old number (Some place) }
     {
@@ -75,7 +75,7 @@ impl KindPlaces {
     }
 
     /// Gives the key of this number a place or none. It takes no memory.
-    pub fn restore(&mut self, number: usize, place: Option<usize>)
+    pub(crate) fn restore(&mut self, number: usize, place: Option<usize>)
         requires { number < length self.old }
         ensures { self.new ≡ set self.old number place }
     {
@@ -97,7 +97,7 @@ impl KindPlaces {
     }
 
     /// The places when the line at one of them is gone.
-    pub fn close_gap(&mut self, gap: usize)
+    pub(crate) fn close_gap(&mut self, gap: usize)
         ensures { self.new ≡ map (option_map (spec.without_gap gap)) self.old }
     {
         close_gap(self.places.as_mut_slice(), gap);

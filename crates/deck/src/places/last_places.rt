@@ -1,7 +1,7 @@
 //! The last places of keys.
 
 ghost use Rattle.std.specs.Prelude.{◌≡◌, ◌<◌, [], Some, map, length, set, option_map, OnOk, if◌then◌else◌};
-ghost use Rattle.def_entry.specs.declared.key.Kind.{Kind as KindValue};
+ghost use Rattle.def_entry.specs.declared.key.Kind as key_kind;
 ghost use Rattle.def_entry.specs.SameKeys.{is_same_kind};
 ghost use Rattle.deck.specs.KindPlaces as kind_spec;
 ghost use Rattle.deck.specs.LastPlaces as spec;
@@ -13,7 +13,7 @@ use std::alloc::{AllocError, Global};
 
 /// The places of the last active lines of keys, by the numbers of the keys.
 #[derive(Drop)]
-pub struct LastPlaces {
+pub(crate) struct LastPlaces {
     pub units: KindPlaces,
     pub prefixes: KindPlaces,
     pub functions: KindPlaces,
@@ -22,8 +22,8 @@ pub struct LastPlaces {
 
 impl LastPlaces {
     /// No place.
-    pub fn new(alloc: Global) -> LastPlaces
-        ensures { (kind : KindValue) → spec.places_of result kind ≡ [] }
+    pub(crate) fn new(alloc: Global) -> LastPlaces
+        ensures { (kind : key_kind.Kind) → spec.places_of result kind ≡ [] }
     {
         LastPlaces {
             units: KindPlaces::new(alloc),
@@ -34,23 +34,24 @@ impl LastPlaces {
     }
 
     /// The place of the key of this number.
-    pub fn get(&self, n: KeyNumber) -> Option<usize>
+    pub(crate) fn get(&self, n: KeyNumber) -> Option<usize>
         ensures { result ≡ spec.place_at self.now n }
     {
         self.of_kind(n.kind).get(n.number)
     }
 
     /// How many keys of a kind have a place.
-    pub fn count(&self, kind: Kind) -> usize
+    pub(crate) fn count(&self, kind: Kind) -> usize
         ensures { result ≡ kind_spec.place_count (spec.places_of self.now kind) }
     {
         self.of_kind(kind).count()
     }
 
     /// Makes room for the place of the key of this number. All places stay.
-    pub fn make_room(&mut self, kind: Kind, number: usize) -> Result<(), AllocError>
-        ensures same { (k : KindValue) → kind_spec.HasSamePlaces (spec.places_of self.old k) (spec.places_of self.new k) }
-        ensures others { (k : KindValue) → spec.places_of self.new k
+    pub(crate) fn make_room(&mut self, kind: Kind, number: usize) -> Result<(), AllocError>
+        ensures same { (k : key_kind.Kind)
+            → kind_spec.HasSamePlaces (spec.places_of self.old k) (spec.places_of self.new k) }
+        ensures others { (k : key_kind.Kind) → spec.places_of self.new k
             ≡ (if is_same_kind k kind then spec.places_of self.new k else spec.places_of self.old k) }
         ensures ok { OnOk result (number < length (spec.places_of self.new kind)) }
     {
@@ -63,9 +64,9 @@ impl LastPlaces {
     }
 
     /// Gives the key of this number a place. It takes no memory.
-    pub fn put(&mut self, n: KeyNumber, place: usize)
+    pub(crate) fn put(&mut self, n: KeyNumber, place: usize)
         requires { n.number < length (spec.places_of self.old n.kind) }
-        ensures { (kind : KindValue) → spec.places_of self.new kind
+        ensures { (kind : key_kind.Kind) → spec.places_of self.new kind
             ≡ (if is_same_kind kind n.kind
             then set (spec.places_of self.old kind) n.number (Some place)
             else spec.places_of self.old kind) }
@@ -79,9 +80,9 @@ impl LastPlaces {
     }
 
     /// Gives the key of this number a place or none. It takes no memory.
-    pub fn restore(&mut self, n: KeyNumber, place: Option<usize>)
+    pub(crate) fn restore(&mut self, n: KeyNumber, place: Option<usize>)
         requires { n.number < length (spec.places_of self.old n.kind) }
-        ensures { (kind : KindValue) → spec.places_of self.new kind
+        ensures { (kind : key_kind.Kind) → spec.places_of self.new kind
             ≡ (if is_same_kind kind n.kind
             then set (spec.places_of self.old kind) n.number place
             else spec.places_of self.old kind) }
@@ -95,8 +96,8 @@ impl LastPlaces {
     }
 
     /// The places when the line at one of them is gone.
-    pub fn close_gap(&mut self, gap: usize)
-        ensures { (kind : KindValue) → spec.places_of self.new kind
+    pub(crate) fn close_gap(&mut self, gap: usize)
+        ensures { (kind : key_kind.Kind) → spec.places_of self.new kind
             ≡ map (option_map (kind_spec.without_gap gap)) (spec.places_of self.old kind) }
     {
         self.units.close_gap(gap);

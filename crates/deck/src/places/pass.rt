@@ -15,7 +15,7 @@ use std::alloc::{AllocError, Global};
 
 impl LastPlaces {
     /// The place of the last active line of each key, under these settings.
-    pub fn under(
+    pub(crate) fn under(
         alloc: Global,
         settings: &Settings,
         store: &LineStore,
@@ -27,7 +27,7 @@ impl LastPlaces {
     }
 
     /// The same of the lines after an edit.
-    pub fn under_edited(
+    pub(crate) fn under_edited(
         alloc: Global,
         settings: &Settings,
         edited: &EditedLines<'_>,
@@ -39,7 +39,7 @@ impl LastPlaces {
     }
 
     /// The place of the last line of each key among those whose flag is true.
-    pub fn by_flags(
+    pub(crate) fn by_flags(
         alloc: Global,
         flags: &[bool],
         store: &LineStore,

@@ -2,7 +2,7 @@
 
 ghost use Rattle.std.specs.Prelude.{◌≡◌, ◌++◌, [], None, false, map, option_map, reverse, OnOk, OnErr};
 ghost use Rattle.deck_lines.specs.Blocks.{end_text};
-ghost use Rattle.deck_lines.specs.Excerpts.{blocks_behind_role, closes_innermost as closes_inner, file_end, missing_end, role_excerpt, unclosed_notice};
+ghost use Rattle.deck_lines.specs.Excerpts as spec;
 ghost use Rattle.deck_lines.specs.Limits.{pass_limit};
 ghost use Rattle.deck_lines.specs.Loads.{Extends, IsLoad, ReadsNone};
 ghost use Rattle.deck_lines.specs.Marks.{plain_line};
@@ -24,8 +24,9 @@ pub(crate) fn push_role_line(
     role: Role,
 ) -> Result<(), LoadFault>
     requires { entry_in (plain_line line.number line.text) ≡ None }
-    ensures told { IsLoad draft.old (role_excerpt name.now (reverse blocks.old.items) line role) result draft.new }
-    ensures blocks { OnOk result (reverse blocks.new.items ≡ blocks_behind_role (reverse blocks.old.items) line.number role) }
+    ensures told { IsLoad draft.old (spec.role_excerpt name.now (reverse blocks.old.items) line role) result draft.new }
+    ensures blocks { OnOk result (reverse blocks.new.items
+        ≡ spec.blocks_behind_role (reverse blocks.old.items) line.number role) }
     ensures within { OnOk result (pass_limit draft.new.store.lines ≡ false) }
     ensures err { OnErr result (draft.new.store ≡ draft.old.store) }
     ensures read { ReadsNone result }
@@ -49,7 +50,7 @@ pub(crate) fn push_role_line(
 
 // Whether this end line closes the innermost block.
 fn closes_innermost(blocks: &[Block], ending: Ending) -> bool
-    ensures { result ≡ closes_inner ending (reverse blocks.now) }
+    ensures { result ≡ spec.closes_innermost ending (reverse blocks.now) }
 {
     match blocks.last() {
         Some(block) => same_ending(ending, block.ending),
@@ -64,7 +65,7 @@ pub(crate) fn push_file_end(
     name: &[u8],
     blocks: Vec<Block>,
 ) -> Result<(), LoadFault>
-    ensures told { IsLoad draft.old (file_end name.now (reverse blocks.items)) result draft.new }
+    ensures told { IsLoad draft.old (spec.file_end name.now (reverse blocks.items)) result draft.new }
     ensures within { OnOk result (pass_limit draft.new.store.lines ≡ false) }
     ensures extends { Extends draft.old.store draft.new.store }
     ensures read { ReadsNone result }
@@ -80,7 +81,7 @@ fn push_unclosed_notices(
     name: &[u8],
     blocks: &[Block],
 ) -> Result<(), AllocError>
-    ensures ok { OnOk result (draft.new.notices ≡ draft.old.notices ++ map (unclosed_notice name.now) blocks.now) }
+    ensures ok { OnOk result (draft.new.notices ≡ draft.old.notices ++ map (spec.unclosed_notice name.now) blocks.now) }
     ensures store { draft.new.store ≡ draft.old.store }
 {
     for block in blocks {
@@ -95,7 +96,8 @@ fn push_missing_ends(
     draft: &mut Draft,
     mut blocks: Vec<Block>,
 ) -> Result<(), LoadFault>
-    ensures told { IsLoad draft.old (record { lines = map missing_end (reverse blocks.items); notices = [] }) result draft.new }
+    ensures told { IsLoad draft.old (record { lines = map spec.missing_end (reverse blocks.items); notices = [] })
+        result draft.new }
     ensures within { OnOk result (pass_limit draft.new.store.lines ≡ false) }
     ensures extends { Extends draft.old.store draft.new.store }
     ensures read { ReadsNone result }

@@ -41,7 +41,8 @@ pub fn load_text<F: Files>(
     bytes: &[u8],
 ) -> Result<(), LoadFault>
     requires { length bytes.now ≤ longest_file }
-    ensures told { (m : FileMap) → F.files files.old ≡ Some m → IsLoad draft.old (deck_of m name.now bytes.now) result draft.new }
+    ensures told { (m : FileMap) → F.files files.old ≡ Some m
+        → IsLoad draft.old (deck_of m name.now bytes.now) result draft.new }
     ensures ends { EndsBy (AreStepsAbove (F.files files.old) most_depth name.now bytes.now) draft.old result draft.new }
     ensures extends { Extends draft.old.store draft.new.store }
     ensures closed { OnOk result (IsClosed draft.old.store.lines → IsClosed draft.new.store.lines) }
@@ -63,7 +64,8 @@ fn load_file<F: Files>(
     depth: u8,
 ) -> Result<(), LoadFault>
     requires { length bytes.now ≤ longest_file }
-    ensures told { (m : FileMap) → F.files files.old ≡ Some m → IsLoad draft.old (deck_above m depth name.now bytes.now) result draft.new }
+    ensures told { (m : FileMap) → F.files files.old ≡ Some m
+        → IsLoad draft.old (deck_above m depth name.now bytes.now) result draft.new }
     ensures ends { EndsBy (AreStepsAbove (F.files files.old) depth name.now bytes.now) draft.old result draft.new }
     ensures leads { Leads [] [] draft.old.store draft.new.store result }
     ensures kept { F.files files.new ≡ F.files files.old }
@@ -91,14 +93,19 @@ fn load_line<F: Files>(
     line: Line,
 ) -> Result<(), LoadFault>
     ensures told { (m : FileMap) → F.files files.old ≡ Some m
-        → IsLoad draft.old (line_excerpt (included_by m depth name.now) name.now (reverse blocks.old.items) line (reading_of line.text)) result draft.new }
+        → IsLoad draft.old
+        (line_excerpt (included_by m depth name.now) name.now (reverse blocks.old.items) line (reading_of line.text))
+        result draft.new }
     ensures ends { EndsBy
         (AreStepsOfLine
         (λ word. AreStepsBelow (F.files files.old) depth name.now (beside name.now word))
         name.now (reverse blocks.old.items) line (reading_of line.text))
         draft.old result draft.new }
-    ensures blocks { OnOk result (reverse blocks.new.items ≡ blocks_behind_line (reverse blocks.old.items) line (reading_of line.text)) }
-    ensures leads { Leads (endings (reverse blocks.old.items)) (endings (blocks_behind_line (reverse blocks.old.items) line (reading_of line.text))) draft.old.store draft.new.store result }
+    ensures blocks { OnOk result (reverse blocks.new.items
+        ≡ blocks_behind_line (reverse blocks.old.items) line (reading_of line.text)) }
+    ensures leads { Leads (endings (reverse blocks.old.items))
+        (endings (blocks_behind_line (reverse blocks.old.items) line (reading_of line.text)))
+        draft.old.store draft.new.store result }
     ensures kept { F.files files.new ≡ F.files files.old }
     ensures stores { F.store_faults files.new ≡ F.store_faults files.old }
     ensures counted { F.faults files.new ≡ faults_after_load (F.faults files.old) result }
@@ -128,7 +135,8 @@ fn load_include<F: Files>(
 ) -> Result<(), LoadFault>
     requires role { role_of (kind_of line.text) ≡ Inside }
     requires entry { entry_in (plain_line line.number line.text) ≡ None }
-    ensures told { (m : FileMap) → F.files files.old ≡ Some m → IsLoad draft.old (include_excerpt name.now line (included_below m depth file)) result draft.new }
+    ensures told { (m : FileMap) → F.files files.old ≡ Some m
+        → IsLoad draft.old (include_excerpt name.now line (included_below m depth file)) result draft.new }
     ensures ends { EndsBy (AreStepsBelow (F.files files.old) depth name.now file line) draft.old result draft.new }
     ensures leads { Leads [] [] draft.old.store draft.new.store result }
     ensures kept { F.files files.new ≡ F.files files.old }
@@ -137,7 +145,7 @@ fn load_include<F: Files>(
 {
     let file = file.as_bytes();
     if depth == 0 {
-        return refuse_include(alloc, draft, name, line, b"include too deep: ", file);
+        return put_unread(alloc, draft, name, line, b"include too deep: ", file);
     }
     if !draft.store.has_room(line.text.as_bytes().len()) {
         return Err(LoadFault::DeckFull);
@@ -147,22 +155,15 @@ fn load_include<F: Files>(
             draft.push_line(alloc, line, None)?;
             load_file(alloc, files, draft, file, text.as_bytes(), depth - 1)
         }
-        Err(FetchFault::Absent) => refuse_include(alloc, draft, name, line, b"no file: ", file),
-        Err(FetchFault::TooLong) => refuse_include(
-            alloc,
-            draft,
-            name,
-            line,
-            b"file too long: ",
-            file,
-        ),
+        Err(FetchFault::Absent) => put_unread(alloc, draft, name, line, b"no file: ", file),
+        Err(FetchFault::TooLong) => put_unread(alloc, draft, name, line, b"file too long: ", file),
         Err(FetchFault::Failed) => Err(LoadFault::ReadFailed),
         Err(FetchFault::OutOfMemory) => Err(LoadFault::OutOfMemory),
     }
 }
 
 // An include line whose file is not read, and a notice that ends with the name of that file.
-fn refuse_include(
+fn put_unread(
     alloc: Global,
     draft: &mut Draft,
     name: &[u8],

@@ -1,10 +1,11 @@
 //! What lines define, by the numbers of keys.
 
-ghost use Rattle.std.specs.Prelude.{◌≡◌, ◌++◌, ◌∷◌, ◌+◌, ◌<◌, [], ℕ, List, Option, Some, length, map, take, drop, option_map, OnOk, ◌≤◌, vec_capacity, vec_len, IfOk};
+ghost use Rattle.std.specs.Prelude.{◌≡◌, ◌++◌, ◌∷◌, ◌+◌, ◌<◌, [], ℕ, List, Option, Some, length, map, take, drop};
+ghost use Rattle.std.specs.Prelude.{option_map, OnOk, ◌≤◌, vec_capacity, vec_len, IfOk};
 ghost use Rattle.std.specs.Option.{option_copied};
-ghost use Rattle.def_entry.specs.Entries.{Entry as Said};
+ghost use Rattle.def_entry.specs.Entries as entries;
 ghost use Rattle.def_entry.specs.Seen.{seen_entry};
-ghost use Rattle.def_entry.specs.declared.key.Key.{Key as KeyValue};
+ghost use Rattle.def_entry.specs.declared.key.Key as key_spec;
 ghost use Rattle.deck_lines.specs.Kept.{AreDefined, HasRoomFor, IsDefined, keyed_definition, seen_definition};
 ghost use Rattle.deck_lines.specs.Names.{Names, key_at, no_names};
 ghost use Rattle.deck_lines.specs.NumberedKeys.{names_in};
@@ -29,7 +30,7 @@ pub struct Definition {
 
 /// What lines define, line by line, and the keys that have numbers.
 #[derive(Drop)]
-pub struct Definitions {
+pub(crate) struct Definitions {
     pub of_lines: Vec<Option<Definition>>,
     pub keys: KeyNumbers,
 }
@@ -42,7 +43,7 @@ pub struct PutDefinitions {
 
 impl Definitions {
     /// No line, and no key has a number.
-    pub fn new(alloc: Global) -> Definitions
+    pub(crate) fn new(alloc: Global) -> Definitions
         ensures lines { result.of_lines.items ≡ [] }
         ensures names { names_in result.keys ≡ no_names }
     {
@@ -53,7 +54,7 @@ impl Definitions {
     }
 
     /// What the line at a place defines.
-    pub fn at(&self, place: usize) -> Option<&Definition>
+    pub(crate) fn at(&self, place: usize) -> Option<&Definition>
         ensures { (lines : List DeckLine) → AreDefined self.now (map entry_in lines)
             → option_map (seen_definition (names_in self.now.keys)) (option_copied result)
             ≡ option_map keyed_definition (definition_at lines place) }
@@ -62,7 +63,7 @@ impl Definitions {
     }
 
     /// Makes room for what one more line defines.
-    pub fn reserve_for(&mut self, definition: &Option<(Key, What)>) -> Result<(), AllocError>
+    pub(crate) fn reserve_for(&mut self, definition: &Option<(Key, What)>) -> Result<(), AllocError>
         ensures lines { self.new.of_lines.items ≡ self.old.of_lines.items }
         ensures names { names_in self.new.keys ≡ names_in self.old.keys }
         ensures ok { OnOk result (HasRoomFor self.new definition.now) }
@@ -76,12 +77,13 @@ impl Definitions {
 
     /// Puts what one more line defines at the end, and answers the number of its key, which is the
     /// next of its kind where it had none. It takes no memory.
-    pub fn put(&mut self, definition: Option<(Key, What)>) -> Option<KeyNumber>
+    pub(crate) fn put(&mut self, definition: Option<(Key, What)>) -> Option<KeyNumber>
         requires room { HasRoomFor self.old definition }
-        ensures lines { (said : List (Option (KeyValue × Said))) (line : List ℕ) → AreDefined self.old said
+        ensures lines { (said : List (Option (key_spec.Key × entries.Entry))) (line : List ℕ) → AreDefined self.old said
             → AreDefined self.new (said ++ option_map (seen_entry line) definition ∷ []) }
         ensures names { (line : List ℕ)
-            → names_in self.new.keys ≡ with_definition (names_in self.old.keys) (option_map (seen_entry line) definition) }
+            → names_in self.new.keys
+            ≡ with_definition (names_in self.old.keys) (option_map (seen_entry line) definition) }
         ensures number { (line : List ℕ) → option_map (key_at (names_in self.new.keys)) result
             ≡ option_map (λ d. Some d.0) (option_map (seen_entry line) definition) }
     {
@@ -99,17 +101,18 @@ impl Definitions {
     }
 
     /// Keeps what the first lines define, so many.
-    pub fn truncate(&mut self, len: usize)
-        ensures lines { (said : List (Option (KeyValue × Said))) → AreDefined self.old said → AreDefined self.new (take len said) }
+    pub(crate) fn truncate(&mut self, len: usize)
+        ensures lines { (said : List (Option (key_spec.Key × entries.Entry))) → AreDefined self.old said
+            → AreDefined self.new (take len said) }
         ensures names { names_in self.new.keys ≡ names_in self.old.keys }
     {
         self.of_lines.truncate(len);
     }
 
     /// Takes out what the line at a place defines.
-    pub fn remove(&mut self, place: usize)
+    pub(crate) fn remove(&mut self, place: usize)
         requires { place < length self.old.of_lines.items }
-        ensures lines { (said : List (Option (KeyValue × Said))) → AreDefined self.old said
+        ensures lines { (said : List (Option (key_spec.Key × entries.Entry))) → AreDefined self.old said
             → AreDefined self.new (take place said ++ drop (place + 1) said) }
         ensures names { names_in self.new.keys ≡ names_in self.old.keys }
     {
@@ -118,7 +121,7 @@ impl Definitions {
 
     /// Makes room for an exchange of so many lines for so many others, and gives an empty vector for
     /// what goes.
-    pub fn room_for(
+    pub(crate) fn room_for(
         &mut self,
         alloc: Global,
         put: usize,
@@ -135,7 +138,7 @@ impl Definitions {
 
     /// Puts what other lines define in the place of what some define, from a place on. It takes no
     /// memory.
-    pub fn exchange(
+    pub(crate) fn exchange(
         &mut self,
         at: usize,
         cut: usize,
@@ -146,7 +149,7 @@ impl Definitions {
         requires room { vec_len self.old.of_lines + vec_len put ≤ vec_capacity self.old.of_lines }
         requires hole { cut ≤ vec_capacity gone }
         requires empty { gone.items ≡ [] }
-        ensures lines { (said by : List (Option (KeyValue × Said))) → AreDefined self.old said
+        ensures lines { (said by : List (Option (key_spec.Key × entries.Entry))) → AreDefined self.old said
             → IsDefined (names_in self.old.keys) put.items by
             → AreDefined self.new (take at said ++ (by ++ drop (at + cut) said)) }
         ensures names { names_in self.new.keys ≡ names_in self.old.keys }
@@ -156,9 +159,10 @@ impl Definitions {
 }
 
 /// What the line at a place defines, among what lines define.
-pub fn definition_in(definitions: &[Option<Definition>], place: usize) -> Option<&Definition>
+pub(crate) fn definition_in(definitions: &[Option<Definition>], place: usize) -> Option<&Definition>
     ensures { (names : Names) (lines : List DeckLine) → IsDefined names definitions.now (map entry_in lines)
-        → option_map (seen_definition names) (option_copied result) ≡ option_map keyed_definition (definition_at lines place) }
+        → option_map (seen_definition names) (option_copied result)
+        ≡ option_map keyed_definition (definition_at lines place) }
 {
     match definitions.get(place) {
         Some(Some(definition)) => Some(definition),

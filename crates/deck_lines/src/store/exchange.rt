@@ -4,7 +4,7 @@ ghost use Rattle.std.specs.Prelude.{◌≡◌, ◌++◌, ◌+◌, ◌-◌, ◌�
 
 /// Puts other items in the place of some, from a place on, which go to an empty vector. It takes no
 /// memory.
-pub fn exchange<T: Drop>(
+pub(crate) fn exchange<T: Drop>(
     items: &mut Vec<T>,
     at: usize,
     cut: usize,

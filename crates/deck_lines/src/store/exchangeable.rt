@@ -1,6 +1,7 @@
 //! Whether lines may be put in the place of others.
 
-ghost use Rattle.std.specs.Prelude.{◌≡◌, ◌≤◌, ◌+◌, ◌↔◌, ℕ, [], Some, None, IfOk, IsTrue, length, reverse, if◌then◌else◌};
+ghost use Rattle.std.specs.Prelude.{◌≡◌, ◌≤◌, ◌+◌, ◌↔◌, ℕ, [], Some, None, IfOk, IsTrue, length, reverse};
+ghost use Rattle.std.specs.Prelude.{if◌then◌else◌};
 ghost use Rattle.def_lines.specs.Kinds.{kind_of};
 ghost use Rattle.deck_lines.specs.Blocks.{role_of};
 ghost use Rattle.deck_lines.specs.Closed.{IsClosed, blocks_past, blocks_without};

@@ -1,10 +1,11 @@
 //! Lines with their marks, within the limits of a deck.
 
-ghost use Rattle.std.specs.Prelude.{◌≡◌, ◌++◌, ◌∷◌, ◌+◌, ◌<◌, ◌≤◌, [], false, not, length, map, take, drop, IfOk, IfErr, OnOk, OnErr};
+ghost use Rattle.std.specs.Prelude.{◌≡◌, ◌++◌, ◌∷◌, ◌+◌, ◌<◌, ◌≤◌, [], false, not, length, map, take, drop, IfOk};
+ghost use Rattle.std.specs.Prelude.{IfErr, OnOk, OnErr};
 ghost use Rattle.deck_lines.specs.Limits.{bytes_in, most_bytes, pass_limit, text_len};
 ghost use Rattle.deck_lines.specs.Marks.{unmarked, with_mark, with_marks};
 ghost use Rattle.deck_lines.specs.Exchanges.{IsExchanged};
-ghost use Rattle.deck_lines.specs.declared.line.DeckLine.{DeckLine as Marked};
+ghost use Rattle.deck_lines.specs.declared.line.DeckLine as line_spec;
 
 use super::lists;
 use super::marked::exchange_in_list;
@@ -21,7 +22,7 @@ pub const MOST_BYTES: usize = 67_108_864;
 
 /// Lines and their marks, side by side, within the limits of a deck.
 #[derive(Drop)]
-pub struct LineList {
+pub(crate) struct LineList {
     lines: Lines,
     marks: Vec<bool>,
     bytes: usize,
@@ -42,7 +43,7 @@ impl Model for LineList {
 
 impl LineList {
     /// No line.
-    pub fn new(alloc: Global) -> LineList
+    pub(crate) fn new(alloc: Global) -> LineList
         ensures { result ≡ [] }
     {
         LineList {
@@ -53,14 +54,14 @@ impl LineList {
     }
 
     /// How many lines there are.
-    pub fn len(&self) -> usize
+    pub(crate) fn len(&self) -> usize
         ensures { result ≡ length self.now }
     {
         self.lines.len()
     }
 
     /// The lines, without their marks.
-    pub fn lines(&self) -> &Lines
+    pub(crate) fn lines(&self) -> &Lines
         ensures lines { result.now ≡ map unmarked self.now }
         ensures within { pass_limit self.now ≡ false }
     {
@@ -68,7 +69,7 @@ impl LineList {
     }
 
     /// The lines and their marks.
-    pub fn marked(&self) -> MarkedLines<'_>
+    pub(crate) fn marked(&self) -> MarkedLines<'_>
         ensures lines { with_marks result.lines.now result.marks.now ≡ self.now }
         ensures each { length result.marks.now ≡ length result.lines.now }
         ensures within { pass_limit self.now ≡ false }
@@ -80,14 +81,15 @@ impl LineList {
     }
 
     /// Whether one more line, with a text of this many bytes, is within the limits.
-    pub fn has_room(&self, len: usize) -> bool
-        ensures { (line : Marked) → length line.text ≡ len → pass_limit (self.now ++ line ∷ []) ≡ not result }
+    pub(crate) fn has_room(&self, len: usize) -> bool
+        ensures { (line : line_spec.DeckLine) → length line.text ≡ len
+            → pass_limit (self.now ++ line ∷ []) ≡ not result }
     {
         self.lines.len() < MOST_LINES && len <= MOST_BYTES - self.bytes
     }
 
     /// Puts a line at the end, with its mark. A refusal changes nothing.
-    pub fn push(&mut self, alloc: Global, line: Line, mark: bool) -> Result<(), AllocError>
+    pub(crate) fn push(&mut self, alloc: Global, line: Line, mark: bool) -> Result<(), AllocError>
         requires { pass_limit (self.old ++ with_mark mark line ∷ []) ≡ false }
         ensures ok { OnOk result (self.new ≡ self.old ++ with_mark mark line ∷ []) }
         ensures err { OnErr result (self.new ≡ self.old) }
@@ -101,7 +103,7 @@ impl LineList {
     }
 
     /// Keeps the first lines alone, so many, or all where there are fewer.
-    pub fn truncate(&mut self, len: usize)
+    pub(crate) fn truncate(&mut self, len: usize)
         ensures { self.new ≡ take len self.old }
     {
         if self.lines.len() <= len {
@@ -114,7 +116,7 @@ impl LineList {
     }
 
     /// Takes the line at a place out.
-    pub fn remove(&mut self, place: usize)
+    pub(crate) fn remove(&mut self, place: usize)
         requires { place < length self.old }
         ensures { self.new ≡ take place self.old ++ drop (place + 1) self.old }
     {
@@ -125,7 +127,7 @@ impl LineList {
 
     /// Puts other lines in the place of some, from a place on, and answers those. A refusal hands the
     /// lines back and changes nothing.
-    pub fn exchange(
+    pub(crate) fn exchange(
         &mut self,
         alloc: Global,
         at: usize,

@@ -1,6 +1,7 @@
 //! The store of the lines of a deck.
 
-ghost use Rattle.std.specs.Prelude.{◌≡◌, ◌++◌, ◌∷◌, ◌+◌, ◌<◌, [], Some, false, not, length, map, take, drop, slice_get, option_map, OnOk, OnErr, IfOk, MatchOption, ◌≤◌, IfErr};
+ghost use Rattle.std.specs.Prelude.{◌≡◌, ◌++◌, ◌∷◌, ◌+◌, ◌<◌, [], Some, false, not, length, map, take, drop, slice_get};
+ghost use Rattle.std.specs.Prelude.{option_map, OnOk, OnErr, IfOk, MatchOption, ◌≤◌, IfErr};
 ghost use Rattle.std.specs.Option.{option_copied};
 ghost use Rattle.def_entry.specs.Keys.{key};
 ghost use Rattle.def_entry.specs.Seen.{seen_entry};
@@ -13,7 +14,7 @@ ghost use Rattle.deck_lines.specs.Names.{IsExtended, is_numbered, key_at, names_
 ghost use Rattle.deck_lines.specs.Numbering.{IsNumbering};
 ghost use Rattle.deck_lines.specs.Readings.{entry_in};
 ghost use Rattle.deck_lines.specs.Stores.{definition_at, no_lines, with_line};
-ghost use Rattle.deck_lines.specs.declared.line.DeckLine.{DeckLine as Marked};
+ghost use Rattle.deck_lines.specs.declared.line.DeckLine as line_spec;
 
 use super::definitions::{Definition, Definitions, PutDefinitions};
 use super::line_list::LineList;
@@ -100,7 +101,8 @@ impl LineStore {
 
     /// Whether one more line, with a text of this many bytes, is within the limits.
     pub fn has_room(&self, len: usize) -> bool
-        ensures { (line : Marked) → length line.text ≡ len → pass_limit (self.now.lines ++ line ∷ []) ≡ not result }
+        ensures { (line : line_spec.DeckLine) → length line.text ≡ len
+            → pass_limit (self.now.lines ++ line ∷ []) ≡ not result }
     {
         self.lines.has_room(len)
     }
@@ -117,7 +119,8 @@ impl LineStore {
         requires reads { option_map (seen_entry line.text) definition ≡ entry_in (with_mark mark line) }
         requires room { pass_limit (self.old.lines ++ with_mark mark line ∷ []) ≡ false }
         ensures ok { OnOk result (self.new ≡ with_line self.old (with_mark mark line)) }
-        ensures number { IfOk result (λ n. option_map (key_at self.new.names) n ≡ option_map (λ d. Some d.0) (entry_in (with_mark mark line))) }
+        ensures number { IfOk result (λ n. option_map (key_at self.new.names) n
+            ≡ option_map (λ d. Some d.0) (entry_in (with_mark mark line))) }
         ensures err { OnErr result (self.new ≡ self.old) }
     {
         self.definitions.reserve_for(&definition)?;

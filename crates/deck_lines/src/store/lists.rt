@@ -1,13 +1,14 @@
 //! Lists changed in place, with no memory.
 
-ghost use Rattle.std.specs.Prelude.{◌≡◌, ◌++◌, ◌∷◌, ◌+◌, ◌<◌, ◌≤◌, [], Some, length, take, drop, slice_get, vec_capacity, vec_len};
+ghost use Rattle.std.specs.Prelude.{◌≡◌, ◌++◌, ◌∷◌, ◌+◌, ◌<◌, ◌≤◌, [], Some, length, take, drop, slice_get};
+ghost use Rattle.std.specs.Prelude.{vec_capacity, vec_len};
 
 use std::alloc::Global;
 use std::mem;
 use units_io::List;
 
 /// Keeps the first items alone, so many, or all where there are fewer.
-pub fn truncate<T: Drop>(list: &mut List<T>, alloc: Global, len: usize)
+pub(crate) fn truncate<T: Drop>(list: &mut List<T>, alloc: Global, len: usize)
     ensures { list.new ≡ take len list.old }
 {
     let mut items = take_items(list, alloc);
@@ -16,7 +17,7 @@ pub fn truncate<T: Drop>(list: &mut List<T>, alloc: Global, len: usize)
 }
 
 /// Puts an item at the end of a vector that has room for it.
-pub fn put_last<T: Drop>(items: &mut Vec<T>, item: T)
+pub(crate) fn put_last<T: Drop>(items: &mut Vec<T>, item: T)
     requires { vec_len items.old + 1 ≤ vec_capacity items.old }
     ensures items { items.new.items ≡ items.old.items ++ item ∷ [] }
     ensures capacity { vec_capacity items.old ≤ vec_capacity items.new }
@@ -25,7 +26,7 @@ pub fn put_last<T: Drop>(items: &mut Vec<T>, item: T)
 }
 
 /// Takes the item at a place out.
-pub fn remove<T: Drop>(list: &mut List<T>, alloc: Global, place: usize) -> T
+pub(crate) fn remove<T: Drop>(list: &mut List<T>, alloc: Global, place: usize) -> T
     requires { place < length list.old }
     ensures rest { list.new ≡ take place list.old ++ drop (place + 1) list.old }
     ensures item { slice_get list.old place ≡ Some result }
@@ -37,7 +38,7 @@ pub fn remove<T: Drop>(list: &mut List<T>, alloc: Global, place: usize) -> T
 }
 
 /// Takes the item at a place of a vector out.
-pub fn remove_at<T: Drop>(items: &mut Vec<T>, place: usize) -> T
+pub(crate) fn remove_at<T: Drop>(items: &mut Vec<T>, place: usize) -> T
     requires { place < length items.old.items }
     ensures rest { items.new.items ≡ take place items.old.items ++ drop (place + 1) items.old.items }
     ensures item { slice_get items.old.items place ≡ Some result }
@@ -46,7 +47,7 @@ pub fn remove_at<T: Drop>(items: &mut Vec<T>, place: usize) -> T
 }
 
 /// The items of a list, which is empty then.
-pub fn take_items<T: Drop>(list: &mut List<T>, alloc: Global) -> Vec<T>
+pub(crate) fn take_items<T: Drop>(list: &mut List<T>, alloc: Global) -> Vec<T>
     ensures items { result.items ≡ list.old }
     ensures empty { list.new ≡ [] }
 {

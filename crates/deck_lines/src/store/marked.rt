@@ -1,6 +1,7 @@
 //! Lines with their marks exchanged, in vectors side by side.
 
-ghost use Rattle.std.specs.Prelude.{◌≡◌, ◌++◌, ◌+◌, ◌≤◌, [], length, map, take, drop, vec_capacity, vec_len, IfOk, IfErr, OnOk, OnErr};
+ghost use Rattle.std.specs.Prelude.{◌≡◌, ◌++◌, ◌+◌, ◌≤◌, [], length, map, take, drop, vec_capacity, vec_len, IfOk};
+ghost use Rattle.std.specs.Prelude.{IfErr, OnOk, OnErr};
 ghost use Rattle.deck_lines.specs.Exchanges.{HasRoom, IsExchanged};
 ghost use Rattle.deck_lines.specs.Marks.{mark_of, unmarked, with_marks};
 
@@ -12,7 +13,7 @@ use std::alloc::{AllocError, AllocFailed, Global};
 
 /// Puts other lines with their marks in the place of some, from a place on, and answers those. A
 /// refusal hands the lines back and changes nothing.
-pub fn exchange_in_list(
+pub(crate) fn exchange_in_list(
     alloc: Global,
     lines: &mut Lines,
     marks: &mut Vec<bool>,
@@ -24,7 +25,8 @@ pub fn exchange_in_list(
     requires places { at + cut ≤ length lines.old }
     ensures ok { OnOk result (IsExchanged at cut (map unmarked put) lines.old lines.new
         × IsExchanged at cut (map mark_of put) marks.old.items marks.new.items) }
-    ensures gone { IfOk result (λ gone. gone ≡ with_marks (take cut (drop at lines.old)) (take cut (drop at marks.old.items))) }
+    ensures gone { IfOk result (λ gone.
+        gone ≡ with_marks (take cut (drop at lines.old)) (take cut (drop at marks.old.items))) }
     ensures err { OnErr result ((lines.new ≡ lines.old) × (marks.new.items ≡ marks.old.items)) }
     ensures back { IfErr result (λ refused. refused.value ≡ put) }
 {
@@ -47,8 +49,8 @@ fn exchange_marked(
     requires places { at + cut ≤ length lines.old.items }
     ensures ok { OnOk result (IsExchanged at cut (map unmarked put) lines.old.items lines.new.items
         × IsExchanged at cut (map mark_of put) marks.old.items marks.new.items) }
-    ensures gone { IfOk result (λ gone. gone
-        ≡ with_marks (take cut (drop at lines.old.items)) (take cut (drop at marks.old.items))) }
+    ensures gone { IfOk result (λ gone.
+        gone ≡ with_marks (take cut (drop at lines.old.items)) (take cut (drop at marks.old.items))) }
     ensures err { OnErr result ((lines.new.items ≡ lines.old.items) × (marks.new.items ≡ marks.old.items)) }
     ensures back { IfErr result (λ refused. refused.value ≡ put) }
 {

@@ -2,14 +2,14 @@
 
 ghost use Rattle.std.specs.Prelude.{◌≡◌, ◌≤◌, ◌<◌, ◌+◌, List, Some, length, slice_get};
 ghost use Rattle.deck_lines.specs.Origins.{exchanged_lines, line_from};
-ghost use Rattle.deck_lines.specs.declared.line.DeckLine.{DeckLine as Marked};
+ghost use Rattle.deck_lines.specs.declared.line.DeckLine as line_spec;
 
 use super::line_store::LineStore;
 use crate::line::{BorrowedLine, DeckLine};
 
 /// Where a line comes from.
 #[derive(Clone, Copy)]
-pub enum Origin {
+pub(crate) enum Origin {
     /// It stood at this place before.
     Stored(usize),
     /// It is at this place among those that were put.
@@ -20,9 +20,9 @@ pub enum Origin {
 
 /// Where the line at a place comes from, of so many lines, when so many others were put in the place
 /// of some from a place on.
-pub fn origin_of(count: usize, at: usize, cut: usize, put: usize, place: usize) -> Origin
+pub(crate) fn origin_of(count: usize, at: usize, cut: usize, put: usize, place: usize) -> Origin
     requires { at + cut ≤ count }
-    ensures { (lines others : List Marked) → length lines ≡ count → length others ≡ put
+    ensures { (lines others : List line_spec.DeckLine) → length lines ≡ count → length others ≡ put
         → slice_get (exchanged_lines at cut others lines) place ≡ line_from lines others result }
 {
     if place < at {
@@ -40,7 +40,7 @@ pub fn origin_of(count: usize, at: usize, cut: usize, put: usize, place: usize) 
 }
 
 /// The line at a place, when lines are put in the place of some from a place on.
-pub fn line_at<'a>(
+pub(crate) fn line_at<'a>(
     store: &'a LineStore,
     at: usize,
     cut: usize,

@@ -15,7 +15,7 @@ use def_entry::{Key, What};
 use std::alloc::{AllocError, Global};
 
 /// What lines define, by the numbers of their keys, which are given where there are none.
-pub fn read_definitions(
+pub(crate) fn read_definitions(
     alloc: Global,
     keys: &mut KeyNumbers,
     lines: &[DeckLine],

@@ -8,6 +8,9 @@ use Rattle.deck.proofs.deck.Deck.can_splice.Goals as goal
 
 pub returns : goal.returns
 returns c =
-    subst (λ (d : Contents). IfOk c.can_exchange.result (λ can. IsTrue can ↔ CanSplice c.args.change.now d)) c.self.view_is
-    (subst (λ (ls : List DeckLine). IfOk c.can_exchange.result (λ can. IsTrue can ↔ CanExchange c.args.change.now.at c.args.change.now.cut ls c.self.inside.store.lines)) c.as_slice-put.ensures
+    subst (λ (d : Contents). IfOk c.can_exchange.result (λ can. IsTrue can ↔ CanSplice c.args.change.now d))
+    c.self.view_is
+    (subst (λ (ls : List DeckLine). IfOk c.can_exchange.result
+    (λ can. IsTrue can ↔ CanExchange c.args.change.now.at c.args.change.now.cut ls c.self.inside.store.lines))
+    c.as_slice-put.ensures
     c.can_exchange.ensures)

@@ -27,11 +27,16 @@ returns-then-eq c = λ closed defines.
     let text : List ℕ = c.args.entry.line.now in
     let e : Entry = entry_view c.args.entry in
     let f : Entry = entry_view c.in-Some.old in
-    let had : entry_at (table d) k ≡ Some f = sym (ap (λ n. entry_at (table d) (key k.kind n)) c.as_bytes.ensures) ∙ sym c.in-Some.ensures in
-    let texts : f.text ≡ e.text = sym c.text.ensures ∙ (bytes_eq-Decides c.text.result.now c.text-in-Some.result.now).0 (sym c.eq.ensures ∙ c.if-eq.true) ∙ c.text-in-Some.ensures in
+    let had : entry_at (table d) k ≡ Some f = sym (ap (λ n. entry_at (table d) (key k.kind n)) c.as_bytes.ensures)
+    ∙ sym c.in-Some.ensures in
+    let texts : f.text ≡ e.text = sym c.text.ensures
+    ∙ (bytes_eq-Decides c.text.result.now c.text-in-Some.result.now).0 (sym c.eq.ensures ∙ c.if-eq.true)
+    ∙ c.text-in-Some.ensures in
     let line = from_line d.lines (definitions d.settings d.lines) (in_place d.settings d.lines) k f had in
-    let same : f ≡ e = same_text c.same_text_law.ensures k f e line.0 text line.1 (reads (plain_line 0 text) (k, e) defines) texts in
-    subst (IsChange d (with_line text d)) (sym c.new-keys.ensures) (changed_none d closed text k e defines (had ∙ ap Some same))
+    let same : f ≡ e =
+    same_text c.same_text_law.ensures k f e line.0 text line.1 (reads (plain_line 0 text) (k, e) defines) texts in
+    subst (IsChange d (with_line text d)) (sym c.new-keys.ensures)
+    (changed_none d closed text k e defines (had ∙ ap Some same))
 
 pub returns : goal.returns
 returns c = λ closed defines.
@@ -40,14 +45,19 @@ returns c = λ closed defines.
     let text : List ℕ = c.args.entry.line.now in
     let e : Entry = entry_view c.args.entry in
     let keys : c.push.new.self ≡ k ∷ [] =
-    c.in_ok-push.ensures.ok ∙ ap (λ (ks : List Key). ks ++ record { kind = k.kind; name = c.in_ok-name.name } ∷ []) c.new-keys.ensures
+    c.in_ok-push.ensures.ok
+    ∙ ap (λ (ks : List Key). ks ++ record { kind = k.kind; name = c.in_ok-name.name } ∷ []) c.new-keys.ensures
     ∙ ap (λ n. record { kind = k.kind; name = n } ∷ []) c.in_ok-name.ensures in
     let differs : entry_at (table d) k ≢ Some e = elim c.match-entry.branch [
       | in-Some+else-eq w ↦ λ is.
           let f : Entry = entry_view w.in-Some.old in
-          let had : entry_at (table d) k ≡ Some f = sym (ap (λ n. entry_at (table d) (key k.kind n)) c.as_bytes.ensures) ∙ sym w.in-Some.ensures in
-          let texts : w.text.result.now ≡ w.text-in-Some.result.now = w.text.ensures ∙ ap (λ (x : Entry). x.text) (same_Some f e (sym had ∙ is)) ∙ sym w.text-in-Some.ensures in
-          true≢false (sym ((bytes_eq-Decides w.text.result.now w.text-in-Some.result.now).1 texts) ∙ sym w.eq.ensures ∙ w.if-eq.false)
-      | in_default w ↦ λ is. none_some _ e (sym (ap (λ n. entry_at (table d) (key k.kind n)) c.as_bytes.ensures) ∙ sym w.in_default.ensures) is
+          let had : entry_at (table d) k ≡ Some f = sym (ap (λ n. entry_at (table d) (key k.kind n)) c.as_bytes.ensures)
+          ∙ sym w.in-Some.ensures in
+          let texts : w.text.result.now ≡ w.text-in-Some.result.now = w.text.ensures
+          ∙ ap (λ (x : Entry). x.text) (same_Some f e (sym had ∙ is)) ∙ sym w.text-in-Some.ensures in
+          true≢false (sym ((bytes_eq-Decides w.text.result.now w.text-in-Some.result.now).1 texts) ∙ sym w.eq.ensures
+          ∙ w.if-eq.false)
+      | in_default w ↦ λ is. none_some _ e
+          (sym (ap (λ n. entry_at (table d) (key k.kind n)) c.as_bytes.ensures) ∙ sym w.in_default.ensures) is
     ] in
     subst (IsChange d (with_line text d)) (sym keys) (changed_one d closed text k e defines differs)

@@ -16,5 +16,6 @@ returns c =
     subst (λ (ts : List (List ℕ)). IfOk c.defining_texts.result (λ texts. texts ≡ ts))
     (ap (λ fs. in_turn definition_in (where_true fs c.self.inside.store.lines))
     (c.as_slice.ensures.value ∙ c.in_ok-flags.ensures)
-    ∙ ap (λ (d : Contents). in_turn definition_in (where_true (active_lines d.settings d.lines) d.lines)) c.self.view_is)
+    ∙ ap (λ (d : Contents). in_turn definition_in (where_true (active_lines d.settings d.lines) d.lines))
+    c.self.view_is)
     c.defining_texts.ensures

@@ -19,7 +19,8 @@ index_mut-requires c =
     let last : last_place settings lines c.args.key.now ≡ Some c.in-Some.place =
     ap (λ (d : Contents). last_place d.settings d.lines c.args.key.now) c.self.view_is ∙ sym c.in-Some.ensures in
     let defines = defined_last settings lines c.args.key.now c.in-Some.place last in
-    let inside : c.in-Some.place < length lines = within settings lines c.in-Some.place (c.args.key.now, defines.0) defines.1 in
+    let inside : c.in-Some.place < length lines =
+    within settings lines c.in-Some.place (c.args.key.now, defines.0) defines.1 in
     let count : length c.in_ok-flags.flags.items ≡ length lines =
     ap length c.in_ok-flags.ensures ∙ length-activity _ _ lines in
     omega (arith, inside, count, c.in_ok-flags.flags.ok.0)
@@ -49,10 +50,13 @@ invariant_of-self c =
     let defines = defined_last settings lines c.args.key.now c.in-Some.place last in
     let flags : c.as_slice.result.now ≡ set (active_lines settings lines) c.in-Some.place false =
     c.as_slice.ensures.value ∙ ap (λ (fs : List Bool). set fs c.in-Some.place false) c.in_ok-flags.ensures in
-    indexed_dropped settings lines c.in-Some.place (c.args.key.now, defines.0) defines.1 c.remove.new.self c.in_ok-last.last c.close_gap.new.self
+    indexed_dropped settings lines c.in-Some.place
+    (c.args.key.now, defines.0) defines.1 c.remove.new.self c.in_ok-last.last c.close_gap.new.self
     c.remove.ensures.lines c.self.invariant.closed
-    (subst (λ (ns : Names). AreLast ns (definitions_by (set (active_lines settings lines) c.in-Some.place false) lines) c.in_ok-last.last) (sym c.remove.ensures.names)
-    (subst (λ (fs : List Bool). AreLast c.self.inside.store.names (definitions_by fs lines) c.in_ok-last.last) flags c.in_ok-last.ensures))
+    (subst (λ (ns : Names). AreLast ns (definitions_by (set (active_lines settings lines) c.in-Some.place false) lines)
+    c.in_ok-last.last) (sym c.remove.ensures.names)
+    (subst (λ (fs : List Bool). AreLast c.self.inside.store.names (definitions_by fs lines) c.in_ok-last.last) flags
+    c.in_ok-last.ensures))
     c.close_gap.ensures
 
 pub returns : goal.returns
@@ -61,18 +65,27 @@ returns c =
     let lines : List DeckLine = c.self.inside.store.lines in
     let k = c.args.key.now in
     let place = c.in-Some.place in
-    let last : last_place settings lines k ≡ Some place = ap (λ (d : Contents). last_place d.settings d.lines k) c.self.view_is ∙ sym c.in-Some.ensures in
+    let last : last_place settings lines k ≡ Some place =
+    ap (λ (d : Contents). last_place d.settings d.lines k) c.self.view_is ∙ sym c.in-Some.ensures in
     let defines = defined_last settings lines k place last in
     let flags = c.as_slice.result.now in
     let flags_are : flags ≡ set (active_lines settings lines) place false =
     c.as_slice.ensures.value ∙ ap (λ (fs : List Bool). set fs place false) c.in_ok-flags.ensures in
     let table_is : table_of (definitions settings c.remove.new.self.lines) ≡ table_of (definitions_by flags lines) =
-    ap (λ ls. table_of (definitions settings ls)) c.remove.ensures.lines ∙ ap table_of (definitions_dropped settings lines place (k, defines.0) defines.1)
-    ∙ table_moved place (definitions_by (set (active_lines settings lines) place false) lines) ∙ ap (λ fs. table_of (definitions_by fs lines)) (sym flags_are) in (
+    ap (λ ls. table_of (definitions settings ls)) c.remove.ensures.lines
+    ∙ ap table_of (definitions_dropped settings lines place (k, defines.0) defines.1)
+    ∙ table_moved place (definitions_by (set (active_lines settings lines) place false) lines)
+    ∙ ap (λ fs. table_of (definitions_by fs lines)) (sym flags_are) in (
       ap (λ (d : Contents). after_drop k d) (sym c.self.view_is)
-          ∙ ap (λ o. without_some o (record { lines = lines; settings = settings; notices = c.self.inside.notices })) last
-          ∙ ap (λ (ls : List DeckLine). Ok (record { lines = ls; settings = settings; notices = c.self.inside.notices })) (sym c.remove.ensures.lines),
-      subst (λ (d : Contents). IsTableChange (table d) (table_of (definitions settings c.remove.new.self.lines)) c.in_ok-keys.keys) c.self.view_is
-          (subst (λ (t : Table). IsTableChange (table_of (definitions settings lines)) t c.in_ok-keys.keys) (sym table_is)
-          (c.in_ok-keys.ensures (definitions settings lines) (definitions_by flags lines) (in_place settings lines) (in_place_by flags lines) c.self.invariant.places c.in_ok-last.ensures)),
+          ∙ ap (λ o. without_some o (record { lines = lines; settings = settings; notices = c.self.inside.notices }))
+          last
+          ∙ ap (λ (ls : List DeckLine).
+          Ok (record { lines = ls; settings = settings; notices = c.self.inside.notices }))
+          (sym c.remove.ensures.lines),
+      subst (λ (d : Contents). IsTableChange (table d) (table_of (definitions settings c.remove.new.self.lines))
+          c.in_ok-keys.keys) c.self.view_is
+          (subst (λ (t : Table). IsTableChange (table_of (definitions settings lines)) t c.in_ok-keys.keys)
+          (sym table_is)
+          (c.in_ok-keys.ensures (definitions settings lines) (definitions_by flags lines) (in_place settings lines)
+          (in_place_by flags lines) c.self.invariant.places c.in_ok-last.ensures)),
     )

@@ -12,11 +12,14 @@ pub returns-in_default : goal.returns-in_default
 returns-in_default c =
     let d = c.args.self.now in
     ap (entry_there d.lines) c.in_default.ensures
-    ∙ entry_placed d.lines (definitions d.settings d.lines) (in_place d.settings d.lines) (key c.args.kind c.args.name.now)
+    ∙ entry_placed d.lines (definitions d.settings d.lines) (in_place d.settings d.lines)
+    (key c.args.kind c.args.name.now)
 
 pub returns : goal.returns
 returns c =
     let d = c.args.self.now in
-    c.entry.ensures ∙ ap (λ (e : Contents). option_map (λ p. p.1) (definition_at e.lines c.in-Some.place)) c.self.view_is
+    c.entry.ensures ∙ ap (λ (e : Contents). option_map (λ p. p.1) (definition_at e.lines c.in-Some.place))
+    c.self.view_is
     ∙ ap (entry_there d.lines) c.in-Some.ensures
-    ∙ entry_placed d.lines (definitions d.settings d.lines) (in_place d.settings d.lines) (key c.args.kind c.args.name.now)
+    ∙ entry_placed d.lines (definitions d.settings d.lines) (in_place d.settings d.lines)
+    (key c.args.kind c.args.name.now)

@@ -13,4 +13,5 @@ returns-then-is_last_place c =
     let d = c.args.self.now in
     c.entry.ensures ∙ ap (λ (e : Contents). option_map (λ p. p.1) (definition_at e.lines c.args.near)) c.self.view_is
     ∙ ap (entry_there d.lines) (sym c.if-is_last_place.ensures)
-    ∙ entry_placed d.lines (definitions d.settings d.lines) (in_place d.settings d.lines) (key c.args.kind c.args.name.now)
+    ∙ entry_placed d.lines (definitions d.settings d.lines) (in_place d.settings d.lines)
+    (key c.args.kind c.args.name.now)

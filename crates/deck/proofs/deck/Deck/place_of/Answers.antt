@@ -11,12 +11,15 @@ pub returns-in_default : goal.returns-in_default
 returns-in_default c =
     let k = key c.args.kind c.args.name.now in
     let ds = definitions c.self.inside.settings c.self.inside.store.lines in
-    sym (ap (option_map (λ p. p.0)) (not_defined c.self.inside.store c.number_of.ensures.numbering ds (in_place c.self.inside.settings c.self.inside.store.lines) k c.in_default.ensures.number))
+    sym (ap (option_map (λ p. p.0))
+    (not_defined c.self.inside.store c.number_of.ensures.numbering ds
+    (in_place c.self.inside.settings c.self.inside.store.lines) k c.in_default.ensures.number))
     ∙ ap (λ (d : Contents). last_place d.settings d.lines k) c.self.view_is
 
 pub returns : goal.returns
 returns c =
     let k = key c.args.kind c.args.name.now in
     c.get.ensures ∙ c.self.invariant.places.place c.in-Some.number
-    ∙ ap (option_and_then (place_of (definitions c.self.inside.settings c.self.inside.store.lines))) c.in-Some.ensures.number
+    ∙ ap (option_and_then (place_of (definitions c.self.inside.settings c.self.inside.store.lines)))
+    c.in-Some.ensures.number
     ∙ ap (λ (d : Contents). last_place d.settings d.lines k) c.self.view_is

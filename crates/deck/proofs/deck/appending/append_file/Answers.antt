@@ -11,11 +11,17 @@ use Rattle.deck.proofs.deck.appending.append_file.Goals as goal
 pub returns-in-Err-clause-stays : goal.returns-in-Err-clause-stays
 returns-in-Err-clause-stays g c =
     let behind : Extends c.args.store.now c.load_changes-changes.new.draft.store =
-    subst (λ (s : Store). Extends s c.load_changes-changes.new.draft.store) c.replace.ensures.value c.load_changes-changes.ensures.extends in
-    indexed_again c.args.store.now c.load_changes-changes.new.draft.store c.truncate.new.self c.args.settings.now c.args.last.now c.len-len.ensures.numbering c.requires behind
-    (c.truncate.ensures.lines ∙ front_kept c.args.store.now c.load_changes-changes.new.draft.store c.len-len.result c.len-len.ensures.count behind) c.truncate.ensures.names
+    subst (λ (s : Store). Extends s c.load_changes-changes.new.draft.store) c.draft_of-draft.ensures.store
+    c.load_changes-changes.ensures.extends in
+    indexed_again c.args.store.now c.load_changes-changes.new.draft.store c.truncate.new.self c.args.settings.now
+    c.args.last.now c.len-len.ensures.numbering c.requires behind
+    (c.truncate.ensures.lines
+    ∙ front_kept c.args.store.now c.load_changes-changes.new.draft.store c.len-len.result c.len-len.ensures.count
+    behind) c.truncate.ensures.names
 
 pub returns-in-Err-clause-told : goal.returns-in-Err-clause-told
 returns-in-Err-clause-told g c m d told lines =
-    subst (λ (r : Result PlaceChanges DeckFault). IsRead (after_append m c.args.name.now d) d c.load_changes-changes.new.draft.store.lines c.load_changes-changes.new.draft.notices r)
-    c.in-Err.is (c.load_changes-changes.ensures.told m d told (lines ∙ sym (ap (λ (s : Store). s.lines) c.replace.ensures.value)))
+    subst (λ (r : Result PlaceChanges DeckFault). IsRead (after_append m c.args.name.now d) d
+    c.load_changes-changes.new.draft.store.lines c.load_changes-changes.new.draft.notices r)
+    c.in-Err.is (c.load_changes-changes.ensures.told m d told
+    (lines ∙ sym (ap (λ (s : Store). s.lines) c.draft_of-draft.ensures.store)))

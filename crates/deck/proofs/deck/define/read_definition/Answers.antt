@@ -7,10 +7,12 @@ use Rattle.def_entry.specs.Seen.{seen_entry}
 use Rattle.deck.proofs.EntryTexts.{defines_by}
 use Rattle.deck.proofs.deck.define.read_definition.Goals as goal
 
-either : (kind : LineKind) → (kind ≡ cut.Definition) ⊎ (kind ≡ cut.UnitList) → (seen_kind kind ≡ line.Definition) ⊎ (seen_kind kind ≡ line.UnitList)
+either : (kind : LineKind) → (kind ≡ cut.Definition) ⊎ (kind ≡ cut.UnitList) → (seen_kind kind ≡ line.Definition)
+    ⊎ (seen_kind kind ≡ line.UnitList)
 either kind (inl d) = inl (ap seen_kind d)
 either kind (inr u) = inr (ap seen_kind u)
 
 pub returns-in-Ok-clause-entry : goal.returns-in-Ok-clause-entry
 returns-in-Ok-clause-entry c =
-    defines_by c.args.line.now (seen_entry c.args.line.now c.in-Ok.found) (seen_kind c.classify.result) (either c.classify.result c.in-Definition.is) (sym c.classify.ensures) c.in-Ok.ensures.computed
+    defines_by c.args.line.now (seen_entry c.args.line.now c.in-Ok.found) (seen_kind c.classify.result)
+    (either c.classify.result c.in-Definition.is) (sym c.classify.ensures) c.in-Ok.ensures.computed

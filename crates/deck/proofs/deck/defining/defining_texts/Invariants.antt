@@ -4,4 +4,5 @@ use Rattle.deck.proofs.deck.defining.defining_texts.Given as goal
 
 abbrev pub invariant-loop-place : goal.invariant-loop-place
 invariant-loop-place l =
-    l.texts ++ in_turn definition_in (where_true (drop l.place l.flags) (drop l.place l.store.lines)) ≡ in_turn definition_in (where_true l.flags l.store.lines)
+    l.texts ++ in_turn definition_in (where_true (drop l.place l.flags) (drop l.place l.store.lines))
+    ≡ in_turn definition_in (where_true l.flags l.store.lines)

@@ -12,4 +12,5 @@ returns-clause-in_place c =
     c.requires.places c.args.n c.in-Some.place (sym c.get.ensures ∙ c.in-Some.is)
     ∙ ap (option_map (key c.args.n.kind)) (sym c.name.ensures ∙ ap option_copied c.in-Some-name.is) in
     subst (All (IsInPlace lines)) (sym c.in_ok-push.ensures.items)
-    (All-append (IsInPlace lines) c.args.keys.now.items _ c.requires.placed (All-cons (IsInPlace lines) _ [] there (All-nil (IsInPlace lines))))
+    (All-append (IsInPlace lines) c.args.keys.now.items _ c.requires.placed
+    (All-cons (IsInPlace lines) _ [] there (All-nil (IsInPlace lines))))

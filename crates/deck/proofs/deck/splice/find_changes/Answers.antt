@@ -16,27 +16,32 @@ use Rattle.deck.proofs.deck.splice.find_changes.Goals as goal
 
 pub returns-in_err-definitions-clause-indexed : goal.returns-in_err-definitions-clause-indexed
 returns-in_err-definitions-clause-indexed c =
-    indexed_read c.args.store.now c.read.new.self c.args.settings.now c.args.last.now c.read.ensures.before c.read.ensures.after
+    indexed_read c.args.store.now c.read.new.self c.args.settings.now c.args.last.now c.read.ensures.before
+    c.read.ensures.after
     c.read.ensures.lines c.read.ensures.extended c.requires.indexed
 
 pub returns-in_err-now-clause-indexed : goal.returns-in_err-now-clause-indexed
 returns-in_err-now-clause-indexed c =
-    indexed_read c.args.store.now c.read.new.self c.args.settings.now c.args.last.now c.read.ensures.before c.read.ensures.after
+    indexed_read c.args.store.now c.read.new.self c.args.settings.now c.args.last.now c.read.ensures.before
+    c.read.ensures.after
     c.read.ensures.lines c.read.ensures.extended c.requires.indexed
 
 pub returns-in_err-keys-clause-indexed : goal.returns-in_err-keys-clause-indexed
 returns-in_err-keys-clause-indexed c =
-    indexed_read c.args.store.now c.read.new.self c.args.settings.now c.args.last.now c.read.ensures.before c.read.ensures.after
+    indexed_read c.args.store.now c.read.new.self c.args.settings.now c.args.last.now c.read.ensures.before
+    c.read.ensures.after
     c.read.ensures.lines c.read.ensures.extended c.requires.indexed
 
 pub returns-clause-indexed : goal.returns-clause-indexed
 returns-clause-indexed c =
-    indexed_read c.args.store.now c.read.new.self c.args.settings.now c.args.last.now c.read.ensures.before c.read.ensures.after
+    indexed_read c.args.store.now c.read.new.self c.args.settings.now c.args.last.now c.read.ensures.before
+    c.read.ensures.after
     c.read.ensures.lines c.read.ensures.extended c.requires.indexed
 
 pub returns-clause-defined : goal.returns-clause-defined
 returns-clause-defined c =
-    subst (λ (ls : List DeckLine). IsDefined c.read.new.self.names c.in_ok-definitions.definitions.of_lines.items (map entry_in ls)) c.as_slice-put.ensures
+    subst (λ (ls : List DeckLine). IsDefined c.read.new.self.names c.in_ok-definitions.definitions.of_lines.items
+    (map entry_in ls)) c.as_slice-put.ensures
     c.in_ok-definitions.ensures.ok
 
 pub returns-clause-last : goal.returns-clause-last
@@ -44,7 +49,9 @@ returns-clause-last c =
     let s = c.args.change.now in
     let store : Store = c.read.new.self in
     let edit : c.exchanged-edited.result ≡ as_edited s c.args.store.now.lines store.names =
-    c.exchanged-edited.ensures ∙ ap (λ (ls : List DeckLine). record (as_edited s store.lines store.names) { after = exchanged_lines s.at s.cut ls store.lines }) c.as_slice-put.ensures
+    c.exchanged-edited.ensures
+    ∙ ap (λ (ls : List DeckLine). record (as_edited s store.lines store.names)
+    { after = exchanged_lines s.at s.cut ls store.lines }) c.as_slice-put.ensures
     ∙ ap (λ (ls : List DeckLine). as_edited s ls store.names) c.read.ensures.lines in
     subst (λ (e : Edited). AreLast e.names (definitions s.settings e.after) c.in_ok-now.now) edit c.in_ok-now.ensures
 
@@ -54,13 +61,17 @@ returns-clause-keys c =
     let old : Store = c.args.store.now in
     let store : Store = c.read.new.self in
     let edit : c.exchanged-edited.result ≡ as_edited s old.lines store.names =
-    c.exchanged-edited.ensures ∙ ap (λ (ls : List DeckLine). record (as_edited s store.lines store.names) { after = exchanged_lines s.at s.cut ls store.lines }) c.as_slice-put.ensures
+    c.exchanged-edited.ensures
+    ∙ ap (λ (ls : List DeckLine). record (as_edited s store.lines store.names)
+    { after = exchanged_lines s.at s.cut ls store.lines }) c.as_slice-put.ensures
     ∙ ap (λ (ls : List DeckLine). as_edited s ls store.names) c.read.ensures.lines in
     let indexed = indexed_read old store c.args.settings.now c.args.last.now c.read.ensures.before c.read.ensures.after
     c.read.ensures.lines c.read.ensures.extended c.requires.indexed in
-    subst (λ (e : Edited). (ds es : Definitions) → AreInPlace e.before ds → AreInPlace e.after es → AreLast e.names ds c.args.last.now → AreLast e.names es c.in_ok-now.now
+    subst (λ (e : Edited). (ds es : Definitions) → AreInPlace e.before ds → AreInPlace e.after es
+    → AreLast e.names ds c.args.last.now → AreLast e.names es c.in_ok-now.now
     → IsTableChange (table_of ds) (table_of es) c.in_ok-keys.keys) edit c.in_ok-keys.ensures
     (definitions c.args.settings.now old.lines) (definitions s.settings (spliced_lines s old.lines))
     (in_place c.args.settings.now old.lines) (in_place s.settings (spliced_lines s old.lines))
-    (subst (λ (ls : List DeckLine). AreLast store.names (definitions c.args.settings.now ls) c.args.last.now) c.read.ensures.lines indexed.places)
+    (subst (λ (ls : List DeckLine). AreLast store.names (definitions c.args.settings.now ls) c.args.last.now)
+    c.read.ensures.lines indexed.places)
     (subst (λ (e : Edited). AreLast e.names (definitions s.settings e.after) c.in_ok-now.now) edit c.in_ok-now.ensures)

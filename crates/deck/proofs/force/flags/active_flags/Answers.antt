@@ -6,5 +6,6 @@ use Rattle.deck.proofs.force.flags.active_flags.Goals as goal
 
 pub returns : goal.returns
 returns c =
-    subst (λ (e : Edited). IfOk c.edited_flags.result (λ flags. flags.items ≡ active_lines c.args.settings.now e.after)) c.unchanged.ensures.is
+    subst (λ (e : Edited). IfOk c.edited_flags.result (λ flags. flags.items ≡ active_lines c.args.settings.now e.after))
+    c.unchanged.ensures.is
     c.edited_flags.ensures

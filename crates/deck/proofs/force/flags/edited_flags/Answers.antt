@@ -12,11 +12,21 @@ pub loop-place-preserved : goal.loop-place-preserved
 loop-place-preserved c =
     let locale = c.as_bytes-locale.result.now in
     let lines : List DeckLine = c.args.edited.now.after in
-    let line : DeckLine = record { number = c.line-line.result.number; text = c.line-line.result.text.now; mark = c.line-line.result.mark } in
+    let line : DeckLine =
+    record {
+      number = c.line-line.result.number;
+      text = c.line-line.result.text.now;
+      mark =
+          c.line-line.result.mark;
+    } in
     let rest : List DeckLine = drop (c.loop-place.place + 1) lines in
-    ap (λ fs. fs ++ activity locale c.pass.new.self rest) (c.in_ok-push.ensures.items ∙ ap (λ a. c.loop-place.flags.items ++ a ∷ []) (c.is_active-active.ensures line refl))
-    ∙ ap (λ (s : Surroundings). (c.loop-place.flags.items ++ is_active c.loop-place.around line ∷ []) ++ activity locale s rest) (c.in_ok-pass.ensures line.number)
-    ∙ activity_step locale c.loop-place.around (drop c.loop-place.place lines) rest c.loop-place.flags.items _ line (line_at lines c.loop-place.place line c.line-line.ensures) c.loop-place.invariant
+    ap (λ fs. fs ++ activity locale c.pass.new.self rest)
+    (c.in_ok-push.ensures.items
+    ∙ ap (λ a. c.loop-place.flags.items ++ a ∷ []) (c.is_active-active.ensures line refl))
+    ∙ ap (λ (s : Surroundings). (c.loop-place.flags.items ++ is_active c.loop-place.around line ∷ [])
+    ++ activity locale s rest) (c.in_ok-pass.ensures line.number)
+    ∙ activity_step locale c.loop-place.around (drop c.loop-place.place lines) rest c.loop-place.flags.items _ line
+    (line_at lines c.loop-place.place line c.line-line.ensures) c.loop-place.invariant
 
 pub returns : goal.returns
 returns c =

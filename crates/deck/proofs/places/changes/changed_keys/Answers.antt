@@ -9,6 +9,8 @@ use Rattle.deck.proofs.places.changes.changed_keys.Goals as goal
 
 pub returns : goal.returns
 returns c =
-    subst (λ (e : Edited). IfOk c.keys_between.result (λ keys. (ds es : Definitions) → AreInPlace e.before ds → AreInPlace e.after es
-    → AreLast e.names ds c.args.before.now → AreLast e.names es c.args.after.now → IsTableChange (table_of ds) (table_of es) keys))
+    subst (λ (e : Edited). IfOk c.keys_between.result
+    (λ keys. (ds es : Definitions) → AreInPlace e.before ds → AreInPlace e.after es
+    → AreLast e.names ds c.args.before.now → AreLast e.names es c.args.after.now
+    → IsTableChange (table_of ds) (table_of es) keys))
     c.unchanged.ensures.is c.keys_between.ensures

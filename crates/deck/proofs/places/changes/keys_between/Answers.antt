@@ -14,9 +14,17 @@ four a b c d = append_assoc (a ++ b) c d ∙ append_assoc a b (c ++ d)
 
 pub returns : goal.returns
 returns c = λ ds es placed put was is_last.
-    let changed : Kind → List Key = λ k. keys_where (differs c.args.edited.now c.args.before.now c.args.after.now) k 0 (names_of c.args.edited.now.names k) in
-    let keys : c.push_changed-4.new.keys ≡ ((changed kind.Unit ++ changed kind.Prefix) ++ changed kind.Func) ++ changed kind.List =
-    c.in_ok-push_changed-4.ensures.keys ∙ ap (λ ks. ks ++ changed kind.List) (c.in_ok-push_changed-3.ensures.keys ∙ ap (λ ks. ks ++ changed kind.Func) (c.in_ok-push_changed-2.ensures.keys
-    ∙ ap (λ ks. ks ++ changed kind.Prefix) (c.in_ok-push_changed.ensures.keys ∙ ap (λ ks. ks ++ changed kind.Unit) c.new-keys.ensures))) in
-    subst (IsTableChange (table_of ds) (table_of es)) (sym (keys ∙ four (changed kind.Unit) (changed kind.Prefix) (changed kind.Func) (changed kind.List)))
-    (changed_numbers c.same_text_law.ensures c.args.edited.now c.in_ok-push_changed.ensures.numbering_before c.in_ok-push_changed.ensures.numbering_after c.args.before.now c.args.after.now ds es placed put was is_last)
+    let changed : Kind
+    → List Key = λ k. keys_where (differs c.args.edited.now c.args.before.now c.args.after.now) k 0
+    (names_of c.args.edited.now.names k) in
+    let keys : c.push_changed-4.new.keys ≡ ((changed kind.Unit ++ changed kind.Prefix) ++ changed kind.Func)
+    ++ changed kind.List =
+    c.in_ok-push_changed-4.ensures.keys
+    ∙ ap (λ ks. ks ++ changed kind.List)
+    (c.in_ok-push_changed-3.ensures.keys ∙ ap (λ ks. ks ++ changed kind.Func) (c.in_ok-push_changed-2.ensures.keys
+    ∙ ap (λ ks. ks ++ changed kind.Prefix)
+    (c.in_ok-push_changed.ensures.keys ∙ ap (λ ks. ks ++ changed kind.Unit) c.new-keys.ensures))) in
+    subst (IsTableChange (table_of ds) (table_of es))
+    (sym (keys ∙ four (changed kind.Unit) (changed kind.Prefix) (changed kind.Func) (changed kind.List)))
+    (changed_numbers c.same_text_law.ensures c.args.edited.now c.in_ok-push_changed.ensures.numbering_before
+    c.in_ok-push_changed.ensures.numbering_after c.args.before.now c.args.after.now ds es placed put was is_last)

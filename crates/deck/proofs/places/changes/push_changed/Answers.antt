@@ -8,8 +8,10 @@ use Rattle.deck.proofs.places.changes.push_changed.Goals as goal
 pub loop-number-preserved : goal.loop-number-preserved
 loop-number-preserved c =
     let names = c.args.edited.now.names in
-    let within : c.loop-number.number < length (names_of names c.args.kind) = omega (arith, c.loop-number-test.true, c.name_count-number-end.ensures.count) in
-    where_step (differs c.args.edited.now c.args.before.now c.args.after.now) names c.args.kind c.loop-number.number c.loop-number.keys c.push_if_changed.new.keys _ within
+    let within : c.loop-number.number < length (names_of names c.args.kind) =
+    omega (arith, c.loop-number-test.true, c.name_count-number-end.ensures.count) in
+    where_step (differs c.args.edited.now c.args.before.now c.args.after.now) names c.args.kind c.loop-number.number
+    c.loop-number.keys c.push_if_changed.new.keys _ within
     c.loop-number.invariant c.in_ok-push_if_changed.ensures
 
 pub returns-clause-keys : goal.returns-clause-keys
@@ -17,5 +19,7 @@ returns-clause-keys c =
     let names = names_of c.args.edited.now.names c.args.kind in
     let test = differs c.args.edited.now c.args.before.now c.args.after.now in
     sym (append-nil c.loop-number.keys)
-    ∙ ap (λ ns. c.loop-number.keys ++ keys_where test c.args.kind c.loop-number.number ns) (sym (drop_all c.loop-number.number names (omega (arith, c.loop-number-test.false, c.name_count-number-end.ensures.count))))
+    ∙ ap (λ ns. c.loop-number.keys ++ keys_where test c.args.kind c.loop-number.number ns)
+    (sym (drop_all c.loop-number.number names
+    (omega (arith, c.loop-number-test.false, c.name_count-number-end.ensures.count))))
     ∙ c.loop-number.invariant

@@ -5,5 +5,6 @@ use Rattle.deck.proofs.places.changes.push_changed.Given as goal
 
 abbrev pub invariant-loop-number : goal.invariant-loop-number
 invariant-loop-number l =
-    l.keys ++ keys_where (differs l.edited l.before l.after) l.kind l.number (drop l.number (names_of l.edited.names l.kind))
+    l.keys ++ keys_where (differs l.edited l.before l.after) l.kind l.number
+    (drop l.number (names_of l.edited.names l.kind))
     ≡ l.fn.keys ++ keys_where (differs l.edited l.before l.after) l.kind 0 (names_of l.edited.names l.kind)

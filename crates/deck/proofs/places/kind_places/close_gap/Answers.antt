@@ -11,7 +11,9 @@ loop-i-preserved c =
     ap (λ ps. set ps c.loop-i.i c.without_gap.result) c.loop-i.invariant
     ∙ ap (set now c.loop-i.i) c.without_gap.ensures
     ∙ mapped_step f c.args.places.now c.loop-i.i x c.loop-i-test.true
-    (read_same c.loop-i.places c.loop-i.i None (omega (arith, c.loop-i-test.true, c.loop-i.auto.places)) ∙ ap (λ ps. get_or ps c.loop-i.i x) c.loop-i.invariant)
+    (read_same c.loop-i.places c.loop-i.i None (omega (arith, c.loop-i-test.true, c.loop-i.auto.places))
+    ∙ ap (λ ps. get_or ps c.loop-i.i x) c.loop-i.invariant)
 
 pub returns : goal.returns
-returns c = c.loop-i.invariant ∙ mapped_all (option_map (without_gap c.args.gap)) c.args.places.now c.loop-i.i c.loop-i-test.false
+returns c = c.loop-i.invariant
+    ∙ mapped_all (option_map (without_gap c.args.gap)) c.args.places.now c.loop-i.i c.loop-i-test.false

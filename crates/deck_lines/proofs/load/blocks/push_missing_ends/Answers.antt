@@ -14,14 +14,18 @@ use Rattle.deck_lines.proofs.Drafting.{failed, then_extends, with_excerpt-in_tur
 use Rattle.deck_lines.proofs.load.blocks.push_missing_ends.Goals as goal
 
 -- the end lines, the innermost first
-ends_of : (all blocks : List Block) (block : Block) → all ≡ blocks ++ block ∷ [] → map missing_end (reverse all) ≡ missing_end block ∷ map missing_end (reverse blocks)
-ends_of all blocks block e = ap (λ bs. map missing_end (reverse bs)) e ∙ ap (map missing_end) (reverse-append blocks (block ∷ []))
+ends_of : (all blocks : List Block) (block : Block) → all ≡ blocks ++ block ∷ []
+    → map missing_end (reverse all) ≡ missing_end block ∷ map missing_end (reverse blocks)
+ends_of all blocks block e = ap (λ bs. map missing_end (reverse bs)) e
+    ∙ ap (map missing_end) (reverse-append blocks (block ∷ []))
 
 abbrev lone : List DeckLine → Excerpt
 lone lines = record { lines = lines; notices = [] }
 
 pub push_line-requires : goal.push_line-requires
-push_line-requires c = sym (ap (λ (t : List ℕ). entry_in (plain_line c.in-Some.block.number t)) (c.in_ok-text.ensures ∙ c.end_line_text.ensures) ∙ end_defines c.in-Some.block.number c.in-Some.block.ending)
+push_line-requires c =
+    sym (ap (λ (t : List ℕ). entry_in (plain_line c.in-Some.block.number t))
+    (c.in_ok-text.ensures ∙ c.end_line_text.ensures) ∙ end_defines c.in-Some.block.number c.in-Some.block.ending)
 
 pub loop-block-preserved : goal.loop-block-preserved
 loop-block-preserved c =
@@ -29,12 +33,16 @@ loop-block-preserved c =
     let text : c.in_ok-text.text ≡ end_text c.in-Some.block.ending = c.in_ok-text.ensures ∙ c.end_line_text.ensures in
     record {
       put =
-          ap (λ (d : Draft). with_excerpt d (lone (map missing_end (reverse c.pop.new.self.items)))) c.in_ok-push_line.ensures.told
-          ∙ with_excerpt-in_turn c.loop-block.draft (lone (plain_line c.in-Some.block.number c.in_ok-text.text ∷ [])) (lone (map missing_end (reverse c.pop.new.self.items)))
-          ∙ ap (λ (t : List ℕ). with_excerpt c.loop-block.draft (lone (plain_line c.in-Some.block.number t ∷ map missing_end (reverse c.pop.new.self.items)))) text
+          ap (λ (d : Draft). with_excerpt d (lone (map missing_end (reverse c.pop.new.self.items))))
+          c.in_ok-push_line.ensures.told
+          ∙ with_excerpt-in_turn c.loop-block.draft (lone (plain_line c.in-Some.block.number c.in_ok-text.text ∷ []))
+          (lone (map missing_end (reverse c.pop.new.self.items)))
+          ∙ ap (λ (t : List ℕ). with_excerpt c.loop-block.draft
+          (lone (plain_line c.in-Some.block.number t ∷ map missing_end (reverse c.pop.new.self.items)))) text
           ∙ ap (λ ls. with_excerpt c.loop-block.draft (lone ls)) (sym all)
           ∙ c.loop-block.invariant.put;
-      extends = then_extends _ _ _ c.loop-block.invariant.extends (extended c.loop-block.draft c.push_line.new.self _ c.in_ok-push_line.ensures.told);
+      extends = then_extends _ _ _ c.loop-block.invariant.extends
+          (extended c.loop-block.draft c.push_line.new.self _ c.in_ok-push_line.ensures.told);
       within = c.in_ok-push_line.ensures.within;
     }
 
@@ -43,7 +51,9 @@ returns-in_err-push_line-clause-told c =
     let p = err_from_is_err_and c.from_residual-in_err-push_line.result c.from_residual-in_err-push_line.ensures.1 in
     let all = ends_of c.loop-block.blocks.items c.pop.new.self.items c.in-Some.block c.in-Some.ensures.items in
     let text : c.in_ok-text.text ≡ end_text c.in-Some.block.ending = c.in_ok-text.ensures ∙ c.end_line_text.ensures in
-    rw (p.1, p.2) (failed c.loop-block.draft.store.lines (plain_line c.in-Some.block.number c.in_ok-text.text ∷ []) (map missing_end (reverse c.pop.new.self.items)) _ _ c.in_err-push_line.ensures.told
-    (ap (λ (t : List ℕ). c.loop-block.draft.store.lines ++ plain_line c.in-Some.block.number t ∷ map missing_end (reverse c.pop.new.self.items)) text
+    rw (p.1, p.2) (failed c.loop-block.draft.store.lines (plain_line c.in-Some.block.number c.in_ok-text.text ∷ [])
+    (map missing_end (reverse c.pop.new.self.items)) _ _ c.in_err-push_line.ensures.told
+    (ap (λ (t : List ℕ). c.loop-block.draft.store.lines ++ plain_line c.in-Some.block.number t
+    ∷ map missing_end (reverse c.pop.new.self.items)) text
     ∙ ap (λ ls. c.loop-block.draft.store.lines ++ ls) (sym all)
     ∙ ap (λ (d : Draft). d.store.lines) c.loop-block.invariant.put))

@@ -7,7 +7,8 @@ use Rattle.deck_lines.proofs.load.blocks.push_missing_ends.Given as goal
 abbrev pub invariant-loop-block : goal.invariant-loop-block
 invariant-loop-block l = record {
   put : with_excerpt l.draft (record { lines = map missing_end (reverse l.blocks.items); notices = [] })
-      ≡ with_excerpt l.initial.draft (record { lines = map missing_end (reverse l.initial.blocks.items); notices = [] });
+      ≡ with_excerpt l.initial.draft
+      (record { lines = map missing_end (reverse l.initial.blocks.items); notices = [] });
   extends : Extends l.initial.draft.store l.draft.store;
   within : pass_limit l.draft.store.lines ≡ false;
 }

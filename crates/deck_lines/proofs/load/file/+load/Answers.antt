@@ -119,12 +119,12 @@ load_include-returns-then-depth-eq0-clause-told g t c = λ m h.
     rw (← c.as_bytes-file.ensures)
     (told_not_read c.args.draft.now _ _ c.args.name.now c.args.line
     (codes "include too deep: " ++ c.as_bytes-file.result.now) _
-    (too_deep m c.args.depth c.as_bytes-file.result.now c.if-depth-eq0.true) c.refuse_include.ensures.told)
+    (too_deep m c.args.depth c.as_bytes-file.result.now c.if-depth-eq0.true) c.put_unread.ensures.told)
 
 pub load_include-returns-then-depth-eq0-clause-leads : goal.load_include-returns-then-depth-eq0-clause-leads
 load_include-returns-then-depth-eq0-clause-leads g t c =
-    refused_leads c.args.name.now c.args.line _ c.args.draft.now c.refuse_include.new.draft c.refuse_include.result
-    c.refuse_include.ensures.told c.refuse_include.ensures.err
+    refused_leads c.args.name.now c.args.line _ c.args.draft.now c.put_unread.new.draft c.put_unread.result
+    c.put_unread.ensures.told c.put_unread.ensures.err
 
 pub load_include-returns-then-not-has_room-clause-told : goal.load_include-returns-then-not-has_room-clause-told
 load_include-returns-then-not-has_room-clause-told g t c = λ m h.
@@ -152,13 +152,13 @@ load_include-returns-in-Err-Absent-clause-told g t c = λ m h.
     (told_missing m c.args.draft.now _ _ c.args.depth c.args.name.now c.as_bytes-file.result.now c.args.line
     (codes "no file: " ++ c.as_bytes-file.result.now) Absent c.if-depth-eq0.false
     (told_of _ (λ n. IsFetched n c.as_bytes-file.result.now (Err Absent)) m h
-    (rw c.in-Err-Absent.field-0-is at c.in-Err-Absent.ensures.told)) refl c.refuse_include-in-Err-Absent.ensures.told)
+    (rw c.in-Err-Absent.field-0-is at c.in-Err-Absent.ensures.told)) refl c.put_unread-in-Err-Absent.ensures.told)
 
 pub load_include-returns-in-Err-Absent-clause-leads : goal.load_include-returns-in-Err-Absent-clause-leads
 load_include-returns-in-Err-Absent-clause-leads g t c =
-    refused_leads c.args.name.now c.args.line _ c.args.draft.now c.refuse_include-in-Err-Absent.new.draft
-    c.refuse_include-in-Err-Absent.result c.refuse_include-in-Err-Absent.ensures.told
-    c.refuse_include-in-Err-Absent.ensures.err
+    refused_leads c.args.name.now c.args.line _ c.args.draft.now c.put_unread-in-Err-Absent.new.draft
+    c.put_unread-in-Err-Absent.result c.put_unread-in-Err-Absent.ensures.told
+    c.put_unread-in-Err-Absent.ensures.err
 
 pub load_include-returns-in-Err-TooLong-clause-told : goal.load_include-returns-in-Err-TooLong-clause-told
 load_include-returns-in-Err-TooLong-clause-told g t c = λ m h.
@@ -167,13 +167,13 @@ load_include-returns-in-Err-TooLong-clause-told g t c = λ m h.
     (codes "file too long: " ++ c.as_bytes-file.result.now) TooLong c.if-depth-eq0.false
     (told_of _ (λ n. IsFetched n c.as_bytes-file.result.now (Err TooLong)) m h
     (rw c.in-Err-TooLong.field-0-is at c.in-Err-TooLong.ensures.told)) refl
-    c.refuse_include-in-Err-TooLong.ensures.told)
+    c.put_unread-in-Err-TooLong.ensures.told)
 
 pub load_include-returns-in-Err-TooLong-clause-leads : goal.load_include-returns-in-Err-TooLong-clause-leads
 load_include-returns-in-Err-TooLong-clause-leads g t c =
-    refused_leads c.args.name.now c.args.line _ c.args.draft.now c.refuse_include-in-Err-TooLong.new.draft
-    c.refuse_include-in-Err-TooLong.result c.refuse_include-in-Err-TooLong.ensures.told
-    c.refuse_include-in-Err-TooLong.ensures.err
+    refused_leads c.args.name.now c.args.line _ c.args.draft.now c.put_unread-in-Err-TooLong.new.draft
+    c.put_unread-in-Err-TooLong.result c.put_unread-in-Err-TooLong.ensures.told
+    c.put_unread-in-Err-TooLong.ensures.err
 
 pub load_line-load_include-requires : goal.load_line-load_include-requires
 load_line-load_include-requires g t c = λ κs h. (
@@ -182,7 +182,8 @@ load_line-load_include-requires g t c = λ κs h. (
     (λ a mem. search rules),
     (
       include_inside c.args.line.text c.in-Includes.word.now
-          (ap (seen_reading c.as_bytes.result.now) (sym c.in-Includes.is) ∙ c.in_ok-role.ensures.means ∙ ap reading_of c.as_bytes.ensures),
+          (ap (seen_reading c.as_bytes.result.now) (sym c.in-Includes.is) ∙ c.in_ok-role.ensures.means
+          ∙ ap reading_of c.as_bytes.ensures),
       search
           rules,
     ),
@@ -193,19 +194,22 @@ pub load_line-returns-in-Stands-clause-leads : goal.load_line-returns-in-Stands-
 load_line-returns-in-Stands-clause-leads g t c =
     line_leads c.args.name.now (reverse c.args.blocks.now.items) c.args.line (Stands c.in-Stands.role) c.args.draft.now
     c.push_role_line.new.draft c.push_role_line.result
-    (ap (seen_reading c.as_bytes.result.now) (sym c.in-Stands.is) ∙ c.in_ok-role.ensures.means ∙ ap reading_of c.as_bytes.ensures)
+    (ap (seen_reading c.as_bytes.result.now) (sym c.in-Stands.is) ∙ c.in_ok-role.ensures.means
+    ∙ ap reading_of c.as_bytes.ensures)
     c.push_role_line.ensures.told c.push_role_line.ensures.err
 
 pub load_line-returns-in-Defines-clause-leads : goal.load_line-returns-in-Defines-clause-leads
 load_line-returns-in-Defines-clause-leads g t c =
     line_leads c.args.name.now (reverse c.args.blocks.now.items) c.args.line (Defines _) c.args.draft.now
     c.push_line.new.self c.push_line.result
-    (ap (seen_reading c.as_bytes.result.now) (sym c.in-Defines.is) ∙ c.in_ok-role.ensures.means ∙ ap reading_of c.as_bytes.ensures)
+    (ap (seen_reading c.as_bytes.result.now) (sym c.in-Defines.is) ∙ c.in_ok-role.ensures.means
+    ∙ ap reading_of c.as_bytes.ensures)
     c.push_line.ensures.told c.push_line.ensures.err
 
 pub load_line-returns-in_ok-file-in-Includes-clause-told : goal.load_line-returns-in_ok-file-in-Includes-clause-told
 load_line-returns-in_ok-file-in-Includes-clause-told g t c = λ m h.
-    let means : Includes c.in-Includes.word.now ≡ reading_of c.args.line.text = ap (seen_reading c.as_bytes.result.now) (sym c.in-Includes.is)
+    let means : Includes c.in-Includes.word.now ≡ reading_of c.args.line.text =
+    ap (seen_reading c.as_bytes.result.now) (sym c.in-Includes.is)
     ∙ c.in_ok-role.ensures.means ∙ ap reading_of c.as_bytes.ensures in
     subst (λ reading. IsLoad c.args.draft.now
     (line_excerpt (included_by m c.args.depth c.args.name.now) c.args.name.now (reverse c.args.blocks.now.items)
@@ -217,14 +221,16 @@ pub load_line-returns-in_ok-file-in-Includes-clause-leads : goal.load_line-retur
 load_line-returns-in_ok-file-in-Includes-clause-leads g t c =
     include_leads (reverse c.args.blocks.now.items) c.args.line c.in-Includes.word.now c.args.draft.now.store
     c.load_include.new.draft.store c.load_include.result
-    (ap (seen_reading c.as_bytes.result.now) (sym c.in-Includes.is) ∙ c.in_ok-role.ensures.means ∙ ap reading_of c.as_bytes.ensures)
+    (ap (seen_reading c.as_bytes.result.now) (sym c.in-Includes.is) ∙ c.in_ok-role.ensures.means
+    ∙ ap reading_of c.as_bytes.ensures)
     c.load_include.ensures.leads
 
 pub load_line-returns-in-Faulty-clause-leads : goal.load_line-returns-in-Faulty-clause-leads
 load_line-returns-in-Faulty-clause-leads g t c =
     line_leads c.args.name.now (reverse c.args.blocks.now.items) c.args.line (Faulty c.as_bytes-in-Faulty.result.now)
     c.args.draft.now c.refuse_line.new.self c.refuse_line.result
-    (ap Faulty c.as_bytes-in-Faulty.ensures ∙ ap (seen_reading c.as_bytes.result.now) (sym c.in-Faulty.is) ∙ c.in_ok-role.ensures.means
+    (ap Faulty c.as_bytes-in-Faulty.ensures ∙ ap (seen_reading c.as_bytes.result.now) (sym c.in-Faulty.is)
+    ∙ c.in_ok-role.ensures.means
     ∙ ap reading_of c.as_bytes.ensures) c.refuse_line.ensures.told c.refuse_line.ensures.err
 
 pub load_file-returns-in_err-load_line-clause-ends : goal.load_file-returns-in_err-load_line-clause-ends
@@ -254,8 +260,8 @@ pub load_include-returns-then-depth-eq0-clause-ends : goal.load_include-returns-
 load_include-returns-then-depth-eq0-clause-ends g t c =
     rw (← c.as_bytes-file.ensures)
     (deep_ends (g.F.Files.files c.args.files.now) c.args.depth c.args.name.now c.as_bytes-file.result.now
-    c.args.line c.args.draft.now c.refuse_include.new.draft c.refuse_include.result
-    c.if-depth-eq0.true c.refuse_include.ensures.told c.refuse_include.ensures.read c.refuse_include.ensures.within)
+    c.args.line c.args.draft.now c.put_unread.new.draft c.put_unread.result
+    c.if-depth-eq0.true c.put_unread.ensures.told c.put_unread.ensures.read c.put_unread.ensures.within)
 
 pub load_include-returns-then-not-has_room-clause-ends : goal.load_include-returns-then-not-has_room-clause-ends
 load_include-returns-then-not-has_room-clause-ends g t c =
@@ -289,19 +295,19 @@ pub load_include-returns-in-Err-Absent-clause-ends : goal.load_include-returns-i
 load_include-returns-in-Err-Absent-clause-ends g t c =
     rw (← c.as_bytes-file.ensures)
     (absent_ends (g.F.Files.files c.args.files.now) c.args.depth c.args.name.now c.as_bytes-file.result.now
-    c.args.line c.if-depth-eq0.false c.args.draft.now c.refuse_include-in-Err-Absent.new.draft
-    c.refuse_include-in-Err-Absent.result (rw c.in-Err-Absent.field-0-is at c.in-Err-Absent.ensures.told)
-    c.refuse_include-in-Err-Absent.ensures.told c.refuse_include-in-Err-Absent.ensures.read
-    c.refuse_include-in-Err-Absent.ensures.within)
+    c.args.line c.if-depth-eq0.false c.args.draft.now c.put_unread-in-Err-Absent.new.draft
+    c.put_unread-in-Err-Absent.result (rw c.in-Err-Absent.field-0-is at c.in-Err-Absent.ensures.told)
+    c.put_unread-in-Err-Absent.ensures.told c.put_unread-in-Err-Absent.ensures.read
+    c.put_unread-in-Err-Absent.ensures.within)
 
 pub load_include-returns-in-Err-TooLong-clause-ends : goal.load_include-returns-in-Err-TooLong-clause-ends
 load_include-returns-in-Err-TooLong-clause-ends g t c =
     rw (← c.as_bytes-file.ensures)
     (long_ends (g.F.Files.files c.args.files.now) c.args.depth c.args.name.now c.as_bytes-file.result.now
-    c.args.line c.if-depth-eq0.false c.args.draft.now c.refuse_include-in-Err-TooLong.new.draft
-    c.refuse_include-in-Err-TooLong.result (rw c.in-Err-TooLong.field-0-is at c.in-Err-TooLong.ensures.told)
-    c.refuse_include-in-Err-TooLong.ensures.told c.refuse_include-in-Err-TooLong.ensures.read
-    c.refuse_include-in-Err-TooLong.ensures.within)
+    c.args.line c.if-depth-eq0.false c.args.draft.now c.put_unread-in-Err-TooLong.new.draft
+    c.put_unread-in-Err-TooLong.result (rw c.in-Err-TooLong.field-0-is at c.in-Err-TooLong.ensures.told)
+    c.put_unread-in-Err-TooLong.ensures.told c.put_unread-in-Err-TooLong.ensures.read
+    c.put_unread-in-Err-TooLong.ensures.within)
 
 pub load_include-returns-in-Err-Failed-clause-ends : goal.load_include-returns-in-Err-Failed-clause-ends
 load_include-returns-in-Err-Failed-clause-ends g t c =
@@ -315,7 +321,8 @@ load_line-returns-in-Stands-clause-ends g t c =
     alone_ends (λ word. AreStepsBelow (g.F.Files.files c.args.files.now) c.args.depth c.args.name.now
     (beside c.args.name.now word)) c.args.name.now (reverse c.args.blocks.now.items) c.args.line
     (Stands c.in-Stands.role) c.args.draft.now c.push_role_line.new.draft c.push_role_line.result tt
-    (ap (seen_reading c.as_bytes.result.now) (sym c.in-Stands.is) ∙ c.in_ok-role.ensures.means ∙ ap reading_of c.as_bytes.ensures)
+    (ap (seen_reading c.as_bytes.result.now) (sym c.in-Stands.is) ∙ c.in_ok-role.ensures.means
+    ∙ ap reading_of c.as_bytes.ensures)
     c.push_role_line.ensures.told c.push_role_line.ensures.read c.push_role_line.ensures.within
 
 pub load_line-returns-in-Defines-clause-ends : goal.load_line-returns-in-Defines-clause-ends
@@ -323,12 +330,14 @@ load_line-returns-in-Defines-clause-ends g t c =
     alone_ends (λ word. AreStepsBelow (g.F.Files.files c.args.files.now) c.args.depth c.args.name.now
     (beside c.args.name.now word)) c.args.name.now (reverse c.args.blocks.now.items) c.args.line
     (Defines _) c.args.draft.now c.push_line.new.self c.push_line.result tt
-    (ap (seen_reading c.as_bytes.result.now) (sym c.in-Defines.is) ∙ c.in_ok-role.ensures.means ∙ ap reading_of c.as_bytes.ensures)
+    (ap (seen_reading c.as_bytes.result.now) (sym c.in-Defines.is) ∙ c.in_ok-role.ensures.means
+    ∙ ap reading_of c.as_bytes.ensures)
     c.push_line.ensures.told c.push_line.ensures.read c.push_line.ensures.within
 
 pub load_line-returns-in_ok-file-in-Includes-clause-ends : goal.load_line-returns-in_ok-file-in-Includes-clause-ends
 load_line-returns-in_ok-file-in-Includes-clause-ends g t c =
-    let means : Includes c.in-Includes.word.now ≡ reading_of c.args.line.text = ap (seen_reading c.as_bytes.result.now) (sym c.in-Includes.is)
+    let means : Includes c.in-Includes.word.now ≡ reading_of c.args.line.text =
+    ap (seen_reading c.as_bytes.result.now) (sym c.in-Includes.is)
     ∙ c.in_ok-role.ensures.means ∙ ap reading_of c.as_bytes.ensures in
     subst (λ reading. EndsBy
     (AreStepsOfLine (λ word. AreStepsBelow (g.F.Files.files c.args.files.now) c.args.depth c.args.name.now
@@ -343,6 +352,7 @@ load_line-returns-in-Faulty-clause-ends g t c =
     alone_ends (λ word. AreStepsBelow (g.F.Files.files c.args.files.now) c.args.depth c.args.name.now
     (beside c.args.name.now word)) c.args.name.now (reverse c.args.blocks.now.items) c.args.line
     (Faulty c.as_bytes-in-Faulty.result.now) c.args.draft.now c.refuse_line.new.self c.refuse_line.result tt
-    (ap Faulty c.as_bytes-in-Faulty.ensures ∙ ap (seen_reading c.as_bytes.result.now) (sym c.in-Faulty.is) ∙ c.in_ok-role.ensures.means
+    (ap Faulty c.as_bytes-in-Faulty.ensures ∙ ap (seen_reading c.as_bytes.result.now) (sym c.in-Faulty.is)
+    ∙ c.in_ok-role.ensures.means
     ∙ ap reading_of c.as_bytes.ensures) c.refuse_line.ensures.told c.refuse_line.ensures.read
     c.refuse_line.ensures.within

@@ -11,13 +11,25 @@ use Rattle.deck_lines.proofs.store.exchangeable.are_closed_and_small.Goals as go
 
 pub line_at-line-requires-clause-inside : goal.line_at-line-requires-clause-inside
 line_at-line-requires-clause-inside c =
-    omega (arith, c.loop-place-test.true, c.requires.places, c.len.ensures.count, exchanged_len c.args.store.now.lines c.args.put.now c.args.at c.args.cut c.requires.places)
+    omega (
+      arith,
+      c.loop-place-test.true,
+      c.requires.places,
+      c.len.ensures.count,
+      exchanged_len c.args.store.now.lines c.args.put.now c.args.at c.args.cut c.requires.places,
+    )
 
 pub loop-place-preserved : goal.loop-place-preserved
 loop-place-preserved c =
     let after : List DeckLine = exchanged_lines c.args.at c.args.cut c.args.put.now c.args.store.now.lines in
     let i = c.loop-place.place in
-    let line : DeckLine = record { number = c.line_at-line.result.number; text = c.line_at-line.result.text.now; mark = c.line_at-line.result.mark } in
+    let line : DeckLine =
+    record {
+      number = c.line_at-line.result.number;
+      text = c.line_at-line.result.text.now;
+      mark =
+          c.line_at-line.result.mark;
+    } in
     let there = drop_found after i line c.line_at-line.ensures in
     let before = reverse c.loop-place.endings.items in
     let now = reverse c.pass_line.new.endings.items in
@@ -25,16 +37,24 @@ loop-place-preserved c =
       closed =
           blocks_more after (drop i after) (drop (i + 1) after) line there before now c.loop-place.invariant.closed
           (c.in_ok-passes.ensures line.number ∙ ap (λ b. cond b (Some now) None) c.if-not-passes.false);
-      room = texts_more after (drop i after) (drop (i + 1) after) line there (length line.text) c.loop-place.room refl c.loop-place.invariant.room (omega (arith, c.if-room-len.false));
+      room = texts_more after (drop i after) (drop (i + 1) after) line there
+          (length line.text) c.loop-place.room refl c.loop-place.invariant.room (omega (arith, c.if-room-len.false));
     }
 
 pub returns-then-room-len : goal.returns-then-room-len
 returns-then-room-len c =
     let after : List DeckLine = exchanged_lines c.args.at c.args.cut c.args.put.now c.args.store.now.lines in
     let i = c.loop-place.place in
-    let line : DeckLine = record { number = c.line_at-line.result.number; text = c.line_at-line.result.text.now; mark = c.line_at-line.result.mark } in (
+    let line : DeckLine =
+    record {
+      number = c.line_at-line.result.number;
+      text = c.line_at-line.result.text.now;
+      mark =
+          c.line_at-line.result.mark;
+    } in (
       λ t. absurd (false≢true t),
-      λ h. absurd (too_long after (drop i after) (drop (i + 1) after) line (drop_found after i line c.line_at-line.ensures) (length line.text) c.loop-place.room refl
+      λ h. absurd (too_long after (drop i after) (drop (i + 1) after) line
+          (drop_found after i line c.line_at-line.ensures) (length line.text) c.loop-place.room refl
           c.loop-place.invariant.room c.if-room-len.true h.1),
     )
 
@@ -42,11 +62,19 @@ pub returns-then-not-passes : goal.returns-then-not-passes
 returns-then-not-passes c =
     let after : List DeckLine = exchanged_lines c.args.at c.args.cut c.args.put.now c.args.store.now.lines in
     let i = c.loop-place.place in
-    let line : DeckLine = record { number = c.line_at-line.result.number; text = c.line_at-line.result.text.now; mark = c.line_at-line.result.mark } in
+    let line : DeckLine =
+    record {
+      number = c.line_at-line.result.number;
+      text = c.line_at-line.result.text.now;
+      mark =
+          c.line_at-line.result.mark;
+    } in
     let now = reverse c.pass_line.new.endings.items in (
       λ t. absurd (false≢true t),
-      λ h. absurd (not_closed after (drop i after) (drop (i + 1) after) line (drop_found after i line c.line_at-line.ensures) (reverse c.loop-place.endings.items)
-          c.loop-place.invariant.closed (c.in_ok-passes.ensures line.number ∙ ap (λ b. cond b (Some now) None) c.if-not-passes.true) h.0),
+      λ h. absurd (not_closed after (drop i after) (drop (i + 1) after) line
+          (drop_found after i line c.line_at-line.ensures) (reverse c.loop-place.endings.items)
+          c.loop-place.invariant.closed
+          (c.in_ok-passes.ensures line.number ∙ ap (λ b. cond b (Some now) None) c.if-not-passes.true) h.0),
     )
 
 pub returns : goal.returns
@@ -54,7 +82,14 @@ returns c =
     let after : List DeckLine = exchanged_lines c.args.at c.args.cut c.args.put.now c.args.store.now.lines in
     let none : drop c.loop-place.place after ≡ [] =
     drop_all c.loop-place.place after
-    (omega (arith, c.loop-place-test.false, c.requires.places, c.len.ensures.count, exchanged_len c.args.store.now.lines c.args.put.now c.args.at c.args.cut c.requires.places)) in
-    at_end after c.loop-place.endings.items _ c.loop-place.room c.is_empty.result c.is_empty.ensures c.loop-place.endings.ok.0
+    (omega (
+      arith,
+      c.loop-place-test.false,
+      c.requires.places,
+      c.len.ensures.count,
+      exchanged_len c.args.store.now.lines c.args.put.now c.args.at c.args.cut c.requires.places,
+    )) in
+    at_end after c.loop-place.endings.items _ c.loop-place.room c.is_empty.result c.is_empty.ensures
+    c.loop-place.endings.ok.0
     (sym (ap (blocks_after (reverse c.loop-place.endings.items)) none) ∙ c.loop-place.invariant.closed)
     (sym (ap (λ ls. text_len ls + most_bytes) none) ∙ c.loop-place.invariant.room)

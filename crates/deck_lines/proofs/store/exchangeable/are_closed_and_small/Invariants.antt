@@ -6,6 +6,8 @@ use Rattle.deck_lines.proofs.store.exchangeable.are_closed_and_small.Given as go
 
 abbrev pub invariant-loop-place : goal.invariant-loop-place
 invariant-loop-place l = record {
-  closed : blocks_after (reverse l.endings.items) (drop l.place (exchanged_lines l.at l.cut l.put l.store.lines)) ≡ blocks_after [] (exchanged_lines l.at l.cut l.put l.store.lines);
-  room : text_len (drop l.place (exchanged_lines l.at l.cut l.put l.store.lines)) + most_bytes ≡ text_len (exchanged_lines l.at l.cut l.put l.store.lines) + l.room;
+  closed : blocks_after (reverse l.endings.items) (drop l.place (exchanged_lines l.at l.cut l.put l.store.lines))
+      ≡ blocks_after [] (exchanged_lines l.at l.cut l.put l.store.lines);
+  room : text_len (drop l.place (exchanged_lines l.at l.cut l.put l.store.lines)) + most_bytes
+      ≡ text_len (exchanged_lines l.at l.cut l.put l.store.lines) + l.room;
 }

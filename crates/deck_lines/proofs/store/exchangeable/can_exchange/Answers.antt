@@ -13,37 +13,52 @@ pub returns-then-count-at : goal.returns-then-count-at
 returns-then-count-at c =
     let lines : List DeckLine = c.args.store.now.lines in
     not_there c.args.at c.args.cut c.args.put.now lines
-    (omega (arith, c.if-count-at.true, c.len-count.ensures ∙ ap length c.lines.ensures.lines ∙ length-map lines unmarked))
+    (omega (
+      arith,
+      c.if-count-at.true,
+      c.len-count.ensures ∙ ap length c.lines.ensures.lines
+          ∙ length-map lines unmarked,
+    ))
 
 pub overflow_sub-left-2 : goal.overflow_sub-left-2
 overflow_sub-left-2 c =
     let lines : List DeckLine = c.args.store.now.lines in
-    omega (arith, c.len-count.ensures ∙ ap length c.lines.ensures.lines ∙ length-map lines unmarked, few_lines lines c.lines.ensures.within)
+    omega (
+      arith,
+      c.len-count.ensures ∙ ap length c.lines.ensures.lines ∙ length-map lines unmarked,
+      few_lines lines c.lines.ensures.within,
+    )
 
 pub returns-then-left-put : goal.returns-then-left-put
 returns-then-left-put c =
     let lines : List DeckLine = c.args.store.now.lines in
-    let count : c.len-count.result ≡ length lines = c.len-count.ensures ∙ ap length c.lines.ensures.lines ∙ length-map lines unmarked in
-    too_many c.args.at c.args.cut c.args.put.now lines (omega (arith, count, c.if-count-at.false, c.if-count-at-2.false))
+    let count : c.len-count.result ≡ length lines = c.len-count.ensures ∙ ap length c.lines.ensures.lines
+    ∙ length-map lines unmarked in
+    too_many c.args.at c.args.cut c.args.put.now lines
+    (omega (arith, count, c.if-count-at.false, c.if-count-at-2.false))
     (omega (arith, count, c.if-left-put.true, few_lines lines c.lines.ensures.within))
 
 pub are_closed_and_small-requires-clause-few : goal.are_closed_and_small-requires-clause-few
 are_closed_and_small-requires-clause-few c =
     let lines : List DeckLine = c.args.store.now.lines in
-    let count : c.len-count.result ≡ length lines = c.len-count.ensures ∙ ap length c.lines.ensures.lines ∙ length-map lines unmarked in
+    let count : c.len-count.result ≡ length lines = c.len-count.ensures ∙ ap length c.lines.ensures.lines
+    ∙ length-map lines unmarked in
     omega (
       arith,
       count,
       c.if-left-put.false,
       few_lines lines c.lines.ensures.within,
-      exchanged_len lines c.args.put.now c.args.at c.args.cut (omega (arith, count, c.if-count-at.false, c.if-count-at-2.false)),
+      exchanged_len lines c.args.put.now c.args.at c.args.cut
+          (omega (arith, count, c.if-count-at.false, c.if-count-at-2.false)),
     )
 
 pub returns : goal.returns
 returns c =
     let lines : List DeckLine = c.args.store.now.lines in
-    let count : c.len-count.result ≡ length lines = c.len-count.ensures ∙ ap length c.lines.ensures.lines ∙ length-map lines unmarked in
-    let places : c.args.at + c.args.cut ≤ length lines = omega (arith, count, c.if-count-at.false, c.if-count-at-2.false) in
+    let count : c.len-count.result ≡ length lines = c.len-count.ensures ∙ ap length c.lines.ensures.lines
+    ∙ length-map lines unmarked in
+    let places : c.args.at + c.args.cut ≤ length lines =
+    omega (arith, count, c.if-count-at.false, c.if-count-at-2.false) in
     let few : length (exchanged_lines c.args.at c.args.cut c.args.put.now lines) ≤ most_lines = omega (
       arith,
       count,
@@ -51,4 +66,5 @@ returns c =
       few_lines lines c.lines.ensures.within,
       exchanged_len lines c.args.put.now c.args.at c.args.cut places,
     ) in
-    if_ok c.are_closed_and_small.result c.are_closed_and_small.ensures (λ can is. exchangeable c.args.at c.args.cut c.args.put.now lines can places few is)
+    if_ok c.are_closed_and_small.result c.are_closed_and_small.ensures
+    (λ can is. exchangeable c.args.at c.args.cut c.args.put.now lines can places few is)

@@ -4,7 +4,8 @@ use Rattle.deck_lines.proofs.store.marked.put_together.Given as goal
 
 abbrev pub invariant-loop-line : goal.invariant-loop-line
 invariant-loop-line l = record {
-  all : with_marks l.lines.items l.marks.items ++ reverse l.into.items ≡ with_marks l.initial.lines.items l.initial.marks.items;
+  all : with_marks l.lines.items l.marks.items ++ reverse l.into.items
+      ≡ with_marks l.initial.lines.items l.initial.marks.items;
   each : vec_len l.marks ≡ vec_len l.lines;
   count : vec_len l.lines + vec_len l.into ≡ vec_len l.initial.lines;
   room : vec_len l.initial.lines ≤ vec_capacity l.into;

@@ -9,9 +9,15 @@ pub line-requires-clause-inside : goal.line-requires-clause-inside
 line-requires-clause-inside c =
     let lines : List DeckLine = c.args.store.now.lines in
     let inside : c.in-Stored.place < length lines =
-    found_inside (exchanged_lines c.args.at c.args.cut c.args.put.now lines) lines c.args.place c.in-Stored.place c.requires.inside
+    found_inside (exchanged_lines c.args.at c.args.cut c.args.put.now lines) lines c.args.place c.in-Stored.place
+    c.requires.inside
     (c.in-Stored.ensures lines c.args.put.now (sym c.len.ensures.count) refl) in
-    omega (arith, inside, ap length c.marked.ensures.lines, marks_len c.marked.result.lines.now c.marked.result.marks.now c.marked.ensures.each)
+    omega (
+      arith,
+      inside,
+      ap length c.marked.ensures.lines,
+      marks_len c.marked.result.lines.now c.marked.result.marks.now c.marked.ensures.each,
+    )
 
 pub returns-in-Stored : goal.returns-in-Stored
 returns-in-Stored c =

@@ -8,13 +8,16 @@ returns-then-place-at c = λ lines others e f.
 
 pub returns-then-past_front-put : goal.returns-then-past_front-put
 returns-then-past_front-put c = λ lines others e f.
-    exchanged_put lines others c.args.at c.args.cut (omega (arith, c.requires, e)) c.args.place (c.args.place - c.args.at) (omega (arith, c.if-place-at.false)) (omega (arith, c.if-past_front-put.true, f))
+    exchanged_put lines others c.args.at c.args.cut (omega (arith, c.requires, e)) c.args.place
+    (c.args.place - c.args.at) (omega (arith, c.if-place-at.false)) (omega (arith, c.if-past_front-put.true, f))
 
 pub returns-then-count-at : goal.returns-then-count-at
 returns-then-count-at c = λ lines others e f.
-    exchanged_past lines others c.args.at c.args.cut (omega (arith, c.requires, e)) c.args.place (c.args.place - c.args.at - c.args.put) (omega (arith, c.if-place-at.false, c.if-past_front-put.false, f))
+    exchanged_past lines others c.args.at c.args.cut (omega (arith, c.requires, e)) c.args.place
+    (c.args.place - c.args.at - c.args.put) (omega (arith, c.if-place-at.false, c.if-past_front-put.false, f))
     (omega (arith, e, c.if-count-at.true))
 
 pub returns : goal.returns
 returns c = λ lines others e f.
-    exchanged_behind lines others c.args.at c.args.cut (omega (arith, c.requires, e)) c.args.place (c.args.place - c.args.at - c.args.put) (omega (arith, c.if-place-at.false, c.if-past_front-put.false, f))
+    exchanged_behind lines others c.args.at c.args.cut (omega (arith, c.requires, e)) c.args.place
+    (c.args.place - c.args.at - c.args.put) (omega (arith, c.if-place-at.false, c.if-past_front-put.false, f))

@@ -7,8 +7,10 @@ loop-line-preserved c = record {
   extended = λ n k e. c.in_ok-definition.ensures.extended n k (c.loop-line.invariant.extended n k e);
   unique = λ h. c.in_ok-definition.ensures.unique (c.loop-line.invariant.unique h);
   defined =
-      defined_more (names_in c.loop-line.keys) (names_in c.definition_of.new.keys) c.in_ok-definition.ensures.extended c.loop-line.definitions.items _ c.in_ok-definition.definition
-      c.args.lines.now c.loop-line.line-index c.line-item.result c.loop-line-test.true c.line-item.is c.in_ok-push.ensures.items c.in_ok-definition.ensures.ok c.loop-line.invariant.defined;
+      defined_more (names_in c.loop-line.keys) (names_in c.definition_of.new.keys) c.in_ok-definition.ensures.extended
+      c.loop-line.definitions.items _ c.in_ok-definition.definition
+      c.args.lines.now c.loop-line.line-index c.line-item.result c.loop-line-test.true c.line-item.is
+      c.in_ok-push.ensures.items c.in_ok-definition.ensures.ok c.loop-line.invariant.defined;
 }
 
 pub returns-in_err-definition-clause-unique : goal.returns-in_err-definition-clause-unique

@@ -4,4 +4,12 @@ use Rattle.deck.proofs.Failing.{failing_len}
 use Rattle.deck.proofs.force.surroundings.Surroundings.enter.Goals as goal
 
 pub overflow_add-self : goal.overflow_add-self
-overflow_add-self c = omega (arith, c.self.invariant, failing_len (reverse c.self.inside.holds.items), length-reverse c.self.inside.holds.items, c.self.inside.holds.ok.0, c.self.inside.holds.small)
+overflow_add-self c =
+    omega (
+      arith,
+      c.self.invariant,
+      failing_len (reverse c.self.inside.holds.items),
+      length-reverse c.self.inside.holds.items,
+      c.self.inside.holds.ok.0,
+      c.self.inside.holds.small,
+    )

@@ -7,7 +7,8 @@ use Rattle.deck.proofs.force.surroundings.Surroundings.value.Goals as goal
 
 pub returns-in-Some-clause-value : goal.returns-in-Some-clause-value
 returns-in-Some-clause-value c =
-    sym (value_first c.self.inside.base.now c.self.inside.set c.args.name.now c.in-Some.value.now (sym c.in-Some.ensures.value))
+    sym (value_first c.self.inside.base.now c.self.inside.set c.args.name.now c.in-Some.value.now
+    (sym c.in-Some.ensures.value))
     ∙ ap (λ (s : Surroundings). value_of s.vars c.args.name.now) c.self.view_is
 
 pub returns-in-None-clause-value : goal.returns-in-None-clause-value

@@ -5,6 +5,8 @@ use Rattle.deck.proofs.places.kind_places.KindPlaces.make_room.Goals as goal
 
 pub loop-self-preserved : goal.loop-self-preserved
 loop-self-preserved c = (
-  longer c.args.self.now c.loop-self.self-inside.places.items c.push.new.self.items c.loop-self.invariant.0 c.in_ok-push.ensures.items,
-  c.loop-self.invariant.1 ∙ sym (count_longer c.loop-self.self-inside.places.items) ∙ ap place_count (sym c.in_ok-push.ensures.items),
+  longer c.args.self.now c.loop-self.self-inside.places.items c.push.new.self.items c.loop-self.invariant.0
+      c.in_ok-push.ensures.items,
+  c.loop-self.invariant.1 ∙ sym (count_longer c.loop-self.self-inside.places.items)
+      ∙ ap place_count (sym c.in_ok-push.ensures.items),
 )

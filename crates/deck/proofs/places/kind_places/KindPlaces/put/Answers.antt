@@ -7,9 +7,17 @@ use Rattle.deck.proofs.places.kind_places.KindPlaces.put.Goals as goal
 use Rattle.deck.proofs.places.kind_places.KindPlaces.put.Goals.{then-is_none, else-is_none}
 
 pub overflow_add-self : goal.overflow_add-self
-overflow_add-self c = omega (arith, c.self.invariant, count_within c.self.inside.places.items, c.self.inside.places.ok.0, c.self.inside.places.small)
+overflow_add-self c =
+    omega (
+      arith,
+      c.self.invariant,
+      count_within c.self.inside.places.items,
+      c.self.inside.places.ok.0,
+      c.self.inside.places.small,
+    )
 
-counted : (n m : ℕ) (ps : List (Option ℕ)) (number place : ℕ) (o : Option ℕ) → number < length ps → o ≡ get_or ps number o →
+counted : (n m : ℕ) (ps : List (Option ℕ)) (number place : ℕ) (o : Option ℕ) → number < length ps
+    → o ≡ get_or ps number o →
     n ≡ place_count ps → m ≡ cond (is_some o) n (n + 1) → m ≡ place_count (set ps number (Some place))
 counted n m ps number place o h e f g =
     g ∙ ap (λ c. cond (is_some o) c (c + 1)) f
@@ -18,14 +26,21 @@ counted n m ps number place o h e f g =
 
 pub invariant_of-self : goal.invariant_of-self
 invariant_of-self c =
-    let within : c.args.number < length c.self.inside.places.items = omega (arith, c.requires, ap length c.self.view_is) in
+    let within : c.args.number < length c.self.inside.places.items =
+    omega (arith, c.requires, ap length c.self.view_is) in
     elim c.if-is_none.branch [
       | then-is_none w ↦
-          counted c.self.inside.count c.if-is_none.self-inside.count c.self.inside.places.items c.args.number c.args.place c.index.result.now within c.index.ensures c.self.invariant
-          (ap (λ (s : Inside). s.count) w.self-inside-is ∙ ap (λ b. cond b c.self.inside.count (c.self.inside.count + 1)) (sym w.if-is_none.ensures))
-          ∙ ap (λ (s : Inside). place_count (set s.places.items c.args.number (Some c.args.place))) (sym w.self-inside-is)
+          counted c.self.inside.count c.if-is_none.self-inside.count c.self.inside.places.items c.args.number
+          c.args.place c.index.result.now within c.index.ensures c.self.invariant
+          (ap (λ (s : Inside). s.count) w.self-inside-is
+          ∙ ap (λ b. cond b c.self.inside.count (c.self.inside.count + 1)) (sym w.if-is_none.ensures))
+          ∙ ap (λ (s : Inside). place_count (set s.places.items c.args.number (Some c.args.place)))
+          (sym w.self-inside-is)
       | else-is_none w ↦
-          counted c.self.inside.count c.if-is_none.self-inside.count c.self.inside.places.items c.args.number c.args.place c.index.result.now within c.index.ensures c.self.invariant
-          (ap (λ (s : Inside). s.count) w.self-inside-is ∙ ap (λ b. cond b c.self.inside.count (c.self.inside.count + 1)) (sym w.if-is_none.ensures))
-          ∙ ap (λ (s : Inside). place_count (set s.places.items c.args.number (Some c.args.place))) (sym w.self-inside-is)
+          counted c.self.inside.count c.if-is_none.self-inside.count c.self.inside.places.items c.args.number
+          c.args.place c.index.result.now within c.index.ensures c.self.invariant
+          (ap (λ (s : Inside). s.count) w.self-inside-is
+          ∙ ap (λ b. cond b c.self.inside.count (c.self.inside.count + 1)) (sym w.if-is_none.ensures))
+          ∙ ap (λ (s : Inside). place_count (set s.places.items c.args.number (Some c.args.place)))
+          (sym w.self-inside-is)
     ]

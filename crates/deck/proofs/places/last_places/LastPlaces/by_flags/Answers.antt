@@ -10,5 +10,6 @@ of_edited-requires c = c.requires ∙ sym (ap (λ (e : Edited). length e.after) 
 
 pub returns : goal.returns
 returns c =
-    subst (λ (e : Edited). IfOk c.of_edited.result (λ last. AreLast e.names (definitions_by c.args.flags.now e.after) last)) c.unchanged.ensures.is
+    subst (λ (e : Edited). IfOk c.of_edited.result
+    (λ last. AreLast e.names (definitions_by c.args.flags.now e.after) last)) c.unchanged.ensures.is
     c.of_edited.ensures

@@ -20,10 +20,12 @@ loop-place-preserved c =
     let inside : i < length c.args.flags.now = omega (arith, c.loop-place-test.true) in
     let within : i < length lines = omega (arith, c.loop-place-test.true, c.requires) in
     let before : Definitions = definitions_by (take i c.args.flags.now) (take i lines) in
-    let there : definition_at lines i ≡ entry_in x = ap (option_and_then entry_in) (slice_get-get_or lines i (plain_line 0 []) within) in (
+    let there : definition_at lines i ≡ entry_in x =
+    ap (option_and_then entry_in) (slice_get-get_or lines i (plain_line 0 []) within) in (
       c.note_line.ensures.room,
       subst (λ (ds : Definitions). AreLast c.args.edited.now.names ds c.note_line.new.last)
           (ap (λ o. definition_by i f o ++ before) there
-          ∙ sym (by_step c.args.flags.now lines i f x c.requires within (take_more c.args.flags.now i false inside) (take_more lines i (plain_line 0 []) within)))
+          ∙ sym (by_step c.args.flags.now lines i f x c.requires within (take_more c.args.flags.now i false inside)
+          (take_more lines i (plain_line 0 []) within)))
           (c.note_line.ensures.last before c.loop-place.invariant.1),
     )

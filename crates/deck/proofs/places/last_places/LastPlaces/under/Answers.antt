@@ -7,5 +7,6 @@ use Rattle.deck.proofs.places.last_places.LastPlaces.under.Goals as goal
 
 pub returns-clause-last : goal.returns-clause-last
 returns-clause-last c =
-    subst (λ (e : Edited). IfOk c.under_edited.result (λ last. AreLast e.names (definitions c.args.settings.now e.after) last)) c.unchanged.ensures.is
+    subst (λ (e : Edited). IfOk c.under_edited.result
+    (λ last. AreLast e.names (definitions c.args.settings.now e.after) last)) c.unchanged.ensures.is
     c.under_edited.ensures

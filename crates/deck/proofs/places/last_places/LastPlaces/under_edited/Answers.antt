@@ -6,7 +6,8 @@ use Rattle.deck.proofs.Marking.{length-activity}
 use Rattle.deck.proofs.places.last_places.LastPlaces.under_edited.Goals as goal
 
 pub of_edited-requires : goal.of_edited-requires
-of_edited-requires c = ap length (c.as_slice.ensures.value ∙ c.in_ok-flags.ensures) ∙ length-activity _ _ c.args.edited.now.after
+of_edited-requires c = ap length (c.as_slice.ensures.value ∙ c.in_ok-flags.ensures)
+    ∙ length-activity _ _ c.args.edited.now.after
 
 pub returns : goal.returns
 unfolding definitions

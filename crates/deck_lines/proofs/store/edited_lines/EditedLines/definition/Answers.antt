@@ -27,14 +27,20 @@ returns-in-Past-clause-is c =
 pub returns-in-Stored-clause-numbering : goal.returns-in-Stored-clause-numbering
 returns-in-Stored-clause-numbering c =
     let e = c.self.inside in
-    subst (λ (v : Edited). IsNumbering (store_after v)) c.self.view_is (numbering_edited e.store.now e.put.now e.definitions.now e.at e.cut c.len.ensures.numbering c.self.invariant.defined)
+    subst (λ (v : Edited). IsNumbering (store_after v)) c.self.view_is
+    (numbering_edited e.store.now e.put.now e.definitions.now e.at e.cut c.len.ensures.numbering
+    c.self.invariant.defined)
 
 pub returns-in-Put-clause-numbering : goal.returns-in-Put-clause-numbering
 returns-in-Put-clause-numbering c =
     let e = c.self.inside in
-    subst (λ (v : Edited). IsNumbering (store_after v)) c.self.view_is (numbering_edited e.store.now e.put.now e.definitions.now e.at e.cut c.len.ensures.numbering c.self.invariant.defined)
+    subst (λ (v : Edited). IsNumbering (store_after v)) c.self.view_is
+    (numbering_edited e.store.now e.put.now e.definitions.now e.at e.cut c.len.ensures.numbering
+    c.self.invariant.defined)
 
 pub returns-in-Past-clause-numbering : goal.returns-in-Past-clause-numbering
 returns-in-Past-clause-numbering c =
     let e = c.self.inside in
-    subst (λ (v : Edited). IsNumbering (store_after v)) c.self.view_is (numbering_edited e.store.now e.put.now e.definitions.now e.at e.cut c.len.ensures.numbering c.self.invariant.defined)
+    subst (λ (v : Edited). IsNumbering (store_after v)) c.self.view_is
+    (numbering_edited e.store.now e.put.now e.definitions.now e.at e.cut c.len.ensures.numbering
+    c.self.invariant.defined)

@@ -6,7 +6,12 @@ use Rattle.deck_lines.proofs.store.edited_lines.EditedLines.len.Goals as goal
 
 pub overflow_sub-result : goal.overflow_sub-result
 overflow_sub-result c =
-    omega (arith, c.self.invariant.places, ap length c.marked.ensures.lines, marks_len c.marked.result.lines.now c.marked.result.marks.now c.marked.ensures.each)
+    omega (
+      arith,
+      c.self.invariant.places,
+      ap length c.marked.ensures.lines,
+      marks_len c.marked.result.lines.now c.marked.result.marks.now c.marked.ensures.each,
+    )
 
 pub returns : goal.returns
 returns c =

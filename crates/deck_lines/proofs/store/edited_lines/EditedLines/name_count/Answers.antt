@@ -12,4 +12,5 @@ pub returns-clause-after : goal.returns-clause-after
 returns-clause-after c =
     let e = c.self.inside in
     subst (λ (v : Edited). IsNumbering (store_after v)) c.self.view_is
-    (numbering_edited e.store.now e.put.now e.definitions.now e.at e.cut c.name_count.ensures.numbering c.self.invariant.defined)
+    (numbering_edited e.store.now e.put.now e.definitions.now e.at e.cut c.name_count.ensures.numbering
+    c.self.invariant.defined)

@@ -6,7 +6,8 @@ use Rattle.deck_lines.proofs.store.line_list.LineList.lines.Goals as goal
 
 pub returns-clause-lines : goal.returns-clause-lines
 returns-clause-lines c =
-    sym (marks_off c.self.inside.lines c.self.inside.marks.items c.self.invariant.marked) ∙ ap (map unmarked) c.self.view_is
+    sym (marks_off c.self.inside.lines c.self.inside.marks.items c.self.invariant.marked)
+    ∙ ap (map unmarked) c.self.view_is
 
 pub returns-clause-within : goal.returns-clause-within
 returns-clause-within c =

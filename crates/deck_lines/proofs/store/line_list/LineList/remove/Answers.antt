@@ -23,19 +23,27 @@ overflow_sub-self c =
     let long : length c.args.self.now ≡ length c.self.inside.lines =
     ap length (sym c.self.view_is) ∙ marks_len c.self.inside.lines c.self.inside.marks.items c.self.invariant.marked in
     let within : c.args.place < length c.self.inside.lines = omega (arith, long, c.requires) in
-    omega (arith, ap length c.as_bytes.ensures, bytes_at c.self.inside.lines c.self.inside.marks.items c.self.inside.bytes c.args.place c.self.invariant c.remove-line.result c.remove-line.ensures.item within)
+    omega (
+      arith,
+      ap length c.as_bytes.ensures,
+      bytes_at c.self.inside.lines c.self.inside.marks.items c.self.inside.bytes c.args.place c.self.invariant
+          c.remove-line.result c.remove-line.ensures.item within,
+    )
 
 pub invariant_of-self : goal.invariant_of-self
 invariant_of-self c =
     let long : length c.args.self.now ≡ length c.self.inside.lines =
     ap length (sym c.self.view_is) ∙ marks_len c.self.inside.lines c.self.inside.marks.items c.self.invariant.marked in
     let within : c.args.place < length c.self.inside.lines = omega (arith, long, c.requires) in
-    within_removed c.self.inside.lines c.self.inside.marks.items c.self.inside.bytes c.args.place c.self.invariant c.remove-line.result c.remove-line.ensures.item within
-    (length c.as_bytes.result.now) _ _ (ap length c.as_bytes.ensures) c.remove-line.ensures.rest c.remove_at.ensures.rest
+    within_removed c.self.inside.lines c.self.inside.marks.items c.self.inside.bytes c.args.place c.self.invariant
+    c.remove-line.result c.remove-line.ensures.item within
+    (length c.as_bytes.result.now) _ _ (ap length c.as_bytes.ensures) c.remove-line.ensures.rest
+    c.remove_at.ensures.rest
 
 pub returns : goal.returns
 returns c =
     ap (λ (lines : List Line). with_marks lines c.remove_at.new.items.items) c.remove-line.ensures.rest
-    ∙ ap (with_marks (take c.args.place c.self.inside.lines ++ drop (c.args.place + 1) c.self.inside.lines)) c.remove_at.ensures.rest
+    ∙ ap (with_marks (take c.args.place c.self.inside.lines ++ drop (c.args.place + 1) c.self.inside.lines))
+    c.remove_at.ensures.rest
     ∙ marks_exchange c.self.inside.lines [] c.self.inside.marks.items [] c.args.place 1 c.self.invariant.marked refl
     ∙ ap (λ (lines : List DeckLine). take c.args.place lines ++ drop (c.args.place + 1) lines) c.self.view_is

@@ -16,18 +16,29 @@ pub texts_len-requires : goal.texts_len-requires
 texts_len-requires c =
     let some : bytes_in c.split_at.result.1.now ≡ bytes_in (drop c.args.len c.self.inside.lines) =
     ap bytes_in (c.split_at.ensures.back ∙ ap (drop c.args.len) c.as_slice.ensures) in
-    omega (arith, some, bytes_behind c.self.inside.lines c.self.inside.marks.items c.self.inside.bytes c.self.invariant c.args.len, c.self.invariant.small)
+    omega (
+      arith,
+      some,
+      bytes_behind c.self.inside.lines c.self.inside.marks.items c.self.inside.bytes c.self.invariant c.args.len,
+      c.self.invariant.small,
+    )
 
 pub overflow_sub-self : goal.overflow_sub-self
 overflow_sub-self c =
     let some : c.texts_len.result ≡ bytes_in (drop c.args.len c.self.inside.lines) =
     c.texts_len.ensures ∙ ap bytes_in (c.split_at.ensures.back ∙ ap (drop c.args.len) c.as_slice.ensures) in
-    omega (arith, some, bytes_behind c.self.inside.lines c.self.inside.marks.items c.self.inside.bytes c.self.invariant c.args.len)
+    omega (
+      arith,
+      some,
+      bytes_behind c.self.inside.lines c.self.inside.marks.items c.self.inside.bytes c.self.invariant c.args.len,
+    )
 
 pub invariant_of-self : goal.invariant_of-self
 invariant_of-self c =
-    within_took c.self.inside.lines c.self.inside.marks.items c.self.inside.bytes c.self.invariant c.args.len c.texts_len.result _ _
-    (c.texts_len.ensures ∙ ap bytes_in (c.split_at.ensures.back ∙ ap (drop c.args.len) c.as_slice.ensures)) c.truncate.ensures c.truncate-2.ensures.items
+    within_took c.self.inside.lines c.self.inside.marks.items c.self.inside.bytes c.self.invariant c.args.len
+    c.texts_len.result _ _
+    (c.texts_len.ensures ∙ ap bytes_in (c.split_at.ensures.back ∙ ap (drop c.args.len) c.as_slice.ensures))
+    c.truncate.ensures c.truncate-2.ensures.items
 
 pub returns : goal.returns
 returns c =

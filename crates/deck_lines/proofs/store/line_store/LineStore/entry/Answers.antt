@@ -1,4 +1,4 @@
-use Rattle.std.proofs.Common.{◌≡◌, ◌∙◌, ap, arith, length, List, option_map, slice_get, sym}
+use Rattle.std.proofs.Common.{◌∙◌, ap, arith, length, List, option_map, slice_get, sym}
 use Rattle.def_entry.specs.Entries.{Entry}
 use Rattle.def_entry.specs.declared.key.Key.{Key}
 use Rattle.deck_lines.specs.NumberedKeys.{names_in}

@@ -15,7 +15,8 @@ returns-in-Some-clause-number c =
     ∙ ap (λ (s : Store). option_map (λ (p : Key × Entry). Some p.0) (definition_at s.lines c.args.place)) c.self.view_is
 
 pub returns-in-Some-clause-numbering : goal.returns-in-Some-clause-numbering
-returns-in-Some-clause-numbering c = numbering_of c.self.inside.lines c.self.inside.definitions c.args.self.now c.self.invariant c.self.view_is
+returns-in-Some-clause-numbering c =
+    numbering_of c.self.inside.lines c.self.inside.definitions c.args.self.now c.self.invariant c.self.view_is
 
 pub returns-in-None-clause-number : goal.returns-in-None-clause-number
 returns-in-None-clause-number c =
@@ -24,4 +25,5 @@ returns-in-None-clause-number c =
     ∙ ap (λ (s : Store). option_map (λ (p : Key × Entry). Some p.0) (definition_at s.lines c.args.place)) c.self.view_is
 
 pub returns-in-None-clause-numbering : goal.returns-in-None-clause-numbering
-returns-in-None-clause-numbering c = numbering_of c.self.inside.lines c.self.inside.definitions c.args.self.now c.self.invariant c.self.view_is
+returns-in-None-clause-numbering c =
+    numbering_of c.self.inside.lines c.self.inside.definitions c.args.self.now c.self.invariant c.self.view_is
