@@ -1,6 +1,6 @@
 -- The parts of each kind of tree: they are lighter, and their words stand where the tree's stand.
 use Rattle.std.proofs.Common.{◌≡◌, ◌<◌, ◌+◌, ◌*◌, ℕ, suc, List, [], ◌∷◌, ◌++◌, Bool}
-use Rattle.std.proofs.Common.{length, refl, sym, ap, ◌∙◌, subst, arith, length-append}
+use Rattle.std.proofs.Common.{length, refl, sym, ap, ◌∙◌, subst, arith}
 use Rattle.expr_tree.specs.declared.operator.RootKind.{RootKind}
 use Rattle.expr_tree.specs.declared.word_list.WordUse.{WordUse}
 use Rattle.expr_tree.specs.Syntax as tree
@@ -50,10 +50,12 @@ abbrev pub use_of : Direction → List ℕ → Syntax → Syntax
 use_of Forward = tree.Call
 use_of Inverse = tree.Inverse
 
+-- the word of a function in front of an operand, or behind a `~`
 abbrev pub word_of : Direction → List ℕ → WordUse
 word_of Forward = called_word
 word_of Inverse = inverted_word
 
+-- the words of a call or of an inverse are that of the function and those of the operand
 words_of_use : (direction : Direction) (w : List ℕ) (x : Syntax) → words_in (use_of direction w x) ≡ word_of direction w
     ∷ words_in x
 words_of_use Forward w x = refl

@@ -7,12 +7,14 @@ use Rattle.tree_eval.specs.Answers.{Gives}
 use Rattle.units_io.specs.Outcomes.{◌>>=◌}
 
 -- the fault of a step is that of the whole
-pub fault_first : {A B C D : Type 0} (view : A → B) (seen : D → C) (e : EvalFault) (r : Result B ValueFault) (k : B → Result C ValueFault) (w : Result C ValueFault)
+pub fault_first : {A B C D : Type 0} (view : A → B) (seen : D → C) (e : EvalFault) (r : Result B ValueFault)
+    (k : B → Result C ValueFault) (w : Result C ValueFault)
     → w ≡ (r >>= k) → Gives view (Err e) r → Gives seen (Err e) w
 fault_first view seen (Value f) r k w p h = p ∙ ap (λ x. x >>= k) h
 fault_first view seen OutOfMemory r k w p h = tt
 
 -- where a step has an answer, the rest goes on with that
-pub then : {A B C : Type 0} (view : A → B) (x : A) (r : Result B ValueFault) (k : B → Result C ValueFault) (w : Result C ValueFault)
+pub then : {A B C : Type 0} (view : A → B) (x : A) (r : Result B ValueFault) (k : B → Result C ValueFault)
+    (w : Result C ValueFault)
     → w ≡ (r >>= k) → Gives view (Ok x) r → w ≡ k (view x)
 then view x r k w p h = p ∙ ap (λ y. y >>= k) h

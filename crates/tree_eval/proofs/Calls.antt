@@ -18,17 +18,21 @@ use Rattle.tree_eval.specs.Told.{IsUsable, told_worth}
 use Rattle.tree_eval.specs.Value.{applied, unapplied, value, most_rank}
 
 -- a call that is too deep
-deep_applied : (f : Callable) (a : Amount) → nat_lt most_rank (rank_of f) ≡ true → applied f a ≡ Err (fault.CallsTooDeep (name_of f))
+deep_applied : (f : Callable) (a : Amount) → nat_lt most_rank (rank_of f) ≡ true
+    → applied f a ≡ Err (fault.CallsTooDeep (name_of f))
 deep_applied (Function name rank iu ou d r fw inv) a h = rw h refl
 deep_applied (Alias name rank target) a h = rw h refl
 deep_applied (Table name rank unit points) a h = rw h refl
 
-deep_unapplied : (f : Callable) (a : Amount) → nat_lt most_rank (rank_of f) ≡ true → unapplied f a ≡ Err (fault.CallsTooDeep (name_of f))
+-- the inverse of a function of too high a rank is too deep
+deep_unapplied : (f : Callable) (a : Amount) → nat_lt most_rank (rank_of f) ≡ true
+    → unapplied f a ≡ Err (fault.CallsTooDeep (name_of f))
 deep_unapplied (Function name rank iu ou d r fw Absent) a h = rw h refl
 deep_unapplied (Function name rank iu ou d r fw (Present inv)) a h = rw h refl
 deep_unapplied (Alias name rank target) a h = rw h refl
 deep_unapplied (Table name rank unit points) a h = rw h refl
 
+-- so is either direction of it
 pub deep_taken : (direction : Direction) (f : Callable) (a : Amount) → nat_lt most_rank (rank_of f) ≡ true
     → taken direction f a ≡ Err (fault.CallsTooDeep (name_of f))
 deep_taken Forward = deep_applied
@@ -39,6 +43,7 @@ pub worth_kept : (w : Worth) → worth_in (kept w) ≡ w
 worth_kept (Ok q) = refl
 worth_kept (Err f) = refl
 
+-- a kept worth is no function
 pub kept_is_value : (w : Worth) → kept w ≢ outcome.Callable
 kept_is_value (Ok q) e = cc
 kept_is_value (Err f) e = cc
@@ -51,7 +56,8 @@ usable has callee m (told.Two p u) h =
 usable has callee m (told.Function id) h = h.0
 
 -- what a word alone is worth by what is told of it
-pub told_plain : (has : ℕ → Bool) (callee : ℕ → Callable) (m : Meaning) (t : Told) (a : Option Amount) → IsTold has callee m t
+pub told_plain : (has : ℕ → Bool) (callee : ℕ → Callable) (m : Meaning) (t : Told) (a : Option Amount)
+    → IsTold has callee m t
     → value (plain m) a ≡ told_worth callee t
 told_plain has callee m (told.One o) a h =
     let w : worth_in o.now ≡ value h.0 None = ap worth_in h.2 ∙ worth_kept (value h.0 None) in

@@ -15,18 +15,20 @@ use Rattle.tree_eval.specs.Expanded.{Meaning}
 use Rattle.tree_eval.specs.Expansion.{expand}
 use Rattle.tree_eval.specs.Operands.{chain, links, with_worth, words_of}
 use Rattle.units_io.specs.Outcomes.{◌>>=◌}
-use Rattle.tree_eval.specs.Steps.{Worth, joined, one}
+use Rattle.tree_eval.specs.Steps.{Worth, step_worth, one}
 use Rattle.tree_eval.specs.Value.{chained, value}
 use Rattle.tree_eval.proofs.Binding.{fault_first}
 use Rattle.tree_eval.proofs.Places.{left_stands, right_stands}
 use Rattle.tree_eval.proofs.Weight.{weight, weight_links}
 
+-- from a place on stands what is there, and then what stands from the next place on
 get_drop : {A : Type 0} (xs : List A) (i : ℕ) (x : A) → slice_get xs i ≡ Some x → drop i xs ≡ x ∷ drop (i + 1) xs
 get_drop [] i x e = cc
 get_drop (y ∷ xs) zero x e = let p : y ≡ x = cc in ap (λ z. z ∷ xs) p
 get_drop (y ∷ xs) (suc i) x e =
     let n : suc i + 1 ≡ suc (i + 1) = omega arith in get_drop xs i x e ∙ ap (λ k. x ∷ drop k (y ∷ xs)) (sym n)
 
+-- two steps one after the other are two steps behind the first
 in_two : (r : Worth) (f g : Amount → Worth) → (r >>= (λ w. f w >>= g)) ≡ (r >>= f >>= g)
 in_two (Ok w) f g = refl
 in_two (Err e) f g = refl
@@ -54,7 +56,8 @@ module _ (means : WordUse → Meaning) (us : List WordUse) (place : ℕ) (all : 
       worth_first : worth ≡ (value (expand means o.1) a >>= (λ v. chained v (links means (drop 1 all)) a))
       worth_first = ap (λ y. value (chain means y) a) split_first
 
-      weight_first : weight (chain means all) ≡ suc (weight (expand means o.1) + weight_links (links means (drop 1 all)))
+      weight_first : weight (chain means all)
+          ≡ suc (weight (expand means o.1) + weight_links (links means (drop 1 all)))
       weight_first = ap (λ y. weight (chain means y)) split_first
 
       pub first_stand : Stand us place (words_of all) → Stand us place (words_in o.1)
@@ -109,13 +112,15 @@ module _ (means : WordUse → Meaning) (us : List WordUse) (place : ℕ) (all : 
       here = with_worth o.0 held (value (expand means o.1) a)
 
       worth_here : worth ≡ (here >>= others)
-      worth_here = running.goes_on ∙ ap (λ y. chained held (links means y) a) split ∙ in_two (value (expand means o.1) a)
-          (joined o.0 held) others
+      worth_here = running.goes_on ∙ ap (λ y. chained held (links means y) a) split
+          ∙ in_two (value (expand means o.1) a)
+          (step_worth o.0 held) others
 
       pub member_fault : (e : EvalFault) → Answers {A = Amount} (Err e) here → Gives amount_in (Err e) worth
       member_fault e h = fault_first {A = Amount} (λ z. z) amount_in e here others worth worth_here h
 
-      pub goes : (x : Amount) (after : ℕ) → here ≡ Ok x → after ≡ next + length (words_in o.1) → IsRunning (i + 1) x after
+      pub goes : (x : Amount) (after : ℕ) → here ≡ Ok x → after ≡ next + length (words_in o.1)
+          → IsRunning (i + 1) x after
       goes x after j n =
           let m : length (words_of (drop i all)) ≡ length (words_in o.1) + length (words_of (drop (i + 1) all)) =
           ap length words_here ∙ length-append (words_in o.1) (words_of (drop (i + 1) all)) in
@@ -142,6 +147,7 @@ pub empty_worth : (means : WordUse → Meaning) (all : List (Step × Syntax)) (a
 empty_worth means [] a h = refl
 empty_worth means (o ∷ os) a h = cc
 
+-- no members have no words
 pub empty_words : (all : List (Step × Syntax)) → length all ≡ 0 → length (words_of all) ≡ 0
 empty_words [] h = refl
 empty_words (o ∷ os) h = cc

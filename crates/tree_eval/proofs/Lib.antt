@@ -3,6 +3,7 @@ pub mod Binding
 pub mod Calls
 pub mod Chains
 pub mod Listed
+pub mod Multiples
 pub mod Places
 pub mod Same
 pub mod StepFaults

@@ -9,10 +9,12 @@ use Rattle.expr_tree.specs.Words.{words_in, words_in_factors, words_in_members, 
 use Rattle.tree_eval.specs.declared.holder.Part.{Part}
 use Rattle.tree_eval.specs.declared.holder.Part.TheVariants as part
 use Rattle.tree_eval.specs.declared.step.Step.TheVariants.{Multiply}
-use Rattle.tree_eval.specs.Entries.{alias, function_words, greatest_rank, meaning_of, part_words, rank_of_meaning, words_if}
+use Rattle.tree_eval.specs.Entries.{alias, function_words, greatest_rank, meaning_of, part_words, rank_of_meaning}
+use Rattle.tree_eval.specs.Entries.{words_if}
 use Rattle.tree_eval.specs.Expanded as x
-use Rattle.tree_eval.specs.Expanded.{Expanded, Links, Given, Meaning}
-use Rattle.tree_eval.specs.Expansion.{called, called_word, expand, expand_if, factor_links, inverted, inverted_word, member_links, plain, plain_word, scaling, signing, term_links}
+use Rattle.tree_eval.specs.Expanded.{Meaning}
+use Rattle.tree_eval.specs.Expansion.{called, called_word, expand, expand_if, factor_links, inverted, inverted_word}
+use Rattle.tree_eval.specs.Expansion.{member_links, plain, plain_word, scaling, signing, term_links}
 use Rattle.tree_eval.specs.Laws.{Agree}
 use Rattle.tree_eval.proofs.Places.{get_left, get_right}
 
@@ -39,46 +41,55 @@ module _ (m n : WordUse → Meaning) where
     expand_same tree.Argument h = refl
     expand_same (tree.Call w e) h =
         let a : m (called_word w) ≡ n (called_word w) = h 0 (called_word w) refl in
-        let b : expand m e ≡ expand n e = expand_same e (agree_rest (called_word w) (words_in e) h) in λ i. called (a i) (b i)
+        let b : expand m e ≡ expand n e = expand_same e (agree_rest (called_word w) (words_in e) h)
+        in λ i. called (a i) (b i)
     expand_same (tree.Inverse w e) h =
         let a : m (inverted_word w) ≡ n (inverted_word w) = h 0 (inverted_word w) refl in
-        let b : expand m e ≡ expand n e = expand_same e (agree_rest (inverted_word w) (words_in e) h) in λ i. inverted (a i) (b i)
+        let b : expand m e ≡ expand n e = expand_same e (agree_rest (inverted_word w) (words_in e) h)
+        in λ i. inverted (a i) (b i)
     expand_same (tree.Root kind e) h = ap (x.Root kind) (expand_same e h)
     expand_same (tree.Group e) h = ap x.Group (expand_same e h)
     expand_same (tree.Negate e) h = ap x.Negated (expand_same e h)
     expand_same (tree.Power e f) h =
         let p : expand m e ≡ expand n e = expand_same e (agree_left (words_in e) (words_in f) h) in
-        let q : expand m f ≡ expand n f = expand_same f (agree_right (words_in e) (words_in f) h) in λ i. x.Power (p i) (q i)
+        let q : expand m f ≡ expand n f =
+        expand_same f (agree_right (words_in e) (words_in f) h) in λ i. x.Power (p i) (q i)
     expand_same (tree.Juxtaposed NoMember) h = refl
     expand_same (tree.Juxtaposed (Member e es)) h =
         let p : expand m e ≡ expand n e = expand_same e (agree_left (words_in e) (words_in_members es) h) in
-        let q : member_links m es ≡ member_links n es = members_same es (agree_right (words_in e) (words_in_members es) h) in λ i. x.Chain (p i) (q i)
+        let q : member_links m es ≡ member_links n es =
+        members_same es (agree_right (words_in e) (words_in_members es) h) in λ i. x.Chain (p i) (q i)
     expand_same (tree.Product NoFactor) h = refl
     expand_same (tree.Product (Factor s e fs)) h =
         let p : expand m e ≡ expand n e = expand_same e (agree_left (words_in e) (words_in_factors fs) h) in
-        let q : factor_links m fs ≡ factor_links n fs = factors_same fs (agree_right (words_in e) (words_in_factors fs) h) in λ i. x.Chain (p i) (q i)
+        let q : factor_links m fs ≡ factor_links n fs =
+        factors_same fs (agree_right (words_in e) (words_in_factors fs) h) in λ i. x.Chain (p i) (q i)
     expand_same (tree.Sum NoTerm) h = refl
     expand_same (tree.Sum (Term s e ts)) h =
         let p : expand m e ≡ expand n e = expand_same e (agree_left (words_in e) (words_in_terms ts) h) in
-        let q : term_links m ts ≡ term_links n ts = terms_same ts (agree_right (words_in e) (words_in_terms ts) h) in λ i. x.Chain (p i) (q i)
+        let q : term_links m ts ≡ term_links n ts = terms_same ts (agree_right (words_in e) (words_in_terms ts) h)
+        in λ i. x.Chain (p i) (q i)
 
     members_same : (es : Members) → Agree m n (words_in_members es) → member_links m es ≡ member_links n es
     members_same NoMember h = refl
     members_same (Member e es) h =
         let p : expand m e ≡ expand n e = expand_same e (agree_left (words_in e) (words_in_members es) h) in
-        let q : member_links m es ≡ member_links n es = members_same es (agree_right (words_in e) (words_in_members es) h) in λ i. x.Link Multiply (p i) (q i)
+        let q : member_links m es ≡ member_links n es =
+        members_same es (agree_right (words_in e) (words_in_members es) h) in λ i. x.Link Multiply (p i) (q i)
 
     factors_same : (fs : Factors) → Agree m n (words_in_factors fs) → factor_links m fs ≡ factor_links n fs
     factors_same NoFactor h = refl
     factors_same (Factor s e fs) h =
         let p : expand m e ≡ expand n e = expand_same e (agree_left (words_in e) (words_in_factors fs) h) in
-        let q : factor_links m fs ≡ factor_links n fs = factors_same fs (agree_right (words_in e) (words_in_factors fs) h) in λ i. x.Link (scaling s) (p i) (q i)
+        let q : factor_links m fs ≡ factor_links n fs =
+        factors_same fs (agree_right (words_in e) (words_in_factors fs) h) in λ i. x.Link (scaling s) (p i) (q i)
 
     terms_same : (ts : Terms) → Agree m n (words_in_terms ts) → term_links m ts ≡ term_links n ts
     terms_same NoTerm h = refl
     terms_same (Term s e ts) h =
         let p : expand m e ≡ expand n e = expand_same e (agree_left (words_in e) (words_in_terms ts) h) in
-        let q : term_links m ts ≡ term_links n ts = terms_same ts (agree_right (words_in e) (words_in_terms ts) h) in λ i. x.Link (signing s) (p i) (q i)
+        let q : term_links m ts ≡ term_links n ts = terms_same ts (agree_right (words_in e) (words_in_terms ts) h)
+        in λ i. x.Link (signing s) (p i) (q i)
 
   if_same : (o : Option Syntax) → Agree m n (words_if o) → expand_if m o ≡ expand_if n o
   if_same None h = refl
@@ -88,9 +99,11 @@ module _ (m n : WordUse → Meaning) where
   rank_same [] h = refl
   rank_same (u ∷ us) h =
       let a : m u ≡ n u = h 0 u refl in
-      let b : greatest_rank m us ≡ greatest_rank n us = rank_same us (agree_rest u us h) in λ i. max (rank_of_meaning (a i)) (b i)
+      let b : greatest_rank m us ≡ greatest_rank n us =
+      rank_same us (agree_rest u us h) in λ i. max (rank_of_meaning (a i)) (b i)
 
-  pub meaning_same : (name : List ℕ) (w : What) → ((p : Part) → Agree m n (part_words w p)) → meaning_of m name w ≡ meaning_of n name w
+  pub meaning_same : (name : List ℕ) (w : What) → ((p : Part) → Agree m n (part_words w p))
+      → meaning_of m name w ≡ meaning_of n name w
   meaning_same name entry.Primitive h = refl
   meaning_same name entry.Dimensionless h = refl
   meaning_same name (entry.Body e) h = ap x.One (expand_same e (h part.Body))
@@ -102,11 +115,13 @@ module _ (m n : WordUse → Meaning) where
       let r : greatest_rank m (function_words d) ≡ greatest_rank n (function_words d) = rank_same (function_words d)
       (agree_append ((words_if d.in_unit ++ words_if d.out_unit) ++ words_in d.forward) (words_if d.inverse)
       (agree_append (words_if d.in_unit ++ words_if d.out_unit) (words_in d.forward)
-      (agree_append (words_if d.in_unit) (words_if d.out_unit) (h part.InUnit) (h part.OutUnit)) (h part.Forward)) (h part.Inverse)) in
+      (agree_append (words_if d.in_unit) (words_if d.out_unit) (h part.InUnit) (h part.OutUnit)) (h part.Forward))
+      (h part.Inverse)) in
       λ i. x.Callee (x.Function name (suc (r i)) (a i) (b i) d.domain d.range (f i) (v i))
   meaning_same name (entry.Alias target) h = ap (alias name) (h part.Forward 0 (inverted_word target) refl)
   meaning_same name (entry.Table d) h =
-      let r : greatest_rank m (words_in d.unit) ≡ greatest_rank n (words_in d.unit) = rank_same (words_in d.unit) (h part.TableUnit) in
+      let r : greatest_rank m (words_in d.unit) ≡ greatest_rank n (words_in d.unit) =
+      rank_same (words_in d.unit) (h part.TableUnit) in
       let u : expand m d.unit ≡ expand n d.unit = expand_same d.unit (h part.TableUnit) in
       λ i. x.Callee (x.Table name (suc (r i)) (u i) d.points)
   meaning_same name (entry.ListOf parts) h = refl

@@ -10,10 +10,12 @@ use Rattle.tree_eval.specs.Faults.{fault_of}
 use Rattle.tree_eval.specs.Refusals.{IsFaultOf}
 use Rattle.tree_eval.specs.Steps.{amount}
 
+-- the fault of a step is what its answer tells
 told : (f : QuantityFault) (e : EvalFault) (r : Result Amount QuantityFault) → e ≡ Value (fault_of f) → r ≡ Err f
     → Answers {A = Amount} (Err e) (amount r)
 told f e r p q = rw (p, q) refl
 
+-- a fault that is handed on is that of the step, or want of memory
 pub handed_on : (f : QuantityFault) (e : EvalFault) (r : Result Amount QuantityFault) → IsFaultOf f e
     → (f ≡ step.OutOfMemory) ⊎ (r ≡ Err f) → Answers {A = Amount} (Err e) (amount r)
 handed_on (step.Number n) e r p (inl q) = cc

@@ -20,25 +20,31 @@ first_word [] h = let z : ⊥ = omega (arith, h) in absurd z
 first_word (u ∷ ws) h = (u, refl)
 
 -- what is told of a word that stands for a function is its number
-pub told_function : (has : ℕ → Bool) (callee : ℕ → Callable) (m : Meaning) (t : Told) (f : Callable) → IsTold has callee m t → m ≡ Callee f
+pub told_function : (has : ℕ → Bool) (callee : ℕ → Callable) (m : Meaning) (t : Told) (f : Callable)
+    → IsTold has callee m t → m ≡ Callee f
     → ((x : ℕ) → t ≡ told.Function x → ⊥) → ⊥
 told_function has callee m (told.One o) f h e n = let p : One h.0 ≡ Callee f = sym h.1 ∙ e in cc
 told_function has callee m (told.Two p u) f h e n = let q : Two h.0 h.1 ≡ Callee f = sym h.2 ∙ e in cc
 told_function has callee m (told.Function id) f h e n = n id refl
 
+-- an alias that stands for a function has a function as its target
 alias_of : (name : List ℕ) (m : Meaning) (f : Callable) → alias name m ≡ Callee f → (x : Callable) × (m ≡ Callee x)
 alias_of name (One x) f e = cc
 alias_of name (Two x y) f e = cc
 alias_of name (Callee g) f e = (g, refl)
 
 -- the word of an alias stands for a function
-pub alias_target : (words : Holder → List WordUse) (means : WordUse → Meaning) (id : ℕ) (f : Callable) (what : What) (target : List ℕ)
+pub alias_target : (words : Holder → List WordUse) (means : WordUse → Meaning) (id : ℕ) (f : Callable) (what : What)
+    (target : List ℕ)
     → IsFunction words means id f what → what ≡ entry.Alias target
     → (u : WordUse) → slice_get (words (Of id part.Forward)) 0 ≡ Some u → (x : Callable) × (means u ≡ Callee x)
 alias_target words means id f what target h e u s =
-    let w : words (Of id part.Forward) ≡ inverted_word target ∷ [] = h.0 part.Forward ∙ ap (λ y. part_words y part.Forward) e in
+    let w : words (Of id part.Forward) ≡ inverted_word target ∷ [] = h.0 part.Forward
+    ∙ ap (λ y. part_words y part.Forward) e in
     let p : Some (inverted_word target) ≡ Some u = ap (λ y. slice_get y 0) (sym w) ∙ s in
     let q : inverted_word target ≡ u = cc in
-    let a : alias (name_of f) (means (inverted_word target)) ≡ Callee f = ap (meaning_of means (name_of f)) (sym e) ∙ h.1 in
-    let r : (x : Callable) × (means (inverted_word target) ≡ Callee x) = alias_of (name_of f) (means (inverted_word target)) f a in
+    let a : alias (name_of f) (means (inverted_word target)) ≡ Callee f = ap (meaning_of means (name_of f)) (sym e)
+    ∙ h.1 in
+    let r : (x : Callable) × (means (inverted_word target) ≡ Callee x) =
+    alias_of (name_of f) (means (inverted_word target)) f a in
     (r.0, ap means (sym q) ∙ r.1)

@@ -2,7 +2,8 @@
 use Rattle.std.proofs.Common.{ℕ, suc, ◌+◌}
 use Rattle.tree_eval.specs.declared.meaning.Meaning.{Meaning as Told}
 use Rattle.tree_eval.specs.declared.meaning.Meaning.TheVariants as told
-use Rattle.tree_eval.specs.Expanded.{Expanded, Number, Bar, Argument, Primitive, Dimensionless, Named, Prefixed, Uncalled, Applied, Unapplied, Root, Group, Negated, Power, Chain}
+use Rattle.tree_eval.specs.Expanded.{Expanded, Number, Bar, Argument, Primitive, Dimensionless, Named, Prefixed}
+use Rattle.tree_eval.specs.Expanded.{Uncalled, Applied, Unapplied, Root, Group, Negated, Power, Chain}
 use Rattle.tree_eval.specs.Expanded.{Links, NoLink, Link, Callable, Function, Alias, Table, Given, Absent, Present}
 
 abbrev mutual

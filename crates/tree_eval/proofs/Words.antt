@@ -16,7 +16,7 @@ use Rattle.tree_eval.specs.Expanded.{Callable, Expanded, Meaning, Callee, Chain,
 use Rattle.tree_eval.specs.Directions.{operated, taken}
 use Rattle.tree_eval.specs.Expansion.{plain}
 use Rattle.units_io.specs.Outcomes.{◌>>=◌}
-use Rattle.tree_eval.specs.Steps.{Worth, amount, joined}
+use Rattle.tree_eval.specs.Steps.{Worth, amount, step_worth}
 use Rattle.tree_eval.specs.Told.{told_worth}
 use Rattle.tree_eval.specs.Value.{value}
 use Rattle.tree_eval.proofs.Binding.{fault_first, then}
@@ -26,24 +26,32 @@ use Rattle.tree_eval.proofs.Calls.{told_plain}
 abbrev pub times : Worth → Worth → Worth
 times r s = r >>= (λ v. s >>= (λ w. amount (product_of v w)))
 
+-- a last step that only answers changes nothing
 last_ok : (r : Worth) → (r >>= (λ n. Ok n)) ≡ r
 last_ok (Ok n) = refl
 last_ok (Err f) = refl
 
-chain_two : (r s : Worth) → (r >>= (λ v. s >>= (λ w. joined Multiply v w >>= (λ n. Ok n)))) ≡ times r s
+-- a chain of two members is their product
+chain_two : (r s : Worth) → (r >>= (λ v. s >>= (λ w. step_worth Multiply v w >>= (λ n. Ok n)))) ≡ times r s
 chain_two (Err f) s = refl
 chain_two (Ok v) (Err f) = refl
 chain_two (Ok v) (Ok w) = last_ok (amount (product_of v w))
 
-chained_word : (m : Meaning) (y : Expanded) (a : Option Amount) → value (Chain (plain m) (Link Multiply y NoLink)) a ≡ times (value (plain m) a) (value y a)
+-- a word and one more operand are worth their product
+chained_word : (m : Meaning) (y : Expanded) (a : Option Amount)
+    → value (Chain (plain m) (Link Multiply y NoLink)) a ≡ times (value (plain m) a) (value y a)
 chained_word m y a = chain_two (value (plain m) a) (value y a)
 
-module _ (has : ℕ → Bool) (callee : ℕ → Callable) (m : Meaning) (t : Told) (y : Expanded) (a : Option Amount) (h : IsTold has callee m t) where
+module _ (has : ℕ → Bool) (callee : ℕ → Callable) (m : Meaning) (t : Told) (y : Expanded) (a : Option Amount)
+    (h : IsTold has callee m t) where
   worth_told : times (value (plain m) a) (value y a) ≡ times (told_worth callee t) (value y a)
   worth_told = ap (λ r. times r (value y a)) (told_plain has callee m t a h)
 
-operated_chain : (direction : Direction) (has : ℕ → Bool) (callee : ℕ → Callable) (m : Meaning) (t : Told) (y : Expanded)
-    → IsTold has callee m t → ((id : ℕ) → t ≡ told.Function id → ⊥) → operated direction m y ≡ Chain (plain m) (Link Multiply y NoLink)
+-- a word that is no function, with an operand behind it, multiplies
+operated_chain : (direction : Direction) (has : ℕ → Bool) (callee : ℕ → Callable) (m : Meaning) (t : Told)
+    (y : Expanded)
+    → IsTold has callee m t → ((id : ℕ) → t ≡ told.Function id → ⊥)
+    → operated direction m y ≡ Chain (plain m) (Link Multiply y NoLink)
 operated_chain Forward has callee m (told.One o) y h n =
     ap (λ k. operated Forward k y) h.1 ∙ ap (λ k. Chain (plain k) (Link Multiply y NoLink)) (sym h.1)
 operated_chain Forward has callee m (told.Two p u) y h n =
@@ -55,17 +63,21 @@ operated_chain Inverse has callee m (told.Two p u) y h n =
 operated_chain direction has callee m (told.Function id) y h n = absurd (n id refl)
 
 -- a word that is no function is multiplied by its operand
-pub operated_word : (direction : Direction) (has : ℕ → Bool) (callee : ℕ → Callable) (m : Meaning) (t : Told) (y : Expanded) (a : Option Amount)
+pub operated_word : (direction : Direction) (has : ℕ → Bool) (callee : ℕ → Callable) (m : Meaning) (t : Told)
+    (y : Expanded) (a : Option Amount)
     → IsTold has callee m t → ((id : ℕ) → t ≡ told.Function id → ⊥)
     → value (operated direction m y) a ≡ times (told_worth callee t) (value y a)
 operated_word direction has callee m t y a h n =
-    ap (λ z. value z a) (operated_chain direction has callee m t y h n) ∙ (chained_word m y a ∙ worth_told has callee m t y a h)
+    ap (λ z. value z a) (operated_chain direction has callee m t y h n)
+    ∙ (chained_word m y a ∙ worth_told has callee m t y a h)
 
+-- a function with an operand is worth the function at what that is worth
 taken_callee : (direction : Direction) (f : Callable) (y : Expanded) (a : Option Amount)
     → value (operated direction (Callee f) y) a ≡ (value y a >>= taken direction f)
 taken_callee Forward f y a = refl
 taken_callee Inverse f y a = refl
 
+-- a fault stands for equal worths alike
 fault_keep : (e : EvalFault) (r w : Worth) → w ≡ r → Gives {A = Amount} (λ z. z) (Err e) r → Gives amount_in (Err e) w
 fault_keep (fault.Value f) r w h k = h ∙ k
 fault_keep fault.OutOfMemory r w h k = tt
@@ -75,37 +87,46 @@ module _ (w r s : Worth) (is : w ≡ times r s) where
   pub times_first : (e : EvalFault) → Gives amount_in (Err e) r → Gives amount_in (Err e) w
   times_first e h = fault_first amount_in amount_in e r (λ v. s >>= (λ u. amount (product_of v u))) w is h
 
-  pub times_second : (p : Held) (e : EvalFault) → Gives amount_in (Ok p) r → Gives amount_in (Err e) s → Gives amount_in (Err e) w
+  pub times_second : (p : Held) (e : EvalFault) → Gives amount_in (Ok p) r → Gives amount_in (Err e) s
+      → Gives amount_in (Err e) w
   times_second p e h k =
       fault_first amount_in amount_in e s (λ u. amount (product_of (amount_in p) u)) w
       (then amount_in p r (λ v. s >>= (λ u. amount (product_of v u))) w is h) k
 
-  product_is : (p u : Held) → Gives amount_in (Ok p) r → Gives amount_in (Ok u) s → w ≡ amount (product_of (amount_in p) (amount_in u))
+  product_is : (p u : Held) → Gives amount_in (Ok p) r → Gives amount_in (Ok u) s
+      → w ≡ amount (product_of (amount_in p) (amount_in u))
   product_is p u h k = then amount_in u s (λ x. amount (product_of (amount_in p) x)) w
       (then amount_in p r (λ v. s >>= (λ x. amount (product_of v x))) w is h) k
 
-  pub times_fault : (p u : Held) (x y : Amount) (e : EvalFault) → x ≡ amount_in p → y ≡ amount_in u → Gives amount_in (Ok p) r → Gives amount_in (Ok u) s
+  pub times_fault : (p u : Held) (x y : Amount) (e : EvalFault) → x ≡ amount_in p → y ≡ amount_in u
+      → Gives amount_in (Ok p) r → Gives amount_in (Ok u) s
       → Gives {A = Amount} (λ z. z) (Err e) (amount (product_of x y)) → Gives amount_in (Err e) w
   times_fault p u x y e f g h k q =
       let v : w ≡ amount (product_of x y) = product_is p u h k ∙ rw (f, g) refl in
       fault_keep e (amount (product_of x y)) w v q
 
-  pub times_ok : (p u : Held) (x y z : Amount) → x ≡ amount_in p → y ≡ amount_in u → Gives amount_in (Ok p) r → Gives amount_in (Ok u) s
+  pub times_ok : (p u : Held) (x y z : Amount) → x ≡ amount_in p → y ≡ amount_in u → Gives amount_in (Ok p) r
+      → Gives amount_in (Ok u) s
       → amount (product_of x y) ≡ Ok z → w ≡ Ok z
   times_ok p u x y z f g h k q = product_is p u h k ∙ (rw (f, g) refl ∙ q)
 
 -- a function with its operand
-module _ (direction : Direction) (has : ℕ → Bool) (callee : ℕ → Callable) (m : Meaning) (id : ℕ) (y : Expanded) (a : Option Amount)
+module _ (direction : Direction) (has : ℕ → Bool) (callee : ℕ → Callable) (m : Meaning) (id : ℕ) (y : Expanded)
+    (a : Option Amount)
     (h : IsTold has callee m (told.Function id)) where
   taken_word : value (operated direction m y) a ≡ (value y a >>= taken direction (callee id))
   taken_word = ap (λ k. value (operated direction k y) a) h.1 ∙ taken_callee direction (callee id) y a
 
-  pub operand_fault : (e : EvalFault) → Gives amount_in (Err e) (value y a) → Gives amount_in (Err e) (value (operated direction m y) a)
-  operand_fault e k = fault_first amount_in amount_in e (value y a) (taken direction (callee id)) (value (operated direction m y) a) taken_word k
+  pub operand_fault : (e : EvalFault) → Gives amount_in (Err e) (value y a)
+      → Gives amount_in (Err e) (value (operated direction m y) a)
+  operand_fault e k =
+      fault_first amount_in amount_in e (value y a) (taken direction (callee id))
+      (value (operated direction m y) a) taken_word k
 
   module _ (v : Held) (x : Amount) (k : Gives amount_in (Ok v) (value y a)) (is : x ≡ amount_in v) where
     taken_at : value (operated direction m y) a ≡ taken direction (callee id) x
-    taken_at = then amount_in v (value y a) (taken direction (callee id)) (value (operated direction m y) a) taken_word k
+    taken_at = then amount_in v (value y a) (taken direction (callee id))
+        (value (operated direction m y) a) taken_word k
         ∙ ap (taken direction (callee id)) (sym is)
 
     pub taken_fault : (e : EvalFault) → Answers {A = Amount} (Err e) (taken direction (callee id) x)

@@ -7,6 +7,7 @@ pub mod Expanded
 pub mod Expansion
 pub mod Faults
 pub mod Laws
+pub mod Multiples
 pub mod Operands
 pub mod Outcomes
 pub mod Refusals

@@ -15,7 +15,7 @@ use Rattle.tree_eval.specs.declared.step.Step.{Step}
 use Rattle.tree_eval.specs.declared.step.Step.TheVariants.{Multiply}
 use Rattle.tree_eval.specs.Expanded.{Dimensionless, Chain, Expanded, Link, Links, Meaning, NoLink}
 use Rattle.tree_eval.specs.Expansion.{expand, scaling, signing}
-use Rattle.tree_eval.specs.Steps.{Worth, joined}
+use Rattle.tree_eval.specs.Steps.{Worth, step_worth}
 
 -- a member and its step
 abbrev pub operand : Operand → Step × Syntax
@@ -37,7 +37,7 @@ operands_of (Sum terms) = map signed (terms_of terms.now)
 
 -- a running value with a member that is worth this
 abbrev pub with_worth : Step → Amount → Worth → Worth
-with_worth step held worth = worth >>= joined step held
+with_worth step held worth = worth >>= step_worth step held
 
 -- the words of all members
 abbrev pub words_of : List (Step × Syntax) → List WordUse

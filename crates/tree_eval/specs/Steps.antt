@@ -58,8 +58,8 @@ step_of Divide = quotient_of
 step_of Add = sum_of
 step_of Subtract = difference_of
 
-abbrev pub joined : Step → Amount → Amount → Worth
-joined step x y = amount (step_of step x y)
+abbrev pub step_worth : Step → Amount → Amount → Worth
+step_worth step x y = amount (step_of step x y)
 
 -- a root: the power with 1 over its degree as exponent
 abbrev pub root : RootKind → Amount → Worth

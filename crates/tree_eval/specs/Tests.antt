@@ -43,7 +43,8 @@ inside outside unit (Some span) q = do
   if is_within span x then Ok q else Err outside
 
 -- a quantity at one end of a function, by what its unit is worth where one stands
-abbrev pub tested : (wrong outside : ValueFault) → (unit : Result (Option Amount) ValueFault) → Option Span → Amount → Worth
+abbrev pub tested : (wrong outside : ValueFault) → (unit : Result (Option Amount) ValueFault) → Option Span → Amount
+    → Worth
 tested wrong outside unit span q = do
   u ← unit
   _ ← conforming wrong u span q

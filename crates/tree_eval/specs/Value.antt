@@ -14,9 +14,11 @@ use Rattle.tree_eval.specs.declared.fault.ValueFault.{ValueFault}
 use Rattle.tree_eval.specs.declared.fault.ValueFault.TheVariants as fault
 use Rattle.tree_eval.specs.Expanded.{Expanded, Number, Bar, Argument, Primitive, Dimensionless, Named, Prefixed}
 use Rattle.tree_eval.specs.Expanded.{Uncalled, Applied, Unapplied, Root, Group, Negated, Power, Chain}
-use Rattle.tree_eval.specs.Expanded.{Links, NoLink, Link, Callable, Function, Alias, Table, Given, Absent, Present, name_of}
+use Rattle.tree_eval.specs.Expanded.{Links, NoLink, Link, Callable, Function, Alias, Table, Given, Absent, Present}
+use Rattle.tree_eval.specs.Expanded.{name_of}
 use Rattle.units_io.specs.Outcomes.{◌>>=◌}
-use Rattle.tree_eval.specs.Steps.{Worth, amount, joined, number, numeral_quotient, one, opposite, plain_number, root}
+use Rattle.tree_eval.specs.Steps.{Worth, amount, step_worth, number, numeral_quotient, one, opposite, plain_number}
+use Rattle.tree_eval.specs.Steps.{root}
 use Rattle.tree_eval.specs.Tests.{tested}
 
 -- one of a primitive
@@ -91,7 +93,7 @@ abbrev mutual
   chained v NoLink a = Ok v
   chained v (Link step x links) a = do
     w ← value x a
-    next ← joined step v w
+    next ← step_worth step v w
     chained next links a
 
   -- a function at an argument

@@ -11,6 +11,7 @@ mod holder;
 mod kept_fault;
 mod laws;
 mod meaning;
+mod multiple;
 mod numeral;
 mod operands;
 mod outcome;

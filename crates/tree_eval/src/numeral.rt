@@ -1,12 +1,13 @@
 //! Numerals.
 
+ghost use Rattle.std.specs.Prelude.{◌≡◌};
 ghost use Rattle.frac128.specs.Decimals.{value_of};
 ghost use Rattle.tree_eval.specs.Answers.{Gives, amount_in};
 ghost use Rattle.tree_eval.specs.Steps as spec;
 
 use crate::fault::EvalFault;
 use crate::held::Held;
-use frac128::Numeral;
+use frac128::{Frac, FracFault, Numeral};
 use quantity::Quantity;
 use std::alloc::Global;
 
@@ -21,7 +22,12 @@ pub(crate) fn numeral<'a>(alloc: Global, x: &Numeral) -> Result<Held<'a>, EvalFa
 pub(crate) fn bar<'a>(alloc: Global, x: &Numeral, y: &Numeral) -> Result<Held<'a>, EvalFault>
     ensures { Gives amount_in result (spec.number (spec.numeral_quotient x.now y.now)) }
 {
-    let top = x.value()?;
-    let bottom = y.value()?;
-    Ok(Held::Own(Quantity::number(alloc, top.div(&bottom)?)))
+    Ok(Held::Own(Quantity::number(alloc, quotient(x, y)?)))
+}
+
+// The same as a fraction.
+pub(crate) fn quotient(x: &Numeral, y: &Numeral) -> Result<Frac, FracFault>
+    ensures { result ≡ spec.numeral_quotient x.now y.now }
+{
+    x.value()?.div(&y.value()?)
 }

@@ -21,11 +21,12 @@ use crate::function::take;
 use crate::held::Held;
 use crate::holder::Holder;
 use crate::meaning::Meaning;
+use crate::multiple::{factor_of_word, multiple};
 use crate::numeral::{bar, numeral};
 use crate::operands::{Operand, Operands};
 use crate::power::{power, root};
 use crate::step::Step;
-use crate::word::word_worth;
+use crate::word::{join_word, word_worth};
 use expr_tree::{RootKind, Tree, view_law};
 use quantity::Quantity;
 use std::alloc::Global;
@@ -110,7 +111,13 @@ impl<'a, E: Env> Scope<'a, E> {
             Tree::Root(kind, operand) => self.root(*kind, operand, place),
             Tree::Negate(operand) => self.negated(operand, place),
             Tree::Power(base, exponent) => self.power(base, exponent, place),
-            Tree::Juxtaposed(trees) => self.chain(Operands::Juxtaposed(trees), place),
+            Tree::Juxtaposed(trees) => match factor_of_word(trees) {
+                Some(factor) => {
+                    let meaning = self.next_meaning(place);
+                    multiple(self.alloc, self.env, factor, meaning)
+                }
+                None => self.chain(Operands::Juxtaposed(trees), place),
+            },
             Tree::Product(factors) => self.chain(Operands::Product(factors), place),
             Tree::Sum(terms) => self.chain(Operands::Sum(terms), place),
         }
@@ -122,7 +129,8 @@ impl<'a, E: Env> Scope<'a, E> {
     fn root(&self, kind: RootKind, operand: &Tree, place: &mut usize) -> Result<Held<'a>, EvalFault>
         requires { Stand (E.words self.now.env.now self.now.holder) place.old (words_in (syntax operand.now)) }
         ensures worth { Gives amount_in result (spec.value
-            (expanded.Root kind (expand (E.means self.now.env.now) (syntax operand.now))) (option_copied self.now.arg)) }
+            (expanded.Root kind (expand (E.means self.now.env.now) (syntax operand.now)))
+            (option_copied self.now.arg)) }
         ensures place { OnOk result (place.new ≡ place.old + length (words_in (syntax operand.now))) }
     {
         let base = self.worth(operand, place)?;
@@ -226,12 +234,17 @@ impl<'a, E: Env> Scope<'a, E> {
     ) -> Result<Quantity, EvalFault>
         requires { Stand (E.words self.now.env.now self.now.holder) place.old (words_in (syntax operand.tree.now)) }
         ensures worth { Answers result (with_worth operand.entry.step (amount_in left.entry)
-            (spec.value (expand (E.means self.now.env.now) (syntax operand.entry.tree.now)) (option_copied self.now.arg))) }
+            (spec.value (expand (E.means self.now.env.now) (syntax operand.entry.tree.now))
+            (option_copied self.now.arg))) }
         ensures place { OnOk result (place.new ≡ place.old + length (words_in (syntax operand.entry.tree.now))) }
     {
         view_law();
         match operand.tree {
             Tree::Number(x) => operand.step.join_number(self.alloc, left, &x.value()?),
+            Tree::Word(_) => {
+                let meaning = self.next_meaning(place);
+                join_word(self.alloc, self.env, left, operand.step, meaning)
+            }
             _ => self.with_worth(left, operand, place),
         }
     }
@@ -247,7 +260,8 @@ impl<'a, E: Env> Scope<'a, E> {
     ) -> Result<Quantity, EvalFault>
         requires { Stand (E.words self.now.env.now self.now.holder) place.old (words_in (syntax operand.tree.now)) }
         ensures worth { Answers result (with_worth operand.entry.step (amount_in left.entry)
-            (spec.value (expand (E.means self.now.env.now) (syntax operand.entry.tree.now)) (option_copied self.now.arg))) }
+            (spec.value (expand (E.means self.now.env.now) (syntax operand.entry.tree.now))
+            (option_copied self.now.arg))) }
         ensures place { OnOk result (place.new ≡ place.old + length (words_in (syntax operand.entry.tree.now))) }
     {
         let member = self.worth(operand.tree, place)?;

@@ -16,9 +16,13 @@ use std::alloc::Global;
 /// How a running value takes one more member.
 #[derive(Clone, Copy)]
 pub enum Step {
+    /// Times the member.
     Multiply,
+    /// Over the member.
     Divide,
+    /// Plus the member.
     Add,
+    /// Minus the member.
     Subtract,
 }
 
@@ -50,7 +54,7 @@ impl Step {
         left: Held<'_>,
         right: &Quantity,
     ) -> Result<Quantity, EvalFault>
-        ensures { Answers result (spec.joined self (amount_in left.entry) right.now) }
+        ensures { Answers result (spec.step_worth self (amount_in left.entry) right.now) }
     {
         let left = left.own(alloc)?;
         Ok(self.join_owned(alloc, left, right)?)
@@ -63,7 +67,7 @@ impl Step {
         left: Held<'_>,
         right: Held<'_>,
     ) -> Result<Quantity, EvalFault>
-        ensures { Answers result (spec.joined self (amount_in left.entry) (amount_in right.entry)) }
+        ensures { Answers result (spec.step_worth self (amount_in left.entry) (amount_in right.entry)) }
     {
         match self {
             Step::Multiply => match right {
@@ -81,7 +85,7 @@ impl Step {
         left: Held<'_>,
         right: &Frac,
     ) -> Result<Quantity, EvalFault>
-        ensures { Answers result (spec.joined self (amount_in left.entry) (spec.plain_number right.now)) }
+        ensures { Answers result (spec.step_worth self (amount_in left.entry) (spec.plain_number right.now)) }
     {
         match self {
             Step::Multiply => Ok(left.own(alloc)?.times_number(right)?),

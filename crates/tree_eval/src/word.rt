@@ -2,6 +2,7 @@
 
 ghost use Rattle.std.specs.Prelude.{◌≢◌};
 ghost use Rattle.tree_eval.specs.Answers as answer;
+ghost use Rattle.tree_eval.specs.Operands.{with_worth};
 ghost use Rattle.tree_eval.specs.Outcomes.{worth_in};
 ghost use Rattle.tree_eval.specs.Told as spec;
 
@@ -29,6 +30,24 @@ pub(crate) fn word_worth<'a, E: Env>(
         Meaning::One(outcome) => Ok(Held::Lent(quantity_of(alloc, outcome)?)),
         Meaning::Two(prefix, unit) => Ok(Held::Own(both(alloc, prefix, unit)?)),
         Meaning::Function(id) => Err(Refusal::NeedsArgument.by(alloc, env.function_name(id))),
+    }
+}
+
+// A running value with a word alone as one more member. The value of a name is taken as it is lent.
+pub(crate) fn join_word<'a, E: Env>(
+    alloc: Global,
+    env: &'a E,
+    left: Held<'a>,
+    step: Step,
+    meaning: Meaning<'a>,
+) -> Result<Quantity, EvalFault>
+    requires { spec.IsUsable (E.has env.now) meaning }
+    ensures { answer.Answers result (with_worth step (answer.amount_in left.entry)
+        (spec.told_worth (E.callee env.now) meaning.entry)) }
+{
+    match meaning {
+        Meaning::One(Outcome::Value(q)) => step.join(alloc, left, q),
+        _ => step.join_held(alloc, left, word_worth(alloc, env, meaning)?),
     }
 }
 

@@ -34,10 +34,12 @@ abbrev pub decreases-scope::Scope::chain : goal.decreases-scope::Scope::chain
 decreases-scope::Scope::chain g l = 4 * weight (chain (g.E.Env.means l.self.now.env.now) (operands_of l.operands))
 
 abbrev pub decreases-scope::Scope::with_member : goal.decreases-scope::Scope::with_member
-decreases-scope::Scope::with_member g l = 4 * weight (expand (g.E.Env.means l.self.now.env.now) (syntax l.operand.tree.now)) + 3
+decreases-scope::Scope::with_member g l =
+    4 * weight (expand (g.E.Env.means l.self.now.env.now) (syntax l.operand.tree.now)) + 3
 
 abbrev pub decreases-scope::Scope::with_worth : goal.decreases-scope::Scope::with_worth
-decreases-scope::Scope::with_worth g l = 4 * weight (expand (g.E.Env.means l.self.now.env.now) (syntax l.operand.tree.now)) + 2
+decreases-scope::Scope::with_worth g l =
+    4 * weight (expand (g.E.Env.means l.self.now.env.now) (syntax l.operand.tree.now)) + 2
 
 abbrev pub decreases-function::take : goal.decreases-function::take
 decreases-function::take g l = 4 * weight_callable (g.E.Env.callee l.env.now l.id) + 2
@@ -60,5 +62,6 @@ decreases-function::check_end g l =
 
 abbrev pub invariant-scope::Scope::chain-loop-i : goal.invariant-scope::Scope::chain-loop-i
 invariant-scope::Scope::chain-loop-i g l =
-    IsRunning (g.E.Env.means l.self.env.now) (g.E.Env.words l.self.env.now l.self.holder) l.fn.place (operands_of l.operands)
+    IsRunning (g.E.Env.means l.self.env.now) (g.E.Env.words l.self.env.now l.self.holder) l.fn.place
+    (operands_of l.operands)
     (option_copied l.self.arg) l.i (amount_in l.held) l.place

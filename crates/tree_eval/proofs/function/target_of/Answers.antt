@@ -7,7 +7,8 @@ pub unreachable-requires : goal.unreachable-requires
 unreachable-requires g c =
     let s = first_word (g.E.Env.words c.args.env.now (Of c.args.id Forward)) c.requires.some in
     let f = c.requires.word s.0 s.1 in
-    told_function (g.E.Env.has c.args.env.now) (g.E.Env.callee c.args.env.now) (g.E.Env.means c.args.env.now s.0) c.meaning.result f.0
+    told_function (g.E.Env.has c.args.env.now) (g.E.Env.callee c.args.env.now)
+    (g.E.Env.means c.args.env.now s.0) c.meaning.result f.0
     (c.meaning.ensures.told s.0 s.1) f.1 c.in_default.not-Function
 
 pub returns-clause-has : goal.returns-clause-has

@@ -13,4 +13,5 @@ returns-in_err-raised c =
     let p = err_from_is_err_and r.result r.ensures.1 in
     subst (λ x. Answers {A = Amount} r.result (amount (power_of x c.args.exponent.now))) c.in_ok-base.ensures
     (subst (λ x. Answers {A = Amount} x (amount (power_of c.in_ok-base.base c.args.exponent.now))) (sym p.1)
-    (handed_on c.in_err-raised.field-0.0 p.0 (power_of c.in_ok-base.base c.args.exponent.now) p.2 c.in_err-raised.ensures))
+    (handed_on c.in_err-raised.field-0.0 p.0
+    (power_of c.in_ok-base.base c.args.exponent.now) p.2 c.in_err-raised.ensures))

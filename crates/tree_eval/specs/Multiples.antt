@@ -1,0 +1,27 @@
+-- A number and a word side by side, as most definitions are.
+use Rattle.std.specs.Prelude.{◌≡◌, ℕ, List, [], ◌∷◌, Option, Result}
+use Rattle.expr_tree.specs.declared.word_list.WordUse.{WordUse}
+use Rattle.expr_tree.specs.Syntax.{Syntax, Word}
+use Rattle.expr_tree.specs.Words.{words_in}
+use Rattle.frac128.specs.declared.fault.FracFault.{FracFault}
+use Rattle.frac128.specs.Fraction.{Fraction}
+use Rattle.quantity.specs.Amount.{Amount}
+use Rattle.units_io.specs.Outcomes.{◌>>=◌}
+use Rattle.tree_eval.specs.declared.step.Step.TheVariants.{Multiply}
+use Rattle.tree_eval.specs.Expanded.{Meaning}
+use Rattle.tree_eval.specs.Expansion.{expand}
+use Rattle.tree_eval.specs.Operands.{with_worth}
+use Rattle.tree_eval.specs.Steps.{Worth, number}
+use Rattle.tree_eval.specs.Value.{value}
+
+-- a tree is worth this number wherever it stands
+abbrev pub SaysNumber : Syntax → Result Fraction FracFault → Type 0
+SaysNumber e x = (means : WordUse → Meaning) (a : Option Amount) → value (expand means e) a ≡ number x
+
+-- a tree without words that says the number, and a word
+abbrev pub IsMultiple : List Syntax → Result Fraction FracFault → Type 0
+IsMultiple es x = (e : Syntax) × (w : List ℕ) × (es ≡ e ∷ Word w ∷ []) × (words_in e ≡ []) × SaysNumber e x
+
+-- a number times what a word is worth
+abbrev pub multiple : Result Fraction FracFault → Worth → Worth
+multiple x worth = number x >>= λ left. with_worth Multiply left worth
