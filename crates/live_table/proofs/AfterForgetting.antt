@@ -61,6 +61,7 @@ same_lists (x ∷ xs) (y ∷ ys) e h =
     let rest : xs ≡ ys = same_lists xs ys (omega (arith, e)) (λ n l. h (suc n) (omega (arith, l))) in
     λ i. first i ∷ rest i
 
+-- what stands at a place of an image is the image of what stands there
 map_at : {A B : Type 0} (f : A → B) (xs : List A) (n : ℕ) (d : A) → n < length xs
     → slice_get (map f xs) n ≡ Some (f (get_or xs n d))
 map_at f [] n d l = absurd (omega (arith, l))
@@ -73,6 +74,7 @@ flag_settled [] n e = cc
 flag_settled (b ∷ bs) zero e = ap Some e
 flag_settled (b ∷ bs) (suc n) e = flag_settled bs n e
 
+-- a settled number has its flag
 pub settled_flag : (bs : List Bool) (n : ℕ) → IsSettled bs n → is_flagged bs n ≡ true
 settled_flag [] n e = cc
 settled_flag (b ∷ bs) zero e = some_same b true e

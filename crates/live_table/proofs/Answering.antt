@@ -26,6 +26,7 @@ module _ {A : Type 0} (event : Event) (fault : Option NameFault) (Given : A → 
   fault_query (Value v) a = absurd a
   fault_query OutOfMemory a = a
 
+-- where there is no name fault, the answer is that of the worth
 pub worth_answer : (fault : Option NameFault) (worth : Worth) (r : Result Amount QueryFault) → fault ≡ None
     → Answers r (by_names None worth) → Answers r (by_names fault worth)
 worth_answer fault worth r e a = subst (λ (o : Option NameFault). Answers r (by_names o worth)) (sym e) a

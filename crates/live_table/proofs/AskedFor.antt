@@ -2,8 +2,7 @@
 use Rattle.smallvec.specs.SmallVec.{SmallVec}
 use Rattle.std.proofs.Common.{◌≡◌, ◌⊎◌, ◌↔◌, ◌<◌, ℕ, Bool, true, List, [], ◌∷◌, map, length, Contains, Option}
 use Rattle.std.proofs.Common.{None, is_none, option_map, refl, sym, ◌∙◌, ap, subst, inl, inr, arith}
-use Rattle.std.specs.Prelude.{Ok, Err, Vec}
-use Rattle.std.specs.declared.alloc.Global.{Global}
+use Rattle.std.specs.Prelude.{Ok, Err}
 use Rattle.expr_tree.specs.declared.word_list.WordUse.{WordUse}
 use Rattle.def_entry.specs.declared.key.Key.{Key}
 use Rattle.def_entry.specs.Tables.{Table}
@@ -47,6 +46,7 @@ pub same_shown : (deck : Contents) (l m : Listed) (here there : List ℕ) (ends 
     → shown deck m r ≡ shown deck l r
 same_shown deck l m here there ends more r g = λ i. record { deck = deck; kept = g.kept i; reductions = r }
 
+-- a table that has grown is sound
 pub grown_sound : (deck : Contents) (l m : Listed) (here there : List ℕ) (ends more : List DeadEnd) (r : ℕ)
     → AreGrown (table deck) l m here there ends more
     → IsSound deck l r → IsSound deck m r
@@ -61,10 +61,12 @@ pub words_query : (t : Table) (us : List WordUse) → IsQueryOf (AsksWords us) t
 words_query t us =
     record { after = λ s e. ap (λ (x : Table). after_query (is_none (name_fault x us)) (reach x us) s) e }
 
+-- what a query of a key asks for
 pub key_query : (t : Table) (k : Key) → IsQueryOf (AsksKey k) t (key_fault t k) (k ∷ key_reach t k)
 key_query t k =
     record { after = λ s e. ap (λ (x : Table). after_query (is_none (key_fault x k)) (k ∷ key_reach x k) s) e }
 
+-- a closed key reaches what its list says
 key_reached : (t : Table) (k : Key) → IsClosed t k → (n : Key) → Contains (k ∷ key_reach t k) n ↔
     ((n ≡ k) ⊎ Reaches t k n)
 key_reached t k closed n = (

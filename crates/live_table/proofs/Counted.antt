@@ -32,6 +32,7 @@ one_more kind.Prefix k us ps fs ns e = omega (arith, e)
 one_more kind.Func k us ps fs ns e = omega (arith, e)
 one_more kind.List k us ps fs ns e = e
 
+-- names are counted by their kinds
 by_kinds : (ks : List Key)
     → (length (of_kind kind.Unit ks) + length (of_kind kind.Prefix ks)) + length (of_kind kind.Func ks)
     ≡ length (names_among ks)
@@ -40,6 +41,7 @@ by_kinds (k ∷ ks) =
     one_more k.kind k (of_kind kind.Unit ks) (of_kind kind.Prefix ks) (of_kind kind.Func ks) (names_among ks)
     (by_kinds ks)
 
+-- how many names a table has
 abbrev name_count : Table → ℕ
 name_count t = (key_count t kind.Unit + key_count t kind.Prefix) + key_count t kind.Func
 
@@ -49,6 +51,7 @@ pub record AreCounts (t : Table) (u p f : ℕ) : Type 0 where
   pub prefixes : p ≡ key_count t kind.Prefix
   pub functions : f ≡ key_count t kind.Func
 
+-- that is the length of their list
 all_counted : WholeLaw → (t : Table) → name_count t ≡ length (names_in t)
 all_counted law t =
     let count = (law t).count in
@@ -65,10 +68,12 @@ shorter : (b : Bool) (k : Key) (ks ls : List Key) → length ks ≤ length ls
 shorter true k ks ls h = omega (arith, h)
 shorter false k ks ls h = omega (arith, h)
 
+-- each key once is no more than all
 once_short : (ks : List Key) → length (each_once ks) ≤ length ks
 once_short [] = omega arith
 once_short (k ∷ ks) = shorter (is_among ks k) k (each_once ks) ks (once_short ks)
 
+-- a deck has no more names than lines
 names_few : TableLaw → (d : Contents) → name_count (table d) ≤ length d.lines
 names_few law d =
     let ks : List Key = each_once (keys_of (table d)) in
@@ -109,6 +114,7 @@ kept_length (k ∷ ks) (Some o ∷ os) a h =
     (ap is_some (absent ks os k (λ n l. first_apart k ks a n l))) in
     omega (arith, rest, more)
 
+-- as many numbers are settled as outcomes are kept
 pub kept_counted : (t : Table) (l : Listed) → AreNodes t l
     → count_by (λ b. b) l.settled ≡ map_of.len (kept_of l.keys l.outcomes)
 kept_counted t l nodes =

@@ -49,6 +49,7 @@ module _ (t : Table) (key : ℕ → Key) (one other : ℕ → Option Key → Nam
   any_words (u ∷ us) (x ∷ y ∷ xs) h w =
       (any_word u x y (λ b e. h b (inl (sym e))) w.0, any_words us xs (λ b i. h b (inr (inr i))) w.1)
 
+-- a closed name has no step that leads nowhere
 no_end : (g : Graph) (k n b : ℕ) → EndsWithin g k n → In (Nowhere b) (steps g n) → ⊥
 no_end g zero n b e i = e
 no_end g (suc k) n b e i = all_at (walk.LeadsInto (EndsWithin g k)) (steps g n) (Nowhere b) e i
@@ -73,6 +74,7 @@ record AreSettledFirst (l now : Listed) (before later : List ℕ) : Type 0 where
   pub fresh : (m : ℕ) → In m later → IsSettled now.settled m → ⊥
   pub callees : (m : ℕ) → In m later → slice_get now.callees m ≡ slice_get l.callees m
 
+-- a number that is not settled is marked so
 unsettled : (bs : List Bool) (m : ℕ) → m < length bs → (slice_get bs m ≡ Some true → ⊥) → slice_get bs m ≡ Some false
 unsettled [] m h f = absurd (omega arith)
 unsettled (true ∷ bs) zero h f = absurd (f refl)

@@ -16,6 +16,7 @@ use Rattle.live_table.specs.Shown.{Shown}
 use Rattle.live_table.specs.Stored.{Listed, shown}
 use Rattle.live_table.proofs.AfterForgetting.{is_edit, live_after}
 
+-- a live table may forget
 pub live_can : (deck : Contents) (l : Listed) (g : NameGraph) (r : ℕ) → IsLive deck l g r → CanForget l g
 live_can deck l g r live = record {
   apart = live.sound.numbers.apart;
@@ -38,6 +39,7 @@ module _ (law : ChangedLaw) (before after : Contents) (l m : Listed) (g h : Name
     edit_done old is = subst (λ (s : Shown). IsEdit s (shown after m r)) is
         (is_edit before after l m g h r given live changed f law)
 
+-- an edit of the deck that is shown has its outcome
 pub same_outcome : (outcome : Contents → Result Contents DeckFault) (before after : Contents) (l : Listed) (r : ℕ)
     (old : Shown)
     → shown before l r ≡ old → outcome before ≡ Ok after → outcome old.deck ≡ Ok after

@@ -105,11 +105,13 @@ module _ (s : State) (keys : List Key) (whole : AreWhole s.table keys) (h : IsRi
       some_same : (p o : Outcome) → Some p ≡ Some o → o ≡ p
       some_same p o e = cc
 
+-- a query leaves all right
 query_right : (s : State) (keys : List Key) (b : Bool) → (b ≡ true → AreWhole s.table keys) → IsRight s
     → IsRight (after_query b keys s)
 query_right s keys true whole h = grown_right s keys (whole refl) h
 query_right s keys false whole h = h
 
+-- what is found to be none is none
 pub none_is : {A : Type 0} (o : Option A) → is_none o ≡ true → o ≡ None
 none_is None e = refl
 none_is (Some x) e = cc
@@ -119,6 +121,7 @@ left_some : (b : Bool) (o : Option Outcome) → is_some (cond b o None) ≡ true
 left_some true o e = (refl, e)
 left_some false o e = cc
 
+-- an outcome that is left is the one that was there
 left_is : (b : Bool) (o : Option Outcome) (x : Outcome) → cond b o None ≡ Some x → o ≡ Some x
 left_is true o x e = e
 left_is false o x e = cc
@@ -174,10 +177,12 @@ one_step (AsksKey n) s can h =
     (λ e. key_whole s.table n can (none_is (key_fault s.table n) e)) h
 one_step (Becomes table) s can h = edit_right s table (changed_keys s.table table) can h
 
+-- the law of right tables
 pub right_law : RightLaw
 right_law [] s can h = h
 right_law (e ∷ es) s can h = right_law es (after e s) can.1 (one_step e s can.0 h)
 
+-- the law of events one behind another
 pub order_law : OrderLaw
 order_law [] fs s = refl
 order_law (e ∷ es) fs s = order_law es fs (after e s)

@@ -12,6 +12,7 @@ none_set [] = refl
 none_set (true ∷ bs) = ap (λ (xs : List Bool). true ∷ xs) (none_set bs)
 none_set (false ∷ bs) = none_set bs
 
+-- a flag that is down counts nothing
 pub count_push : (bs : List Bool) → count_by (λ b. b) (bs ++ false ∷ []) ≡ count_by (λ b. b) bs
 count_push bs = sym (length-filter (λ b. b) (bs ++ false ∷ [])) ∙ (ap length (none_set bs) ∙ length-filter (λ b. b) bs)
 
@@ -26,6 +27,7 @@ one_set (true ∷ bs) (suc n) e =
     omega (arith, r)
 one_set (false ∷ bs) (suc n) e = one_set bs n e
 
+-- one that is put up counts one
 pub count_set : (bs : List Bool) (n : ℕ) → slice_get bs n ≡ Some false → count_by (λ b. b) (set bs n true) ≡ count_by
     (λ b. b) bs + 1
 count_set bs n e =

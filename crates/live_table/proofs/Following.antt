@@ -14,24 +14,29 @@ use Rattle.live_table.specs.Shown.{Follows, IsCutOff, IsRightTable, Shown, state
 use Rattle.live_table.specs.States.{AsksKey, AsksWords, Becomes, Event, State, after, after_all, after_query}
 use Rattle.live_table.proofs.Events.{order_law}
 
+-- a query takes no step back
 query_rises : (b : Bool) (keys : List Key) (s : State) → s.steps ≤ (after_query b keys s).steps
 query_rises true keys s = omega arith
 query_rises false keys s = omega arith
 
+-- nor does an event
 event_rises : (e : Event) (s : State) → s.steps ≤ (after e s).steps
 event_rises (AsksWords words) s = query_rises (is_none (name_fault s.table words)) (reach s.table words) s
 event_rises (AsksKey n) s = query_rises (is_none (key_fault s.table n)) (n ∷ key_reach s.table n) s
 event_rises (Becomes t) s = omega arith
 
+-- nor do several
 pub steps_rise : (es : List Event) (s : State) → s.steps ≤ (after_all es s).steps
 steps_rise [] s = omega arith
 steps_rise (e ∷ es) s =
     let a : s.steps ≤ (after e s).steps = event_rises e s in
     let b : (after e s).steps ≤ (after_all es (after e s)).steps = steps_rise es (after e s) in omega arith
 
+-- no event leaves a right table as it is
 pub follows_none : (s : Shown) (n : ℕ) → IsRightTable s → Follows [] s s n n
 follows_none s n right = record { stands = refl; right = right }
 
+-- what follows in two parts follows as a whole
 pub follows_both : (es fs : List Event) (a b c : Shown) (o n m : ℕ) → Follows es a b o n → Follows fs b c n m
     → Follows (es ++ fs) a c o m
 follows_both es fs a b c o n m f g = record {

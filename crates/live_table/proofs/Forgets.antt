@@ -25,6 +25,7 @@ use Rattle.live_table.specs.Keeping.{IsLeft, left_at_first, left_on}
 use Rattle.live_table.specs.Stored.{Listed, key_at}
 use Rattle.live_table.proofs.Places.{get_lt, some_same}
 
+-- no change affects nothing
 no_key : (g : NameGraph) (n : ℕ) → AreAffected g [] n → ⊥
 no_key g n a = no_member a.0 a.1
 
@@ -239,6 +240,7 @@ take_next (x ∷ ks) (suc i) k e = ap (λ n. take n (x ∷ ks)) (later i) ∙ ap
     later : (i : ℕ) → suc i + 1 ≡ suc (i + 1)
     later i = omega arith
 
+-- a table that has forgotten may forget again
 pub can_forget : (t : Table) (keys : List Key) (l m : Listed) (g h : NameGraph) → AreForgotten t keys l m g h
     → CanForget l g → CanForget m h
 can_forget t keys l m g h f can = record {

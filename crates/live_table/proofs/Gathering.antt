@@ -12,6 +12,7 @@ use Rattle.std.proofs.lemmas.List.{take_all}
 abbrev pub IsGathering : List ℕ → List ℕ → List ℕ → ℕ → Type 0
 IsGathering old now ns i = (m : ℕ) → In m now ↔ (In m old ⊎ In m (take i ns))
 
+-- one number is put where it is not there
 pub put_one : (now next : List ℕ) (n : ℕ) → next ≡ cond (on now n) now (now ++ n ∷ []) → (m : ℕ)
     → In m next ↔ (In m now ⊎ (m ≡ n))
 put_one now next n e m = elim (cases_Bool (on now n)) [
@@ -27,9 +28,11 @@ put_one now next n e m = elim (cases_Bool (on now n)) [
       )
 ]
 
+-- at the start nothing is gathered
 pub gathering_start : (old ns : List ℕ) → IsGathering old old ns 0
 gathering_start old ns m = (λ i. inl i, λ h. elim h [ inl i ↦ i | inr z ↦ absurd z ])
 
+-- the next number is
 pub gathering_next : (old now next ns : List ℕ) (i n : ℕ) → slice_get ns i ≡ Some n → IsGathering old now ns i
     → next ≡ cond (on now n) now (now ++ n ∷ []) → IsGathering old next ns (i + 1)
 gathering_next old now next ns i n at g e m = (to, from)
@@ -51,6 +54,7 @@ gathering_next old now next ns i n at g e m = (to, from)
       | inr is ↦ (put_one now next n e m).1 (inr is)
     ]
 
+-- at the end all are
 pub gathered_all : (old now ns : List ℕ) (i : ℕ) → length ns ≡ i → IsGathering old now ns i → (m : ℕ)
     → In m now ↔ (In m old ⊎ In m ns)
 gathered_all old now ns i e g m =

@@ -28,6 +28,7 @@ more_length (x ∷ xs) [] m = let e : None ≡ Some x = m 0 x refl in cc
 more_length (x ∷ xs) (y ∷ ys) m = let h : length xs ≤ length ys = more_length xs ys (λ i z e. m (suc i) z e) in
     omega arith
 
+-- a front is the same where more comes behind
 pub take_more : {A : Type 0} (xs ys : List A) (k : ℕ) → IsMore xs ys → k ≤ length xs → take k ys ≡ take k xs
 take_more xs ys zero m h = refl
 take_more [] ys (suc k) m h = absurd (omega arith)
@@ -37,26 +38,32 @@ take_more (x ∷ xs) (y ∷ ys) (suc k) m h =
     let t : take k ys ≡ take k xs = take_more xs ys k (λ i z q. m (suc i) z q) (omega arith) in
     λ i. e i ∷ t i
 
+-- so a member stays one
 pub in_more : (xs ys : List ℕ) (x : ℕ) → IsMore xs ys → In x xs → In x ys
 in_more [] ys x m i = absurd i
 in_more (y ∷ xs) [] x m i = let e : None ≡ Some y = m 0 y refl in cc
 in_more (y ∷ xs) (z ∷ ys) x m (inl e) = let q : z ≡ y = some_same z y (m 0 y refl) in inl (e ∙ sym q)
 in_more (y ∷ xs) (z ∷ ys) x m (inr i) = inr (in_more xs ys x (λ j w q. m (suc j) w q) i)
 
+-- what comes behind makes more
 pub push_more : {A : Type 0} (xs ys : List A) → IsMore xs (xs ++ ys)
 push_more [] ys i x e = cc
 push_more (y ∷ xs) ys zero x e = e
 push_more (y ∷ xs) ys (suc i) x e = push_more xs ys i x e
 
+-- a number within has its key
 pub key_read : (ks : List Key) (n : ℕ) → n < length ks → slice_get ks n ≡ Some (key_at ks n)
 key_read ks n h = slice_get-get_or ks n _ h
 
+-- and a key that is found is that of its number
 pub key_found : (ks : List Key) (n : ℕ) (k : Key) → slice_get ks n ≡ Some k → (n < length ks) × (k ≡ key_at ks n)
 key_found ks n k e = (get_lt ks n k e, some_same k (key_at ks n) (sym e ∙ key_read ks n (get_lt ks n k e)))
 
+-- numbers keep their keys where more come
 pub key_same : (ks ls : List Key) (n : ℕ) → IsMore ks ls → n < length ks → key_at ls n ≡ key_at ks n
 key_same ks ls n m h = sym (key_found ls n (key_at ks n) (m n (key_at ks n) (key_read ks n h))).1
 
+-- dead ends keep their faults
 pub fault_same : (ends more : List DeadEnd) (t : ℕ) → IsMore ends more → t < length ends → (holder : Option Key)
     → fault_at more t holder ≡ fault_at ends t holder
 fault_same ends more t m h holder =
@@ -91,12 +98,14 @@ module _ (t : Table) (key later : ℕ → Key) (ends other : ℕ → Option Key 
     same_words us xs (λ r i. h r (inr (inr i))) (λ b i. k b (inr (inr i))) w.1,
   )
 
+-- a settled number is within
 pub settled_within : (t : Table) (l : Listed) → AreNodes t l → (n : ℕ) → IsSettled l.settled n → n < length l.keys
 settled_within t l nodes n e =
     let a : n < length l.settled = get_lt l.settled n true e in
     let b : length l.settled ≡ length l.outcomes = ap length nodes.marked ∙ length-map l.outcomes _ in
     let c : length l.outcomes ≡ length l.keys = nodes.outcome_count in omega arith
 
+-- so is a known one
 pub known_within : (t : Table) (l : Listed) (list : List ℕ) → AreNodes t l → AreListed t l list → (n : ℕ)
     → IsKnown l list n → n < length l.keys
 known_within t l list nodes right n (inl e) = settled_within t l nodes n e
@@ -139,6 +148,7 @@ grown_none t l list ends more nodes right growing = record {
   ends_more = growing;
 }
 
+-- grown twice, a table is grown
 pub grown_both : (t : Table) (l m k : Listed) (here list there : List ℕ) (xs ys zs : List DeadEnd)
     → AreGrown t l m here list xs ys → AreGrown t m k list there ys zs → AreGrown t l k here there xs zs
 grown_both t l m k here list there xs ys zs a b = record {
@@ -151,6 +161,7 @@ grown_both t l m k here list there xs ys zs a b = record {
   ends_more = λ i x e. b.ends_more i x (a.ends_more i x e);
 }
 
+-- a table is grown by nothing
 pub added_none : (t : Table) (l : Listed) (list : List ℕ) (ends more : List DeadEnd) → AreNodes t l → AreListed t l list
     → IsMore ends more
     → AreAdded t l l list list ends more
@@ -159,6 +170,7 @@ added_none t l list ends more nodes right growing = record {
   same = record { steps = λ n h o. refl; callees = λ n h o. refl; looks = λ n h o. refl };
 }
 
+-- added twice, numbers are added
 pub added_both : (t : Table) (l m k : Listed) (here list there : List ℕ) (xs ys zs : List DeadEnd)
     → AreAdded t l m here list xs ys → AreAdded t m k list there ys zs → AreAdded t l k here there xs zs
 added_both t l m k here list there xs ys zs a b = record {
@@ -173,6 +185,7 @@ added_both t l m k here list there xs ys zs a b = record {
     longer : (n : ℕ) → n < length l.keys → n < length m.keys
     longer n h = let q : length l.keys ≤ length m.keys = more_length l.keys m.keys a.grown.keys_more in omega arith
 
+-- no numbers are listed
 pub none_listed : (t : Table) (l : Listed) (list : List ℕ) → list ≡ [] → AreListed t l list
 none_listed t l list e =
     subst (AreListed t l) (sym e)

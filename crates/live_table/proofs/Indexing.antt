@@ -30,20 +30,24 @@ get_push [] x (suc n) y e = cc
 get_push (z ∷ xs) x zero y e = inl e
 get_push (z ∷ xs) x (suc n) y e = elim (get_push xs x n y e) [ inl q ↦ inl q | inr q ↦ inr (ap suc q.0, q.1) ]
 
+-- what stands at a place stands there where more comes behind
 get_front : {A : Type 0} (xs ys : List A) (n : ℕ) (x : A) → slice_get xs n ≡ Some x → slice_get (xs ++ ys) n ≡ Some x
 get_front [] ys n x e = cc
 get_front (y ∷ xs) ys zero x e = e
 get_front (y ∷ xs) ys (suc n) x e = get_front xs ys n x e
 
+-- and what comes stands at the length
 get_last : {A : Type 0} (xs : List A) (x : A) → slice_get (xs ++ x ∷ []) (length xs) ≡ Some x
 get_last [] x = refl
 get_last (y ∷ xs) x = get_last xs x
 
+-- images by functions that agree at each place are equal
 map_at : {A B : Type 0} (f g : A → B) (xs : List A) → ((n : ℕ) (x : A) → slice_get xs n ≡ Some x → f x ≡ g x)
     → map f xs ≡ map g xs
 map_at f g [] h = refl
 map_at f g (x ∷ xs) h = λ i. h 0 x refl i ∷ map_at f g xs (λ n y e. h (suc n) y e) i
 
+-- the key at a place is among them
 among_at : (ks : List Key) (k : Key) (n : ℕ) → slice_get ks n ≡ Some k → is_among ks k ≡ true
 among_at [] k n e = cc
 among_at (x ∷ ks) k zero e = let q : x ≡ k = cc in or_left (same_keys k x).1 (sym q)
@@ -56,6 +60,7 @@ among_at (x ∷ ks) k (suc n) e = or_right (is_same k x) (is_among ks k) (among_
     or_right true b q = refl
     or_right false b q = q
 
+-- a key among them has a place
 place_of : (ks : List Key) (k : Key) → is_among ks k ≡ true → (n : ℕ) × (slice_get ks n ≡ Some k)
 place_of [] k e = cc
 place_of (x ∷ ks) k e = elim (cases_Bool (is_same k x)) [
@@ -63,6 +68,7 @@ place_of (x ∷ ks) k e = elim (cases_Bool (is_same k x)) [
   | inr q ↦ let r = place_of ks k (sym (ap (λ b. b || is_among ks k) q) ∙ e) in (suc r.0, r.1)
 ]
 
+-- so has a name
 name_place : (names : List (List ℕ)) (w : List ℕ) → list_any (bytes_eq w) names ≡ true
     → (n : ℕ) × (slice_get names n ≡ Some w)
 name_place [] w e = cc
@@ -71,6 +77,7 @@ name_place (x ∷ names) w e = elim (cases_Bool (bytes_eq w x)) [
   | inr q ↦ let r = name_place names w (sym (ap (λ b. b || list_any (bytes_eq w) names) q) ∙ e) in (suc r.0, r.1)
 ]
 
+-- and the name at a place is among them
 name_any : (names : List (List ℕ)) (w : List ℕ) (n : ℕ) → slice_get names n ≡ Some w
     → list_any (bytes_eq w) names ≡ true
 name_any [] w n e = cc
@@ -101,12 +108,14 @@ kind_cases kind.List kind.Prefix = inr (λ e. cc)
 kind_cases kind.List kind.Func = inr (λ e. cc)
 kind_cases kind.List kind.List = inl refl
 
+-- names that are put for a kind are its names
 names_put : (names : Names) (k : Kind) (these : List (List ℕ)) → names_of (with_names names k these) k ≡ these
 names_put names kind.Unit these = refl
 names_put names kind.Prefix these = refl
 names_put names kind.Func these = refl
 names_put names kind.List these = refl
 
+-- and those of other kinds stay
 names_kept : (names : Names) (k q : Kind) (these : List (List ℕ)) → (q ≡ k → ⊥)
     → names_of (with_names names k these) q ≡ names_of names q
 names_kept names kind.Unit kind.Unit these ne = absurd (ne refl)
@@ -131,16 +140,19 @@ named_as : (o : Option (List ℕ)) (q : Kind) (k : Key) → option_map (key q) o
 named_as None q k e = cc
 named_as (Some w) q k e = let s : key q w ≡ k = cc in (ap (λ (x : Key). x.kind) s, ap (λ (x : Key). Some x.name) s)
 
+-- the name of a numbered key is at its number
 pub name_there : (names : Names) (m : KeyNumber) (k : Key) → key_of names m ≡ Some k
     → slice_get (names_of names m.kind) m.number ≡ Some k.name
 name_there names m k e = (named_as (slice_get (names_of names m.kind) m.number) m.kind k e).1
 
+-- so the key has that kind and name
 pub key_parts : (names : Names) (m : KeyNumber) (k : Key) → key_of names m ≡ Some k
     → (m.kind ≡ k.kind) × (slice_get (names_of names k.kind) m.number ≡ Some k.name)
 key_parts names m k e =
     let s = named_as (slice_get (names_of names m.kind) m.number) m.kind k e in
     (s.0, subst (λ (q : Kind). slice_get (names_of names q) m.number ≡ Some k.name) s.0 s.1)
 
+-- and a name at a number is that of a key
 key_there : (names : Names) (k : Key) (i : ℕ) → slice_get (names_of names k.kind) i ≡ Some k.name
     → key_of names (record { kind = k.kind; number = i }) ≡ Some k
 key_there names k i e = ap (option_map (key k.kind)) e

@@ -25,9 +25,11 @@ use Rattle.live_table.proofs.Places.{get_lt, some_same}
 abbrev pub AreApart : List Key → Type 0
 AreApart ks = (n m : ℕ) → n < length ks → m < length ks → key_at ks n ≡ key_at ks m → n ≡ m
 
+-- keys that differ do so without the first
 pub apart_tail : (k : Key) (ks : List Key) → AreApart (k ∷ ks) → AreApart ks
 apart_tail k ks a n m h j e = let q : suc n ≡ suc m = a (suc n) (suc m) (omega arith) (omega arith) e in omega arith
 
+-- the first of them is none of the others
 pub first_apart : (k : Key) (ks : List Key) → AreApart (k ∷ ks) → (n : ℕ) → n < length ks → k ≡ key_at ks n → ⊥
 first_apart k ks a n h e = let z : 0 ≡ suc n = a 0 (suc n) (omega arith) (omega arith) e in omega arith
 
@@ -38,10 +40,12 @@ chosen true true x y z h = absurd (h refl refl)
 chosen true false x y z h = refl
 chosen false b x y z h = refl
 
+-- what a map with one more outcome has for a key
 inserted : (m : Kept) (k : Key) (x : Outcome) (q : Key) → map_of.get (map_of.insert m k x) q ≡ cond (eq_by_cmp
     key_cmp q k) (Some x) (map_of.get m q)
 inserted m k x q = map_of.get-insert key_order.total m k x q
 
+-- outcomes of two keys may be put in either order
 swapped : (m : Kept) (k l : Key) (x y : Outcome) → (k ≡ l → ⊥)
     → map_of.insert (map_of.insert m l y) k x ≡ map_of.insert (map_of.insert m k x) l y
 swapped m k l x y ne = map_of.same_map key_order.total key_order.exact _ _ (λ q.
@@ -51,6 +55,7 @@ swapped m k l x y ne = map_of.same_map key_order.total key_order.exact _ _ (λ q
     (λ a b. ne (sym (one_key q k a) ∙ one_key q l b))
     ∙ sym (inserted (map_of.insert m k x) l y q ∙ ap (cond (eq_by_cmp key_cmp q l) (Some y)) (inserted m k x q)))))
 
+-- so may one that there may be
 onto_swapped : (m : Kept) (k l : Key) (x : Option Outcome) (y : Outcome) → (k ≡ l → ⊥)
     → onto k x (map_of.insert m l y) ≡ map_of.insert (onto k x m) l y
 onto_swapped m k l None y ne = refl
@@ -77,10 +82,12 @@ onto_other m k q (Some x) ne = inserted m k x q ∙ by (eq_by_cmp key_cmp q k) r
     by true e = absurd (ne (one_key q k e))
     by false e = refl
 
+-- it is there afterwards
 pub onto_self : (m : Kept) (k : Key) (x : Option Outcome) → map_of.get m k ≡ None → map_of.get (onto k x m) k ≡ x
 onto_self m k None e = e
 onto_self m k (Some x) e = inserted m k x k ∙ ap (λ b. cond b (Some x) (map_of.get m k)) (tied k k refl)
 
+-- a key without a number has no outcome
 pub absent : (ks : List Key) (os : List (Option Outcome)) (q : Key) → ((n : ℕ) → n < length ks → q ≡ key_at ks n → ⊥)
     → map_of.get (kept_of ks os) q ≡ None
 absent [] os q h = map_of.get-empty key_cmp q
@@ -89,6 +96,7 @@ absent (k ∷ ks) (x ∷ os) q h =
     onto_other (kept_of ks os) k q x (h 0 (omega arith))
     ∙ absent ks os q (λ n l. h (suc n) (omega arith))
 
+-- the outcome at a number is the one that is kept of its key
 pub kept_at : (ks : List Key) (os : List (Option Outcome)) (n : ℕ) → AreApart ks → n < length ks → length os ≡ length ks
     → slice_get os n ≡ Some (map_of.get (kept_of ks os) (key_at ks n))
 kept_at [] os n a h e = absurd (omega arith)
@@ -99,12 +107,14 @@ kept_at (k ∷ ks) (x ∷ os) (suc n) a h e =
     kept_at ks os n (apart_tail k ks a) (omega arith) (omega arith)
     ∙ ap Some (sym (onto_other (kept_of ks os) k (key_at ks n) x (λ q. first_apart k ks a n (omega arith) (sym q))))
 
+-- a mark says whether there is an outcome
 pub marked_at : (os : List (Option Outcome)) (n : ℕ) (o : Option Outcome) → slice_get os n ≡ Some o
     → slice_get (map is_some os) n ≡ Some (is_some o)
 marked_at [] n o e = cc
 marked_at (x ∷ os) zero o e = ap (λ (y : Option Outcome). Some (is_some y)) (some_same x o e)
 marked_at (x ∷ os) (suc n) o e = marked_at os n o e
 
+-- where the mark is down there is none
 pub no_outcome : (os : List (Option Outcome)) (n : ℕ) → slice_get (map is_some os) n ≡ Some false
     → slice_get os n ≡ Some None
 no_outcome [] n e = cc

@@ -52,6 +52,7 @@ key_listed table k closed n = (
     words : (n : Key) → Contains (key_reach table k) n ↔ Reaches table k n
     words = reach_law.listed table (key_words table k) ((closed_law.key table k).0 closed)
 
+-- an event keeps the names that are said
 event_kept : (e : Event) (s : State) → CanBe e s → IsRight s → (n : Key)
     → IsSettled (after e s) n ↔ IsKeptBy e s.table (IsSettled s) n
 event_kept (AsksWords words) s can h =
@@ -67,10 +68,12 @@ event_kept (Becomes later) s can h = λ n. (
   λ i. stays_in s later (changed_keys s.table later) can h n i.0 i.1,
 )
 
+-- a query leaves the table
 query_table : (b : Bool) (keys : List Key) (s : State) → (after_query b keys s).table ≡ s.table
 query_table true keys s = refl
 query_table false keys s = refl
 
+-- an event leaves the one that it says
 event_table : (e : Event) (s : State) → (after e s).table ≡ table_after e s.table
 event_table (AsksWords words) s = query_table (is_none (name_fault s.table words)) (reach s.table words) s
 event_table (AsksKey k) s = query_table (is_none (key_fault s.table k)) (k ∷ key_reach s.table k) s
@@ -84,12 +87,14 @@ same_by (AsksWords words) table A B f n k = elim k [ inl i ↦ inl (f n i) | inr
 same_by (AsksKey q) table A B f n k = elim k [ inl i ↦ inl (f n i) | inr r ↦ inr r ]
 same_by (Becomes later) table A B f n k = (f n k.0, k.1)
 
+-- events keep alike what was kept alike
 same_by_all : (es : List Event) (table : Table) (A B : Key → Type 0) → ((n : Key) → A n → B n) → (n : Key)
     → IsKeptByAll es table A n → IsKeptByAll es table B n
 same_by_all [] table A B f n k = f n k
 same_by_all (e ∷ es) table A B f n k =
     same_by_all es (table_after e table) (IsKeptBy e table A) (IsKeptBy e table B) (same_by e table A B f) n k
 
+-- so events keep the names that are said
 names_kept : (es : List Event) (s : State) → AllCanBe es s → IsRight s → (n : Key)
     → IsSettled (after_all es s) n ↔ IsKeptByAll es s.table (IsSettled s) n
 names_kept [] s can h n = (λ i. i, λ i. i)
@@ -104,5 +109,6 @@ names_kept (e ∷ es) s can h n =
           (subst (λ (t : Table). IsKeptByAll es t (IsKeptBy e s.table (IsSettled s)) n) (sym (event_table e s)) i)),
     )
 
+-- the law of kept names
 pub kept_law : KeptLaw
 kept_law es s can h = record { names = names_kept es s can h; outcomes = (right_law es s can h).right }

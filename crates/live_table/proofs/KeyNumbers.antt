@@ -11,13 +11,13 @@ use Rattle.name_walk.proofs.Lists.{In-push}
 use Rattle.table_names.proofs.Members.{map_same}
 use Rattle.live_table.specs.declared.nodes.Nodes.{Nodes}
 use Rattle.live_table.specs.Exploring.{AreAdded, IsMore, IsNamed}
-use Rattle.live_table.specs.Numbering.{AreFlagged, IsKept}
+use Rattle.live_table.specs.Numbering.{AreFlagged, IsExtension}
 use Rattle.live_table.specs.Stored.{Listed, key_at, listed}
 use Rattle.live_table.proofs.Growing.{added_both, added_none, key_same, more_length, push_more}
 use Rattle.live_table.proofs.Named.{named_added, not_there}
 
 -- ---- what is kept
-pub kept_same : (keys : List Key) (a b : Nodes) → listed b ≡ listed a → b.gathered ≡ a.gathered → IsKept keys a b
+pub kept_same : (keys : List Key) (a b : Nodes) → listed b ≡ listed a → b.gathered ≡ a.gathered → IsExtension keys a b
 kept_same keys a b e f = record {
   added = λ t is nodes list ends right.
       subst (λ (m : Listed). AreAdded t (listed a) m list list ends ends) (sym e)
@@ -25,10 +25,12 @@ kept_same keys a b e f = record {
   gathered = f;
 }
 
-pub kept_itself : (keys : List Key) (a : Nodes) → IsKept keys a a
+-- nothing is added to what stays
+pub kept_itself : (keys : List Key) (a : Nodes) → IsExtension keys a a
 kept_itself keys a = kept_same keys a a refl refl
 
-pub kept_on : (keys : List Key) (a b c : Nodes) → IsKept keys a b → IsKept keys b c → IsKept keys a c
+-- what is added twice is added
+pub kept_on : (keys : List Key) (a b c : Nodes) → IsExtension keys a b → IsExtension keys b c → IsExtension keys a c
 kept_on keys a b c h k = record {
   added = λ t is nodes list ends right.
       let x = h.added t is nodes list ends right in
@@ -41,9 +43,10 @@ kept_on keys a b c h k = record {
 pub present_among : (t : Table) (keys : List Key) (k : Key) → keys_of t ≡ keys → is_among keys k ≡ is_present t k
 present_among t keys k e = ap (λ (ks : List Key). is_among ks k) (sym e) ∙ sym (is_some-lookup (is_same k) t)
 
+-- a new name is added
 pub kept_named : (keys : List Key) (a b : Nodes) (k : Key) (flag : Bool) → IsNamed k flag (listed a) (listed b)
     → flag ≡ is_among keys k
-    → is_among a.keys k ≡ false → b.gathered ≡ a.gathered → IsKept keys a b
+    → is_among a.keys k ≡ false → b.gathered ≡ a.gathered → IsExtension keys a b
 kept_named keys a b k flag named is new e = record {
   added = λ t of nodes list ends right.
       subst (λ (m : Listed). AreAdded t (listed a) m list list ends ends) (sym named.named)
@@ -61,15 +64,18 @@ flagged_named keys a b k flag named is f =
     ∙ ((λ i. f i ++ is i ∷ []) ∙ (sym (map-append (is_among keys) a.keys (k ∷ []))
     ∙ ap (λ (l : Listed). map (is_among keys) l.keys) (sym named.named)))
 
+-- so there are more keys
 pub more_named : (a b : Nodes) (k : Key) (flag : Bool) → IsNamed k flag (listed a) (listed b) → IsMore a.keys b.keys
 more_named a b k flag named = subst (IsMore a.keys) (ap (λ (l : Listed). l.keys) (sym named.named))
     (push_more a.keys (k ∷ []))
 
+-- the flag at a number is that of its key
 flag_in : (p : Key → Bool) (ks : List Key) (n : ℕ) (b : Bool) → n < length ks → get_or (map p ks) n b ≡ p (key_at ks n)
 flag_in p [] n b h = absurd (omega arith)
 flag_in p (k ∷ ks) zero b h = refl
 flag_in p (k ∷ ks) (suc n) b h = flag_in p ks n b (omega arith)
 
+-- it says whether the key is present
 pub flag_at : (keys : List Key) (a : Nodes) (n : ℕ) (b : Bool) (k : Key) → AreFlagged keys a → n < length a.keys
     → k ≡ key_at a.keys n
     → b ≡ get_or a.present.items n b → b ≡ is_among keys k
@@ -77,6 +83,7 @@ flag_at keys a n b k f h is e =
     e ∙ (ap (λ (bs : List Bool). get_or bs n b) f
     ∙ (flag_in (is_among keys) a.keys n b h ∙ ap (is_among keys) (sym is)))
 
+-- there is one for each key
 pub flag_count : (keys : List Key) (a : Nodes) → AreFlagged keys a → length a.present.items ≡ length a.keys
 flag_count keys a f = ap length f ∙ length-map a.keys (is_among keys)
 
@@ -90,12 +97,14 @@ looked_push ks ls (m ∷ ns) n k more within is =
     looked_push ks ls ns n k more (λ q i. within q (inr i)) is in
     λ i. key_same ks ls m more (within m (inl refl)) i ∷ rest i
 
+-- numbers within stay so where keys are added
 pub within_more : (ks ls : List Key) (ns ms : List ℕ) → IsMore ks ls → ms ≡ ns → ((m : ℕ) → In m ns → m < length ks)
     → (m : ℕ) → In m ms → m < length ls
 within_more ks ls ns ms more e within m i =
     let a : m < length ks = within m (subst (λ (xs : List ℕ). In m xs) e i) in let b = more_length ks ls more in
     omega arith
 
+-- and with one more that is
 pub within_push : (ks ls : List Key) (ns : List ℕ) (n : ℕ) → IsMore ks ls → ((m : ℕ) → In m ns → m < length ks)
     → n < length ls
     → (m : ℕ) → In m (ns ++ n ∷ []) → m < length ls

@@ -19,10 +19,12 @@ AreTaken stays ks os new = (n : ℕ) (x y : Option Outcome) → n < length ks �
     → slice_get new n ≡ Some y
     → y ≡ cond (stays (key_at ks n)) x None
 
+-- where both parts are nothing, so is the choice
 none_either : (b : Bool) (x y : Option Outcome) → x ≡ None → y ≡ None → x ≡ cond b y None
 none_either true x y e f = e ∙ sym f
 none_either false x y e f = e
 
+-- what is taken out leaves the outcomes of the keys that stay
 taken_at : (stays : Key → Bool) (ks : List Key) (os new : List (Option Outcome)) → AreApart ks → length os ≡ length ks
     → length new ≡ length ks
     → AreTaken stays ks os new → (q : Key) → map_of.get (kept_of ks new) q ≡ cond (stays q)
@@ -61,6 +63,7 @@ taken_at stays (k ∷ ks) (x ∷ os) (y ∷ new) a h j t q =
     by rest true e = here (one_key q k e)
     by rest false e = there rest (λ f. true≢false (sym (tied q k f) ∙ e))
 
+-- so the others are kept no more
 pub kept_left : (stays : Key → Bool) (ks : List Key) (os new : List (Option Outcome)) → AreApart ks
     → length os ≡ length ks → length new ≡ length ks
     → AreTaken stays ks os new → kept_of ks new ≡ map_of.retain_keys (kept_of ks os) stays

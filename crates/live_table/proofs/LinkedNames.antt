@@ -50,6 +50,7 @@ in_member m [] i = absurd i
 in_member m (n ∷ ns) (inl e) = member_first m n ns e
 in_member m (n ∷ ns) (inr i) = member_later m n ns (in_member m ns i)
 
+-- a number that a list contains is in it
 pub member_in : (m : ℕ) (ns : List ℕ) → Contains ns m → In m ns
 member_in m [] c = absurd (no_member m c)
 member_in m (n ∷ ns) c = elim (member_cases m n ns c) [ inl e ↦ inl e | inr j ↦ inr (member_in m ns j) ]
@@ -60,6 +61,7 @@ pub target_within : (deck : Contents) (l : Listed) (r : ℕ) (sound : IsSound de
 target_within deck l r sound n due xs is k i =
     settled_within deck l r sound.numbers k (due.below k (subst (λ (ys : List Step). In (To k) ys) is i))
 
+-- gathered targets are those of the steps
 pub gathered : (targets : List ℕ) (xs : List Step) → ((m : ℕ) → In m targets ↔ In (To m) xs) → (m : ℕ)
     → Contains targets m ↔ In (To m) xs
 gathered targets xs are m = (λ c. (are m).0 (member_in m targets c), λ i. in_member m targets ((are m).1 i))
@@ -229,6 +231,7 @@ no_edges deck = record {
     none : (n : ℕ) → is_flagged [] n ≡ true → ⊥
     none n e = true≢false (sym e)
 
+-- without names there are the right edges
 pub start_edges : (deck : Contents) (l : Listed) (g : NameGraph) → l ≡ no_names
     → g ≡ record { names = 0; uses = []; looks = [] }
     → HasEdges deck l g
@@ -240,6 +243,7 @@ pub looks_at : (looks : Looks) (n : ℕ) (v : Vec ℕ Global) → n < length loo
     → v.items ≡ looks_of looks n
 looks_at looks n v l e = sym (ap numbers_in (slice_get-get_or looks n v l ∙ ap Some (sym e)))
 
+-- what holds holds after a failure
 pub on_err : {A E : Type 0} (P : Type 0) (r : Result A E) → P → OnErr r P
 on_err P (Ok x) p = tt
 on_err P (Err e) p = p

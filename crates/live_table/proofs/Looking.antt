@@ -17,11 +17,13 @@ use Rattle.live_table.specs.Looks.{AllLead, AreLooks, AreLooksPut, IsSeen, Words
 use Rattle.live_table.specs.Stored.{key_at}
 use Rattle.live_table.proofs.Growing.{key_same, more_length}
 
+-- a member of two lists is in one of them
 pub in_both : {A : Type 0} (xs ys : List A) (s : A) → In s (xs ++ ys) → In s xs ⊎ In s ys
 in_both [] ys s i = inr i
 in_both (x ∷ xs) ys s (inl e) = inl (inl e)
 in_both (x ∷ xs) ys s (inr i) = elim (in_both xs ys s i) [ inl j ↦ inl (inr j) | inr j ↦ inr j ]
 
+-- no words look at nothing
 pub looks_none : (t : Table) (keys : List Key) (xs : List Step) (ns : List ℕ) → xs ≡ [] → ns ≡ []
     → AreLooks t keys [] xs ns
 looks_none t keys xs ns e f =
@@ -43,6 +45,7 @@ module _ (ks ls : List Key) (more : IsMore ks ls) (xs : List Step) (ns : List �
   seen_before : (k : Key) → IsSeen ls xs ns k → IsSeen ks xs ns k
   seen_before k (m, i, e) = (m, i, e ∙ here m i)
 
+-- words look at the same where keys are added
 pub looks_more : (t : Table) (ks ls : List Key) (us : List WordUse) (xs : List Step) (ns : List ℕ) → IsMore ks ls
     → ((m : ℕ) → In (To m) xs → m < length ks) → AreLooks t ks us xs ns → AreLooks t ls us xs ns
 looks_more t ks ls us xs ns more inside l = record {
@@ -54,9 +57,11 @@ looks_more t ks ls us xs ns more inside l = record {
   );
 }
 
+-- where all steps lead somewhere, the first do
 pub lead_left : (xs ys : List Step) → AllLead (xs ++ ys) → AllLead xs
 lead_left xs ys h t i = h t (In-left xs ys (Nowhere t) i)
 
+-- and the others
 pub lead_right : (xs ys : List Step) → AllLead (xs ++ ys) → AllLead ys
 lead_right xs ys h t i = h t (In-right xs ys (Nowhere t) i)
 
@@ -122,9 +127,11 @@ module _ (t : Table) (keys : List Key) (u : WordUse) (ns old new : List ℕ) (xs
       by_numbers k (m, inl i, e) = (m, inl ((same m).0 i), e)
       by_numbers k (m, inr i, e) = (m, inr i, e)
 
+-- equal steps lead to one number
 same_number : (n m : ℕ) → To n ≡ To m → n ≡ m
 same_number n m q = cc
 
+-- a word of one target has it twice
 pub one_step : (n m : ℕ) → In (To m) (To n ∷ To n ∷ []) ↔ In m (n ∷ [])
 one_step n m = (there, λ i. elim i [ inl e ↦ inl (ap To e) | inr z ↦ absurd z ])
   where
@@ -133,6 +140,7 @@ one_step n m = (there, λ i. elim i [ inl e ↦ inl (ap To e) | inr z ↦ absurd
     there (inr (inl e)) = inl (same_number m n e)
     there (inr (inr z)) = absurd z
 
+-- one of two has each once
 pub two_steps : (n p m : ℕ) → In (To m) (To n ∷ To p ∷ []) ↔ In m (n ∷ p ∷ [])
 two_steps n p m = (there, back)
   where

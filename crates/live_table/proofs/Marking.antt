@@ -15,6 +15,7 @@ use Rattle.name_walk.proofs.Lists.{on-In}
 use Rattle.name_walk.proofs.Marks.{get_set_other, get_set_same}
 use Rattle.live_table.specs.Agendas.{AreSameMarks, IsMarked}
 
+-- a mark among more that are down was up before
 in_front : (marks : List Bool) (k m : ℕ) → slice_get (marks ++ replicate k false) m ≡ Some true
     → slice_get marks m ≡ Some true
 in_front [] zero m e = e
@@ -23,12 +24,14 @@ in_front [] (suc k) (suc m) e = in_front [] k m e
 in_front (b ∷ marks) k zero e = e
 in_front (b ∷ marks) k (suc m) e = in_front marks k m e
 
+-- a mark stays where more come
 still_marked : (marks more : List Bool) (m : ℕ) → slice_get marks m ≡ Some true
     → slice_get (marks ++ more) m ≡ Some true
 still_marked [] more m e = cc
 still_marked (b ∷ marks) more zero e = e
 still_marked (b ∷ marks) more (suc m) e = still_marked marks more m e
 
+-- nothing is marked at first
 pub nothing_marked : IsMarked [] []
 nothing_marked = record { marked = λ n. ((λ e. cc), (λ e. cc)); once = nothing_twice }
 
@@ -40,12 +43,14 @@ same_resized marks end h =
     (sym (take_all end marks h))
     (λ n. (in_front marks (end - length marks) n, still_marked marks (replicate (end - length marks) false) n))
 
+-- marks that are filled up are the same
 pub same_after : (b : Bool) (old new : List Bool) (end size : ℕ) → size ≡ length old → length old ≤ end
     → new ≡ cond b (take end old ++ replicate (end - size) false) old → AreSameMarks old new
 same_after true old new end size s h e =
     subst (AreSameMarks old) (sym (e ∙ ap (λ n. take end old ++ replicate (end - n) false) s)) (same_resized old end h)
 same_after false old new end size s h e = subst (AreSameMarks old) (sym e) (λ n. ((λ q. q), (λ q. q)))
 
+-- the same marks mark the same numbers
 pub marked_same : (old new : List Bool) (numbers : List ℕ) → AreSameMarks old new → IsMarked old numbers
     → IsMarked new numbers
 marked_same old new numbers s m = record {

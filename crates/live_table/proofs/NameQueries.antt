@@ -26,6 +26,7 @@ use Rattle.name_walk.proofs.Lists.{drop_at, take_at}
 pub list_asks_nothing : (k : Key) → k.kind ≡ kind.List → queries_of (k ∷ []) ≡ []
 list_asks_nothing k e = ap (λ (c : Kind). map AsksKey (if is_name_kind c then k ∷ [] else [])) e
 
+-- a key that is no list is a query
 name_asks : (k : Key) (c : Kind) → (c ≡ kind.List → ⊥) → map AsksKey (if is_name_kind c then k ∷ [] else []) ≡ AsksKey k
     ∷ []
 name_asks k kind.Unit h = refl
@@ -33,6 +34,7 @@ name_asks k kind.Prefix h = refl
 name_asks k kind.Func h = refl
 name_asks k kind.List h = absurd (h refl)
 
+-- and one query alone
 pub asks_once : (k : Key) → (k.kind ≡ kind.List → ⊥) → queries_of (k ∷ []) ≡ AsksKey k ∷ []
 asks_once k h = name_asks k k.kind h
 
@@ -65,6 +67,7 @@ queries_both ks ls =
     ap (map AsksKey) (filter-append (λ (k : Key). is_name_kind k.kind) ks ls)
     ∙ map-append AsksKey (names_among ks) (names_among ls)
 
+-- the key at a place is among them
 pub is_here : (ks : List Key) (i : ℕ) (k : Key) → slice_get ks i ≡ Some k → is_among ks k ≡ true
 is_here [] i k e = cc
 is_here (x ∷ ks) zero k e = let s : k ≡ x = cc in ap (λ b. b || is_among ks k) ((same_keys k x).1 s)
@@ -83,6 +86,7 @@ pub record IsAsking (keys : List Key) (i : ℕ) (before now : Shown) (old new : 
   pub deck : now.deck ≡ before.deck
   pub follows : Follows (queries_of (take i keys)) before now old new
 
+-- at the start nothing is asked
 pub asking_start : (keys : List Key) (s : Shown) (n : ℕ) → IsRightTable s → IsAsking keys 0 s s n n
 asking_start keys s n right = record { deck = refl; follows = follows_none s n right }
 

@@ -34,6 +34,7 @@ use Rattle.live_table.proofs.Flags.{count_push}
 use Rattle.live_table.proofs.Growing.{key_read, key_same, push_more, same_words, settled_within}
 use Rattle.live_table.proofs.Looking.{looks_more}
 
+-- a new name has no outcome
 nothing_kept : (ks : List Key) (os : List (Option Outcome)) (k : Key) → length os ≡ length ks
     → kept_of (ks ++ k ∷ []) (os ++ None ∷ []) ≡ kept_of ks os
 nothing_kept [] [] k e = refl
@@ -41,33 +42,39 @@ nothing_kept [] (o ∷ os) k e = absurd (omega arith)
 nothing_kept (x ∷ ks) [] k e = absurd (omega arith)
 nothing_kept (x ∷ ks) (o ∷ os) k e = ap (onto x o) (nothing_kept ks os k (omega arith))
 
+-- it has the next number
 last_key : (ks : List Key) (k : Key) → key_at (ks ++ k ∷ []) (length ks) ≡ k
 last_key [] k = refl
 last_key (x ∷ ks) k = last_key ks k
 
+-- a mark that is up was so before
 was_true : (bs : List Bool) (n : ℕ) → slice_get (bs ++ false ∷ []) n ≡ Some true → slice_get bs n ≡ Some true
 was_true [] zero e = cc
 was_true [] (suc n) e = cc
 was_true (b ∷ bs) zero e = e
 was_true (b ∷ bs) (suc n) e = was_true bs n e
 
+-- the steps of all others stay
 steps_front : (g : Graph) (v : SmallVec Step) (n : ℕ) → v.items ≡ [] → steps (g ++ v ∷ []) n ≡ steps g n
 steps_front [] v zero e = e
 steps_front [] v (suc n) e = refl
 steps_front (w ∷ g) v zero e = refl
 steps_front (w ∷ g) v (suc n) e = steps_front g v n e
 
+-- so do their looks
 looks_front : (g : Looks) (v : Vec ℕ Global) (n : ℕ) → v.items ≡ [] → looks_of (g ++ v ∷ []) n ≡ looks_of g n
 looks_front [] v zero e = e
 looks_front [] v (suc n) e = refl
 looks_front (w ∷ g) v zero e = refl
 looks_front (w ∷ g) v (suc n) e = looks_front g v n e
 
+-- so does what stands at each place
 get_front : {A : Type 0} (xs : List A) (x : A) (n : ℕ) → n < length xs → slice_get (xs ++ x ∷ []) n ≡ slice_get xs n
 get_front [] x n h = absurd (omega arith)
 get_front (y ∷ xs) x zero h = refl
 get_front (y ∷ xs) x (suc n) h = get_front xs x n (omega arith)
 
+-- and there is one more
 one_more : {A : Type 0} (xs : List A) (x : A) → length (xs ++ x ∷ []) ≡ suc (length xs)
 one_more xs x = let e : length (xs ++ x ∷ []) ≡ length xs + 1 = length-append xs (x ∷ []) in omega arith
 

@@ -20,6 +20,7 @@ use Rattle.live_table.specs.Right.{IsRight, IsSettled}
 use Rattle.live_table.specs.States.{Kept, State, with_outcomes, with_settled}
 use Rattle.live_table.proofs.Outcomes.{inserted, left_out, one_key, put_in}
 
+-- an outcome that is there, and is no other, is this
 some_of : (o : Option Outcome) (x : Outcome) → is_some o ≡ true → ((y : Outcome) → o ≡ Some y → y ≡ x) → o ≡ Some x
 some_of None x e h = cc
 some_of (Some y) x e h = ap Some (h y refl)
@@ -97,5 +98,6 @@ module _ (s : State) (reached names : List Key) (h : IsRight s) (new : AreNew s 
       ap (λ (m : Kept). stands m (map_of.len m - map_of.len s.kept)) (sym same_kept)
       ∙ ap (stands (with_outcomes s.table names s.kept)) counted
 
+-- the law of new names
 pub new_law : NewLaw
 new_law s reached names h new = settles s reached names h new

@@ -12,6 +12,7 @@ use Rattle.tree_eval.specs.declared.outcome.Outcome.{Outcome}
 use Rattle.live_table.specs.Keeping.{IsLeft}
 use Rattle.live_table.proofs.Places.{get_lt}
 
+-- a flag that goes down is one less
 fewer : (bs : List Bool) (n : ℕ) → slice_get bs n ≡ Some true → length (filter (λ b. b) (set bs n false)) + 1 ≡ length
     (filter (λ b. b) bs)
 fewer [] n e = cc
@@ -20,6 +21,7 @@ fewer (false ∷ bs) zero e = cc
 fewer (true ∷ bs) (suc n) e = let r = fewer bs n e in omega (arith, r)
 fewer (false ∷ bs) (suc n) e = fewer bs n e
 
+-- so it is counted
 counted_less : (bs : List Bool) (n : ℕ) → slice_get bs n ≡ Some true → count_by (λ b. b) (set bs n false) + 1 ≡ count_by
     (λ b. b) bs
 counted_less bs n e =

@@ -12,9 +12,11 @@ use Rattle.table_names.specs.Meanings.{outcome}
 use Rattle.table_names.proofs.Members.{member_cases, member_first, member_later, no_member}
 use Rattle.live_table.specs.States.{Kept, with_outcomes}
 
+-- a key ties with itself
 pub tied : (k l : Key) → k ≡ l → eq_by_cmp key_cmp k l ≡ true
 tied k l e = subst (λ (x : Key). eq_by_cmp key_cmp k x ≡ true) e (ap is_eq (tied_itself key_order.total k))
 
+-- and with no other
 pub one_key : (k l : Key) → eq_by_cmp key_cmp k l ≡ true → k ≡ l
 one_key k l e = key_order.exact k l ((Equal-is (key_cmp k l)).0 e)
 

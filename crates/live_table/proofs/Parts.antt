@@ -58,6 +58,7 @@ module _ (d : FunctionDef) (k : ℕ) (u : WordUse) where
       subst (λ (n : ℕ). slice_get (function_words d) (n + k) ≡ Some u) z
       (get_right (ins ++ outs ++ forwards) inverses k u e)
 
+-- the words of a part stand among those of its entry
 pub part_stands : (w : What) (p : Part) (k : ℕ) (u : WordUse) → slice_get (part_words w p) k ≡ Some u
     → slice_get (what_words w) (start_of w p + k) ≡ Some u
 part_stands (what.Body x) part.Body k u e = from_zero (words_in x) k u e
@@ -97,12 +98,15 @@ pub record IsStepped (table : Table) (key : ℕ → Key) (dead_end : ℕ → Opt
   pub at_second : slice_get xs (2 * k + 1) ≡ Some y
   pub word : IsWord table key dead_end u x y
 
+-- twice one more is two more
 two_more : (k : ℕ) → 2 * suc k ≡ suc (suc (2 * k))
 two_more k = omega arith
 
+-- so it is with one behind
 two_more_odd : (k : ℕ) → 2 * suc k + 1 ≡ suc (suc (2 * k + 1))
 two_more_odd k = omega arith
 
+-- each word has its two steps
 pub word_at : (table : Table) (key : ℕ → Key) (d : ℕ → Option Key → NameFault) (us : List WordUse) (xs : List Step)
     → AreWords table key d us xs
     → (k : ℕ) (u : WordUse) → slice_get us k ≡ Some u → IsStepped table key d u xs k

@@ -16,21 +16,25 @@ use Rattle.live_table.specs.Sound.{AreNodes}
 use Rattle.live_table.specs.Stored.{Listed, key_at}
 use Rattle.live_table.proofs.Growing.{push_more}
 
+-- there is a mark for each key
 pub sizes : (t : Table) (l : Listed) → AreNodes t l → length l.settled ≡ length l.keys
 sizes t l nodes = nodes.net.size ∙ nodes.step_count
 
+-- a mark that is down says that a number is not settled
 pub unsettled : (t : Table) (l : Listed) → AreNodes t l → (n : ℕ) (b : Bool) → n < length l.keys
     → b ≡ get_or l.settled n b → b ≡ false → IsSettled l.settled n → ⊥
 unsettled t l nodes n b h e f s =
     let size : length l.settled ≡ length l.keys = sizes t l nodes in
     let z : Some true ≡ Some false = sym s ∙ (slice_get-get_or l.settled n b (omega arith) ∙ ap Some (sym e ∙ f)) in cc
 
+-- a number that is put is in the list
 pub put_there : (list there : List ℕ) (n : ℕ) → there ≡ cond (on list n) list (list ++ n ∷ []) → In n there
 put_there list there n e = elim (cases_Bool (on list n)) [
   | inl q ↦ subst (λ (ns : List ℕ). In n ns) (sym (e ∙ cond-true (on list n) list (list ++ n ∷ []) q)) (on-In list n q)
   | inr q ↦ subst (λ (ns : List ℕ). In n ns) (sym (e ∙ cond-false (on list n) list (list ++ n ∷ []) q)) (In-last list n)
 ]
 
+-- a list with one more number is one of such numbers
 pub listed_push : (t : Table) (l : Listed) (list : List ℕ) (n : ℕ) → AreListed t l list → n < length l.keys
     → is_present t (key_at l.keys n) ≡ true
     → (IsSettled l.settled n → ⊥) → on list n ≡ false → AreListed t l (list ++ n ∷ [])
@@ -47,6 +51,7 @@ listed_push t l list n right h present fresh new = record {
   once = IsDistinct-push nat_eq_equiv list n right.once new;
 }
 
+-- so a number is added
 pub put_added : (t : Table) (l m : Listed) (list there : List ℕ) (ends : List DeadEnd) (n : ℕ)
     → AreAdded t l m list list ends ends → n < length m.keys
     → is_present t (key_at m.keys n) ≡ true → (IsSettled m.settled n → ⊥)

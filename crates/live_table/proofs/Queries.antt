@@ -102,6 +102,7 @@ module _ (event : Event) (fault : Option NameFault) (reached : List Key) (before
 abbrev pub is_kept : Kept → Key → Bool
 is_kept kept k = is_some (map_of.get kept k)
 
+-- the keys that a query newly settles
 pub are_new : (before : Shown) (old : ℕ) (Asked : Key → Type 0) (reached keys : List Key)
     → ((n : Key) → Contains reached n ↔ Asked n)
     → AreNewKeys (is_kept before.kept) Asked keys → AreNew (state before old) reached keys
@@ -113,6 +114,7 @@ are_new before old Asked reached keys same new = record {
   once = new.once;
 }
 
+-- marks are those of kept names
 pub are_marks : (deck : Contents) (l : Listed) (r : ℕ) (ends : List DeadEnd) (known : ℕ → Bool)
     → AreNodes (table deck) l → AreExplored (table deck) l ends known
     → AreMarks (key_at l.keys) known l.settled (is_kept (shown deck l r).kept)
@@ -178,6 +180,7 @@ in_map f [] n i = absurd i
 in_map f (m ∷ ns) n (inl e) = member_first (f n) (f m) (map f ns) (ap f e)
 in_map f (m ∷ ns) n (inr i) = member_later (f n) (f m) (map f ns) (in_map f ns n i)
 
+-- what a query reaches is settled behind it
 pub reached_settled : (deck : Contents) (l now : Listed) (r count old then : ℕ) (query : List Step) (order : List ℕ)
     → IsSound deck l r → AreNodes (table deck) now
     → now.keys ≡ l.keys → AreNewlyClosed l.graph l.settled query order

@@ -1,5 +1,5 @@
 -- The rank of a function is one more than the greatest rank of the names to which its words lead.
-use Rattle.std.proofs.Common.{◌≡◌, ◌⊎◌, ◌+◌, ◌<◌, ◌≤◌, ℕ, suc, max, true, false, List, [], ◌∷◌}
+use Rattle.std.proofs.Common.{◌≡◌, ◌⊎◌, ◌+◌, ◌<◌, ◌≤◌, ℕ, suc, max, true, List, [], ◌∷◌}
 use Rattle.std.proofs.Common.{length, Option, Some, None, is_some, refl, sym, ap, ◌∙◌, inl, inr}
 use Rattle.std.proofs.Common.{arith}
 use Rattle.std.specs.List.{slice_get}
@@ -49,6 +49,7 @@ alias_rank name (One x) e = cc
 alias_rank name (Two x y) e = cc
 alias_rank name (Callee f) e = omega arith
 
+-- a function has a rank one above those of its words
 said_rank : (means : WordUse → Meaning) (name : List ℕ) (w : What) → is_callee (meaning_of means name w) ≡ true
     → rank_of_meaning (meaning_of means name w) ≡ suc (greatest_rank means (what_words w))
 said_rank means name what.Primitive e = cc
@@ -59,16 +60,19 @@ said_rank means name (what.Function d) e = refl
 said_rank means name (what.Table d) e = refl
 said_rank means name (what.Alias target) e = alias_rank name (means (inverted_word target)) e
 
+-- what is no function has none
 pub no_rank : (m : Meaning) → (outcome_of m ≡ outcomes.Callable → ⊥) → rank_of_meaning m ≡ 0
 no_rank (One x) h = refl
 no_rank (Two x y) h = refl
 no_rank (Callee f) h = absurd (h refl)
 
+-- an outcome that may be called is that of a function
 pub callable_meaning : (m : Meaning) → outcome_of m ≡ outcomes.Callable → is_callee m ≡ true
 callable_meaning (One x) h = absurd (not_callable (value x None) h)
 callable_meaning (Two x y) h = absurd (not_callable (value (Prefixed x y) None) h)
 callable_meaning (Callee f) h = refl
 
+-- of equal ranks each is the greater
 same_rank : (w x y k : ℕ) → w ≡ k → x ≡ k → y ≡ k → w ≡ max x y
 same_rank w x y k e f g = omega (arith, e, f, g)
 

@@ -38,15 +38,19 @@ use Rattle.live_table.proofs.Places.{get_lt, some_same}
 steps_other : (g : Graph) (n m : ℕ) (v : SmallVec Step) → (m ≡ n → ⊥) → steps (set g n v) m ≡ steps g m
 steps_other g n m v ne = ap items_of (get_set_other g n m v ne)
 
+-- steps that are put for a number are its steps
 steps_same : (g : Graph) (n : ℕ) (v : SmallVec Step) → n < length g → steps (set g n v) n ≡ v.items
 steps_same g n v h = ap items_of (get_set_same g n v h)
 
+-- the looks of all others stay
 looks_other : (g : Looks) (n m : ℕ) (w : Vec ℕ Global) → (m ≡ n → ⊥) → looks_of (set g n w) m ≡ looks_of g m
 looks_other g n m w ne = ap numbers_in (get_set_other g n m w ne)
 
+-- and those that are put are there
 looks_same : (g : Looks) (n : ℕ) (w : Vec ℕ Global) → n < length g → looks_of (set g n w) n ≡ w.items
 looks_same g n w h = ap numbers_in (get_set_same g n w h)
 
+-- a number past the end has no steps
 no_steps : (g : Graph) (x : ℕ) (s : Step) → length g ≤ x → In s (steps g x) → ⊥
 no_steps [] x s h j = j
 no_steps (w ∷ g) zero s h j = absurd (omega arith)
@@ -202,6 +206,7 @@ pub record IsExploring (t : Table) (old now : Listed) (here list : List ℕ) (en
   pub gone : (n : ℕ) → In n (take place list) → IsWritten t now list more n
   pub within : place ≤ length list
 
+-- at the start no number is explored
 pub exploring_start : (t : Table) (l : Listed) (list : List ℕ) (ends : List DeadEnd) → AreNodes t l → AreListed t l list
     → IsExploring t l l list list ends ends 0
 exploring_start t l list ends nodes right = record {
@@ -210,12 +215,14 @@ exploring_start t l list ends nodes right = record {
   within = omega arith;
 }
 
+-- a member of a front is one of the list
 in_take : {A : Type 0} (k : ℕ) (xs : List A) (x : A) → In x (take k xs) → In x xs
 in_take zero xs x i = absurd i
 in_take (suc k) [] x i = i
 in_take (suc k) (y ∷ xs) x (inl e) = inl e
 in_take (suc k) (y ∷ xs) x (inr i) = inr (in_take k xs x i)
 
+-- a number that stands once is not before its place
 distinct_at : (ns : List ℕ) (i n : ℕ) → IsDistinct nat_eq ns → slice_get ns i ≡ Some n → In n (take i ns) → ⊥
 unfolding IsDistinct
 distinct_at [] i n d e j = cc
@@ -290,20 +297,24 @@ is_flag : (o : Option Bool) → is_marked o ≡ true → o ≡ Some true
 is_flag None e = cc
 is_flag (Some b) e = ap Some e
 
+-- one of two tests holds where the first does
 or_left : (a b : Bool) → a ≡ true → (a || b) ≡ true
 or_left true b e = refl
 or_left false b e = cc
 
+-- and where the second does
 or_right : (a b : Bool) → b ≡ true → (a || b) ≡ true
 or_right true b e = refl
 or_right false b e = e
 
+-- a number that is found to be known is
 pub from_known : (l : Listed) (list : List ℕ) (n : ℕ) → is_known l.settled list n ≡ true → IsKnown l list n
 from_known l list n k = elim (or_cases (is_marked (slice_get l.settled n)) (on list n) k) [
   | inl e ↦ inl (is_flag (slice_get l.settled n) e)
   | inr e ↦ inr (on-In list n e)
 ]
 
+-- and the other way round
 pub to_known : (l : Listed) (list : List ℕ) (n : ℕ) → IsKnown l list n → is_known l.settled list n ≡ true
 to_known l list n (inl e) = or_left (is_marked (slice_get l.settled n)) (on list n) (ap is_marked e)
 to_known l list n (inr i) = or_right (is_marked (slice_get l.settled n)) (on list n) (In-on list n i)

@@ -24,9 +24,11 @@ with_more : (t : Table) (ks : List Key) (k : Key) (m : Kept)
 with_more t [] k m = refl
 with_more t (x ∷ ks) k m = with_more t ks k (map_of.insert m x (outcome t x))
 
+-- one more is counted, up to the end
 count_more : (r n m : ℕ) → m ≡ n + 1 → min (2 ^ 64 - 1) (min (2 ^ 64 - 1) (r + n) + 1) ≡ min (2 ^ 64 - 1) (r + m)
 count_more r n m e = omega (arith, e)
 
+-- one more key is put in behind others
 put_more : (s : Shown) (ks : List Key) (k : Key) → put_in (put_in s ks) (k ∷ []) ≡ put_in s (ks ++ k ∷ [])
 put_more s ks k = λ i. record {
   deck = s.deck;
@@ -34,11 +36,13 @@ put_more s ks k = λ i. record {
   reductions = count_more s.reductions (length ks) (length (ks ++ k ∷ [])) (length-append ks (k ∷ [])) i;
 }
 
+-- no key changes nothing
 put_none : (s : Shown) → s.reductions ≤ 2 ^ 64 - 1 → put_in s [] ≡ s
 put_none s h =
     let e : min (2 ^ 64 - 1) (s.reductions + 0) ≡ s.reductions = omega (arith, h) in
     λ i. record { deck = s.deck; kept = s.kept; reductions = e i }
 
+-- what stands at a place of an image is the image of what stands there
 get_map : {A B : Type 0} (f : A → B) (xs : List A) (i : ℕ) (x : A) → slice_get xs i ≡ Some x
     → slice_get (map f xs) i ≡ Some (f x)
 get_map f [] i x e = cc
@@ -54,6 +58,7 @@ pub record IsStanding (deck : Contents) (old now : Listed) (r count : ℕ) (orde
   pub put : shown deck now count ≡ put_in (shown deck old r) (take i (map (key_at old.keys) order))
   pub steps : after ≡ before + i
 
+-- at the start nothing is settled
 pub standing_start : (deck : Contents) (old : Listed) (r : ℕ) (order : List ℕ) (before : ℕ) → IsSound deck old r
     → AreDue (table deck) old order
     → IsStanding deck old old r r order 0 before before

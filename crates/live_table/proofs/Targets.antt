@@ -19,6 +19,7 @@ use Rattle.live_table.specs.Leading.{AreTargets, IsLead, LeadsTo}
 use Rattle.live_table.specs.Stored.{key_at}
 use Rattle.live_table.proofs.Looking.{in_both}
 
+-- a word has at most two targets
 pub count_few : (w : Targets) → count w ≤ 2
 count_few which.Nowhere = omega arith
 count_few which.Last = omega arith
@@ -32,6 +33,7 @@ numbered f (n ∷ ns) k i = elim (member_cases k (f n) (map f ns) i) [
   | inr j ↦ let r = numbered f ns k j in (r.0, inr r.1, r.2)
 ]
 
+-- the image of a member is one of the images
 member : (f : ℕ → Key) (ns : List ℕ) (m : ℕ) → In m ns → Contains (map f ns) (f m)
 member f [] m i = absurd i
 member f (n ∷ ns) m (inl e) = member_first (f m) (f n) (map f ns) (ap f e)
@@ -103,6 +105,7 @@ module _ (t : Table) (keys : List Key) (u : WordUse) (w : Targets) (looked : Lis
             (subst (λ (q : Key). Contains (map (key_at keys) looked) q) (sym e)
             (member (key_at keys) looked m (in_looked m i)))
 
+-- the targets of a word are where it leads
 pub is_lead : (t : Table) (keys : List Key) (u : WordUse) (ns old new : List ℕ) (lead : Lead)
     → is_refused u.text ≡ false → LeadsTo ns lead
     → AreTargets t keys u ns old new → IsLead t keys u old new lead

@@ -44,6 +44,7 @@ settled_from settled n h = by (slice_get settled n) refl
     by None q = let z : false ≡ true = sym (ap (λ o. unwrap_or o false) q) ∙ h in cc
     by (Some b) q = q ∙ ap Some (sym (ap (λ o. unwrap_or o false) q) ∙ h)
 
+-- the mark of a settled number is up
 pub settled_to : (settled : List Bool) (n : ℕ) → IsSettled settled n → unwrap_or (slice_get settled n) false ≡ true
 settled_to settled n h = ap (λ o. unwrap_or o false) h
 
@@ -53,12 +54,15 @@ pub not_callable : (w : Worth) → kept w ≡ outcomes.Callable → ⊥
 not_callable (Ok q) e = cc
 not_callable (Err fault) e = cc
 
+-- equal lists have one first member
 pub first_same : {A : Type 0} (x y : A) (xs ys : List A) → x ∷ xs ≡ y ∷ ys → x ≡ y
 first_same x y xs ys e = cc
 
+-- and one second
 pub second_same : {A : Type 0} (x y z w : A) (xs ys : List A) → x ∷ y ∷ xs ≡ z ∷ w ∷ ys → y ≡ w
 second_same x y z w xs ys e = cc
 
+-- a list of one is none of two
 pub not_both : {A : Type 0} (x y z : A) → x ∷ [] ≡ y ∷ z ∷ [] → ⊥
 not_both {A} x y z e = let n : 1 ≡ 2 = ap (λ (ws : List A). length ws) e in omega (arith, n)
 
@@ -68,6 +72,7 @@ alias_name name (One x) g e = cc
 alias_name name (Two x y) g e = cc
 alias_name name (Callee f) g e = sym (ap (λ m. name_of (callee_in m)) e)
 
+-- the function of an entry has the name of its key
 pub callee_name : (means : WordUse → Meaning) (name : List ℕ) (w : What) (g : Callable)
     → meaning_of means name w ≡ Callee g → name_of g ≡ name
 callee_name means name what.Primitive g e = cc
@@ -78,16 +83,19 @@ callee_name means name (what.Function d) g e = sym (ap (λ m. name_of (callee_in
 callee_name means name (what.Table d) g e = sym (ap (λ m. name_of (callee_in m)) e)
 callee_name means name (what.Alias target) g e = alias_name name (means (inverted_word target)) g e
 
+-- what is a function is the one that it has
 pub is_its_callee : (m : Meaning) → is_callee m ≡ true → m ≡ Callee (callee_in m)
 is_its_callee (One x) e = cc
 is_its_callee (Two x y) e = cc
 is_its_callee (Callee f) e = refl
 
+-- what a function may stand for is one
 pub callee_from : (m : Meaning) → may_mean kind.Func m ≡ true → (f : Callable) × (m ≡ Callee f)
 callee_from (One x) e = cc
 callee_from (Two x y) e = cc
 callee_from (Callee f) e = (f, refl)
 
+-- so it is found to be
 pub callee_when : (m : Meaning) → may_mean kind.Func m ≡ true → is_callee m ≡ true
 callee_when (One x) e = cc
 callee_when (Two x y) e = cc
@@ -101,9 +109,11 @@ pub record IsLedBy (s : Scene) (u : WordUse) (xs : List Step) (k : ℕ) : Type 0
   pub at_second : slice_get xs (2 * k + 1) ≡ Some (To m)
   pub led : IsLed s u n m
 
+-- equal steps lead to one number
 to_same : (n m : ℕ) → Some (To n) ≡ Some (To m) → n ≡ m
 to_same n m e = cc
 
+-- a word with these steps is led so
 pub led_as : (s : Scene) (u : WordUse) (xs : List Step) (k : ℕ) → IsLedBy s u xs k → (n m : ℕ)
     → slice_get xs (2 * k) ≡ Some (To n)
     → slice_get xs (2 * k + 1) ≡ Some (To m) → IsLed s u n m

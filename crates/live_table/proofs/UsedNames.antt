@@ -10,6 +10,7 @@ use Rattle.name_walk.specs.Lists.{In}
 use Rattle.name_walk.proofs.Lists.{In-left, In-push, In-right, take_at}
 use Rattle.live_table.proofs.Gathering.{put_one}
 
+-- numbers to which steps lead
 abbrev pub AreUsed : List ℕ → List Step → Type 0
 AreUsed targets xs = (m : ℕ) → In m targets ↔ In (To m) xs
 
@@ -17,9 +18,11 @@ AreUsed targets xs = (m : ℕ) → In m targets ↔ In (To m) xs
 abbrev pub IsUsed : List ℕ → List ℕ → Step → Type 0
 IsUsed old new x = (m : ℕ) → In m new ↔ (In m old ⊎ (x ≡ To m))
 
+-- equal steps lead to one number
 same_to : (m n : ℕ) → To m ≡ To n → m ≡ n
 same_to m n e = cc
 
+-- a step to a number puts it
 pub target_used : (old new : List ℕ) (n : ℕ) (x : Step) → x ≡ To n → new ≡ cond (on old n) old (old ++ n ∷ [])
     → IsUsed old new x
 target_used old new n x is e m = (
@@ -30,15 +33,18 @@ target_used old new n x is e m = (
   ],
 )
 
+-- one that leads nowhere puts nothing
 pub nowhere_used : (old : List ℕ) (t : ℕ) (x : Step) → x ≡ Nowhere t → IsUsed old old x
 nowhere_used old t x is m = (λ i. inl i, λ h. elim h [ inl j ↦ j | inr q ↦ absurd (apart (sym is ∙ q)) ])
   where
     apart : Nowhere t ≡ To m → ⊥
     apart q = cc
 
+-- no steps use nothing
 pub none_used : (xs : List Step) → AreUsed [] (take 0 xs)
 none_used xs m = (λ c. absurd c, λ i. absurd i)
 
+-- the next step goes with those before it
 pub one_used : (old new : List ℕ) (xs : List Step) (i : ℕ) (x : Step) → slice_get xs i ≡ Some x
     → AreUsed old (take i xs) → IsUsed old new x → AreUsed new (take (i + 1) xs)
 one_used old new xs i x at are put = subst (AreUsed new) (sym (take_at xs i x at)) (λ m. (
@@ -52,6 +58,7 @@ one_used old new xs i x at are put = subst (AreUsed new) (sym (take_at xs i x at
   ],
 ))
 
+-- at the end all are used
 pub all_used : (targets : List ℕ) (xs : List Step) (i : ℕ) → length xs ≤ i → AreUsed targets (take i xs)
     → AreUsed targets xs
 all_used targets xs i l are = subst (AreUsed targets) (take_all i xs l) are

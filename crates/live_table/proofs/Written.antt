@@ -34,6 +34,7 @@ words_behind t key ends (u ∷ us) vs [] ys w v = absurd w
 words_behind t key ends (u ∷ us) vs (x ∷ []) ys w v = absurd w
 words_behind t key ends (u ∷ us) vs (x ∷ y ∷ xs) ys w v = (w.0, words_behind t key ends us vs xs ys w.1 v)
 
+-- steps of words behind those of others are those of all
 pub written_behind : (t : Table) (l : Listed) (list : List ℕ) (ends : List DeadEnd) (us vs : List WordUse)
     (xs ys : List Step)
     → AreWritten t l list ends us xs → AreWritten t l list ends vs ys → AreWritten t l list ends (us ++ vs) (xs ++ ys)
@@ -43,6 +44,7 @@ written_behind t l list ends us vs xs ys a b = record {
   nowhere = λ n i. elim (in_both xs ys (Nowhere n) i) [ inl j ↦ a.nowhere n j | inr j ↦ b.nowhere n j ];
 }
 
+-- no words have no steps
 pub written_none : (t : Table) (l : Listed) (list : List ℕ) (ends : List DeadEnd) (xs : List Step) → xs ≡ []
     → AreWritten t l list ends [] xs
 written_none t l list ends xs e =
@@ -56,6 +58,7 @@ pub record IsPutting (t : Table) (old now : Listed) (here list : List ℕ) (ends
   pub written : AreWritten t now list more (take i us) xs
   pub looks : AllLead xs → AreLooks t now.keys (take i us) xs gathered
 
+-- the steps of the next word go behind those before it
 pub putting_next : (t : Table) (old now m : Listed) (here list there : List ℕ) (ends more most : List DeadEnd)
     (before after : List ℕ) (us : List WordUse) (xs ys : List Step) (i : ℕ) (u : WordUse)
     → slice_get us i ≡ Some u → IsPutting t old now here list ends more before us xs i
@@ -162,10 +165,12 @@ module _ (t : Table) (l : Listed) (list : List ℕ) (u : WordUse) where
 pub one_present : (t : Table) (u : WordUse) (k : Key) → targets t u ≡ k ∷ [] → is_present t k ≡ true
 one_present t u k e = target_present t u k (subst (λ (ks : List Key). Contains ks k) (sym e) (member_first k k [] refl))
 
+-- the first of two targets is present
 pub first_present : (t : Table) (u : WordUse) (k l : Key) → targets t u ≡ k ∷ l ∷ [] → is_present t k ≡ true
 first_present t u k l e =
     target_present t u k (subst (λ (ks : List Key). Contains ks k) (sym e) (member_first k k (l ∷ []) refl))
 
+-- so is the second
 pub second_present : (t : Table) (u : WordUse) (k l : Key) → targets t u ≡ k ∷ l ∷ [] → is_present t l ≡ true
 second_present t u k l e =
     target_present t u l (subst (λ (ks : List Key). Contains ks l) (sym e)

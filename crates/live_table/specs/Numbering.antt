@@ -24,7 +24,7 @@ pub record CanLook (keys : List Key) (nodes : Nodes) : Type 0 where
   pub within : (m : ℕ) → In m nodes.looked.items → m < length nodes.keys
 
 -- over a table of these keys nothing but new names is added
-pub record IsKept (keys : List Key) (start now : Nodes) : Type 0 where
+pub record IsExtension (keys : List Key) (start now : Nodes) : Type 0 where
   pub added : (table : Table) → keys_of table ≡ keys → AreNodes table (listed start)
       → (list : List ℕ) (ends : List DeadEnd)
       → AreListed table (listed start) list → AreAdded table (listed start) (listed now) list list ends ends

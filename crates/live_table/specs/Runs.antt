@@ -1,7 +1,7 @@
 -- Events one behind another, of which the last may have been cut off.
 use Rattle.std.specs.Prelude.{◌≡◌, ◌+◌, ℕ, List, [], ◌++◌}
 use Rattle.live_table.specs.Shown.{Follows, IsCutOff, IsRightTable, Shown, state}
-use Rattle.live_table.specs.States.{Event, State, after_all}
+use Rattle.live_table.specs.States.{Event, after_all}
 
 -- law: no event leaves a table whose outcomes are right as it is; what follows in two parts follows as a whole; and
 -- where events of an unchanged deck were made in part, or in whole, they were cut off as a part of more

@@ -1,7 +1,7 @@
 //! Asking for names.
 
 ghost use Rattle.std.specs.Prelude.{◌≡◌, ◌∷◌, [], ℕ, Bool, true, OnOk};
-ghost use Rattle.def_entry.specs.Keys.{key as key_named};
+ghost use Rattle.def_entry.specs.Keys as key_spec;
 ghost use Rattle.def_entry.specs.Tables.{is_present};
 ghost use Rattle.name_walk.specs.Closed.{IsSettled};
 ghost use Rattle.deck.specs.Tables.{table};
@@ -92,11 +92,12 @@ pub(crate) fn ask_key<L: Ledger>(
 ) -> Result<usize, QueryFault>
     requires sound { IsSound deck.now (listed nodes.old) reductions.old }
     requires edges { HasEdges deck.now (listed nodes.old) edges.old }
-    requires present { is_present (table deck.now) (key_named kind name.now) ≡ true }
+    requires present { is_present (table deck.now) (key_spec.key kind name.now) ≡ true }
     ensures sound { IsSound deck.now (listed nodes.new) reductions.new }
     ensures edges { HasEdges deck.now (listed nodes.new) edges.new }
-    ensures asked { IsAsked (AsksKey (key_named kind name.now)) (key_fault (table deck.now) (key_named kind name.now))
-        (λ n. (key_named kind name.now ≡ key_at nodes.new.keys n) × IsSettled nodes.new.settled.items n) result
+    ensures asked { IsAsked (AsksKey (key_spec.key kind name.now))
+        (key_fault (table deck.now) (key_spec.key kind name.now))
+        (λ n. (key_spec.key kind name.now ≡ key_at nodes.new.keys n) × IsSettled nodes.new.settled.items n) result
         (shown deck.now (listed nodes.old) reductions.old) (shown deck.now (listed nodes.new) reductions.new)
         steps.old steps.new }
 {

@@ -61,8 +61,7 @@ fn explore_name(
     ensures written { IfOk result (λ _. IsWritten (table deck.now) (listed nodes.new) agenda.new
         dead_ends.new.items n) }
 {
-    note_place(deck, &nodes.keys, &mut nodes.places, n);
-    let entry = words_of_key(alloc, deck, nodes, n)?;
+    let entry = words_of_key(alloc, deck, &nodes.keys, &mut nodes.places, n)?;
     let steps = put_words(alloc, deck, nodes, agenda, dead_ends, &entry.words)?;
     let looks = nodes.gathered.to_vec(alloc)?;
     nodes.callees[n].starts = entry.starts;
@@ -71,33 +70,32 @@ fn explore_name(
     Ok(())
 }
 
-// Notes where the entry of a name stands, so that it is not looked up again while it stands there.
-fn note_place(deck: &Deck, keys: &KeyIndex, places: &mut [u32], n: usize)
-    requires { n < length keys.now }
+// The words of the entry of a name. Where it stands is noted, so that it is not looked up again while it stands there.
+fn words_of_key<'a>(
+    alloc: Global,
+    deck: &'a Deck,
+    keys: &KeyIndex,
+    places: &mut [u32],
+    n: usize,
+) -> Result<EntryWords<'a>, AllocError>
+    requires within { n < length keys.now }
+    requires present { is_present (table deck.now) (key_at keys.now n) ≡ true }
+    ensures { IfOk result (λ made. AreKeyWords (table deck.now) (key_at keys.now n) made) }
 {
-    let Some(place) = deck.place_of(keys.kind(n), keys.name(n)) else {
-        return;
-    };
+    match deck.placed_entry(keys.kind(n), keys.name(n)) {
+        Some(placed) => {
+            note_place(places, n, placed.place);
+            entry_words(alloc, placed.entry.what)
+        }
+        None => unreachable!(),
+    }
+}
+
+// Notes a place for a name.
+fn note_place(places: &mut [u32], n: usize, place: usize) {
     if let Ok(place) = u32::try_from(place) {
         if n < places.len() {
             places[n] = place;
         }
-    }
-}
-
-// The words of the entry of a name.
-fn words_of_key<'a>(
-    alloc: Global,
-    deck: &'a Deck,
-    nodes: &Nodes,
-    n: usize,
-) -> Result<EntryWords<'a>, AllocError>
-    requires within { n < length nodes.now.keys }
-    requires present { is_present (table deck.now) (key_at nodes.now.keys n) ≡ true }
-    ensures { IfOk result (λ made. AreKeyWords (table deck.now) (key_at nodes.now.keys n) made) }
-{
-    match deck.entry_near(nodes.place(n), nodes.keys.kind(n), nodes.keys.name(n)) {
-        Some(entry) => entry_words(alloc, entry.what),
-        None => unreachable!(),
     }
 }

@@ -2,7 +2,7 @@
 
 ghost use Rattle.std.specs.Prelude.{◌≡◌, ◌<◌, ◌++◌, ◌∷◌, [], Some, false, length, slice_get};
 ghost use Rattle.std.specs.Prelude.{IfOk, MatchOption, OnOk, OnErr};
-ghost use Rattle.def_entry.specs.Keys.{key as key_named};
+ghost use Rattle.def_entry.specs.Keys as keys;
 ghost use Rattle.def_entry.specs.SameKeys.{is_among};
 ghost use Rattle.live_table.specs.Indexed.{AreSameNumbers, IsPushed, numbers_of};
 ghost use Rattle.live_table.specs.Stored.{key_at};
@@ -70,8 +70,8 @@ impl KeyIndex {
 
     /// The number of a key.
     pub(crate) fn number_of(&self, kind: Kind, name: &[u8]) -> Option<usize>
-        ensures { MatchOption result (is_among self.now (key_named kind name.now) ≡ false)
-            (λ n. slice_get self.now n ≡ Some (key_named kind name.now)) }
+        ensures { MatchOption result (is_among self.now (keys.key kind name.now) ≡ false)
+            (λ n. slice_get self.now n ≡ Some (keys.key kind name.now)) }
     {
         let Some(place) = self.names.number_of(kind, name) else {
             return None;

@@ -4,7 +4,7 @@ ghost use Rattle.std.specs.Prelude.{◌≡◌, ◌∷◌, [], true, length, Err,
 ghost use Rattle.std.specs.FinMap as map_of;
 ghost use Rattle.expr_tree.specs.Trees.{syntax};
 ghost use Rattle.expr_tree.specs.Words.{words_in};
-ghost use Rattle.def_entry.specs.Keys.{key as key_named};
+ghost use Rattle.def_entry.specs.Keys as key_spec;
 ghost use Rattle.def_entry.specs.declared.key.Kind.TheVariants as kind;
 ghost use Rattle.def_entry.specs.Tables.{is_present};
 ghost use Rattle.deck.specs.Tables.{table};
@@ -141,10 +141,10 @@ impl LiveTable {
         value: &Quantity,
         steps: &mut Steps<L>,
     ) -> Result<Quantity, QueryFault>
-        requires { is_present (table self.old.deck) (key_named kind.Func name.now) ≡ true }
+        requires { is_present (table self.old.deck) (key_spec.key kind.Func name.now) ≡ true }
         ensures deck { self.new.deck ≡ self.old.deck }
         ensures answer { spec.Answers result (spec.inverse_answer (table self.old.deck) name.now value.now) }
-        ensures after { IsQuery (AsksKey (key_named kind.Func name.now)) result
+        ensures after { IsQuery (AsksKey (key_spec.key kind.Func name.now)) result
             self.old self.new steps.old steps.new }
     {
         let n = ask_key(

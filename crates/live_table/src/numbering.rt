@@ -1,12 +1,12 @@
 //! Numbers for keys.
 
 ghost use Rattle.std.specs.Prelude.{◌≡◌, ◌<◌, ℕ, true, List, IfOk, length};
-ghost use Rattle.def_entry.specs.Keys.{key as key_named};
+ghost use Rattle.def_entry.specs.Keys as keys;
 ghost use Rattle.def_entry.specs.Tables.{Table, is_present};
 ghost use Rattle.deck.specs.Tables.{table};
 ghost use Rattle.live_table.specs.declared.dead_end.DeadEnd.{DeadEnd};
 ghost use Rattle.live_table.specs.Exploring.{AreAdded, AreListed, IsKnown, IsMore};
-ghost use Rattle.live_table.specs.Numbering.{AreFlagged, IsKept};
+ghost use Rattle.live_table.specs.Numbering.{AreFlagged, IsExtension};
 ghost use Rattle.live_table.specs.Sound.{AreNodes};
 ghost use Rattle.live_table.specs.Stored.{key_at, listed};
 
@@ -20,13 +20,13 @@ use std::alloc::{AllocError, Global};
 use units_io::Text;
 
 impl Looking for Nodes {
-    ghost use Rattle.live_table.specs.Numbering.{CanLook, IsKept, looked_by};
+    ghost use Rattle.live_table.specs.Numbering.{CanLook, IsExtension, looked_by};
 
     ghost looked = { looked_by };
 
     ghost can_look = { CanLook };
 
-    ghost is_kept = { IsKept };
+    ghost is_kept = { IsExtension };
 
     fn look<P: Present>(
         &mut self,
@@ -53,10 +53,10 @@ pub(crate) fn put_key(
 ) -> Result<usize, AllocError>
     requires nodes { AreNodes (table deck.now) (listed nodes.old) }
     requires listed { AreListed (table deck.now) (listed nodes.old) agenda.old }
-    requires present { is_present (table deck.now) (key_named kind name.now) ≡ true }
+    requires present { is_present (table deck.now) (keys.key kind name.now) ≡ true }
     ensures added { (ends : List DeadEnd)
         → AreAdded (table deck.now) (listed nodes.old) (listed nodes.new) agenda.old agenda.new ends ends }
-    ensures target { IfOk result (λ n. (key_named kind name.now ≡ key_at nodes.new.keys n)
+    ensures target { IfOk result (λ n. (keys.key kind name.now ≡ key_at nodes.new.keys n)
         × IsKnown (listed nodes.new) agenda.new n) }
 {
     let n = number(alloc, &DeckTable(deck), nodes, kind, name)?;
@@ -91,11 +91,11 @@ fn number<P: Present>(
 ) -> Result<usize, AllocError>
     requires { AreFlagged (P.keys table.now) nodes.old }
     ensures flagged { AreFlagged (P.keys table.now) nodes.new }
-    ensures kept { IsKept (P.keys table.now) nodes.old nodes.new }
+    ensures kept { IsExtension (P.keys table.now) nodes.old nodes.new }
     ensures more { IsMore nodes.old.keys nodes.new.keys }
     ensures looked { nodes.new.looked.items ≡ nodes.old.looked.items }
     ensures number { IfOk result (λ n. (n < length nodes.new.keys)
-        × (key_named kind name.now ≡ key_at nodes.new.keys n)) }
+        × (keys.key kind name.now ≡ key_at nodes.new.keys n)) }
 {
     if let Some(n) = nodes.keys.number_of(kind, name) {
         return Ok(n);

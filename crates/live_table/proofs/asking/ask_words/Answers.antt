@@ -1,7 +1,5 @@
 use Rattle.smallvec.specs.SmallVec.{SmallVec}
 use Rattle.std.proofs.Common.{Err, refl, sym, ◌∙◌, ap, subst}
-use Rattle.std.specs.Prelude.{Vec}
-use Rattle.std.specs.declared.alloc.Global.{Global}
 use Rattle.std.proofs.lemmas.Result.{err_from_is_err_and}
 use Rattle.name_walk.specs.declared.step.Step.{Step}
 use Rattle.deck.specs.Tables.{table}

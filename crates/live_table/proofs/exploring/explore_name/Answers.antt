@@ -9,9 +9,6 @@ use Rattle.live_table.proofs.Growing.{more_length}
 use Rattle.live_table.proofs.Reached.{stepped_grown, stepped_same, stepped_written}
 use Rattle.live_table.proofs.exploring.explore_name.Goals as goal
 
-pub note_place-requires : goal.note_place-requires
-note_place-requires c = c.requires.listed.within c.args.n c.requires.name
-
 pub words_of_key-requires-clause-within : goal.words_of_key-requires-clause-within
 words_of_key-requires-clause-within c = c.requires.listed.within c.args.n c.requires.name
 

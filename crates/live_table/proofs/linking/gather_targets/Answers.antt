@@ -25,4 +25,5 @@ loop-step-preserved c =
     c.loop-step.invariant c.in_ok-gather_target.ensures
 
 pub returns : goal.returns
-returns c = all_used c.loop-step.targets c.args.steps.now c.loop-step.step-index c.loop-step-test.false c.loop-step.invariant
+returns c = all_used c.loop-step.targets c.args.steps.now c.loop-step.step-index c.loop-step-test.false
+    c.loop-step.invariant
