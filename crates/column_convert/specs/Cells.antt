@@ -11,6 +11,7 @@ use Rattle.reply.specs.declared.options.Options.{Options}
 use Rattle.reply.specs.declared.reply.Reply.{Reply}
 use Rattle.reply.specs.Replies.{conversion_queries, conversion_reply}
 use Rattle.column_convert.specs.declared.cell.Cell.{Cell}
+use Rattle.column_convert.specs.Products.{product_text}
 
 -- what stands behind a minus at the front, or the whole text where none stands there
 abbrev pub behind_minus : List ℕ → List ℕ
@@ -26,7 +27,7 @@ abbrev pub asked_text : Table → (from number : List ℕ) → List ℕ
 asked_text table from number =
     if is_present table (key kind.Func from)
     then from ++ (codes "(" ++ (number ++ codes ")"))
-    else codes "(" ++ (number ++ (codes ") (" ++ (from ++ codes ")")))
+    else product_text number from
 
 -- the options of the reply that stands in a cell: those of numbers are the run's
 abbrev pub cell_options : Options → Options

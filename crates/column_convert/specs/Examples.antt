@@ -1,7 +1,7 @@
 -- The rows of a few inputs over a small table, found by hand.
 use Rattle.std.specs.Prelude.{◌≡◌, ℕ, true, false, List, [], ◌∷◌, codes}
 use Rattle.reply.specs.Examples.{default, small}
-use Rattle.column_convert.specs.declared.row.ColumnRow.{ColumnRow}
+use Rattle.column_convert.specs.Rows.{ColumnRow}
 use Rattle.column_convert.specs.Cells.{asked_text, first_line, is_number}
 use Rattle.column_convert.specs.Inputs.{Input, input_of}
 use Rattle.column_convert.specs.Rows.{queries, rows}

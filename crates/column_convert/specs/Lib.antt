@@ -1,5 +1,10 @@
 pub mod Records
+pub mod Products
 pub mod Cells
+pub mod Worths
+pub mod Known
 pub mod Inputs
 pub mod Rows
+pub mod Written
+pub mod Blocks
 pub mod Examples

@@ -6,10 +6,14 @@ use Rattle.def_entry.specs.Tables.{Table}
 use Rattle.live_table.specs.States.{Event}
 use Rattle.reply.specs.declared.options.Options.{Options}
 use Rattle.column_convert.specs.declared.cell.Cell.{Cell}
-use Rattle.column_convert.specs.declared.row.ColumnRow.{ColumnRow}
 use Rattle.column_convert.specs.Cells.{cell, cell_queries}
 use Rattle.column_convert.specs.Inputs.{Input, behind}
 use Rattle.column_convert.specs.Records.{Fields}
+
+-- a row as it is written, and whether its cell is an error
+pub record ColumnRow : Type 0 where
+  pub text : List ℕ
+  pub refused : Bool
 
 -- a record that stays as it is
 abbrev pub kept_row : Fields → ColumnRow

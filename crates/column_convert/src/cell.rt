@@ -1,11 +1,16 @@
 //! What fields become.
 
-ghost use Rattle.std.specs.Prelude.{◌≡◌, ◌++◌, IfOk, codes};
-ghost use Rattle.deck.specs.Tables.{table as table_of};
+ghost use Rattle.std.specs.Prelude.{◌≡◌, ◌++◌, IfOk, OnOk, codes};
+ghost use Rattle.def_lines.specs.Blanks.{trimmed};
+ghost use Rattle.deck.specs.Tables as tables;
 ghost use Rattle.reply.specs.Calls.{AreMade};
 ghost use Rattle.reply.specs.Options.{IsPrintable};
 ghost use Rattle.column_convert.specs.Cells as spec;
+ghost use Rattle.column_convert.specs.Known.{IsRemembered, IsSigned};
+ghost use Rattle.column_convert.specs.Products.{product_text as product_text_of};
 
+use crate::memory::Memory;
+use crate::signed::{Signed, behind_minus};
 use deck::Deck;
 use def_entry::{Kind, cut_at};
 use def_lines::trim;
@@ -23,7 +28,7 @@ pub(crate) struct Cell {
     pub(crate) refused: bool,
 }
 
-/// What a field becomes. The only error is want of memory.
+/// What a field becomes, with what is remembered between fields. The only error is want of memory.
 pub(crate) fn convert_cell<L: Ledger>(
     alloc: Global,
     table: &mut LiveTable,
@@ -31,23 +36,61 @@ pub(crate) fn convert_cell<L: Ledger>(
     from: &[u8],
     to: &[u8],
     field: &[u8],
+    memory: &mut Memory,
     steps: &mut Steps<L>,
 ) -> Result<Cell, AllocError>
-    requires { IsPrintable options.now }
+    requires printable { IsPrintable options.now }
+    requires known { IsRemembered table.old (trimmed from.now) to.now memory.old }
     ensures cell { IfOk result (λ cell.
-        cell ≡ spec.cell (table_of table.old.deck) options.now from.now to.now field.now) }
-    ensures queries { AreMade (spec.cell_queries (table_of table.old.deck) options.now from.now to.now field.now)
+        cell ≡ spec.cell (tables.table table.old.deck) options.now from.now to.now field.now) }
+    ensures queries { AreMade (spec.cell_queries (tables.table table.old.deck) options.now from.now to.now field.now)
         result table.old table.new steps.old steps.new }
+    ensures known { OnOk result (IsRemembered table.new (trimmed from.now) to.now memory.new) }
     ensures deck { table.new.deck ≡ table.old.deck }
 {
     // What is kept is right also where nothing is asked.
     table.kept_right();
+    let from = trim(from);
     let number = trim(field);
-    if is_number(number) {
-        number_cell(alloc, table, options, trim(from), to, number, steps)
-    } else {
-        not_a_number(alloc)
+    if let Some(n) = Signed::read(number) {
+        return signed_cell(alloc, table, options, from, to, number, &n, memory, steps);
     }
+    if is_number(number) {
+        memory.forget();
+        return number_cell(alloc, table, options, from, to, number, steps);
+    }
+    not_a_number(alloc)
+}
+
+// What a number becomes whose numeral is within the limits.
+fn signed_cell<L: Ledger>(
+    alloc: Global,
+    table: &mut LiveTable,
+    options: &Options,
+    from: &[u8],
+    to: &[u8],
+    number: &[u8],
+    n: &Signed,
+    memory: &mut Memory,
+    steps: &mut Steps<L>,
+) -> Result<Cell, AllocError>
+    requires printable { IsPrintable options.now }
+    requires known { IsRemembered table.old from.now to.now memory.old }
+    requires signed { IsSigned number.now n.now }
+    ensures cell { IfOk result (λ cell. cell
+        ≡ spec.cell_of (spec.number_reply (tables.table table.old.deck) options.now from.now to.now number.now)) }
+    ensures queries { AreMade
+        (spec.number_queries (tables.table table.old.deck) options.now from.now to.now number.now)
+        result table.old table.new steps.old steps.new }
+    ensures known { OnOk result (IsRemembered table.new from.now to.now memory.new) }
+    ensures deck { table.new.deck ≡ table.old.deck }
+{
+    memory.recall(alloc, table, from, to, n, steps)?;
+    if let Some(cell) = memory.cell(alloc, options, from, to, number, n)? {
+        return Ok(cell);
+    }
+    memory.forget();
+    number_cell(alloc, table, options, from, to, number, steps)
 }
 
 // What a number becomes.
@@ -62,9 +105,9 @@ fn number_cell<L: Ledger>(
 ) -> Result<Cell, AllocError>
     requires { IsPrintable options.now }
     ensures cell { IfOk result (λ cell. cell
-        ≡ spec.cell_of (spec.number_reply (table_of table.old.deck) options.now from.now to.now number.now)) }
+        ≡ spec.cell_of (spec.number_reply (tables.table table.old.deck) options.now from.now to.now number.now)) }
     ensures queries { AreMade
-        (spec.number_queries (table_of table.old.deck) options.now from.now to.now number.now)
+        (spec.number_queries (tables.table table.old.deck) options.now from.now to.now number.now)
         result table.old table.new steps.old steps.new }
     ensures deck { table.new.deck ≡ table.old.deck }
 {
@@ -92,19 +135,9 @@ fn is_number(text: &[u8]) -> bool
     )
 }
 
-// What stands behind a minus at the front, or the whole text where none stands there.
-fn behind_minus(text: &[u8]) -> &[u8]
-    ensures { result.now ≡ spec.behind_minus text.now }
-{
-    let Some((first, rest)) = text.split_first() else {
-        return text;
-    };
-    if *first == b'-' { rest } else { text }
-}
-
 // What a number is converted from: the function of this name at the number, or so much of FROM.
 fn asked_text(alloc: Global, deck: &Deck, from: &[u8], number: &[u8]) -> Result<Text, AllocError>
-    ensures { IfOk result (λ text. text ≡ spec.asked_text (table_of deck.now) from.now number.now) }
+    ensures { IfOk result (λ text. text ≡ spec.asked_text (tables.table deck.now) from.now number.now) }
 {
     if deck.entry(Kind::Func, from).is_some() {
         call_text(alloc, from, number)
@@ -125,10 +158,9 @@ fn call_text(alloc: Global, name: &[u8], number: &[u8]) -> Result<Text, AllocErr
     Ok(Text::from(text))
 }
 
-// So much of a text.
-fn product_text(alloc: Global, number: &[u8], from: &[u8]) -> Result<Text, AllocError>
-    ensures { IfOk result (λ text. text
-        ≡ codes "(" ++ (number.now ++ (codes ") (" ++ (from.now ++ codes ")")))) }
+/// So much of a text. The only error is want of memory.
+pub(crate) fn product_text(alloc: Global, number: &[u8], from: &[u8]) -> Result<Text, AllocError>
+    ensures { IfOk result (λ text. text ≡ product_text_of number.now from.now) }
 {
     let mut text = Vec::new(alloc);
     text.extend_from_slice(b"(".as_slice())?;
@@ -139,8 +171,8 @@ fn product_text(alloc: Global, number: &[u8], from: &[u8]) -> Result<Text, Alloc
     Ok(Text::from(text))
 }
 
-// The options of the reply that stands in a cell.
-fn cell_options(options: &Options) -> Options
+/// The options of the reply that stands in a cell.
+pub(crate) fn cell_options(options: &Options) -> Options
     requires { IsPrintable options.now }
     ensures is { result ≡ spec.cell_options options.now }
     ensures printable { IsPrintable result }
@@ -168,8 +200,8 @@ fn not_a_number(alloc: Global) -> Result<Cell, AllocError>
     })
 }
 
-// The first line of a reply.
-fn cell_of(alloc: Global, reply: &Reply) -> Result<Cell, AllocError>
+/// The first line of a reply. The only error is want of memory.
+pub(crate) fn cell_of(alloc: Global, reply: &Reply) -> Result<Cell, AllocError>
     ensures { IfOk result (λ cell. cell ≡ spec.cell_of reply.now) }
 {
     let mut text = Vec::from_slice(alloc, error_front(reply.refused))?;

@@ -1,15 +1,22 @@
 //! A column of a text of records.
 
-ghost use Rattle.std.specs.Prelude.{◌≡◌, ◌≤◌, IfOk, OnOk};
-ghost use Rattle.deck.specs.Tables.{table as table_of};
+ghost use Rattle.std.specs.Prelude.{◌≡◌, ◌≤◌, ◌||◌, IfOk, OnOk, Some};
+ghost use Rattle.def_lines.specs.Blanks.{trimmed};
+ghost use Rattle.deck.specs.Tables as tables;
 ghost use Rattle.reply.specs.Calls.{AreMade};
 ghost use Rattle.reply.specs.Options.{IsPrintable};
+ghost use Rattle.column_convert.specs.Blocks.{behind_first, block_of, first};
 ghost use Rattle.column_convert.specs.Inputs.{behind, input_of};
+ghost use Rattle.column_convert.specs.Known.{IsRemembered};
 ghost use Rattle.column_convert.specs.Rows as spec;
+ghost use Rattle.column_convert.specs.Written.{IsIdle, IsNextWritten, text_in};
 
+use crate::block::Block;
+use crate::memory::Memory;
 use crate::records::Records;
-use crate::row::{ColumnRow, row_of};
-use csv::ByteRecord;
+use crate::row::write_row;
+use crate::written::{new_writer, written};
+use csv::{ByteRecord, Writer};
 use live_table::LiveTable;
 use reply::Options;
 use std::alloc::{AllocError, Global};
@@ -24,6 +31,8 @@ pub struct Columns {
     records: Records,
     // the record that was read last, whose memory is used again
     last: ByteRecord,
+    // and the one that was changed last
+    changed: ByteRecord,
     place: usize,
     headed: bool,
 }
@@ -53,31 +62,84 @@ impl Columns {
         Ok(Columns {
             records: Records::new(alloc, input.into_bytes()),
             last: ByteRecord::new(alloc),
+            changed: ByteRecord::new(alloc),
             place: column - 1,
             headed: header,
         })
     }
 
-    /// The next row, or `None` exactly where all were given. The header, and a record without a field in the
-    /// column, stay as they are; in every other record that field is converted from FROM to TO, or is an error.
-    /// It makes the queries of that conversion, and leaves the deck as it is. The only error is want of memory,
-    /// after which the rows are used no more.
-    pub fn next_row<L: Ledger>(
+    /// The next rows as a block: so many of them as are left, and none exactly where all were given or none is wanted.
+    /// The header, and a record without a field in the column, stay as they are; in every other record that field is
+    /// converted from FROM to TO, or is an error. It makes the queries of these conversions, in order, and leaves the
+    /// deck as it is. The only error is want of memory, after which the rows are used no more.
+    pub fn next_rows<L: Ledger>(
         &mut self,
         alloc: Global,
         table: &mut LiveTable,
         options: &Options,
         from: &[u8],
         to: &[u8],
+        most: usize,
         steps: &mut Steps<L>,
-    ) -> Result<Option<ColumnRow>, AllocError>
+    ) -> Result<Block, AllocError>
         requires { IsPrintable options.now }
-        ensures row { IfOk result (λ row.
-            row ≡ spec.next_row (table_of table.old.deck) options.now from.now to.now self.old) }
+        ensures block { IfOk result (λ block. block ≡ block_of
+            (spec.rows (tables.table table.old.deck) options.now from.now to.now (first most self.old))) }
+        ensures left { OnOk result (self.new ≡ behind_first most self.old) }
+        ensures queries { AreMade
+            (spec.queries (tables.table table.old.deck) options.now from.now to.now (first most self.old))
+            result table.old table.new steps.old steps.new }
+        ensures deck { table.new.deck ≡ table.old.deck }
+    {
+        // What is kept is right also where nothing is asked.
+        table.kept_right();
+        let mut writer = new_writer(alloc);
+        let mut memory = Memory::new();
+        let mut count = 0;
+        let mut any = false;
+        while count < most {
+            let Some(refused) = self.write_next(
+                alloc,
+                table,
+                options,
+                from,
+                to,
+                &mut memory,
+                &mut writer,
+                steps,
+            )?
+            else {
+                return closed(writer, count, any);
+            };
+            any = either(any, refused);
+            count += 1;
+        }
+        closed(writer, count, any)
+    }
+
+    // Writes the next row, and tells whether its cell is an error, or `None` exactly where all were given.
+    fn write_next<L: Ledger>(
+        &mut self,
+        alloc: Global,
+        table: &mut LiveTable,
+        options: &Options,
+        from: &[u8],
+        to: &[u8],
+        memory: &mut Memory,
+        writer: &mut Writer<Vec<u8>>,
+        steps: &mut Steps<L>,
+    ) -> Result<Option<bool>, AllocError>
+        requires printable { IsPrintable options.now }
+        requires known { IsRemembered table.old (trimmed from.now) to.now memory.old }
+        requires idle { IsIdle writer.old }
+        ensures idle { OnOk result (IsIdle writer.new) }
+        ensures row { IfOk result (λ refused. IsNextWritten writer.old writer.new refused
+            (spec.next_row (tables.table table.old.deck) options.now from.now to.now self.old)) }
         ensures left { OnOk result (self.new ≡ behind self.old) }
         ensures queries { AreMade
-            (spec.next_queries (table_of table.old.deck) options.now from.now to.now self.old)
+            (spec.next_queries (tables.table table.old.deck) options.now from.now to.now self.old)
             result table.old table.new steps.old steps.new }
+        ensures known { OnOk result (IsRemembered table.new (trimmed from.now) to.now memory.new) }
         ensures deck { table.new.deck ≡ table.old.deck }
     {
         // What is kept is right also where nothing is asked.
@@ -85,7 +147,8 @@ impl Columns {
         if !self.records.read(&mut self.last)? {
             return Ok(None);
         }
-        let row = row_of(
+        let headed = self.headed;
+        let refused = write_row(
             alloc,
             table,
             options,
@@ -93,10 +156,32 @@ impl Columns {
             to,
             &self.last,
             self.place,
-            self.headed,
+            headed,
+            memory,
+            &mut self.changed,
+            writer,
             steps,
         )?;
         self.headed = false;
-        Ok(Some(row))
+        Ok(Some(refused))
     }
+}
+
+// Whether one of two is so.
+fn either(a: bool, b: bool) -> bool
+    ensures { result ≡ (a || b) }
+{
+    a || b
+}
+
+// The rows that were written, of which this tells how many they are and whether a cell of them is an error.
+fn closed(writer: Writer<Vec<u8>>, count: usize, any: bool) -> Result<Block, AllocError>
+    ensures { IfOk result (λ block. (text_in writer ≡ Some block.text) × (block.rows ≡ count) × (block.refused ≡ any)) }
+{
+    let text = written(writer)?;
+    Ok(Block {
+        text,
+        rows: count,
+        refused: any,
+    })
 }

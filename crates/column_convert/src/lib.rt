@@ -1,12 +1,18 @@
 //! One column of a text of records, converted row by row.
 #![tactic(auto)]
 
+mod block;
 mod cell;
 mod columns;
+mod known;
 mod laws;
+mod memory;
+mod plain;
 mod records;
 mod row;
+mod signed;
+mod written;
 
+pub use block::Block;
 pub use columns::Columns;
-pub use laws::{examples_law, rows_law};
-pub use row::ColumnRow;
+pub use laws::{again_law, blocks_law, examples_law, product_law, rows_law, valued_law, worth_law};

@@ -1,7 +1,7 @@
 //! The records of a text, one after another.
 
 ghost use Rattle.std.specs.Prelude.{◌≡◌, ◌∷◌, [], IfOk, MatchBool};
-ghost use Rattle.csv.specs.Reading.{default_config, records as records_of, strip_bom};
+ghost use Rattle.csv.specs.Reading as reading;
 ghost use Rattle.csv.specs.Records.{fields_of};
 
 use csv::{ByteRecord, Reader, ReaderBuilder};
@@ -31,7 +31,7 @@ impl Model for Records {
 impl Records {
     /// All records of a text. It takes no memory.
     pub(crate) fn new(alloc: Global, text: Vec<u8>) -> Records
-        ensures { result ≡ records_of default_config (strip_bom text.items) }
+        ensures { result ≡ reading.records reading.default_config (reading.strip_bom text.items) }
     {
         Records {
             reader: ReaderBuilder::new()

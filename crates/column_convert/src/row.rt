@@ -1,33 +1,28 @@
 //! Rows.
 
-ghost use Rattle.std.specs.Prelude.{◌≡◌, ◌<◌, [], IfOk, get_or, length, slice_set};
+ghost use Rattle.std.specs.Prelude.{◌≡◌, ◌<◌, [], IfOk, OnOk, get_or, length, slice_set};
 ghost use Rattle.csv.specs.Records.{fields_of};
-ghost use Rattle.csv.specs.Writing.{default_writer, row_text};
-ghost use Rattle.deck.specs.Tables.{table as table_of};
+ghost use Rattle.def_lines.specs.Blanks.{trimmed};
+ghost use Rattle.deck.specs.Tables as tables;
 ghost use Rattle.reply.specs.Calls.{AreMade};
 ghost use Rattle.reply.specs.Options.{IsPrintable};
+ghost use Rattle.column_convert.specs.Known.{IsRemembered};
 ghost use Rattle.column_convert.specs.Rows as spec;
+ghost use Rattle.column_convert.specs.Written.{IsIdle, IsWritten};
 
 use crate::cell::{Cell, convert_cell};
-use csv::{ByteRecord, WriterBuilder};
+use crate::memory::Memory;
+use crate::written::write_record;
+use csv::{ByteRecord, Writer};
 use live_table::LiveTable;
 use reply::Options;
 use std::alloc::{AllocError, Global};
 use std::sync::ledger::Ledger;
-use units_io::{Steps, Text};
+use units_io::Steps;
 
-/// A row as it is written, and whether its cell is an error.
-#[derive(Drop)]
-pub struct ColumnRow {
-    /// The bytes of the row, with its line feed.
-    pub text: Text,
-    /// Whether its cell is an error.
-    pub refused: bool,
-}
-
-/// The row of a record: a header, and a record without a field at this place, stays as it is. The only
-/// error is want of memory.
-pub(crate) fn row_of<L: Ledger>(
+/// Writes the row of a record, and tells whether its cell is an error: a header, and a record without a field at this
+/// place, stays as it is. The only error is want of memory, after which the writer is used no more.
+pub(crate) fn write_row<L: Ledger>(
     alloc: Global,
     table: &mut LiveTable,
     options: &Options,
@@ -36,74 +31,82 @@ pub(crate) fn row_of<L: Ledger>(
     fields: &ByteRecord,
     place: usize,
     headed: bool,
+    memory: &mut Memory,
+    changed: &mut ByteRecord,
+    writer: &mut Writer<Vec<u8>>,
     steps: &mut Steps<L>,
-) -> Result<ColumnRow, AllocError>
-    requires { IsPrintable options.now }
-    ensures row { IfOk result (λ row. row
-        ≡ spec.row (table_of table.old.deck) options.now from.now to.now place headed (fields_of fields.now)) }
+) -> Result<bool, AllocError>
+    requires printable { IsPrintable options.now }
+    requires known { IsRemembered table.old (trimmed from.now) to.now memory.old }
+    requires idle { IsIdle writer.old }
+    ensures idle { OnOk result (IsIdle writer.new) }
+    ensures row { IfOk result (λ refused. IsWritten writer.old writer.new refused
+        (spec.row (tables.table table.old.deck) options.now from.now to.now place headed (fields_of fields.now))) }
     ensures queries { AreMade
-        (spec.row_queries (table_of table.old.deck) options.now from.now to.now place headed (fields_of fields.now))
+        (spec.row_queries (tables.table table.old.deck) options.now from.now to.now place headed (fields_of fields.now))
         result table.old table.new steps.old steps.new }
+    ensures known { OnOk result (IsRemembered table.new (trimmed from.now) to.now memory.new) }
     ensures deck { table.new.deck ≡ table.old.deck }
 {
     // What is kept is right also where nothing is asked.
     table.kept_right();
     if headed {
-        return kept_row(alloc, fields);
+        return write_kept(writer, fields);
     }
     match fields.get(place) {
         Some(field) => {
-            let cell = convert_cell(alloc, table, options, from, to, field, steps)?;
-            cell_row(alloc, fields, place, &cell)
+            let cell = convert_cell(alloc, table, options, from, to, field, memory, steps)?;
+            write_cell(writer, changed, fields, place, &cell)
         }
-        None => kept_row(alloc, fields),
+        None => write_kept(writer, fields),
     }
 }
 
-// A record that stays as it is.
-fn kept_row(alloc: Global, fields: &ByteRecord) -> Result<ColumnRow, AllocError>
-    ensures { IfOk result (λ row. row ≡ spec.kept_row (fields_of fields.now)) }
+// Writes a record that stays as it is.
+fn write_kept(writer: &mut Writer<Vec<u8>>, fields: &ByteRecord) -> Result<bool, AllocError>
+    requires { IsIdle writer.old }
+    ensures idle { OnOk result (IsIdle writer.new) }
+    ensures row { IfOk result (λ refused.
+        IsWritten writer.old writer.new refused (spec.kept_row (fields_of fields.now))) }
 {
-    let text = record_text(alloc, fields)?;
-    Ok(ColumnRow {
-        text,
-        refused: false,
-    })
+    write_record(writer, fields)?;
+    Ok(false)
 }
 
-// A record with this cell at a place that it has.
-fn cell_row(
-    alloc: Global,
+// Writes a record with this cell at a place that it has.
+fn write_cell(
+    writer: &mut Writer<Vec<u8>>,
+    changed: &mut ByteRecord,
     fields: &ByteRecord,
     place: usize,
     cell: &Cell,
-) -> Result<ColumnRow, AllocError>
-    requires { place < length (fields_of fields.now) }
-    ensures { IfOk result (λ row. row ≡ spec.cell_row (fields_of fields.now) place cell.now) }
+) -> Result<bool, AllocError>
+    requires idle { IsIdle writer.old }
+    requires place { place < length (fields_of fields.now) }
+    ensures idle { OnOk result (IsIdle writer.new) }
+    ensures row { IfOk result (λ refused.
+        IsWritten writer.old writer.new refused (spec.cell_row (fields_of fields.now) place cell.now)) }
 {
-    let changed = with_field(alloc, fields, place, cell.text.as_bytes())?;
-    let text = record_text(alloc, &changed)?;
-    Ok(ColumnRow {
-        text,
-        refused: cell.refused,
-    })
+    change(changed, fields, place, cell.text.as_bytes())?;
+    write_record(writer, changed)?;
+    Ok(cell.refused)
 }
 
-// The record with another field at a place that it has.
-fn with_field(
-    alloc: Global,
+// Makes a record that of these fields with another one at a place that they have.
+fn change(
+    changed: &mut ByteRecord,
     fields: &ByteRecord,
     place: usize,
     field: &[u8],
-) -> Result<ByteRecord, AllocError>
+) -> Result<(), AllocError>
     requires { place < length (fields_of fields.now) }
-    ensures { IfOk result (λ row. fields_of row ≡ slice_set (fields_of fields.now) place field.now) }
+    ensures { OnOk result (fields_of changed.new ≡ slice_set (fields_of fields.now) place field.now) }
 {
-    let mut changed = ByteRecord::new(alloc);
+    changed.clear();
     for i in 0..fields.len() {
         changed.push_field(changed_field(fields, place, field, i))?;
     }
-    Ok(changed)
+    Ok(())
 }
 
 // The field at a place of the record with another one at a place that it has.
@@ -117,19 +120,5 @@ fn changed_field<'a>(fields: &'a ByteRecord, place: usize, field: &'a [u8], i: u
     match fields.get(i) {
         Some(kept) => kept,
         None => field,
-    }
-}
-
-// The text of a record.
-fn record_text(alloc: Global, fields: &ByteRecord) -> Result<Text, AllocError>
-    ensures { IfOk result (λ text. text ≡ row_text default_writer (fields_of fields.now)) }
-{
-    let mut writer = WriterBuilder::new().from_writer(Vec::new(alloc));
-    if writer.write_byte_record(fields).is_err() {
-        return Err(AllocError);
-    }
-    match writer.into_inner() {
-        Ok(text) => Ok(Text::from(text)),
-        Err(_) => Err(AllocError),
     }
 }

@@ -1,144 +1,203 @@
--- Rows that are given one by one.
-use Rattle.std.proofs.Common.{◌≡◌, ◌++◌, ◌∷◌, ◌||◌, ◌∙◌, [], ℕ, Bool, true, false, List, Some, None, refl, sym, ap}
-use Rattle.std.proofs.Common.{append_assoc, subst}
+-- Rows that are given by the block.
+use Rattle.std.proofs.Common.{◌≡◌, ◌<◌, ◌-◌, ◌++◌, ◌∷◌, ◌||◌, ◌∙◌, [], ℕ, zero, suc, Bool, true, false, List}
+use Rattle.std.proofs.Common.{refl, sym, ap, length, take, subst, append_assoc, arith}
 use Rattle.std.specs.declared.option.Option.{Option}
 use Rattle.std.proofs.lemmas.List.{append-nil}
 use Rattle.deck.specs.Tables.{table}
+use Rattle.def_entry.specs.Tables.{Table}
 use Rattle.live_table.specs.Shown.{Follows, IsRightTable, Shown}
 use Rattle.live_table.specs.States.{Event}
 use Rattle.live_table.proofs.Following.{follows_both, follows_none}
 use Rattle.reply.specs.declared.options.Options.{Options}
-use Rattle.units_io.specs.Bytes.{GrowsByFront}
+use Rattle.units_io.specs.Bytes.{grown, GrowsByFront}
+use Rattle.column_convert.specs.Blocks.{BlocksLaw, behind_first, block_of, first, is_refused, text_of}
+use Rattle.column_convert.specs.declared.block.Block.{Block}
 use Rattle.column_convert.specs.Inputs.{Input, behind}
 use Rattle.column_convert.specs.Records.{Fields}
-use Rattle.column_convert.specs.Rows.{RowsLaw, before_rows, next_queries, next_row, queries, rows}
-use Rattle.column_convert.specs.declared.row.ColumnRow.{ColumnRow}
-use Rattle.column_run.specs.Outputs.{is_refused, text_of}
-use Rattle.column_run.specs.Waiting.{Waits}
-use Rattle.column_run.proofs.Writing.{grown_none}
+use Rattle.column_convert.specs.Rows.{ColumnRow, queries, rows}
+use Rattle.column_run.proofs.Writing.{front_all, front_behind, front_more, grown_none, grown_twice}
+
+-- ---- bytes and refusals of rows one behind another
+text_both : (xs ys : List ColumnRow) → text_of (xs ++ ys) ≡ text_of xs ++ text_of ys
+text_both [] ys = refl
+text_both (x ∷ xs) ys =
+    ap (λ t. x.text ++ t) (text_both xs ys) ∙ sym (append_assoc x.text (text_of xs) (text_of ys))
 
 or_assoc : (a b c : Bool) → (a || (b || c)) ≡ ((a || b) || c)
 or_assoc true b c = refl
 or_assoc false b c = refl
 
-module _ (options : Options) (from to : List ℕ) (first : Input) (start : Option (List ℕ)) (before : Shown)
-    (old : ℕ) where
-  -- the rows before those that are left were put, and their queries were made
-  pub record IsUnderway (left : Input) (refused : Bool) (out : Option (List ℕ)) (held : List ℕ) (now : Shown) (new : ℕ)
+refused_both : (xs ys : List ColumnRow) → is_refused (xs ++ ys) ≡ (is_refused xs || is_refused ys)
+refused_both [] ys = refl
+refused_both (x ∷ xs) ys =
+    ap (λ b. x.refused || b) (refused_both xs ys) ∙ or_assoc x.refused (is_refused xs) (is_refused ys)
+
+-- ---- how many are left
+rows_count : (t : Table) (options : Options) (from to : List ℕ) (i : Input)
+    → length (rows t options from to i) ≡ length i.left
+rows_count t options from to i = go i.left i.place i.headed
+  where
+    go : (left : List Fields) (place : ℕ) (headed : Bool)
+        → length (rows t options from to (record { left = left; place = place; headed = headed })) ≡ length left
+    go [] place headed = refl
+    go (fields ∷ left) place headed = ap suc (go left place false)
+
+behind_count : (n : ℕ) (i : Input) → length (behind_first n i).left ≡ length i.left - n
+unfolding behind_first
+behind_count n i = go n i.left i.place i.headed
+  where
+    at : List Fields → ℕ → Bool → Input
+    at left place headed = record { left = left; place = place; headed = headed }
+
+    go : (n : ℕ) (left : List Fields) (place : ℕ) (headed : Bool)
+        → length (behind_first n (at left place headed)).left ≡ length left - n
+    go zero left place headed = omega arith
+    go (suc n) [] place headed = omega (arith, go n [] place headed)
+    go (suc n) (fields ∷ left) place headed = omega (arith, go n left place false)
+
+-- where a block has rows, fewer are left
+pub fewer : (t : Table) (options : Options) (from to : List ℕ) (n : ℕ) (i : Input) (count : ℕ)
+    → count ≡ length (rows t options from to (first (suc n) i)) → (count ≡ 0 → ⊥)
+    → length (behind_first (suc n) i).left < length i.left
+fewer t options from to n i count is some =
+    go i.left (is ∙ rows_count t options from to (first (suc n) i)) (behind_count (suc n) i)
+  where
+    go : (left : List Fields) → count ≡ length (take (suc n) left)
+        → length (behind_first (suc n) i).left ≡ length left - suc n
+        → length (behind_first (suc n) i).left < length left
+    go [] none less = absurd (some none)
+    go (fields ∷ left) more less = omega (arith, less)
+
+module _ (options : Options) (from to : List ℕ) (whole : Input) (start : Option (List ℕ)) (before : Shown) (old : ℕ) where
+  abbrev rows_at : Input → List ColumnRow
+  rows_at i = rows (table before.deck) options from to i
+
+  abbrev queries_at : Input → List Event
+  queries_at i = queries (table before.deck) options from to i
+
+  -- the rows before those that are left are written, and their queries were made
+  pub record IsUnderway (left : Input) (refused : Bool) (out : Option (List ℕ)) (now : Shown) (new : ℕ)
       : Type 0 where
-    pub done : List ℕ
+    pub done : List ColumnRow
     pub events : List Event
-    pub text : text_of (rows (table before.deck) options from to first)
-        ≡ done ++ text_of (rows (table before.deck) options from to left)
-    pub refuses : is_refused (rows (table before.deck) options from to first)
-        ≡ (refused || is_refused (rows (table before.deck) options from to left))
-    pub asks : queries (table before.deck) options from to first
-        ≡ events ++ queries (table before.deck) options from to left
-    pub waits : Waits start done out held
+    pub gives : rows_at whole ≡ done ++ rows_at left
+    pub asks : queries_at whole ≡ events ++ queries_at left
+    pub refused_is : refused ≡ is_refused done
+    pub out_is : out ≡ grown start (text_of done)
     pub deck : now.deck ≡ before.deck
     pub follows : Follows events before now old new
 
-  pub underway_start : IsRightTable before → IsUnderway first false start [] before old
+  pub underway_start : IsRightTable before → IsUnderway whole false start before old
   underway_start right = record {
     done = [];
     events = [];
-    text = refl;
-    refuses = refl;
+    gives = refl;
     asks = refl;
-    waits = ([], refl, grown_none start);
+    refused_is = refl;
+    out_is = grown_none start;
     deck = refl;
     follows = follows_none before old right;
   }
 
-  module _ (law : RowsLaw) (left : Input) (refused : Bool) (out : Option (List ℕ)) (held : List ℕ) (now : Shown)
-      (new : ℕ) (u : IsUnderway left refused out held now new) (later : Shown) (last : ℕ)
-      (same : later.deck ≡ now.deck)
-      (made : Follows (next_queries (table now.deck) options from to left) now later new last) where
-    made_first : Follows (next_queries (table before.deck) options from to left) now later new last
-    made_first =
-        subst (λ d. Follows (next_queries (table d) options from to left) now later new last) u.deck made
+  module _ (left : Input) (refused : Bool) (out : Option (List ℕ)) (now : Shown) (new : ℕ)
+      (u : IsUnderway left refused out now new) where
+    text_now : text_of (rows_at whole) ≡ text_of u.done ++ text_of (rows_at left)
+    text_now = ap text_of u.gives ∙ text_both u.done (rows_at left)
 
-    module _ (row : ColumnRow) (is : Some row ≡ next_row (table now.deck) options from to left) where
-      abbrev pub rest : List ColumnRow
-      rest = rows (table before.deck) options from to (behind left)
+    -- what is written is a front of all
+    pub front_now : GrowsByFront start out (text_of (rows_at whole))
+    front_now =
+        front_more start out (text_of u.done) (text_of (rows_at left)) (text_of (rows_at whole)) text_now
+        (front_all start out (text_of u.done) u.out_is)
 
-      by_next : rows (table before.deck) options from to left ≡ row ∷ rest
-      by_next =
-          (law (table before.deck) options from to left).0
-          ∙ ap (λ n. before_rows n rest)
-          (sym (is ∙ ap (λ d. next_row (table d) options from to left) u.deck))
+    module _ (law : BlocksLaw) (n : ℕ) (later : Shown) (last : ℕ) (same : later.deck ≡ now.deck)
+        (made : Follows (queries (table now.deck) options from to (first n left)) now later new last)
+        (block : Block) (is : block ≡ block_of (rows (table now.deck) options from to (first n left))) where
+      made_first : Follows (queries_at (first n left)) now later new last
+      made_first = subst (λ d. Follows (queries (table d) options from to (first n left)) now later new last) u.deck
+          made
 
-      text_next : text_of (rows (table before.deck) options from to first)
-          ≡ (u.done ++ row.text) ++ text_of rest
+      block_is : block ≡ block_of (rows_at (first n left))
+      block_is = is ∙ ap (λ d. block_of (rows (table d) options from to (first n left))) u.deck
+
+      text_next : text_of (rows_at whole)
+          ≡ (text_of u.done ++ block.text) ++ text_of (rows_at (behind_first n left))
       text_next =
-          u.text
-          ∙ ap (λ (r : List ColumnRow). u.done ++ text_of r) by_next
-          ∙ sym (append_assoc u.done row.text (text_of rest))
+          text_now
+          ∙ ap (λ (rs : List ColumnRow). text_of u.done ++ text_of rs) (law (table before.deck) options from to n left).0
+          ∙ ap (λ t. text_of u.done ++ t) (text_both (rows_at (first n left)) (rows_at (behind_first n left)))
+          ∙ ap (λ (b : Block). text_of u.done ++ (b.text ++ text_of (rows_at (behind_first n left)))) (sym block_is)
+          ∙ sym (append_assoc (text_of u.done) block.text (text_of (rows_at (behind_first n left))))
 
-      -- a front of what stands once the row is put
-      pub front_next : (after : Option (List ℕ))
-          → ((more : List ℕ) → GrowsByFront start after ((u.done ++ row.text) ++ more))
-          → GrowsByFront start after (text_of (rows (table before.deck) options from to first))
-      front_next after f = subst (GrowsByFront start after) (sym text_next) (f (text_of rest))
+      -- and so it is where a front of the next block is written too
+      pub front_next : (after : Option (List ℕ)) → GrowsByFront out after block.text
+          → GrowsByFront start after (text_of (rows_at whole))
+      front_next after f =
+          front_more start after (text_of u.done ++ block.text) (text_of (rows_at (behind_first n left)))
+          (text_of (rows_at whole)) text_next (front_behind start out after (text_of u.done) block.text u.out_is f)
 
-      -- one more
-      pub underway_next : (r : Bool) (out_too : Option (List ℕ)) (held_too : List ℕ) → r ≡ (refused || row.refused)
-          → Waits start (u.done ++ row.text) out_too held_too
-          → IsUnderway (behind left) r out_too held_too later last
-      underway_next r out_too held_too either w = record {
-        done = u.done ++ row.text;
-        events = u.events ++ next_queries (table before.deck) options from to left;
-        text = text_next;
-        refuses =
-            u.refuses
-            ∙ ap (λ (rs : List ColumnRow). refused || is_refused rs) by_next
-            ∙ or_assoc refused row.refused (is_refused rest)
-            ∙ ap (λ (b : Bool). b || is_refused rest) (sym either);
+      -- one block more
+      pub underway_next : (r : Bool) (after : Option (List ℕ)) → r ≡ (refused || block.refused)
+          → after ≡ grown out block.text → IsUnderway (behind_first n left) r after later last
+      underway_next r after either all = record {
+        done = u.done ++ rows_at (first n left);
+        events = u.events ++ queries_at (first n left);
+        gives =
+            u.gives
+            ∙ ap (λ (rs : List ColumnRow). u.done ++ rs) (law (table before.deck) options from to n left).0
+            ∙ sym (append_assoc u.done (rows_at (first n left)) (rows_at (behind_first n left)));
         asks =
             u.asks
-            ∙ ap (λ (es : List Event). u.events ++ es) (law (table before.deck) options from to left).1
-            ∙ sym (append_assoc u.events (next_queries (table before.deck) options from to left)
-            (queries (table before.deck) options from to (behind left)));
-        waits = w;
+            ∙ ap (λ (es : List Event). u.events ++ es) (law (table before.deck) options from to n left).1
+            ∙ sym (append_assoc u.events (queries_at (first n left)) (queries_at (behind_first n left)));
+        refused_is =
+            either
+            ∙ ap (λ b. b || block.refused) u.refused_is
+            ∙ ap (λ (b : Block). is_refused u.done || b.refused) block_is
+            ∙ sym (refused_both u.done (rows_at (first n left)));
+        out_is =
+            all
+            ∙ ap (λ (b : Block). grown out b.text) block_is
+            ∙ ap (λ o. grown o (text_of (rows_at (first n left)))) u.out_is
+            ∙ grown_twice start (text_of u.done) (text_of (rows_at (first n left)))
+            ∙ ap (grown start) (sym (text_both u.done (rows_at (first n left))));
         deck = same ∙ u.deck;
-        follows = follows_both u.events (next_queries (table before.deck) options from to left) before now later old
-            new last u.follows made_first;
+        follows = follows_both u.events (queries_at (first n left)) before now later old new last u.follows made_first;
       }
 
     -- no row is left
-    module _ (is : None ≡ next_row (table now.deck) options from to left) where
-      none_there : None ≡ next_row (table before.deck) options from to left
-      none_there = is ∙ ap (λ d. next_row (table d) options from to left) u.deck
-
-      over : (rows (table before.deck) options from to left ≡ [])
-          × (queries (table before.deck) options from to left ≡ [])
-          × (next_queries (table before.deck) options from to left ≡ [])
-      over = go left.left left.place left.headed none_there
+    module _ (n : ℕ) (later : Shown) (last : ℕ)
+        (made : Follows (queries (table now.deck) options from to (first (suc n) left)) now later new last)
+        (block : Block) (is : block ≡ block_of (rows (table now.deck) options from to (first (suc n) left)))
+        (none : block.rows ≡ 0) where
+      over : (rows_at left ≡ []) × (queries_at left ≡ []) × (queries_at (first (suc n) left) ≡ [])
+      over =
+          go left.left left.place left.headed
+          (sym (rows_count (table now.deck) options from to (first (suc n) left))
+          ∙ sym (ap (λ (b : Block). b.rows) is) ∙ none)
         where
-          input : List Fields → ℕ → Bool → Input
-          input ls place headed = record { left = ls; place = place; headed = headed }
+          at : List Fields → ℕ → Bool → Input
+          at ls place headed = record { left = ls; place = place; headed = headed }
 
-          go : (ls : List Fields) (place : ℕ) (headed : Bool)
-              → None ≡ next_row (table before.deck) options from to (input ls place headed)
-              → (rows (table before.deck) options from to (input ls place headed) ≡ [])
-              × (queries (table before.deck) options from to (input ls place headed) ≡ [])
-              × (next_queries (table before.deck) options from to (input ls place headed) ≡ [])
+          go : (ls : List Fields) (place : ℕ) (headed : Bool) → length (take (suc n) ls) ≡ 0
+              → (rows_at (at ls place headed) ≡ []) × (queries_at (at ls place headed) ≡ [])
+              × (queries_at (first (suc n) (at ls place headed)) ≡ [])
           go [] place headed e = (refl, refl, refl)
-          go (fields ∷ ls) place headed e = cc
+          go (fields ∷ ls) place headed e = absurd (omega (arith, e))
 
-      pub text_over : text_of (rows (table before.deck) options from to first) ≡ u.done
-      text_over = u.text ∙ ap (λ (r : List ColumnRow). u.done ++ text_of r) over.0 ∙ append-nil u.done
+      rows_over : rows_at whole ≡ u.done
+      rows_over = u.gives ∙ ap (λ (rs : List ColumnRow). u.done ++ rs) over.0 ∙ append-nil u.done
 
-      pub refused_over : refused ≡ is_refused (rows (table before.deck) options from to first)
-      refused_over = sym (u.refuses ∙ ap (λ (r : List ColumnRow). refused || is_refused r) over.0 ∙ or_false refused)
-        where
-          or_false : (b : Bool) → (b || false) ≡ b
-          or_false true = refl
-          or_false false = refl
+      pub whole_over : out ≡ grown start (text_of (rows_at whole))
+      whole_over = u.out_is ∙ ap (λ (rs : List ColumnRow). grown start (text_of rs)) (sym rows_over)
 
-      pub follows_over : Follows (queries (table before.deck) options from to first) before later old last
+      pub refused_over : refused ≡ is_refused (rows_at whole)
+      refused_over = u.refused_is ∙ ap is_refused (sym rows_over)
+
+      pub follows_over : Follows (queries_at whole) before later old last
       follows_over =
           subst (λ (es : List Event). Follows es before later old last)
           (ap (λ (es : List Event). u.events ++ es) (over.2 ∙ sym over.1) ∙ sym u.asks)
-          (follows_both u.events (next_queries (table before.deck) options from to left) before now later old new last
-          u.follows made_first)
+          (follows_both u.events (queries_at (first (suc n) left)) before now later old new last u.follows
+          (subst (λ d. Follows (queries (table d) options from to (first (suc n) left)) now later new last) u.deck
+          made))

@@ -1,5 +1,5 @@
 -- Bytes that are taken, and counted.
-use Rattle.std.proofs.Common.{◌≡◌, ◌+◌, ◌++◌, ◌-◌, ◌^◌, ◌≤◌, ◌∙◌, ℕ, List, min, length, take, length-append}
+use Rattle.std.proofs.Common.{◌≡◌, ◌+◌, ◌++◌, ◌-◌, ◌^◌, ◌≤◌, ℕ, List, min, length, take, length-append}
 use Rattle.std.proofs.Common.{length-take, ap, subst, sym, arith}
 use Rattle.session.specs.Waiting.{TookAtLeast}
 use Rattle.session.proofs.Blocks.{took_more}

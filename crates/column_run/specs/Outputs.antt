@@ -1,20 +1,11 @@
 -- What a run over column input writes, and how it ends.
-use Rattle.std.specs.Prelude.{◌++◌, ◌||◌, ◌≡◌, ℕ, Bool, true, false, List, [], ◌∷◌, if◌then◌else◌}
+use Rattle.std.specs.Prelude.{◌≡◌, ℕ, Bool, true, false, List, if◌then◌else◌}
 use Rattle.std.specs.declared.option.Option.{Option}
-use Rattle.column_convert.specs.declared.row.ColumnRow.{ColumnRow}
+pub use Rattle.column_convert.specs.Blocks.{is_refused, text_of}
+use Rattle.column_convert.specs.Rows.{ColumnRow}
 use Rattle.units_io.specs.Bytes.{grown, GrowsByFront}
 use Rattle.column_run.specs.declared.end.ColumnEnd.{ColumnEnd}
 use Rattle.column_run.specs.declared.end.ColumnEnd.TheVariants.{Done, Refused, ReadFault, InputTooLong}
-
--- the bytes of rows, one behind another
-abbrev pub text_of : List ColumnRow → List ℕ
-text_of [] = []
-text_of (row ∷ rows) = row.text ++ text_of rows
-
--- a row is refused
-abbrev pub is_refused : List ColumnRow → Bool
-is_refused [] = false
-is_refused (row ∷ rows) = row.refused || is_refused rows
 
 -- how a run over these rows ends, faults, limits and want of memory aside
 abbrev pub end_of : List ColumnRow → ColumnEnd

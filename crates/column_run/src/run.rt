@@ -1,7 +1,7 @@
 //! A run over column input.
 
 ghost use Rattle.std.specs.Prelude.{◌≡◌, ◌≤◌, [], List, ℕ, Some, true};
-ghost use Rattle.deck.specs.Tables.{table as table_of};
+ghost use Rattle.deck.specs.Tables as tables;
 ghost use Rattle.live_table.specs.Shown.{Follows};
 ghost use Rattle.reply.specs.Options.{IsPrintable};
 ghost use Rattle.session.specs.Outside.{TookMoreThan};
@@ -38,11 +38,11 @@ pub fn run_columns<S: Source, O: Sink, L: Ledger>(
     requires printable { IsPrintable options.now }
     requires column { 1 ≤ column }
     ensures told { (input : List ℕ) → S.left src.old ≡ Some input →
-        IsWritten (rows.rows (table_of table.old.deck) options.now from.now to.now (input_of input column header))
+        IsWritten (rows.rows (tables.table table.old.deck) options.now from.now to.now (input_of input column header))
         result
         (O.written out.old) (O.written out.new) }
     ensures queries { (input : List ℕ) → S.left src.old ≡ Some input → is_over result ≡ true →
-        Follows (rows.queries (table_of table.old.deck) options.now from.now to.now (input_of input column header))
+        Follows (rows.queries (tables.table table.old.deck) options.now from.now to.now (input_of input column header))
         table.old table.new steps.old steps.new }
     ensures whole { (input : List ℕ) → S.left src.old ≡ Some input → is_over result ≡ true →
         S.left src.new ≡ Some [] }

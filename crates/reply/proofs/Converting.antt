@@ -16,7 +16,7 @@ use Rattle.reply.specs.declared.fault.ReplyFault.{ReplyFault}
 use Rattle.reply.specs.declared.options.Options.{Options}
 use Rattle.reply.specs.declared.target.Target.{Target}
 use Rattle.reply.specs.Calls.{IsInquired, IsRead, same}
-use Rattle.reply.specs.Conversions.{conversion, converted_to, counted, split_into}
+use Rattle.reply.specs.Conversions.{conversion, converted_to, split_conversion, split_into}
 use Rattle.reply.specs.Inquiries.{◌>>=◌, Inquiry, given, text_worth, worths}
 use Rattle.reply.specs.Targets.{parts_of, target}
 use Rattle.reply.specs.Trees.{trees_in}
@@ -25,7 +25,7 @@ use Rattle.reply.proofs.Composing.{read-behind, read-given, then-answered, then-
 -- ---- into the units of a list
 module _ (t : Table) (options : Options) (list : List ℕ) (x : Amount) (a : Shown) (n : ℕ) (right : IsRightTable a) where
   abbrev by_units : List Amount → Result Conversion ReplyFault
-  by_units units = counted x list units (counts_in options.round x units)
+  by_units units = split_conversion x list units (counts_in options.round x units)
 
   abbrev by_trees : List Syntax → Inquiry Conversion
   by_trees trees = worths t trees >>= (λ units. given (by_units units))

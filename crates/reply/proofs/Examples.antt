@@ -12,18 +12,22 @@ use Rattle.expr_tree.specs.Parsed.{parsed}
 use Rattle.expr_tree.specs.Reading.{tree_of}
 use Rattle.reply.specs.Examples.{FaultsLaw, LinearLaw, ListsLaw, ReciprocalLaw}
 
+-- the examples of linear conversions
 pub linear : LinearLaw
 unfolding digits digit_count first_power rounded rounded_at gcd gcd_within reduced
 linear = (refl, refl, refl, refl, refl, refl, refl, refl)
 
+-- the examples of reciprocal ones
 pub reciprocal : ReciprocalLaw
 unfolding digits digit_count first_power rounded rounded_at gcd gcd_within reduced
 reciprocal = (refl, refl, refl, refl)
 
+-- the examples of lists
 pub lists : ListsLaw
 unfolding digits digit_count first_power rounded rounded_at gcd gcd_within lcm reduced counts_of last_of
 lists = (refl, refl, refl, refl, refl, refl, refl, refl, refl, refl)
 
+-- the examples of faults
 pub faults : FaultsLaw
 unfolding digits greatest fault_from lexemes_from tokens_in parsed tree_of
 faults = (refl, refl, refl, refl, refl, refl, refl, refl, refl)

@@ -30,17 +30,19 @@ use Rattle.reply.specs.declared.options.Options.{Options}
 use Rattle.reply.specs.declared.ratio.Ratio.{Ratio}
 use Rattle.reply.specs.declared.target.Target.{Target}
 use Rattle.reply.specs.declared.target.Target.TheVariants as target
-use Rattle.reply.specs.Conversions.{compared, conversion, converted_to, counted, linear, reciprocal}
+use Rattle.reply.specs.Conversions.{compared, conversion, converted_to, split_conversion, linear, reciprocal}
 use Rattle.reply.specs.Faults.{is_told}
 use Rattle.reply.specs.Inquiries.{Inquiry, as_answer, asking, followed, given, text_worth, worth, worths}
 use Rattle.reply.specs.Ratios.{ratio_of, reciprocal_ratio}
 use Rattle.reply.specs.Targets as targets
 use Rattle.reply.specs.Trees.{as_parsed, tree_in, trees_in}
 
+-- an answer that is no want of memory
 abbrev pub IsTold : {A : Type 0} → Result A ReplyFault → Type 0
 IsTold (Ok x) = ⊤
 IsTold (Err fault) = is_told fault ≡ true
 
+-- where an inquiry and what follows each of its answers are told, so are both together
 followed-told : {A B : Type 0} (m : Inquiry A) (next : A → Inquiry B) → IsTold m.answer
     → ((x : A) → IsTold (next x).answer) → IsTold (followed m.events m.answer next).answer
 followed-told {A = A} m next told h = go m.answer told
@@ -49,16 +51,19 @@ followed-told {A = A} m next told h = go m.answer told
     go (Ok x) told = h x
     go (Err fault) told = told
 
+-- the same of answers alone
 then-told : {A B : Type 0} (said : Result A ReplyFault) (next : A → Result B ReplyFault) → IsTold said
     → ((x : A) → IsTold (next x)) → IsTold (said >>= next)
 then-told (Ok x) next told h = h x
 then-told (Err fault) next told h = told
 
+-- the answer behind a test of names is told
 answer-told : (fault : Option NameFault) (w : Worth) → IsTold (as_answer (by_names fault w))
 answer-told (Some fault) w = refl
 answer-told None (Ok x) = tt
 answer-told None (Err fault) = refl
 
+-- what trees are worth is told
 worths-told : (t : Table) (trees : List Syntax) → IsTold (worths t trees).answer
 worths-told t [] = tt
 worths-told t (tree ∷ trees) =
@@ -67,19 +72,23 @@ worths-told t (tree ∷ trees) =
     (answer-told (name_fault t (words_in tree)) (value (expansion t tree) None))
     (λ x. followed-told (worths t trees) (λ xs. given (Ok (x ∷ xs))) (worths-told t trees) (λ xs. tt))
 
+-- a linear conversion is told
 linear-told : (r : Result Ratio FracFault) → IsTold (linear r)
 linear-told (Ok x) = tt
 linear-told (Err fault) = refl
 
+-- so is a reciprocal one
 reciprocal-told : (r : Result Ratio FracFault) → IsTold (reciprocal r)
 reciprocal-told (Ok x) = tt
 reciprocal-told (Err fault) = refl
 
+-- where both branches are told, so is the one that is taken
 if-told : {A : Type 0} (b : Bool) (p q : Result A ReplyFault) → IsTold p → IsTold q → IsTold (if b then p else q)
 if-told true p q h k = h
 if-told false p q h k = k
 
-compared-told : (strict : Bool) (x y : Amount) → IsTold (compared strict x y)
+-- what two quantities come to is told
+pub compared-told : (strict : Bool) (x y : Amount) → IsTold (compared strict x y)
 compared-told strict x y =
     if-told (conform x.exponents y.exponents) (linear (ratio_of x.value y.value))
     (if are_reciprocal x.exponents y.exponents && not strict
@@ -89,15 +98,16 @@ compared-told strict x y =
     (if-told (are_reciprocal x.exponents y.exponents && not strict) (reciprocal (reciprocal_ratio x.value y.value))
     (Ok (Unlike x y)) (reciprocal-told (reciprocal_ratio x.value y.value)) tt)
 
+-- what the counts of a list come to is told
 counted-told : (round : Bool) (x : Amount) (list : List ℕ) (units : List Amount)
-    → IsTold (counted x list units (counts_in round x units))
+    → IsTold (split_conversion x list units (counts_in round x units))
 unfolding counts_in
 counted-told round x list units =
     go (position (is_unlike x) units) (position is_not_positive units)
     (number_counts round x.value (numbers_of units))
   where
     go : (p q : Option ℕ) (counts : Result (List Fraction) FracFault)
-        → IsTold (counted x list units (checked (place_fault p q) counts))
+        → IsTold (split_conversion x list units (checked (place_fault p q) counts))
     go (Some place) q counts = tt
     go None (Some place) counts = refl
     go None None (Ok counts) = tt
@@ -133,9 +143,10 @@ module _ (law : ToldLaw) where
   converted-told t options to (target.Parts list) x =
       followed-told (given (trees_in (targets.parts_of list)))
       (λ trees. followed (worths t trees).events (worths t trees).answer
-      (λ units. given (counted x list units (counts_in options.round x units))))
+      (λ units. given (split_conversion x list units (counts_in options.round x units))))
       (trees-told (targets.parts_of list))
-      (λ trees. followed-told (worths t trees) (λ units. given (counted x list units (counts_in options.round x units)))
+      (λ trees. followed-told (worths t trees)
+      (λ units. given (split_conversion x list units (counts_in options.round x units)))
       (worths-told t trees) (λ units. counted-told options.round x list units))
   converted-told t options to target.Unit x =
       followed-told (text_worth t to) (λ y. given (compared options.strict x y)) (text-told t to)

@@ -9,7 +9,7 @@ use Rattle.quantity.specs.Amount.{Amount}
 use Rattle.unit_list.specs.Amounts.{checked, counts_in, is_not_positive, is_unlike, numbers_of, place_fault}
 use Rattle.unit_list.specs.Splits.{number_counts}
 use Rattle.reply.specs.declared.conversion.Conversion.TheVariants.{Unlike}
-use Rattle.reply.specs.Conversions.{counted}
+use Rattle.reply.specs.Conversions.{split_conversion}
 use Rattle.unit_list.specs.declared.fault.SplitFault.TheVariants.{NotConformable, OutOfMemory}
 
 module _ (round : Bool) (x : Amount) (units : List Amount) (place : ℕ) where
@@ -37,11 +37,11 @@ module _ (round : Bool) (x : Amount) (units : List Amount) (place : ℕ) where
   pub counted-unlike : (list : List ℕ) (k : ℕ) (y : Amount)
       → (NotConformable place ≡ OutOfMemory) ⊎ (counts_in round x units ≡ Err (NotConformable place))
       → k ≡ place → y ≡ slice_index_or units k y
-      → counted x list units (counts_in round x units) ≡ Ok (Unlike x y)
+      → split_conversion x list units (counts_in round x units) ≡ Ok (Unlike x y)
   counted-unlike list k y h e is = elim h [
     | inl p ↦ cc
     | inr p ↦
-        ap (counted x list units) p
+        ap (split_conversion x list units) p
         ∙ ap (λ (u : Amount). Ok (Unlike x u))
         (sym (subst (λ (i : ℕ). y ≡ slice_index_or units i y) e is ∙ get_or_default units place y x (within p)))
   ]

@@ -29,6 +29,7 @@ pub record IsUnderway (t : Table) (trees rest : List Syntax) (values : List Amou
     pub deck : b.deck ≡ a.deck
     pub follows : Follows events a b n m
 
+-- at the start nothing is asked yet, and all trees are left
 pub underway-start : (t : Table) (trees : List Syntax) (a : Shown) (n : ℕ) → IsRightTable a
     → IsUnderway t trees trees [] a a n n
 underway-start t trees a n right = record {

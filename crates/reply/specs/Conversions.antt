@@ -47,13 +47,13 @@ compared strict x y =
     else Ok (Unlike x y))
 
 -- of the counts of the units of a list in a quantity
-abbrev pub counted : Amount → (list : List ℕ) (units : List Amount) → Result (List Fraction) SplitFault
+abbrev pub split_conversion : Amount → (list : List ℕ) (units : List Amount) → Result (List Fraction) SplitFault
     → Result Conversion ReplyFault
-counted x list units (Ok counts) = Ok (Split list counts)
-counted x list units (Err (split.NotConformable place)) = Ok (Unlike x (slice_index_or units place x))
-counted x list units (Err (split.ListUnitNotPositive place)) = Err (ListUnit place)
-counted x list units (Err (split.Number fault)) = Err (Value (Number fault))
-counted x list units (Err split.OutOfMemory) = Err no_memory
+split_conversion x list units (Ok counts) = Ok (Split list counts)
+split_conversion x list units (Err (split.NotConformable place)) = Ok (Unlike x (slice_index_or units place x))
+split_conversion x list units (Err (split.ListUnitNotPositive place)) = Err (ListUnit place)
+split_conversion x list units (Err (split.Number fault)) = Err (Value (Number fault))
+split_conversion x list units (Err split.OutOfMemory) = Err no_memory
 
 -- by the inverse of the function of this name
 abbrev pub inverted : Table → (name : List ℕ) → Amount → Inquiry Conversion
@@ -67,7 +67,7 @@ module _ (table : Table) (options : Options) where
   split_into list x = do
     trees ← given (trees_in (parts_of list))
     units ← worths table trees
-    given (counted x list units (counts_in options.round x units))
+    given (split_conversion x list units (counts_in options.round x units))
 
   -- to a unit
   abbrev pub set_against : (to : List ℕ) → Amount → Inquiry Conversion

@@ -4,7 +4,7 @@ use Rattle.frac128.specs.Fraction.{Fraction}
 use Rattle.digits_print.specs.Styles.{number_text}
 use Rattle.digits_print.specs.declared.style.Style.{Style}
 use Rattle.quantity.specs.Amount.{Amount}
-use Rattle.quantity.specs.Text.{shown}
+use Rattle.quantity.specs.Text.{amount_text}
 use Rattle.reply.specs.declared.form.Form.{Form}
 use Rattle.reply.specs.declared.form.Layout.{Layout}
 use Rattle.reply.specs.declared.form.Layout.TheVariants.{Plain, Compact}
@@ -43,7 +43,7 @@ reciprocal_text form from to ratio =
 -- what a function is to be applied to
 abbrev pub inverse_text : Form → (from name : List ℕ) → Amount → List ℕ
 inverse_text form from name y =
-    laid form.layout (equation_front form.layout from ++ call_text form.layout name (shown form.style y))
+    laid form.layout (equation_front form.layout from ++ call_text form.layout name (amount_text form.style y))
 
 -- a count of a part: in the compact layout without the text of the part
 abbrev pub count_text : Form → (part : List ℕ) → Fraction → List ℕ
@@ -77,7 +77,8 @@ split_text form from list counts =
 -- two quantities that do not conform
 abbrev pub unlike_text : Form → Amount → Amount → List ℕ
 unlike_text form x y =
-    (codes "conformability error\n" ++ laid form.layout (shown form.style x)) ++ laid form.layout (shown form.style y)
+    (codes "conformability error\n" ++ laid form.layout (amount_text form.style x))
+    ++ laid form.layout (amount_text form.style y)
 
 -- a conversion
 abbrev pub conversion_text : Form → (from to : List ℕ) → Conversion → List ℕ
@@ -97,5 +98,5 @@ abbrev pub definition_text : Form → (body : Option (List ℕ)) → Amount → 
 definition_text form body x = by form.layout
   where
     by : Layout → List ℕ
-    by Compact = laid Compact (shown form.style x)
-    by _ = laid Plain ((codes "Definition: " ++ body_front body) ++ shown form.style x)
+    by Compact = laid Compact (amount_text form.style x)
+    by _ = laid Plain ((codes "Definition: " ++ body_front body) ++ amount_text form.style x)

@@ -14,7 +14,7 @@ use Rattle.reply.specs.declared.reply.Reply.{Reply}
 use Rattle.reply.specs.declared.reply.FromValue.{FromValue}
 use Rattle.reply.specs.declared.reply.FromValue.TheVariants.{Good, Bad}
 use Rattle.reply.specs.declared.conversion.Conversion.{Conversion}
-use Rattle.reply.specs.Conversions.{conversion, is_granted}
+use Rattle.reply.specs.Conversions.{compared, conversion, is_granted}
 use Rattle.reply.specs.Faults.{fault_text}
 use Rattle.reply.specs.Inquiries.{Inquiry, text_worth}
 use Rattle.reply.specs.Lines.{conversion_text, definition_text}
@@ -31,6 +31,10 @@ conversion_as form from to c = record { text = conversion_text form from to c; r
 abbrev pub as_conversion : Form → (from to : List ℕ) → Result Conversion ReplyFault → Reply
 as_conversion form from to (Ok c) = conversion_as form from to c
 as_conversion form from to (Err fault) = refusal form fault
+
+-- of two quantities, of which these are the texts
+abbrev pub comparison_reply : Options → (from to : List ℕ) (x y : Amount) → Reply
+comparison_reply options from to x y = as_conversion (form_of options) from to (compared options.strict x y)
 
 abbrev pub definition_as : Form → (body : Option (List ℕ)) → Amount → Reply
 definition_as form body x = record { text = definition_text form body x; refused = false }

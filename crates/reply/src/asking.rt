@@ -1,7 +1,7 @@
 //! What texts are worth.
 
 ghost use Rattle.std.specs.Prelude.{◌≡◌};
-ghost use Rattle.deck.specs.Tables.{table as table_of};
+ghost use Rattle.deck.specs.Tables as tables;
 ghost use Rattle.expr_tree.specs.Trees.{syntax};
 ghost use Rattle.live_table.specs.Shown.{IsRightTable};
 ghost use Rattle.reply.specs.Calls as call;
@@ -53,7 +53,7 @@ fn worth<L: Ledger>(
     steps: &mut Steps<L>,
 ) -> Result<Quantity, Failure>
     ensures deck { table.new.deck ≡ table.old.deck }
-    ensures inquired { call.IsInquired call.same (spec.worth (table_of table.old.deck) (syntax tree.now)) result
+    ensures inquired { call.IsInquired call.same (spec.worth (tables.table table.old.deck) (syntax tree.now)) result
         table.old table.new steps.old steps.new }
 {
     let value = table.value(alloc, tree, steps)?;
@@ -70,7 +70,7 @@ pub(crate) fn worths<L: Ledger>(
     requires { IsRightTable table.old }
     ensures deck { table.new.deck ≡ table.old.deck }
     ensures inquired { call.IsInquired (λ values. values.items)
-        (spec.worths (table_of table.old.deck) (call.syntaxes_of trees.now)) result
+        (spec.worths (tables.table table.old.deck) (call.syntaxes_of trees.now)) result
         table.old table.new steps.old steps.new }
 {
     let mut values = Vec::new(alloc);
@@ -89,7 +89,7 @@ pub(crate) fn text_worth<L: Ledger>(
     steps: &mut Steps<L>,
 ) -> Result<Quantity, Failure>
     ensures deck { table.new.deck ≡ table.old.deck }
-    ensures inquired { call.IsInquired call.same (spec.text_worth (table_of table.old.deck) text.now) result
+    ensures inquired { call.IsInquired call.same (spec.text_worth (tables.table table.old.deck) text.now) result
         table.old table.new steps.old steps.new }
 {
     // What is kept is right also where nothing is asked.

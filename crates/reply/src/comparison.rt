@@ -15,17 +15,22 @@ use unit_list::{SplitFault, split};
 use units_io::Text;
 
 /// One quantity in terms of another: linear where they conform, else reciprocal where they are and that is wanted,
-/// else unlike.
-pub(crate) fn compared(strict: bool, x: Quantity, y: Quantity) -> Result<Conversion, Failure>
-    ensures { call.IsRead call.same (spec.compared strict x y) result }
+/// else unlike, for which alone the second is copied.
+pub(crate) fn compared(
+    alloc: Global,
+    strict: bool,
+    x: Quantity,
+    y: &Quantity,
+) -> Result<Conversion, Failure>
+    ensures { call.IsRead call.same (spec.compared strict x y.now) result }
 {
-    if x.conforms(&y) {
+    if x.conforms(y) {
         return Ok(Conversion::Linear(ratio_of(&x.value(), &y.value())?));
     }
-    if x.is_reciprocal(&y) && !strict {
+    if x.is_reciprocal(y) && !strict {
         return Ok(Conversion::Reciprocal(reciprocal_ratio(&x.value(), &y.value())?));
     }
-    Ok(Conversion::Unlike(x, y))
+    Ok(Conversion::Unlike(x, y.copy(alloc)?))
 }
 
 /// The counts of the units of a list in a quantity.
@@ -37,7 +42,7 @@ pub(crate) fn counted(
     mut units: Vec<Quantity>,
 ) -> Result<Conversion, Failure>
     requires { 0 < length units.items }
-    ensures { call.IsRead call.same (spec.counted x list units.items (counts_in round x units.items)) result }
+    ensures { call.IsRead call.same (spec.split_conversion x list units.items (counts_in round x units.items)) result }
 {
     match split(alloc, &x, units.as_slice(), round) {
         Ok(split) => Ok(Conversion::Split(list, split.counts)),

@@ -1,9 +1,9 @@
 //! Conversions.
 
 ghost use Rattle.std.specs.Prelude.{◌≡◌, true};
-ghost use Rattle.deck.specs.Tables.{table as table_of};
+ghost use Rattle.deck.specs.Tables as tables;
 ghost use Rattle.def_entry.specs.declared.key.Kind.TheVariants as kinds;
-ghost use Rattle.def_entry.specs.Keys.{key as key_named};
+ghost use Rattle.def_entry.specs.Keys as keys;
 ghost use Rattle.def_entry.specs.Tables.{is_present};
 ghost use Rattle.reply.specs.Calls as call;
 ghost use Rattle.reply.specs.Conversions as spec;
@@ -48,7 +48,7 @@ pub(crate) fn convert<L: Ledger>(
 ) -> Result<Conversion, Failure>
     ensures deck { table.new.deck ≡ table.old.deck }
     ensures inquired { call.IsInquired call.same
-        (spec.conversion (table_of table.old.deck) options.now from.now to.now) result
+        (spec.conversion (tables.table table.old.deck) options.now from.now to.now) result
         table.old table.new steps.old steps.new }
 {
     let x = text_worth(alloc, table, from, steps)?;
@@ -66,10 +66,10 @@ fn converted_to<L: Ledger>(
     x: Quantity,
     steps: &mut Steps<L>,
 ) -> Result<Conversion, Failure>
-    requires { target ≡ targets.target (table_of table.old.deck) to.now }
+    requires { target ≡ targets.target (tables.table table.old.deck) to.now }
     ensures deck { table.new.deck ≡ table.old.deck }
     ensures inquired { call.IsInquired call.same
-        (spec.converted_to (table_of table.old.deck) options.now to.now target x) result
+        (spec.converted_to (tables.table table.old.deck) options.now to.now target x) result
         table.old table.new steps.old steps.new }
 {
     match target {
@@ -90,11 +90,11 @@ fn set_against<L: Ledger>(
 ) -> Result<Conversion, Failure>
     ensures deck { table.new.deck ≡ table.old.deck }
     ensures inquired { call.IsInquired call.same
-        (spec.set_against (table_of table.old.deck) options.now to.now x) result
+        (spec.set_against (tables.table table.old.deck) options.now to.now x) result
         table.old table.new steps.old steps.new }
 {
     let y = text_worth(alloc, table, to, steps)?;
-    compared(options.strict, x, y)
+    compared(alloc, options.strict, x, &y)
 }
 
 // By the inverse of the function of this name.
@@ -105,9 +105,9 @@ fn inverted<L: Ledger>(
     x: Quantity,
     steps: &mut Steps<L>,
 ) -> Result<Conversion, Failure>
-    requires there { is_present (table_of table.old.deck) (key_named kinds.Func name.now) ≡ true }
+    requires there { is_present (tables.table table.old.deck) (keys.key kinds.Func name.now) ≡ true }
     ensures deck { table.new.deck ≡ table.old.deck }
-    ensures inquired { call.IsInquired call.same (spec.inverted (table_of table.old.deck) name.now x) result
+    ensures inquired { call.IsInquired call.same (spec.inverted (tables.table table.old.deck) name.now x) result
         table.old table.new steps.old steps.new }
 {
     let y = table.unapply(alloc, name, &x, steps)?;
@@ -125,7 +125,7 @@ fn split_into<L: Ledger>(
 ) -> Result<Conversion, Failure>
     ensures deck { table.new.deck ≡ table.old.deck }
     ensures inquired { call.IsInquired call.same
-        (spec.split_into (table_of table.old.deck) options.now list x) result
+        (spec.split_into (tables.table table.old.deck) options.now list x) result
         table.old table.new steps.old steps.new }
 {
     // What is kept is right also where nothing is asked.

@@ -21,5 +21,5 @@ mod telling;
 pub use fault::ReplyFault;
 pub use laws::examples_law;
 pub use options::Options;
-pub use reply::{FromValue, Reply, convert_reply, definition_reply, from_value};
+pub use reply::{FromValue, Reply, comparison_reply, convert_reply, definition_reply, from_value};
 pub use telling::fault_text;

@@ -3,7 +3,7 @@
 ghost use Rattle.std.specs.Prelude.{◌≡◌, ◌++◌, OnOk, codes};
 ghost use Rattle.std.specs.Option.{option_copied};
 ghost use Rattle.digits_print.specs.Styles.{IsStyle, number_text};
-ghost use Rattle.quantity.specs.Text.{shown};
+ghost use Rattle.quantity.specs.Text.{amount_text};
 ghost use Rattle.reply.specs.Layouts as layouts;
 ghost use Rattle.reply.specs.Lines as spec;
 ghost use Rattle.reply.specs.Subjects.{subject_text};
@@ -198,7 +198,7 @@ fn put_call(
 ) -> Result<(), AllocError>
     requires { IsStyle form.style }
     ensures { OnOk result (text.new.items
-        ≡ text.old.items ++ layouts.call_text form.layout name.now (shown form.style x.now)) }
+        ≡ text.old.items ++ layouts.call_text form.layout name.now (amount_text form.style x.now)) }
 {
     match form.layout {
         Layout::Verbose => {
@@ -232,7 +232,7 @@ fn put_unlike(
 fn put_shown(alloc: Global, text: &mut Vec<u8>, form: Form, x: &Quantity) -> Result<(), AllocError>
     requires { IsStyle form.style }
     ensures { OnOk result (text.new.items
-        ≡ text.old.items ++ layouts.laid form.layout (shown form.style x.now)) }
+        ≡ text.old.items ++ layouts.laid form.layout (amount_text form.style x.now)) }
 {
     put_tab(text, form.layout)?;
     put_quantity(alloc, text, form.style, x)?;

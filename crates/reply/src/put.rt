@@ -2,7 +2,7 @@
 
 ghost use Rattle.std.specs.Prelude.{◌≡◌, ◌++◌, OnOk};
 ghost use Rattle.digits_print.specs.Styles.{IsStyle, number_text};
-ghost use Rattle.quantity.specs.Text.{shown};
+ghost use Rattle.quantity.specs.Text.{amount_text};
 ghost use Rattle.reply.specs.Lines as spec;
 
 use digits_print::{Style, print_number};
@@ -61,7 +61,7 @@ pub(crate) fn put_quantity(
     x: &Quantity,
 ) -> Result<(), AllocError>
     requires { IsStyle style }
-    ensures { OnOk result (text.new.items ≡ text.old.items ++ shown style x.now) }
+    ensures { OnOk result (text.new.items ≡ text.old.items ++ amount_text style x.now) }
 {
     let shown = x.show(alloc, style)?;
     text.extend_from_slice(shown.as_bytes())?;

@@ -2,9 +2,9 @@
 
 ghost use Rattle.std.specs.Prelude.{◌≡◌, IfOk, true};
 ghost use Rattle.std.specs.Option.{option_copied};
-ghost use Rattle.deck.specs.Tables.{table as table_of};
+ghost use Rattle.deck.specs.Tables as tables;
 ghost use Rattle.def_entry.specs.declared.key.Kind.TheVariants as kinds;
-ghost use Rattle.def_entry.specs.Keys.{key as key_named};
+ghost use Rattle.def_entry.specs.Keys as keys;
 ghost use Rattle.def_entry.specs.Tables.{entry_at};
 ghost use Rattle.digits_print.specs.Styles.{IsStyle};
 ghost use Rattle.reply.specs.Calls as call;
@@ -15,6 +15,7 @@ ghost use Rattle.reply.specs.declared.reply.FromValue.TheVariants.{Bad};
 ghost use Rattle.reply.specs.Replies as spec;
 
 use crate::asking::text_worth;
+use crate::comparison::compared;
 use crate::conversion::{Conversion, convert};
 use crate::failure::Failure;
 use crate::fault::ReplyFault;
@@ -63,8 +64,8 @@ pub fn convert_reply<L: Ledger>(
 ) -> Result<Reply, AllocError>
     requires { IsPrintable options.now }
     ensures reply { IfOk result (λ reply.
-        reply ≡ spec.conversion_reply (table_of table.old.deck) options.now from.now to.now) }
-    ensures queries { call.AreMade (spec.conversion_queries (table_of table.old.deck) options.now from.now to.now)
+        reply ≡ spec.conversion_reply (tables.table table.old.deck) options.now from.now to.now) }
+    ensures queries { call.AreMade (spec.conversion_queries (tables.table table.old.deck) options.now from.now to.now)
         result table.old table.new steps.old steps.new }
     ensures deck { table.new.deck ≡ table.old.deck }
 {
@@ -73,6 +74,27 @@ pub fn convert_reply<L: Ledger>(
     let from = trim(from);
     let to = trim(to);
     match convert(alloc, table, options, from, to, steps) {
+        Ok(conversion) => granted(alloc, form, from, to, &conversion),
+        Err(Failure::Fault(fault)) => refusal(alloc, form, &fault),
+        Err(Failure::OutOfMemory) => Err(AllocError),
+    }
+}
+
+/// The reply to the conversion of a text to another whose values are at hand, as `convert_reply` gives it where the
+/// second is a unit. It asks for nothing, and copies no value where the two conform. The only error is want of memory.
+pub fn comparison_reply(
+    alloc: Global,
+    options: &Options,
+    from: &[u8],
+    to: &[u8],
+    x: Quantity,
+    y: &Quantity,
+) -> Result<Reply, AllocError>
+    requires { IsPrintable options.now }
+    ensures { IfOk result (λ reply. reply ≡ spec.comparison_reply options.now from.now to.now x y.now) }
+{
+    let form = Form::of(options);
+    match compared(alloc, options.strict, x, y) {
         Ok(conversion) => granted(alloc, form, from, to, &conversion),
         Err(Failure::Fault(fault)) => refusal(alloc, form, &fault),
         Err(Failure::OutOfMemory) => Err(AllocError),
@@ -91,8 +113,8 @@ pub fn definition_reply<L: Ledger>(
 ) -> Result<Reply, AllocError>
     requires { IsPrintable options.now }
     ensures reply { IfOk result (λ reply.
-        reply ≡ spec.definition_reply (table_of table.old.deck) options.now from.now) }
-    ensures queries { call.AreMade (spec.value_queries (table_of table.old.deck) from.now)
+        reply ≡ spec.definition_reply (tables.table table.old.deck) options.now from.now) }
+    ensures queries { call.AreMade (spec.value_queries (tables.table table.old.deck) from.now)
         result table.old table.new steps.old steps.new }
     ensures deck { table.new.deck ≡ table.old.deck }
 {
@@ -117,8 +139,8 @@ pub fn from_value<L: Ledger>(
 ) -> Result<FromValue, AllocError>
     requires { IsPrintable options.now }
     ensures value { IfOk result (λ value.
-        value ≡ spec.from_value (table_of table.old.deck) options.now from.now) }
-    ensures queries { call.AreMade (spec.value_queries (table_of table.old.deck) from.now)
+        value ≡ spec.from_value (tables.table table.old.deck) options.now from.now) }
+    ensures queries { call.AreMade (spec.value_queries (tables.table table.old.deck) from.now)
         result table.old table.new steps.old steps.new }
     ensures deck { table.new.deck ≡ table.old.deck }
 {
@@ -180,7 +202,8 @@ fn defined(
 ) -> Result<Reply, AllocError>
     requires { IsStyle form.style }
     ensures { IfOk result (λ reply. reply
-        ≡ spec.definition_as form (spec.body_of (entry_at (table_of deck.now) (key_named kinds.Unit from.now))) x.now) }
+        ≡ spec.definition_as form
+        (spec.body_of (entry_at (tables.table deck.now) (keys.key kinds.Unit from.now))) x.now) }
 {
     let mut text = Vec::new(alloc);
     put_definition(alloc, &mut text, form, body_text(deck, from), x)?;
@@ -192,7 +215,7 @@ fn defined(
 
 // The text of the expression that defines the unit of this name.
 fn body_text<'a>(deck: &'a Deck, name: &[u8]) -> Option<&'a [u8]>
-    ensures { option_copied result ≡ spec.body_of (entry_at (table_of deck.now) (key_named kinds.Unit name.now)) }
+    ensures { option_copied result ≡ spec.body_of (entry_at (tables.table deck.now) (keys.key kinds.Unit name.now)) }
 {
     let Some(entry) = deck.entry(Kind::Unit, name) else {
         return None;

@@ -12,7 +12,8 @@ use Rattle.session.specs.Queries.{LeavesLaw}
 use Rattle.session.specs.Telling.{when_told}
 use Rattle.column_convert.specs.Inputs.{input_of}
 use Rattle.column_convert.specs.Rows.{queries, rows}
-use Rattle.column_run.specs.Outputs.{IsWritten, is_over, is_refused}
+use Rattle.column_convert.specs.Blocks.{is_refused}
+use Rattle.column_run.specs.Outputs.{IsWritten, is_over}
 use Rattle.column_run.specs.declared.end.ColumnEnd.{ColumnEnd}
 use Rattle.column_run.specs.declared.end.ColumnEnd.TheVariants as column
 use Rattle.column_run.proofs.Writing.{front_all}

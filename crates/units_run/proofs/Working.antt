@@ -21,7 +21,7 @@ use Rattle.units_run.specs.Asked.{Asked, asked_for}
 use Rattle.units_run.specs.Options.{options_of}
 use Rattle.units_run.specs.Planning.{IsFor, IsPlan}
 use Rattle.units_run.specs.Work.{checked, checked_lines, fresh, from_plan, replied, work_by}
-use Rattle.session.specs.Commands.{text_of}
+use Rattle.def_lines.specs.Lines.{line_content}
 use Rattle.units_run.specs.declared.plan.Plan.{Plan}
 use Rattle.units_run.specs.declared.plan.Plan.TheVariants.{Whole}
 use Rattle.units_run.specs.declared.status.Status.{Status}
@@ -46,9 +46,10 @@ work_kind result from check column session converts is has kind =
 -- what is done with a FROM that stands, by its column
 pub from_stands : (line : CommandLine) (deck : Contents) (m : FileMap) (from word : List ℕ) (column : Option ℕ)
     → line.from ≡ Some word → from ≡ word → line.column ≡ column
-    → from_plan column line (text_of from) (text_of (unwrap_or line.to [])) deck ≡ work_by line.from line deck m
+    → from_plan column line (line_content from) (line_content (unwrap_or line.to [])) deck ≡ work_by line.from line deck
+    m
 from_stands line deck m from word column stands same is =
-    ap (λ (c : Option ℕ). from_plan c line (text_of from) (text_of (unwrap_or line.to [])) deck) (sym is)
+    ap (λ (c : Option ℕ). from_plan c line (line_content from) (line_content (unwrap_or line.to [])) deck) (sym is)
     ∙ ap (λ (f : List ℕ). work_by (Some f) line deck m) same
     ∙ ap (λ (f : Option (List ℕ)). work_by f line deck m) (sym stands)
 

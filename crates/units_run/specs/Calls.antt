@@ -2,9 +2,8 @@
 use Rattle.std.specs.Prelude.{ℕ, List, if◌then◌else◌}
 use Rattle.deck.specs.Tables.{table}
 use Rattle.column_convert.specs.Inputs.{input_of}
-use Rattle.column_convert.specs.Rows.{queries, rows}
-use Rattle.column_convert.specs.declared.row.ColumnRow.{ColumnRow}
-use Rattle.column_run.specs.Outputs.{is_refused, text_of}
+use Rattle.column_convert.specs.Blocks.{is_refused, text_of}
+use Rattle.column_convert.specs.Rows.{ColumnRow, queries, rows}
 use Rattle.units_io.specs.FileMap.{FileMap}
 use Rattle.units_io.specs.Named.{Pairs}
 use Rattle.session.specs.Hearing.{heard}

@@ -15,7 +15,7 @@ use Rattle.deck.specs.declared.fault.DeckFault.{DeckFault}
 use Rattle.deck.specs.declared.settings.Settings.{Settings}
 use Rattle.live_table.specs.Shown.{Shown}
 use Rattle.reply.specs.Options.{style_of}
-use Rattle.session.specs.Commands.{text_of}
+use Rattle.def_lines.specs.Lines.{line_content}
 use Rattle.session.specs.Lines.{lines_of_texts}
 use Rattle.session.specs.Queries.{newly}
 use Rattle.session.specs.Sessions.{known, state_of}
@@ -77,7 +77,7 @@ from_plan (Some column) line from to deck = Columns (record {
 -- what is done with a deck: the reply to FROM or the conversion of a column, the check, or a session
 abbrev pub work_by : (from : Option (List ℕ)) → CommandLine → Contents → FileMap → Plan
 work_by (Some from) line deck files =
-    from_plan line.column line (text_of from) (text_of (unwrap_or line.to [])) deck
+    from_plan line.column line (line_content from) (line_content (unwrap_or line.to [])) deck
 work_by None line deck files = if line.check then checked line deck else opened_over line deck files
 
 -- the same over the file of this name, of which there may be no deck

@@ -1,5 +1,5 @@
 //! What FROM and TO ask of a table.
-ghost use Rattle.deck.specs.Tables.{table as table_of};
+ghost use Rattle.deck.specs.Tables as tables;
 ghost use Rattle.reply.specs.Options.{IsPrintable};
 ghost use Rattle.units_run.specs.Asked as spec;
 ghost use Rattle.units_run.specs.Planning.{IsReplied};
@@ -21,7 +21,7 @@ pub(crate) fn ask<L: Ledger>(
     steps: &mut Steps<L>,
 ) -> Result<Reply, AllocError>
     requires { IsPrintable options.now }
-    ensures { IsReplied (spec.asked_for (table_of table.old.deck) options.now from.now to.now) result
+    ensures { IsReplied (spec.asked_for (tables.table table.old.deck) options.now from.now to.now) result
         table.old table.new steps.old steps.new }
 {
     if to.is_empty() {
@@ -42,7 +42,7 @@ fn conformable<L: Ledger>(
     steps: &mut Steps<L>,
 ) -> Result<Reply, AllocError>
     requires { IsPrintable options.now }
-    ensures { IsReplied (spec.conformable (table_of table.old.deck) options.now from.now) result
+    ensures { IsReplied (spec.conformable (tables.table table.old.deck) options.now from.now) result
         table.old table.new steps.old steps.new }
 {
     match from_value(alloc, table, options, from, steps)? {

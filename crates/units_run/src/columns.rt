@@ -7,8 +7,8 @@ ghost use Rattle.session.specs.Outside.{TookMoreThan, outside_of};
 ghost use Rattle.session.specs.Telling.{when_told};
 ghost use Rattle.units_io.specs.FileMap.{FileMap};
 ghost use Rattle.units_io.specs.Faults.{Rose};
-ghost use Rattle.units_run.specs.Calls.{column_run as run_over};
-ghost use Rattle.units_run.specs.Endings.{IsConverted, IsStated, IsWorked, column_status as status_by};
+ghost use Rattle.units_run.specs.Calls as calls;
+ghost use Rattle.units_run.specs.Endings as spec;
 ghost use Rattle.units_run.specs.Planning.{IsColumn};
 ghost use Rattle.units_run.specs.Plans.{ColumnWork};
 
@@ -34,11 +34,12 @@ pub(crate) fn convert_column<S: Source, O: Sink, E: Sink, L: Ledger>(
     requires column { 1 ≤ plan.column }
     ensures told { (work : ColumnWork) (m : FileMap) (input : List ℕ) (files : Option FileMap) (faults now n : ℕ) →
         S.left src.old ≡ Some input → IsColumn work plan n steps.old → files ≡ when_told files m →
-        IsConverted (run_over work m input).output (run_over work m input).status result
+        spec.IsConverted (calls.column_run work m input).output (calls.column_run work m input).status result
         (outside_of (S.left src.old) (O.written out.old) (E.written err.old) files faults n)
         (outside_of (S.left src.new) (O.written out.new) (E.written err.new) files now steps.new) }
-    ensures ends { IsStated result → IsWorked false result }
-    ensures whole { (input : List ℕ) → S.left src.old ≡ Some input → IsWorked false result → S.left src.new ≡ Some [] }
+    ensures ends { spec.IsStated result → spec.IsWorked false result }
+    ensures whole { (input : List ℕ) → S.left src.old ≡ Some input → spec.IsWorked false result →
+        S.left src.new ≡ Some [] }
     ensures read { result ≡ Status.ReadFault → Rose (S.faults src.old) (S.faults src.new) }
     ensures write { result ≡ Status.WriteFault →
         Rose (O.faults out.old) (O.faults out.new) ⊎ Rose (E.faults err.old) (E.faults err.new) }
@@ -68,7 +69,7 @@ pub(crate) fn convert_column<S: Source, O: Sink, E: Sink, L: Ledger>(
 
 // How a conversion that ended so ends the run.
 fn status_of(end: ColumnEnd) -> Status
-    ensures { result ≡ status_by end }
+    ensures { result ≡ spec.column_status end }
 {
     match end {
         ColumnEnd::Done => Status::Done,

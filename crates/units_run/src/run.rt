@@ -4,7 +4,7 @@ ghost use Rattle.units_io.specs.Faults.{Rose};
 ghost use Rattle.units_io.specs.FileMap.{FileMap};
 ghost use Rattle.session.specs.Outside.{IsReadToEnd, Rests, TookMoreThan, outside_of};
 ghost use Rattle.session.specs.Telling.{TellsIf};
-ghost use Rattle.units_run.specs.Endings.{IsFaultless, IsRun, IsStated, IsWorked, MayEndBy, status_of as status_by};
+ghost use Rattle.units_run.specs.Endings as spec;
 ghost use Rattle.units_run.specs.Needs.{converts_column, most_input, needs_files, needs_input, opens_session};
 
 use crate::columns::convert_column;
@@ -48,16 +48,16 @@ pub fn units_main<S: Source, O: Sink, E: Sink, F: Files, L: Ledger>(
     ensures run { (m : FileMap) (input : List ℕ) →
         TellsIf (needs_files words.now) (F.files files.old) m →
         TellsIf (needs_input words.now) (S.left src.old) input →
-        IsRun (record { words = words.now; vars = vars.now; files = m; input = input }) result
+        spec.IsRun (record { words = words.now; vars = vars.now; files = m; input = input }) result
         (outside_of (S.left src.old) (O.written out.old) (E.written err.old)
         (F.files files.old) (F.faults files.old) steps.old)
         (outside_of (S.left src.new) (O.written out.new) (E.written err.new)
         (F.files files.new) (F.faults files.new) steps.new) }
     ensures heard { (m : FileMap) (input : List ℕ) → F.files files.old ≡ Some m → S.left src.old ≡ Some input →
         opens_session words.now ≡ true → result ≡ Status.Done → IsReadToEnd input (S.left src.new) }
-    ensures ends { IsStated result → MayEndBy words.now result }
+    ensures ends { spec.IsStated result → spec.MayEndBy words.now result }
     ensures whole { (m : FileMap) (input : List ℕ) → TellsIf (needs_files words.now) (F.files files.old) m →
-        S.left src.old ≡ Some input → converts_column words.now ≡ true → IsWorked false result →
+        S.left src.old ≡ Some input → converts_column words.now ≡ true → spec.IsWorked false result →
         S.left src.new ≡ Some [] }
     ensures source { needs_input words.now ≡ false → src.new ≡ src.old }
     ensures no_deck { result ≡ Status.NoFile → src.new ≡ src.old }
@@ -70,7 +70,7 @@ pub fn units_main<S: Source, O: Sink, E: Sink, F: Files, L: Ledger>(
         (S.taken src.old) (S.taken src.new) }
     ensures complete { Rests (S.faults src.old) (S.faults src.new) → Rests (F.faults files.old) (F.faults files.new) →
         Rests (O.faults out.old) (O.faults out.new) → Rests (E.faults err.old) (E.faults err.new) →
-        Rests (F.store_faults files.old) (F.store_faults files.new) → IsFaultless result }
+        Rests (F.store_faults files.old) (F.store_faults files.new) → spec.IsFaultless result }
     ensures kept { opens_session words.now ≡ false → F.files files.new ≡ F.files files.old }
     ensures stores { opens_session words.now ≡ false → F.store_faults files.new ≡ F.store_faults files.old }
 {
@@ -94,7 +94,7 @@ pub fn units_main<S: Source, O: Sink, E: Sink, F: Files, L: Ledger>(
 
 // How a session that ended so ends the run.
 fn status_of(end: SessionEnd) -> Status
-    ensures { result ≡ status_by end }
+    ensures { result ≡ spec.status_of end }
 {
     match end {
         SessionEnd::Done => Status::Done,

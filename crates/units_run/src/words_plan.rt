@@ -8,7 +8,7 @@ ghost use Rattle.deck.specs.Loading.{after_load};
 ghost use Rattle.session.specs.Telling.{TellsIf};
 ghost use Rattle.session.specs.Trials.{trial};
 ghost use Rattle.units_run.specs.Needs.{converts_column, is_column, is_session, loads_file, needs_files, opens_session};
-ghost use Rattle.units_run.specs.Options.{HasColumn, HasDigits, HasRounds, options_of as options_by};
+ghost use Rattle.units_run.specs.Options as options;
 ghost use Rattle.units_run.specs.Planning.{IsFor, IsPlanned};
 ghost use Rattle.units_run.specs.Settings as settings;
 ghost use Rattle.units_run.specs.Work as spec;
@@ -61,9 +61,9 @@ fn line_plan<F: Files, L: Ledger>(
     files: &mut F,
     steps: &mut Steps<L>,
 ) -> Result<Plan, Halt>
-    requires digits { HasDigits line.now }
-    requires rounds { HasRounds line.now }
-    requires column { HasColumn line.now }
+    requires digits { options.HasDigits line.now }
+    requires rounds { options.HasRounds line.now }
+    requires column { options.HasColumn line.now }
     ensures told { (m : FileMap) → TellsIf (loads_file line.now) (F.files files.old) m →
         IsPlanned (spec.line_plan line.now vars.now m) m result steps.old steps.new }
     ensures kind { IfOk result (IsFor true (loads_file line.now) (is_session line.now) (is_column line.now)) }
@@ -88,11 +88,11 @@ fn trial_plan<L: Ledger>(
     rounds: u16,
     steps: &mut Steps<L>,
 ) -> Result<Plan, AllocError>
-    requires digits { HasDigits line.now }
+    requires digits { options.HasDigits line.now }
     requires some { 1 ≤ rounds }
     requires few { rounds ≤ 20000 }
     ensures told { (m : FileMap) →
-        IsPlanned (spec.trial_plan (trial (options_by line.now) settings rounds)) m result steps.old steps.new }
+        IsPlanned (spec.trial_plan (trial (options.options_of line.now) settings rounds)) m result steps.old steps.new }
     ensures kind { IfOk result (IsFor true false false false) }
 {
     let text = run_trial(alloc, options_of(line), settings, rounds, steps)?;
@@ -111,8 +111,8 @@ fn deck_plan<F: Files, L: Ledger>(
     files: &mut F,
     steps: &mut Steps<L>,
 ) -> Result<Plan, Halt>
-    requires digits { HasDigits line.now }
-    requires column { HasColumn line.now }
+    requires digits { options.HasDigits line.now }
+    requires column { options.HasColumn line.now }
     ensures told { (m : FileMap) → TellsIf (is_some line.now.file) (F.files files.old) m →
         IsPlanned (spec.deck_plan line.now.file line.now settings m) m result steps.old steps.new }
     ensures kind { IfOk result
@@ -142,8 +142,8 @@ fn file_plan<F: Files, L: Ledger>(
     files: &mut F,
     steps: &mut Steps<L>,
 ) -> Result<Plan, Halt>
-    requires digits { HasDigits line.now }
-    requires column { HasColumn line.now }
+    requires digits { options.HasDigits line.now }
+    requires column { options.HasColumn line.now }
     ensures told { (m : FileMap) → F.files files.old ≡ Some m →
         IsPlanned (spec.file_plan line.now name.now (after_load m name.now settings) m) m result
         steps.old steps.new }

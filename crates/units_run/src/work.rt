@@ -4,7 +4,7 @@ ghost use Rattle.std.specs.Prelude.{unwrap_or};
 ghost use Rattle.std.specs.Prelude.{if◌then◌else◌};
 ghost use Rattle.units_io.specs.FileMap.{FileMap};
 ghost use Rattle.def_lines.specs.Words.{is_empty};
-ghost use Rattle.session.specs.Commands.{text_of};
+ghost use Rattle.def_lines.specs.Lines.{line_content};
 ghost use Rattle.units_run.specs.Endings.{IsWorked};
 ghost use Rattle.units_run.specs.Options.{HasColumn, HasDigits};
 ghost use Rattle.units_run.specs.Planning.{IsFor, IsPlanned};
@@ -17,8 +17,9 @@ use crate::plan::Plan;
 use crate::status::Status;
 use command_line::CommandLine;
 use deck::Deck;
+use def_lines::line_content;
 use live_table::LiveTable;
-use session::{Said, Session, leaves_law, line_text, notice_lines};
+use session::{Said, Session, leaves_law, notice_lines};
 use std::alloc::{AllocError, Global};
 use std::mem;
 use std::sync::ledger::Ledger;
@@ -73,7 +74,8 @@ fn reply_plan<L: Ledger>(
     requires digits { HasDigits line.now }
     requires fresh { table.old ≡ spec.fresh table.old.deck }
     ensures told { (m : FileMap) → IsPlanned
-        (spec.from_plan None line.now (text_of from.now) (text_of (unwrap_or line.now.to [])) table.old.deck) m result
+        (spec.from_plan None line.now (line_content from.now) (line_content (unwrap_or line.now.to [])) table.old.deck)
+        m result
         steps.old steps.new }
     ensures kind { IfOk result (IsFor true false false false) }
 {
@@ -84,7 +86,7 @@ fn reply_plan<L: Ledger>(
         alloc,
         table,
         &options,
-        line_text(from),
+        line_content(from),
         to_text(line),
         steps,
     )?;
@@ -108,12 +110,12 @@ fn column_plan(
     requires some { 1 ≤ column }
     requires fresh { table ≡ spec.fresh table.deck }
     ensures told { (m : FileMap) (n : ℕ) → IsPlanned
-        (spec.from_plan (Some column) line.now (text_of from.now) (text_of (unwrap_or line.now.to [])) table.deck) m
-        result n n }
+        (spec.from_plan (Some column) line.now (line_content from.now) (line_content (unwrap_or line.now.to []))
+        table.deck) m result n n }
     ensures kind { IfOk result (IsFor true false false true) }
 {
     let notices = notice_lines(alloc, table.deck())?;
-    let from = Text::from_bytes(alloc, line_text(from))?;
+    let from = Text::from_bytes(alloc, line_content(from))?;
     let to = Text::from_bytes(alloc, to_text(line))?;
     Ok(Plan::Columns(ColumnPlan {
         notices,
@@ -165,11 +167,11 @@ fn session_plan(alloc: Global, line: &CommandLine, table: LiveTable) -> Result<P
 
 // TO as it is read, which is blank where it does not stand.
 fn to_text(line: &CommandLine) -> &[u8]
-    ensures { result.now ≡ text_of (unwrap_or line.now.to []) }
+    ensures { result.now ≡ line_content (unwrap_or line.now.to []) }
 {
     match &line.to {
-        Some(to) => line_text(to.as_bytes()),
-        None => line_text(b""),
+        Some(to) => line_content(to.as_bytes()),
+        None => line_content(b""),
     }
 }
 

@@ -1,7 +1,7 @@
 use Rattle.std.proofs.Common.{◌∙◌, List, false, sym, ap, subst, arith}
 use Rattle.units_io.specs.Bytes.{grown, GrowsByFront}
 use Rattle.session.specs.Outside.{Outside}
-use Rattle.column_convert.specs.declared.row.ColumnRow.{ColumnRow}
+use Rattle.column_convert.specs.Rows.{ColumnRow}
 use Rattle.column_run.specs.Outputs.{IsWritten}
 use Rattle.column_run.proofs.Writing.{grown_none}
 use Rattle.units_run.specs.Calls.{column_run}

@@ -1,7 +1,7 @@
 use Rattle.std.proofs.Common.{[], ap, subst, unwrap_or, ◌∙◌}
 use Rattle.deck.specs.Decks.{Contents}
 use Rattle.deck.specs.Tables.{table}
-use Rattle.session.specs.Commands.{text_of}
+use Rattle.def_lines.specs.Lines.{line_content}
 use Rattle.session.specs.Lines.{lines_of_texts}
 use Rattle.units_run.specs.Asked.{Asked}
 use Rattle.units_run.specs.Options.{options_of}
@@ -18,9 +18,9 @@ returns-clause-told g c = λ m.
     (λ (a : Asked). IsPlan (replied deck a) m
     (Whole (record { out = c.into_bytes.result; err = c.in_ok-notices.notices }) c.reply_status-status.result)
     c.args.steps.now c.ask.new.steps)
-    (asked_same (table deck) c.options_of-options.result (options_of c.args.line.now) c.line_text.result.now
-    (text_of c.args.from.now) c.to_text.result.now (text_of (unwrap_or c.args.line.now.to []))
-    c.options_of-options.ensures.is c.line_text.ensures c.to_text.ensures)
+    (asked_same (table deck) c.options_of-options.result (options_of c.args.line.now) c.line_content.result.now
+    (line_content c.args.from.now) c.to_text.result.now (line_content (unwrap_or c.args.line.now.to []))
+    c.options_of-options.ensures.is c.line_content.ensures c.to_text.ensures)
     (reply-planned c.leaves_law.ensures deck c.args.table.now c.ask.new.table c.args.steps.now c.ask.new.steps
     c.requires.fresh m _ c.in_ok-reply.reply (record { out = c.into_bytes.result; err = c.in_ok-notices.notices })
     c.reply_status-status.result c.in_ok-reply.ensures c.into_bytes.ensures

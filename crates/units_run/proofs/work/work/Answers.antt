@@ -3,7 +3,7 @@ use Rattle.std.proofs.Common.{◌&&◌, ◌||◌, ℕ, List, Bool, Option, Some,
 use Rattle.std.proofs.Common.{if◌then◌else◌}
 use Rattle.live_table.specs.Shown.{Shown}
 use Rattle.units_run.specs.Planning.{IsPlanned}
-use Rattle.session.specs.Commands.{text_of}
+use Rattle.def_lines.specs.Lines.{line_content}
 use Rattle.units_run.specs.Plans.{Plan as Planned}
 use Rattle.units_run.specs.Work.{checked, from_plan, opened_over, work_by}
 use Rattle.units_run.proofs.Working.{from_stands, work_kind}
@@ -18,7 +18,8 @@ returns-in-Some-column-clause-told g c = λ m.
     c.as_bytes.ensures c.in-Some-column.is)
     (subst
     (λ (t : Shown). IsPlanned
-    (from_plan (Some c.in-Some-column.column) line (text_of c.as_bytes.result.now) (text_of (unwrap_or line.to []))
+    (from_plan (Some c.in-Some-column.column) line (line_content c.as_bytes.result.now)
+    (line_content (unwrap_or line.to []))
     t.deck) m c.column_plan.result n n)
     c.new-table.ensures (c.column_plan.ensures.told m n))
 
@@ -40,7 +41,7 @@ returns-in_default-clause-told g c = λ m.
     c.as_bytes-in-Some.ensures c.in_default.is)
     (subst
     (λ (t : Shown). IsPlanned
-    (from_plan None line (text_of c.as_bytes-in-Some.result.now) (text_of (unwrap_or line.to [])) t.deck) m
+    (from_plan None line (line_content c.as_bytes-in-Some.result.now) (line_content (unwrap_or line.to [])) t.deck) m
     c.reply_plan-plan.result old new)
     c.new-table.ensures (c.reply_plan-plan.ensures.told m))
 

@@ -7,20 +7,20 @@ use Rattle.column_convert.specs.Cells.{cell_queries}
 use Rattle.column_convert.proofs.Asking.{made}
 use Rattle.column_convert.proofs.Changing.{place_within}
 use Rattle.column_convert.proofs.Converting.{field_queries}
-use Rattle.column_convert.proofs.row.row_of.Goals as goal
+use Rattle.column_convert.proofs.row.write_row.Goals as goal
 
-pub cell_row-requires : goal.cell_row-requires
-cell_row-requires g c =
+pub write_cell-requires-clause-place : goal.write_cell-requires-clause-place
+write_cell-requires-clause-place g c =
     place_within (fields_of c.args.fields.now) c.args.place c.in-Some.field.now c.in-Some.ensures.value
 
 pub returns-in_ok-cell-in-Some-clause-queries : goal.returns-in_ok-cell-in-Some-clause-queries
 returns-in_ok-cell-in-Some-clause-queries g c =
     subst (λ (es : List Event).
-    AreMade es c.cell_row.result c.args.table.now c.convert_cell.new.table c.args.steps.now c.convert_cell.new.steps)
+    AreMade es c.write_cell.result c.args.table.now c.convert_cell.new.table c.args.steps.now c.convert_cell.new.steps)
     (field_queries (table_of c.args.table.now.deck) c.args.options.now c.args.from.now c.args.to.now
     (fields_of c.args.fields.now) c.args.place c.args.headed c.in-Some.field.now c.if-headed.false
     c.in-Some.ensures.value)
-    (made c.cell_row.result
+    (made c.write_cell.result
     (cell_queries (table_of c.args.table.now.deck) c.args.options.now c.args.from.now c.args.to.now
     c.in-Some.field.now)
     c.args.table.now c.convert_cell.new.table c.args.steps.now c.convert_cell.new.steps c.convert_cell.ensures.deck

@@ -1,5 +1,5 @@
 use Rattle.column_convert.proofs.Asking.{not_yet}
-use Rattle.column_convert.proofs.columns.Columns.next_row.Goals as goal
+use Rattle.column_convert.proofs.columns.Columns.write_next.Goals as goal
 
 pub returns-in_err-read-clause-queries : goal.returns-in_err-read-clause-queries
 returns-in_err-read-clause-queries g c =

@@ -1,7 +1,7 @@
 use Rattle.std.proofs.Common.{◌≡◌, ◌++◌, [], drop}
 use Rattle.std.specs.Prelude.{slice_set}
 use Rattle.csv.specs.Records.{fields_of, partial_of}
-use Rattle.column_convert.proofs.row.with_field.Given as goal
+use Rattle.column_convert.proofs.row.change.Given as goal
 
 -- the fields so far with those that are left are all
 abbrev pub invariant-loop-i : goal.invariant-loop-i

@@ -1,0 +1,296 @@
+-- Rows by the block.
+use Rattle.std.proofs.Common.{◌≡◌, ◌∙◌, ◌++◌, ◌||◌, ◌-◌, ◌+◌, ◌<◌, ◌≤◌, ℕ, zero, suc, Bool, true, false, List, [], ◌∷◌}
+use Rattle.std.proofs.Common.{Some, None}
+use Rattle.std.proofs.Common.{refl, sym, ap, subst, length, append_assoc, arith}
+use Rattle.std.proofs.lemmas.List.{append-nil}
+use Rattle.std.specs.Prelude.{IfOk, OnOk, Result, Ok, Err, Vec}
+use Rattle.std.specs.declared.alloc.AllocError.{AllocError}
+use Rattle.std.specs.declared.alloc.Global.{Global}
+use Rattle.std.specs.declared.option.Option.{Option}
+use Rattle.csv.specs.declared.writer.Writer.{Writer}
+use Rattle.deck.specs.Tables.{table}
+use Rattle.def_entry.specs.Tables.{Table}
+use Rattle.live_table.specs.Shown.{Follows, IsCutOff, IsRightTable, Shown}
+use Rattle.live_table.specs.States.{Event}
+use Rattle.live_table.proofs.Following.{cut_both, follows_both, follows_none}
+use Rattle.reply.specs.declared.options.Options.{Options}
+use Rattle.reply.proofs.Runs.{cut_between}
+use Rattle.column_convert.specs.Blocks.{BlocksLaw, behind_first, block_of, first, is_refused, text_of}
+use Rattle.column_convert.specs.Inputs.{Input, behind}
+use Rattle.column_convert.specs.Records.{Fields}
+use Rattle.column_convert.specs.Rows.{before_rows, next_queries, next_row, queries, row, row_queries, rows}
+use Rattle.column_convert.specs.Written.{IsNextWritten, IsWritten}
+use Rattle.column_convert.specs.declared.block.Block.{Block}
+use Rattle.column_convert.specs.Rows.{ColumnRow}
+
+module _ (t : Table) (options : Options) (from to : List ℕ) where
+  abbrev IsFirst : ℕ → Input → Type 0
+  IsFirst n i =
+      (rows t options from to (first (suc n) i)
+      ≡ before_rows (next_row t options from to i) (rows t options from to (first n (behind i))))
+      × (queries t options from to (first (suc n) i)
+      ≡ next_queries t options from to i ++ queries t options from to (first n (behind i)))
+
+  -- the next rows are the next one and those behind it
+  pub one_first : (n : ℕ) (i : Input) → IsFirst n i
+  one_first n i = go i.left i.place i.headed
+    where
+      none : (n place : ℕ) (headed : Bool) → IsFirst n (record { left = []; place = place; headed = headed })
+      none zero place headed = (refl, refl)
+      none (suc n) place headed = (refl, refl)
+
+      go : (left : List Fields) (place : ℕ) (headed : Bool)
+          → IsFirst n (record { left = left; place = place; headed = headed })
+      go [] place headed = none n place headed
+      go (fields ∷ left) place headed = (refl, refl)
+
+  abbrev IsOver : ℕ → Input → Type 0
+  IsOver n i =
+      (rows t options from to (first n i) ≡ []) × (queries t options from to (first n i) ≡ [])
+      × (next_queries t options from to i ≡ []) × (behind_first n i ≡ behind i)
+
+  -- nothing is left
+  pub over : (n : ℕ) (i : Input) → next_row t options from to i ≡ None → IsOver n i
+  unfolding behind_first
+  over n i is = go n i.left i.place i.headed is
+    where
+      at : List Fields → ℕ → Bool → Input
+      at left place headed = record { left = left; place = place; headed = headed }
+
+      go : (n : ℕ) (left : List Fields) (place : ℕ) (headed : Bool)
+          → next_row t options from to (at left place headed) ≡ None → IsOver n (at left place headed)
+      go n (fields ∷ left) place headed is = cc
+      go zero [] place headed is = (refl, refl, refl, refl)
+      go (suc n) [] place headed is =
+          let more = go n [] place headed is in (refl, refl, refl, more.3)
+
+abbrev IsCut : Table → Options → (from to : List ℕ) → ℕ → Input → Type 0
+IsCut t options from to n i =
+    (rows t options from to i
+    ≡ rows t options from to (first n i) ++ rows t options from to (behind_first n i))
+    × (queries t options from to i
+    ≡ queries t options from to (first n i) ++ queries t options from to (behind_first n i))
+
+-- law: all rows are those of the next records and those behind them, and so are the queries
+pub rows_by_block : BlocksLaw
+unfolding behind_first
+rows_by_block t options from to n i = go n i.left i.place i.headed
+  where
+    at : List Fields → ℕ → Bool → Input
+    at left place headed = record { left = left; place = place; headed = headed }
+
+    go : (n : ℕ) (left : List Fields) (place : ℕ) (headed : Bool) → IsCut t options from to n (at left place headed)
+    go zero left place headed = (refl, refl)
+    go (suc n) [] place headed =
+        let none = over t options from to (suc n) (at [] place headed) refl in
+        (sym (ap (rows t options from to) none.3), sym (ap (queries t options from to) none.3))
+    go (suc n) (fields ∷ left) place headed =
+        let later = go n left place false in (
+          ap (λ rs. row t options from to place headed fields ∷ rs) later.0,
+          ap (λ es. row_queries t options from to place headed fields ++ es) later.1
+              ∙ sym (append_assoc (row_queries t options from to place headed fields)
+              (queries t options from to (first n (at left place false)))
+              (queries t options from to (behind_first n (at left place false)))),
+        )
+
+-- ---- bytes and refusals one behind another
+pub text_of_more : (done : List ColumnRow) (row : ColumnRow) → text_of (done ++ row ∷ []) ≡ text_of done ++ row.text
+text_of_more [] row = append-nil row.text
+text_of_more (d ∷ done) row = ap (λ x. d.text ++ x) (text_of_more done row)
+    ∙ sym (append_assoc d.text (text_of done) row.text)
+
+or_last : (a b : Bool) → (a || b) ≡ (a || (b || false))
+or_last true b = refl
+or_last false true = refl
+or_last false false = refl
+
+or_assoc : (a b c : Bool) → (a || (b || c)) ≡ ((a || b) || c)
+or_assoc true b c = refl
+or_assoc false b c = refl
+
+pub refused_more : (done : List ColumnRow) (row : ColumnRow)
+    → is_refused (done ++ row ∷ []) ≡ (is_refused done || row.refused)
+refused_more [] row = sym (or_last false row.refused)
+refused_more (d ∷ done) row =
+    ap (λ x. d.refused || x) (refused_more done row) ∙ or_assoc d.refused (is_refused done) row.refused
+
+pub length_more : (done : List ColumnRow) (row : ColumnRow) → length (done ++ row ∷ []) ≡ length done + 1
+length_more [] row = refl
+length_more (d ∷ done) row = let e : length (done ++ row ∷ []) ≡ length done + 1 = length_more done row in omega arith
+
+-- ---- what one row more does
+module _ (before after : Writer (Vec ℕ Global)) where
+  pub row_there : (r : Bool) (o : Option ColumnRow) → IsNextWritten before after (Some r) o
+      → (row : ColumnRow) × (o ≡ Some row) × IsWritten before after r row
+  row_there r None w = absurd w
+  row_there r (Some row) w = (row, refl, w)
+
+  pub none_there : (o : Option ColumnRow) → IsNextWritten before after None o → (o ≡ None) × (after ≡ before)
+  none_there None w = (refl, w)
+  none_there (Some row) w = absurd w
+
+module _ (options : Options) (from to : List ℕ) (whole : Input) (most : ℕ) (before : Shown) (old : ℕ) where
+  -- some rows are written, and their queries were made
+  pub record IsUnderway (left : Input) (count : ℕ) (refused : Bool) (text : Option (List ℕ)) (now : Shown) (new : ℕ)
+      : Type 0 where
+    pub done : List ColumnRow
+    pub events : List Event
+    pub gives : rows (table before.deck) options from to (first most whole)
+        ≡ done ++ rows (table before.deck) options from to (first (most - count) left)
+    pub asks : queries (table before.deck) options from to (first most whole)
+        ≡ events ++ queries (table before.deck) options from to (first (most - count) left)
+    pub ends : behind_first most whole ≡ behind_first (most - count) left
+    pub text_is : text ≡ Some (text_of done)
+    pub refused_is : refused ≡ is_refused done
+    pub count_is : count ≡ length done
+    pub fits : count ≤ most
+    pub deck : now.deck ≡ before.deck
+    pub follows : Follows events before now old new
+
+  all : most ≡ most - 0
+  all = omega arith
+
+  pub underway_start : (text : Option (List ℕ)) → text ≡ Some [] → IsRightTable before
+      → IsUnderway whole 0 false text before old
+  underway_start text is right = record {
+    done = [];
+    events = [];
+    gives = ap (λ n. rows (table before.deck) options from to (first n whole)) all;
+    asks = ap (λ n. queries (table before.deck) options from to (first n whole)) all;
+    ends = ap (λ n. behind_first n whole) all;
+    text_is = is;
+    refused_is = refl;
+    count_is = refl;
+    fits = omega arith;
+    deck = refl;
+    follows = follows_none before old right;
+  }
+
+  module _ (left : Input) (count : ℕ) (refused : Bool) (text : Option (List ℕ)) (now : Shown) (new : ℕ)
+      (u : IsUnderway left count refused text now new) where
+    -- want of memory between two rows
+    pub stopped : IsCutOff (queries (table before.deck) options from to (first most whole)) before now old new
+    stopped =
+        subst (λ (es : List Event). IsCutOff es before now old new) (sym u.asks)
+        (cut_between u.events (queries (table before.deck) options from to (first (most - count) left)) before now old
+        new
+        u.deck u.follows)
+
+    -- so many rows as are wanted
+    pub full : most ≤ count → (rows (table before.deck) options from to (first most whole) ≡ u.done)
+        × (queries (table before.deck) options from to (first most whole) ≡ u.events)
+        × (behind_first most whole ≡ left)
+    unfolding behind_first
+    full enough =
+        let none : most - count ≡ 0 = omega (arith, u.fits) in (
+          u.gives ∙ ap (λ n. u.done ++ rows (table before.deck) options from to (first n left)) none
+              ∙ append-nil u.done,
+          u.asks ∙ ap (λ n. u.events ++ queries (table before.deck) options from to (first n left)) none
+              ∙ append-nil u.events,
+          u.ends ∙ ap (λ n. behind_first n left) none,
+        )
+
+    -- no row is left
+    module _ (is : next_row (table now.deck) options from to left ≡ None) where
+      none_left : IsOver (table before.deck) options from to (most - count) left
+      none_left =
+          over (table before.deck) options from to (most - count) left
+          (ap (λ d. next_row (table d) options from to left) (sym u.deck) ∙ is)
+
+      pub ended : (rows (table before.deck) options from to (first most whole) ≡ u.done)
+          × (behind_first most whole ≡ behind left)
+      ended = (
+        u.gives ∙ ap (λ (rs : List ColumnRow). u.done ++ rs) none_left.0 ∙ append-nil u.done,
+        u.ends ∙ none_left.3,
+      )
+
+      pub follows_ended : (later : Shown) (last : ℕ)
+          → Follows (next_queries (table now.deck) options from to left) now later new last
+          → Follows (queries (table before.deck) options from to (first most whole)) before later old last
+      follows_ended later last made =
+          subst (λ (es : List Event). Follows es before later old last)
+          (ap (λ (es : List Event). u.events ++ es) (none_left.2 ∙ sym none_left.1) ∙ sym u.asks)
+          (follows_both u.events (next_queries (table before.deck) options from to left) before now later old new last
+          u.follows
+          (subst (λ d. Follows (next_queries (table d) options from to left) now later new last) u.deck made))
+
+    module _ (more : count < most) (later : Shown) (last : ℕ) (same : later.deck ≡ now.deck) where
+      one_less : most - count ≡ suc (most - (count + 1))
+      one_less = omega arith
+
+      asks_next : queries (table before.deck) options from to (first most whole)
+          ≡ u.events ++ (next_queries (table before.deck) options from to left
+          ++ queries (table before.deck) options from to (first (most - (count + 1)) (behind left)))
+      asks_next =
+          u.asks
+          ∙ ap (λ n. u.events ++ queries (table before.deck) options from to (first n left)) one_less
+          ∙ ap (λ (es : List Event). u.events ++ es)
+          (one_first (table before.deck) options from to (most - (count + 1)) left).1
+
+      -- want of memory within the next row
+      pub failed : IsCutOff (next_queries (table now.deck) options from to left) now later new last
+          → IsCutOff (queries (table before.deck) options from to (first most whole)) before later old last
+      failed cut =
+          subst (λ (es : List Event). IsCutOff es before later old last) (sym asks_next)
+          (cut_both u.events (next_queries (table before.deck) options from to left)
+          (queries (table before.deck) options from to (first (most - (count + 1)) (behind left))) before now later old
+          new
+          last u.deck u.follows
+          (subst (λ d. IsCutOff (next_queries (table d) options from to left) now later new last) u.deck cut))
+
+      module _ (made : Follows (next_queries (table now.deck) options from to left) now later new last) where
+        made_first : Follows (next_queries (table before.deck) options from to left) now later new last
+        made_first =
+            subst (λ d. Follows (next_queries (table d) options from to left) now later new last) u.deck made
+
+        -- one more
+        pub underway_next : (row : ColumnRow) → next_row (table now.deck) options from to left ≡ Some row
+            → (r : Bool) → r ≡ (refused || row.refused) → (longer : Option (List ℕ))
+            → longer ≡ Some (text_of u.done ++ row.text)
+            → IsUnderway (behind left) (count + 1) r longer later last
+        unfolding behind_first
+        underway_next row is r either longer grows = record {
+          done = u.done ++ row ∷ [];
+          events = u.events ++ next_queries (table before.deck) options from to left;
+          gives =
+              u.gives
+              ∙ ap (λ n. u.done ++ rows (table before.deck) options from to (first n left)) one_less
+              ∙ ap (λ (rs : List ColumnRow). u.done ++ rs)
+              ((one_first (table before.deck) options from to (most - (count + 1)) left).0
+              ∙ ap (λ o. before_rows o
+              (rows (table before.deck) options from to (first (most - (count + 1)) (behind left))))
+              (ap (λ d. next_row (table d) options from to left) (sym u.deck) ∙ is))
+              ∙ sym (append_assoc u.done (row ∷ [])
+              (rows (table before.deck) options from to (first (most - (count + 1)) (behind left))));
+          asks =
+              asks_next
+              ∙ sym (append_assoc u.events (next_queries (table before.deck) options from to left)
+              (queries (table before.deck) options from to (first (most - (count + 1)) (behind left))));
+          ends = u.ends ∙ ap (λ n. behind_first n left) one_less;
+          text_is = grows ∙ ap Some (sym (text_of_more u.done row));
+          refused_is = either ∙ ap (λ b. b || row.refused) u.refused_is ∙ sym (refused_more u.done row);
+          count_is = ap (λ n. n + 1) u.count_is ∙ sym (length_more u.done row);
+          fits = omega arith;
+          deck = same ∙ u.deck;
+          follows = follows_both u.events (next_queries (table before.deck) options from to left) before now later old
+              new
+              last u.follows made_first;
+        }
+
+-- ---- what is answered
+pub whatever : {A E P : Type 0} (r : Result A E) → P → OnOk r P
+whatever (Ok x) p = p
+whatever (Err x) p = tt
+
+pub block_is : (r : Result Block AllocError) (text : Option (List ℕ)) (count : ℕ) (any : Bool) (done : List ColumnRow)
+    → IfOk r (λ block. (text ≡ Some block.text) × (block.rows ≡ count) × (block.refused ≡ any))
+    → text ≡ Some (text_of done) → count ≡ length done → any ≡ is_refused done → IfOk r (λ block. block ≡ block_of done)
+block_is (Err e) text count any done said text_is count_is any_is = tt
+block_is (Ok block) text count any done said text_is count_is any_is = λ i. record {
+  text = same_text (sym said.0 ∙ text_is) i;
+  rows = (said.1 ∙ count_is) i;
+  refused = (said.2 ∙ any_is) i;
+}
+  where
+    same_text : {x y : List ℕ} → Some x ≡ Some y → x ≡ y
+    same_text e = cc

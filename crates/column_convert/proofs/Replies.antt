@@ -1,0 +1,52 @@
+-- The reply to a number times an expression.
+use Rattle.std.proofs.Common.{◌≡◌, ℕ, Bool, true, List, [], ◌∷◌, ◌++◌, None, Ok, sym, ap, ◌∙◌, append_assoc, reverse}
+use Rattle.std.proofs.lemmas.List.{reverse-append, reverse-reverse}
+use Rattle.def_lines.specs.Blanks.{after_blanks, before_blanks, trimmed}
+use Rattle.frac128.specs.Decimals.{Decimal, read}
+use Rattle.frac128.specs.Numerals.{is_numeral}
+use Rattle.quantity.specs.Amount.{Amount}
+use Rattle.expr_tree.specs.Faults.{first_fault}
+use Rattle.expr_tree.specs.Parsed.{parsed}
+use Rattle.expr_tree.specs.Syntax.{Syntax}
+use Rattle.def_entry.specs.Tables.{Table}
+use Rattle.reply.specs.declared.options.Options.{Options}
+use Rattle.reply.specs.Conversions.{converted_to}
+use Rattle.reply.specs.Inquiries.{Inquiry, followed, text_worth}
+use Rattle.reply.specs.Replies.{converting}
+use Rattle.reply.specs.Targets.{target}
+use Rattle.column_convert.specs.Products.{product_text, signed_text}
+use Rattle.column_convert.specs.Worths.{product_inquiry}
+use Rattle.column_convert.proofs.Worths.{product_is_worth}
+
+-- ---- no blank stands at the ends
+close_stays : (xs : List ℕ) → before_blanks (xs ++ 41 ∷ []) ≡ xs ++ 41 ∷ []
+close_stays xs =
+    ap (λ ys. reverse (after_blanks ys)) (reverse-append xs (41 ∷ []))
+    ∙ (ap reverse (sym (reverse-append xs (41 ∷ []))) ∙ reverse-reverse (xs ++ 41 ∷ []))
+
+product_ends : (number from : List ℕ) → product_text number from ≡ (40 ∷ (number ++ 41 ∷ 32 ∷ 40 ∷ from)) ++ 41 ∷ []
+product_ends number from =
+    ap (λ xs. 40 ∷ xs) (sym (append_assoc number (41 ∷ 32 ∷ 40 ∷ from) (41 ∷ [])))
+
+pub product_trimmed : (number from : List ℕ) → trimmed (product_text number from) ≡ product_text number from
+product_trimmed number from =
+    ap after_blanks
+    (ap before_blanks (product_ends number from)
+    ∙ (close_stays (40 ∷ (number ++ 41 ∷ 32 ∷ 40 ∷ from)) ∙ sym (product_ends number from)))
+
+-- ---- what a conversion comes to
+module _ (table : Table) (options : Options) (negative : Bool) (x y : Decimal) (text other from to : List ℕ)
+    (f : Syntax)
+    (is : is_numeral text ≡ true) (value : read text ≡ Ok x) (other_is : is_numeral other ≡ true)
+    (other_value : read other ≡ Ok y) (tree : parsed None from ≡ Ok f)
+    (free : first_fault (product_text (signed_text negative other) from) ≡ None) where
+  pub product_converting : converting table options (product_text (signed_text negative text) from) to
+      ≡ followed (product_inquiry table negative x f).events (product_inquiry table negative x f).answer
+      (converted_to table options (trimmed to) (target table (trimmed to)))
+  product_converting =
+      ap (λ (t : List ℕ). followed (text_worth table t).events (text_worth table t).answer
+      (converted_to table options (trimmed to) (target table (trimmed to))))
+      (product_trimmed (signed_text negative text) from)
+      ∙ ap (λ (q : Inquiry Amount). followed q.events q.answer
+      (converted_to table options (trimmed to) (target table (trimmed to))))
+      (product_is_worth table negative x y text other from f is value other_is other_value tree free)

@@ -1,0 +1,6 @@
+use Rattle.column_convert.proofs.Replies.{product_converting}
+use Rattle.column_convert.proofs.laws.worth_law.Goals as goal
+
+pub returns : goal.returns
+returns c = λ table options negative text x from f to a d. product_converting table options negative x d.decimal text
+    d.number from to f a.spelt a.value d.is_number.spelt d.is_number.value d.tree d.faultless

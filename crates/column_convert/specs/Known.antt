@@ -1,0 +1,110 @@
+-- What is known of FROM and TO once their values were asked for.
+use Rattle.std.specs.Prelude.{◌≡◌, ◌≤◌, ℕ, Bool, true, false, not, if◌then◌else◌, List, [], ◌∷◌, codes}
+use Rattle.std.specs.Prelude.{IfSome, None, Result, Ok, Err}
+use Rattle.std.specs.List.{list_any}
+use Rattle.std.specs.declared.alloc.AllocError.{AllocError}
+use Rattle.def_entry.specs.declared.key.Kind.TheVariants as kind
+use Rattle.def_entry.specs.Keys.{key}
+use Rattle.def_entry.specs.Reading.{is_semicolon}
+use Rattle.def_entry.specs.Tables.{Table, is_present}
+use Rattle.def_lines.specs.Blanks.{trimmed}
+use Rattle.deck.specs.Tables.{table}
+use Rattle.expr_tree.specs.Faults.{first_fault}
+use Rattle.expr_tree.specs.Parsed.{parsed}
+use Rattle.expr_tree.specs.Syntax.{Syntax}
+use Rattle.expr_tree.specs.Words.{words_in}
+use Rattle.quantity.specs.Amount.{Amount}
+use Rattle.live_table.specs.Shown.{Follows, IsCutOff, IsRightTable, Shown, state}
+use Rattle.live_table.specs.States.{AsksWords, Event, after_all}
+use Rattle.reply.specs.declared.options.Options.{Options}
+use Rattle.tree_eval.specs.Steps.{opposite}
+use Rattle.column_convert.specs.declared.cell.Cell.{Cell}
+use Rattle.column_convert.specs.declared.known.Known.{Known}
+use Rattle.column_convert.specs.declared.memory.Memory.{Memory}
+use Rattle.column_convert.specs.declared.signed.Signed.{Signed}
+use Rattle.column_convert.specs.Cells.{behind_minus, cell_of, is_number, number_queries, number_reply}
+use Rattle.column_convert.specs.Products.{IsFactor, IsNumeral, product_text, signed_text}
+use Rattle.column_convert.specs.Worths.{AreValued}
+
+-- the number that a text is
+pub record IsSigned (text : List ℕ) (n : Signed) : Type 0 where
+  pub number : is_number text ≡ true
+  pub numeral_is : IsNumeral (behind_minus text) n.numeral
+  pub spelt : text ≡ signed_text n.negative (behind_minus text)
+
+-- a quantity, or the opposite one
+abbrev pub with_sign : (negative : Bool) → Amount → Amount
+with_sign false x = x
+with_sign true x = opposite x
+
+-- the tree of a text that has no fault
+pub record IsTreeOf (text : List ℕ) (e : Syntax) : Type 0 where
+  pub faultless : first_fault text ≡ None
+  pub tree : parsed None text ≡ Ok e
+
+-- neither is a function, and the second is no list
+abbrev pub are_plain : Table → (from to : List ℕ) → Bool
+are_plain table from to =
+    if is_present table (key kind.Func from) then false
+    else (if is_present table (key kind.Func to) then false
+    else (if is_present table (key kind.List to) then false
+    else not (list_any is_semicolon to)))
+
+-- 1 or -1 times the expression has no fault
+abbrev pub HasProduct : (negative : Bool) → (from : List ℕ) → Type 0
+HasProduct negative from = first_fault (product_text (signed_text negative (codes "1")) from) ≡ None
+
+abbrev pub HasProducts : (from : List ℕ) → Type 0
+HasProducts from = (negative : Bool) → HasProduct negative from
+
+-- FROM and TO are these expressions, TO without the blanks at its ends, no function and no list; and each number times
+-- FROM is an expression
+pub record ArePlain (table : Table) (from to : List ℕ) (f g : Syntax) : Type 0 where
+  pub are_so : are_plain table from (trimmed to) ≡ true
+  pub factor : (negative : Bool) → IsFactor negative from f
+  pub to_tree : parsed None (trimmed to) ≡ Ok g
+
+-- FROM and TO have these values, and to ask for them changes nothing
+pub record AreKnown (shown : Shown) (from to : List ℕ) (known : Known) : Type 0 where
+  pub f : Syntax
+  pub g : Syntax
+  pub factor : (negative : Bool) → IsFactor negative from f
+  pub values : AreValued (table shown.deck) from to f g known.from_value known.to_value
+  pub again : (steps : ℕ) → Follows (AsksWords (words_in f) ∷ AsksWords (words_in g) ∷ []) shown shown steps steps
+
+-- nothing is remembered
+abbrev pub IsEmpty : Memory → Type 0
+IsEmpty memory = memory.known ≡ None
+
+-- what is remembered between rows is so
+abbrev pub IsRemembered : Shown → (from to : List ℕ) → Memory → Type 0
+IsRemembered shown from to memory = IfSome memory.known (AreKnown shown from to)
+
+-- what was asked is the first part of these queries: to make all of them afterwards comes to the same as before
+pub record AreBegun (events : List Event) (before after : Shown) (old new : ℕ) : Type 0 where
+  pub same : after_all events (state after new) ≡ after_all events (state before old)
+  pub deck : after.deck ≡ before.deck
+  pub right : IsRightTable after
+  pub later : old ≤ new
+
+-- a part of the queries of a number's conversion was made, or want of memory cut them off
+abbrev pub IsBegun : {A : Type 0} → Signed → (from to : List ℕ) → Result A AllocError → Shown → Shown → ℕ → ℕ → Type 0
+IsBegun n from to (Ok _) before after old new = (options : Options) (number : List ℕ) → IsSigned number n
+    → AreBegun (number_queries (table before.deck) options from to number) before after old new
+IsBegun n from to (Err _) before after old new = (options : Options) (number : List ℕ) → IsSigned number n
+    → IsCutOff (number_queries (table before.deck) options from to number) before after old new
+
+-- the cell of a number, whose queries are made without a step
+abbrev pub IsCellOf : Options → Shown → (from to number : List ℕ) → Cell → Type 0
+IsCellOf options shown from to number cell =
+    (cell ≡ cell_of (number_reply (table shown.deck) options from to number))
+    × ((steps : ℕ) → Follows (number_queries (table shown.deck) options from to number) shown shown steps steps)
+
+-- the same wherever these values are known, and wherever this is remembered
+abbrev pub IsKnownCell : Options → Known → (from to number : List ℕ) → Signed → Cell → Type 0
+IsKnownCell options known from to number n cell = (shown : Shown) → AreKnown shown from to known
+    → IsSigned number n → IsCellOf options shown from to number cell
+
+abbrev pub IsRememberedCell : Options → Memory → (from to number : List ℕ) → Signed → Cell → Type 0
+IsRememberedCell options memory from to number n cell = (shown : Shown)
+    → IsRemembered shown from to memory → IsSigned number n → IsCellOf options shown from to number cell

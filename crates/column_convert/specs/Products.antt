@@ -1,0 +1,44 @@
+-- A number times an expression, as a text and as a tree.
+use Rattle.std.specs.Prelude.{◌≡◌, ◌++◌, ℕ, Bool, true, false, List, ◌∷◌, codes, None, Ok}
+use Rattle.frac128.specs.Decimals.{Decimal, read}
+use Rattle.frac128.specs.Numerals.{is_numeral}
+use Rattle.expr_tree.specs.Faults.{first_fault}
+use Rattle.expr_tree.specs.Parsed.{parsed}
+use Rattle.expr_tree.specs.Syntax.{Syntax, Number, Negate, Group, Juxtaposed, Member, NoMember}
+
+-- so much of an expression
+abbrev pub product_text : (number from : List ℕ) → List ℕ
+product_text number from = codes "(" ++ (number ++ (codes ") (" ++ (from ++ codes ")")))
+
+-- a numeral, perhaps with a minus before it
+abbrev pub signed_text : (negative : Bool) → List ℕ → List ℕ
+signed_text false numeral = numeral
+signed_text true numeral = 45 ∷ numeral
+
+abbrev pub number_tree : (negative : Bool) → Decimal → Syntax
+number_tree false x = Number x
+number_tree true x = Negate (Number x)
+
+-- a number and an expression in parentheses, side by side
+abbrev pub product_tree : (negative : Bool) → Decimal → Syntax → Syntax
+product_tree negative x from =
+    Juxtaposed (Member (Group (number_tree negative x)) (Member (Group from) NoMember))
+
+-- a numeral and what it stands for
+pub record IsNumeral (text : List ℕ) (x : Decimal) : Type 0 where
+  pub spelt : is_numeral text ≡ true
+  pub value : read text ≡ Ok x
+
+-- an expression of which one number of this sign has a product without a fault; the number itself does not matter
+pub record IsFactor (negative : Bool) (from : List ℕ) (f : Syntax) : Type 0 where
+  pub tree : parsed None from ≡ Ok f
+  pub number : List ℕ
+  pub decimal : Decimal
+  pub is_number : IsNumeral number decimal
+  pub faultless : first_fault (product_text (signed_text negative number) from) ≡ None
+
+-- law: each number of this sign times it is parsed to their product
+abbrev pub ProductLaw : Type 0
+ProductLaw = (negative : Bool) (text : List ℕ) (x : Decimal) (from : List ℕ) (f : Syntax)
+    → IsNumeral text x → IsFactor negative from f
+    → parsed None (product_text (signed_text negative text) from) ≡ Ok (product_tree negative x f)

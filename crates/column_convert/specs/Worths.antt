@@ -1,0 +1,90 @@
+-- What a number times an expression is worth, by what the expression is.
+use Rattle.std.specs.Prelude.{◌≡◌, ◌≤◌, ◌-◌, ◌^◌, ℕ, Bool, true, false, List, [], ◌∷◌, map, None, Ok}
+use Rattle.std.specs.List.{list_any}
+use Rattle.units_io.specs.Outcomes.{◌>>=◌}
+use Rattle.frac128.specs.Decimals.{Decimal, value_of}
+use Rattle.quantity.specs.Amount.{Amount}
+use Rattle.def_lines.specs.Blanks.{trimmed}
+use Rattle.expr_tree.specs.declared.word_list.WordUse.{WordUse}
+use Rattle.expr_tree.specs.Parsed.{parsed}
+use Rattle.expr_tree.specs.Syntax.{Syntax}
+use Rattle.expr_tree.specs.Words.{words_in}
+use Rattle.def_entry.specs.declared.key.Kind.TheVariants as kind
+use Rattle.def_entry.specs.Keys.{key}
+use Rattle.def_entry.specs.Reading.{is_semicolon}
+use Rattle.def_entry.specs.Tables.{Table, entry_at, is_present}
+use Rattle.tree_eval.specs.declared.step.Step.TheVariants.{Multiply}
+use Rattle.tree_eval.specs.Steps.{Worth, step_worth, number, opposite}
+use Rattle.tree_eval.specs.Value.{value}
+use Rattle.table_names.specs.Faults.{name_fault}
+use Rattle.table_names.specs.Meanings.{expansion}
+use Rattle.live_table.specs.Answers.{answer, by_names}
+use Rattle.live_table.specs.States.{AsksWords}
+use Rattle.live_table.specs.Shown.{Follows, Shown}
+use Rattle.reply.specs.declared.options.Options.{Options}
+use Rattle.reply.specs.Conversions.{compared, converted_to}
+use Rattle.reply.specs.Inquiries.{Inquiry, as_answer, followed}
+use Rattle.reply.specs.Options.{form_of}
+use Rattle.reply.specs.Replies.{as_conversion, converting}
+use Rattle.reply.specs.Targets.{target}
+use Rattle.column_convert.specs.Cells.{cell_options, number_queries, number_reply}
+use Rattle.column_convert.specs.Products.{IsFactor, IsNumeral, product_text, signed_text}
+
+-- a numeral, perhaps with a minus before it
+abbrev pub number_worth : (negative : Bool) → Decimal → Worth
+number_worth false x = number (value_of x)
+number_worth true x = do
+  v ← number (value_of x)
+  Ok (opposite v)
+
+-- the number's fault, then the expression's, then that of their product
+abbrev pub product_worth : (negative : Bool) → Decimal → Worth → Worth
+product_worth negative x worth = do
+  v ← number_worth negative x
+  w ← worth
+  step_worth Multiply v w
+
+-- the names of the expression are asked for, and their fault is the first
+abbrev pub product_inquiry : Table → (negative : Bool) → Decimal → Syntax → Inquiry Amount
+product_inquiry table negative x from = record {
+  events = AsksWords (words_in from) ∷ [];
+  answer = as_answer (by_names (name_fault table (words_in from))
+      (product_worth negative x (value (expansion table from) None)));
+}
+
+-- law: what a number times an expression is converted to follows from what the expression is worth
+abbrev pub WorthLaw : Type 0
+WorthLaw = (table : Table) (options : Options) (negative : Bool) (text : List ℕ) (x : Decimal) (from : List ℕ)
+    (f : Syntax) (to : List ℕ) → IsNumeral text x → IsFactor negative from f
+    → converting table options (product_text (signed_text negative text) from) to
+    ≡ followed (product_inquiry table negative x f).events (product_inquiry table negative x f).answer
+    (converted_to table options (trimmed to) (target table (trimmed to)))
+
+-- an expression and a unit that have these values: the first is no function at a number, the second no function and
+-- no list
+pub record AreValued (table : Table) (from to : List ℕ) (f g : Syntax) (x y : Amount) : Type 0 where
+  pub plain : is_present table (key kind.Func from) ≡ false
+  pub from_named : name_fault table (words_in f) ≡ None
+  pub from_value : value (expansion table f) None ≡ Ok x
+  pub to_plain : is_present table (key kind.Func (trimmed to)) ≡ false
+  pub to_single : entry_at table (key kind.List (trimmed to)) ≡ None
+  pub to_uncut : list_any is_semicolon (trimmed to) ≡ false
+  pub to_tree : parsed None (trimmed to) ≡ Ok g
+  pub to_value : answer table g ≡ Ok y
+
+-- law: the reply to a number is how often the unit goes into the product of the number and the expression's value,
+-- and the words of both are asked for
+abbrev pub ValuedLaw : Type 0
+ValuedLaw = (table : Table) (options : Options) (negative : Bool) (text : List ℕ) (d : Decimal) (from to : List ℕ)
+    (f g : Syntax) (x y p : Amount) → IsNumeral text d → IsFactor negative from f → AreValued table from to f g x y
+    → product_worth negative d (Ok x) ≡ Ok p
+    → (number_reply table options from to (signed_text negative text)
+    ≡ as_conversion (form_of (cell_options options)) (trimmed (product_text (signed_text negative text) from))
+    (trimmed to) (compared true p y))
+    × (number_queries table options from to (signed_text negative text)
+    ≡ AsksWords (words_in f) ∷ AsksWords (words_in g) ∷ [])
+
+-- law: texts whose words were asked for, one text after another, are asked for again without a step
+abbrev pub AgainLaw : Type 0
+AgainLaw = (texts : List (List WordUse)) (a b : Shown) (n m k : ℕ) → b.reductions ≤ 2 ^ 64 - 1
+    → Follows (map AsksWords texts) a b n m → Follows (map AsksWords texts) b b k k

@@ -1,0 +1,114 @@
+//! What is remembered between rows.
+
+ghost use Rattle.std.specs.Prelude.{◌≡◌, IfOk, IfSome, OnOk};
+ghost use Rattle.reply.specs.Options.{IsPrintable};
+ghost use Rattle.column_convert.specs.Known as spec;
+
+use crate::cell::{Cell, cell_of, cell_options, product_text};
+use crate::known::{Known, ask_values, product};
+use crate::signed::Signed;
+use def_lines::trim;
+use live_table::LiveTable;
+use reply::{Options, comparison_reply};
+use std::alloc::{AllocError, Global};
+use std::sync::ledger::Ledger;
+use units_io::Steps;
+
+/// What is remembered between rows.
+#[derive(Drop)]
+pub(crate) struct Memory {
+    pub(crate) known: Option<Known>,
+    // what FROM and TO are worth was asked for in vain
+    pub(crate) is_vain: bool,
+}
+
+impl Memory {
+    /// Nothing yet.
+    pub(crate) fn new() -> Memory
+        ensures { spec.IsEmpty result }
+    {
+        Memory {
+            known: None,
+            is_vain: false,
+        }
+    }
+
+    /// Forgets the values, for after other queries.
+    pub(crate) fn forget(&mut self)
+        ensures { spec.IsEmpty self.new }
+    {
+        self.known = None;
+    }
+
+    /// Asks for what FROM and TO are worth, unless it is known, or was asked for in vain. The only error is want of
+    /// memory.
+    pub(crate) fn recall<L: Ledger>(
+        &mut self,
+        alloc: Global,
+        table: &mut LiveTable,
+        from: &[u8],
+        to: &[u8],
+        n: &Signed,
+        steps: &mut Steps<L>,
+    ) -> Result<(), AllocError>
+        requires { spec.IsRemembered table.old from.now to.now self.old }
+        ensures known { OnOk result (spec.IsRemembered table.new from.now to.now self.new) }
+        ensures asked { spec.IsBegun n.now from.now to.now result table.old table.new steps.old steps.new }
+        ensures deck { table.new.deck ≡ table.old.deck }
+    {
+        // What is kept is right also where nothing is asked.
+        table.kept_right();
+        if self.is_vain || self.known.is_some() {
+            return Ok(());
+        }
+        let known = ask_values(alloc, table, from, to, n, steps)?;
+        self.is_vain = known.is_none();
+        self.known = known;
+        Ok(())
+    }
+
+    /// The cell of a number by what is known, which asks for nothing, unless nothing is known, or the number or its
+    /// product has a fault. The only error is want of memory.
+    pub(crate) fn cell(
+        &self,
+        alloc: Global,
+        options: &Options,
+        from: &[u8],
+        to: &[u8],
+        number: &[u8],
+        n: &Signed,
+    ) -> Result<Option<Cell>, AllocError>
+        requires { IsPrintable options.now }
+        ensures { IfOk result (λ cell. IfSome cell (λ cell.
+            spec.IsRememberedCell options.now self.now from.now to.now number.now n.now cell)) }
+    {
+        match &self.known {
+            Some(known) => known_cell(alloc, options, known, from, to, number, n),
+            None => Ok(None),
+        }
+    }
+}
+
+// The cell of a number by these values.
+fn known_cell(
+    alloc: Global,
+    options: &Options,
+    known: &Known,
+    from: &[u8],
+    to: &[u8],
+    number: &[u8],
+    n: &Signed,
+) -> Result<Option<Cell>, AllocError>
+    requires { IsPrintable options.now }
+    ensures { IfOk result (λ cell. IfSome cell (λ cell.
+        spec.IsKnownCell options.now known.now from.now to.now number.now n.now cell)) }
+{
+    let Some(x) = product(alloc, n, &known.from_value)? else {
+        return Ok(None);
+    };
+    let options = cell_options(options);
+    let asked = product_text(alloc, number, from)?;
+    let to = trim(to);
+    let reply = comparison_reply(alloc, &options, asked.as_bytes(), to, x, &known.to_value)?;
+    Ok(Some(cell_of(alloc, &reply)?))
+}

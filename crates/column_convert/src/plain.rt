@@ -1,0 +1,114 @@
+//! FROM and TO as trees, where they are no functions and TO is no list.
+
+ghost use Rattle.std.specs.Prelude.{◌≡◌, IfOk, IfSome, IsTrue, codes};
+ghost use Rattle.std.specs.List.{list_any};
+ghost use Rattle.deck.specs.Tables as tables;
+ghost use Rattle.def_entry.specs.Reading.{is_semicolon};
+ghost use Rattle.expr_tree.specs.Trees.{syntax};
+ghost use Rattle.column_convert.specs.Known as spec;
+ghost use Rattle.column_convert.specs.Products.{signed_text};
+
+use crate::cell::product_text;
+use deck::Deck;
+use def_entry::Kind;
+use def_lines::trim;
+use expr_tree::{ParseFault, Tree, parse_expr};
+use std::alloc::{AllocError, Global};
+
+/// The trees of FROM and TO.
+#[derive(Drop)]
+pub(crate) struct PlainTrees {
+    pub(crate) from_tree: Tree,
+    pub(crate) to_tree: Tree,
+}
+
+/// The trees of FROM and TO, unless one is a function or no expression, TO is a list, or a number times FROM is no
+/// expression. The only error is want of memory.
+pub(crate) fn plain_trees(
+    alloc: Global,
+    deck: &Deck,
+    from: &[u8],
+    to: &[u8],
+) -> Result<Option<PlainTrees>, AllocError>
+    ensures { IfOk result (λ trees. IfSome trees (λ trees. spec.ArePlain (tables.table deck.now) from.now to.now
+        (syntax trees.from_tree) (syntax trees.to_tree))) }
+{
+    let to = trim(to);
+    if !are_plain(deck, from, to) {
+        return Ok(None);
+    }
+    if !has_products(alloc, from)? {
+        return Ok(None);
+    }
+    let Some(from_tree) = tree_in(alloc, from)? else {
+        return Ok(None);
+    };
+    let Some(to_tree) = tree_in(alloc, to)? else {
+        return Ok(None);
+    };
+    Ok(Some(PlainTrees { from_tree, to_tree }))
+}
+
+// Whether neither is a function and the second is no list.
+fn are_plain(deck: &Deck, from: &[u8], to: &[u8]) -> bool
+    ensures { result ≡ spec.are_plain (tables.table deck.now) from.now to.now }
+{
+    if deck.entry(Kind::Func, from).is_some() {
+        return false;
+    }
+    if deck.entry(Kind::Func, to).is_some() {
+        return false;
+    }
+    if deck.entry(Kind::List, to).is_some() {
+        return false;
+    }
+    !has_semicolon(to)
+}
+
+// Whether a `;` stands in the text.
+fn has_semicolon(text: &[u8]) -> bool
+    ensures { result ≡ list_any is_semicolon text.now }
+{
+    text.iter().any(|byte| *byte == b';')
+}
+
+// Whether a number above and one below 0 times an expression are expressions.
+fn has_products(alloc: Global, from: &[u8]) -> Result<bool, AllocError>
+    ensures { IfOk result (λ has. IsTrue has → spec.HasProducts from.now) }
+{
+    if !has_product(alloc, false, from)? {
+        return Ok(false);
+    }
+    has_product(alloc, true, from)
+}
+
+// Whether 1 or -1 times an expression is an expression.
+fn has_product(alloc: Global, negative: bool, from: &[u8]) -> Result<bool, AllocError>
+    ensures { IfOk result (λ has. IsTrue has → spec.HasProduct negative from.now) }
+{
+    let text = product_text(alloc, one(negative), from)?;
+    let tree = tree_in(alloc, text.as_bytes())?;
+    Ok(tree.is_some())
+}
+
+// 1 or -1.
+fn one(negative: bool) -> &'static [u8]
+    ensures { result.now ≡ signed_text negative (codes "1") }
+{
+    if negative {
+        b"-1".as_slice()
+    } else {
+        b"1".as_slice()
+    }
+}
+
+// The tree of a text, where it is an expression.
+fn tree_in(alloc: Global, text: &[u8]) -> Result<Option<Tree>, AllocError>
+    ensures { IfOk result (λ tree. IfSome tree (λ tree. spec.IsTreeOf text.now (syntax tree))) }
+{
+    match parse_expr(alloc, text, None) {
+        Ok(tree) => Ok(Some(tree)),
+        Err(ParseFault::OutOfMemory) => Err(AllocError),
+        Err(_) => Ok(None),
+    }
+}

@@ -1,0 +1,50 @@
+//! Numbers in cells.
+
+ghost use Rattle.std.specs.Prelude.{◌≡◌, IfSome};
+ghost use Rattle.column_convert.specs.Cells.{behind_minus as behind_minus_of};
+ghost use Rattle.column_convert.specs.Known.{IsSigned};
+ghost use Rattle.column_convert.specs.Products.{signed_text};
+
+use frac128::{Numeral, read_numeral};
+
+/// A numeral, perhaps with a minus before it.
+#[derive(Clone, Copy)]
+pub(crate) struct Signed {
+    pub(crate) negative: bool,
+    pub(crate) numeral: Numeral,
+}
+
+impl Signed {
+    /// The number that a text is, unless it is none, or its numeral is past the limits.
+    pub(crate) fn read(text: &[u8]) -> Option<Signed>
+        ensures { IfSome result (λ n. IsSigned text.now n) }
+    {
+        match read_numeral(behind_minus(text)) {
+            Ok(numeral) => Some(Signed {
+                negative: has_minus(text),
+                numeral,
+            }),
+            Err(_) => None,
+        }
+    }
+}
+
+/// What stands behind a minus at the front, or the whole text where none stands there.
+pub(crate) fn behind_minus(text: &[u8]) -> &[u8]
+    ensures { result.now ≡ behind_minus_of text.now }
+{
+    let Some((first, rest)) = text.split_first() else {
+        return text;
+    };
+    if *first == b'-' { rest } else { text }
+}
+
+// Whether a minus stands at the front.
+fn has_minus(text: &[u8]) -> bool
+    ensures { text.now ≡ signed_text result (behind_minus_of text.now) }
+{
+    let Some((first, _)) = text.split_first() else {
+        return false;
+    };
+    *first == b'-'
+}
