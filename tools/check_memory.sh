@@ -100,6 +100,12 @@ session ':define a 7 m' ':drop c' ':locale en_GB' ':load more.units' :undo :undo
     ':drop b' ':load saved.units' :undo :undo :undo :undo
 try_all 0 -q -f kept.units
 
+# Columns, without a header and with one.
+session 1,a 2,b x,c
+try_all 1 -f main.units --column 1 z m
+session n,len a,1 b,2
+try_all 0 -f main.units --header --column 2 z m
+
 echo "check_memory: $total runs with an allocation refused"
 echo "$passed passed, $failed failed"
 [ "$failed" = 0 ]

@@ -1,292 +1,14 @@
-//! The runs, and what comes of each.
+//! The runs.
 ghost use Rattle.std.specs.Prelude.{◌≡◌, ◌<◌};
 
+use crate::cases::{CASES, Case, FILES};
+use crate::column_cases::COLUMN_CASES;
 use std::alloc::Global;
 use std::marker::Brand;
 use std::sync::ledger::{Blank, Ledger};
 use std::test::Fail;
 use units_io::{MemFiles, MemSink, MemSource, Steps, Text, Texts, Vars};
 use units_run::{Status, units_main};
-
-// A file with an include that is there, which has one too, and an include that is not; and a small file.
-const FILES: &[(&[u8], &[u8])] = &[
-    (
-        b"main.units",
-        b"!include sub/a.units\n!include gone.units\n",
-    ),
-    (b"sub/a.units", b"m !\n!include b.units\n"),
-    (b"sub/b.units", b"z 4 m\n"),
-    (b"s.units", b"s !\nms 1|1000 s\n"),
-];
-
-// The words, which commas part; the input, behind so many blanks, and how much of it the source gives at a time; the
-// call of each kind that fails, if any; and what comes of it.
-#[derive(Clone, Copy)]
-struct Case {
-    words: &'static [u8],
-    blanks: usize,
-    input: &'static [u8],
-    piece: usize,
-    fetch: u64,
-    take: u64,
-    store: u64,
-    out_put: u64,
-    err_put: u64,
-    status: Status,
-    out: &'static [u8],
-    err: &'static [u8],
-}
-
-// A conversion over files, which takes no input.
-const OVER_FILES: Case = Case {
-    words: b"-f,main.units,z,m",
-    blanks: 0,
-    input: b"never taken",
-    piece: 4,
-    fetch: 0,
-    take: 1,
-    store: 0,
-    out_put: 0,
-    err_put: 0,
-    status: Status::Done,
-    out: b"\t* 4\n\t/ 0.25\n",
-    err: b"main.units:2: no file: gone.units\n",
-};
-
-// A file that cannot be read.
-const UNREAD: Case = Case {
-    status: Status::ReadFault,
-    out: b"",
-    err: b"",
-    ..OVER_FILES
-};
-
-// A session of one conversion.
-const SESSION: Case = Case {
-    words: b"-f,s.units",
-    blanks: 0,
-    input: b"1 s\nms\n",
-    piece: 4,
-    fetch: 0,
-    take: 0,
-    store: 0,
-    out_put: 0,
-    err_put: 0,
-    status: Status::Done,
-    out: b"2 units, 0 prefixes, 0 nonlinear units\nYou have: You want: \t* 1000\n\t/ 0.001\nYou have: ",
-    err: b"",
-};
-
-// The same with nothing but answers.
-const QUIET: Case = Case {
-    words: b"-q,-f,s.units",
-    out: b"\t* 1000\n\t/ 0.001\n",
-    ..SESSION
-};
-
-// A line of 65,536 bytes, and one of 65,537, in a session that waits for FROM.
-const LONGEST: Case = Case {
-    blanks: 65_535,
-    input: b"s\nms\n",
-    ..QUIET
-};
-
-const TOO_LONG: Case = Case {
-    blanks: 65_536,
-    out: b"line too long\n",
-    ..LONGEST
-};
-
-const CASES: &[Case] = &[
-    // Conversions: each fetch, some puts.
-    OVER_FILES,
-    Case { fetch: 1, ..UNREAD },
-    Case { fetch: 2, ..UNREAD },
-    Case { fetch: 3, ..UNREAD },
-    Case { fetch: 4, ..UNREAD },
-    Case {
-        out_put: 1,
-        status: Status::WriteFault,
-        out: b"",
-        err: b"",
-        ..OVER_FILES
-    },
-    Case {
-        out_put: 2,
-        status: Status::WriteFault,
-        out: b"\t* 4\n\t/ ",
-        err: b"",
-        ..OVER_FILES
-    },
-    Case {
-        err_put: 1,
-        status: Status::WriteFault,
-        err: b"",
-        ..OVER_FILES
-    },
-    Case {
-        err_put: 5,
-        status: Status::WriteFault,
-        err: b"main.units:2: no file: gone.unit",
-        ..OVER_FILES
-    },
-    Case {
-        words: b"-d,0",
-        fetch: 1,
-        err_put: 1,
-        status: Status::WriteFault,
-        out: b"",
-        err: b"",
-        ..OVER_FILES
-    },
-    Case {
-        words: b"10 meters,feet",
-        fetch: 1,
-        out: b"\t* 32.808399\n\t/ 0.03048\n",
-        err: b"",
-        ..OVER_FILES
-    },
-    // Sessions: each take, some puts.
-    SESSION,
-    Case {
-        take: 1,
-        status: Status::ReadFault,
-        out: b"2 units, 0 prefixes, 0 nonlinear units\nYou have: ",
-        ..SESSION
-    },
-    Case {
-        take: 2,
-        status: Status::ReadFault,
-        out: b"2 units, 0 prefixes, 0 nonlinear units\nYou have: You want: ",
-        ..SESSION
-    },
-    Case {
-        take: 3,
-        status: Status::ReadFault,
-        ..SESSION
-    },
-    Case {
-        out_put: 2,
-        status: Status::WriteFault,
-        out: b"2 units,",
-        ..SESSION
-    },
-    Case {
-        input: b"1 s\nms",
-        take: 3,
-        status: Status::ReadFault,
-        out: b"",
-        ..QUIET
-    },
-    // Lines, in pieces.
-    Case { piece: 1, ..QUIET },
-    Case {
-        input: b"1 s\nms",
-        ..QUIET
-    },
-    Case {
-        input: b"1 s\r\nms\r",
-        ..QUIET
-    },
-    Case {
-        input: b"1 s\nquit\nms\n",
-        take: 4,
-        out: b"",
-        ..QUIET
-    },
-    Case {
-        input: b"1 \0 s\n1 s\nms\n",
-        out: b"syntax error at 2\n\t* 1000\n\t/ 0.001\n",
-        ..QUIET
-    },
-    LONGEST,
-    Case {
-        piece: 32_768,
-        ..LONGEST
-    },
-    Case {
-        piece: 65_535,
-        ..LONGEST
-    },
-    Case {
-        piece: 65_536,
-        ..LONGEST
-    },
-    TOO_LONG,
-    Case {
-        piece: 32_769,
-        ..TOO_LONG
-    },
-    Case {
-        piece: 65_535,
-        ..TOO_LONG
-    },
-    Case {
-        piece: 65_536,
-        ..TOO_LONG
-    },
-    Case {
-        input: b"s",
-        out: b"line too long\n",
-        ..TOO_LONG
-    },
-    // Files that are loaded.
-    Case {
-        input: b":load gone.units\n1 s\nms\n",
-        out: b"no file: gone.units\n\t* 1000\n\t/ 0.001\n",
-        ..QUIET
-    },
-    Case {
-        input: b":load main.units\nz\nm\n",
-        out: b"\t* 4\n\t/ 0.25\n",
-        err: b"main.units:2: no file: gone.units\n",
-        ..QUIET
-    },
-    Case {
-        input: b"1 s\nms\n:load sub/b.units\nms\n",
-        fetch: 2,
-        status: Status::ReadFault,
-        ..QUIET
-    },
-    Case {
-        input: b":load main.units\nz\nm\n",
-        fetch: 4,
-        status: Status::ReadFault,
-        out: b"",
-        ..QUIET
-    },
-    // Edits that are taken back, and files that are saved.
-    Case {
-        input: b":define s 2 ms\n:undo\n1 s\nms\n:undo\n",
-        out: b"\t* 1000\n\t/ 0.001\nnothing to undo\n",
-        ..QUIET
-    },
-    Case {
-        input: b":save t.units\n:drop ms\n:load t.units\n1 s\nms\n",
-        ..QUIET
-    },
-    Case {
-        input: b"1 s\nms\n:save t.units\nms\n",
-        store: 1,
-        status: Status::WriteFault,
-        ..QUIET
-    },
-    Case {
-        input: b":save t.units\n:save u.units\n1 s\nms\n",
-        store: 2,
-        status: Status::WriteFault,
-        out: b"",
-        ..QUIET
-    },
-    // The trial, which asks for no file and no input.
-    Case {
-        words: b"--trial,3",
-        fetch: 1,
-        out: b"definitions 4, edits 3, reply bytes 43, settled 3 of 4, reductions 4\n",
-        err: b"",
-        ..OVER_FILES
-    },
-];
 
 // What a run leaves.
 #[derive(Drop)]
@@ -333,6 +55,17 @@ fn run<L: Ledger>(alloc: Global, case: &Case, blank: Blank) -> Result<Outcome, F
 #[test]
 fn runs_end_as_they_should(rt: HostRuntime) -> Result<(), Fail> {
     for case in CASES {
+        let outcome = run::<Brand>(rt.alloc(), case, Blank::new(1))?;
+        assert!(rt; outcome.status == case.status);
+        assert!(rt; outcome.out.written() == case.out);
+        assert!(rt; outcome.err.written() == case.err);
+    }
+    Ok(())
+}
+
+#[test]
+fn columns_end_as_they_should(rt: HostRuntime) -> Result<(), Fail> {
+    for case in COLUMN_CASES {
         let outcome = run::<Brand>(rt.alloc(), case, Blank::new(1))?;
         assert!(rt; outcome.status == case.status);
         assert!(rt; outcome.out.written() == case.out);

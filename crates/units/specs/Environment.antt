@@ -1,6 +1,6 @@
 -- Variables from the entries of an environment.
-use Rattle.std.specs.Prelude.{◌++◌, ◌∷◌, ◌+◌, ◌==◌, [], ℕ, List, Option, Some, None, is_some, take, drop, position}
-use Rattle.std.specs.Prelude.{if◌then◌else◌}
+use Rattle.std.specs.Prelude.{◌≡◌, ◌++◌, ◌∷◌, ◌+◌, ◌==◌, [], ℕ, List, Option, Some, None, is_some, take, drop, position}
+use Rattle.std.specs.Prelude.{codes, if◌then◌else◌}
 use Rattle.std.specs.Str.{is_utf8}
 use Rattle.units_io.specs.Named.{Pairs, value_of}
 
@@ -20,3 +20,20 @@ with_name_to vars entry (Some place) = with_new vars (take place entry) (drop (p
 -- the variable of an entry `NAME=VALUE` in UTF-8, of two with one name the first; any other entry adds none
 abbrev pub with_entry : Pairs → List ℕ → Pairs
 with_entry vars entry = if is_utf8 entry then with_name_to vars entry (place_of_mark entry) else vars
+
+-- the variables of entries, in order
+abbrev pub with_entries : Pairs → List (List ℕ) → Pairs
+with_entries vars [] = vars
+with_entries vars (entry ∷ entries) = with_entries (with_entry vars entry) entries
+
+-- law: some entries, each with the variables behind those before it
+pub record EntriesLaw : Type 0 where
+  pub none : with_entries [] [] ≡ []
+  pub no_mark : with_entries [] (codes "no mark" ∷ [] ∷ []) ≡ []
+  pub first_counts : with_entries [] (codes "A=1" ∷ codes "A=2" ∷ []) ≡ (codes "A", codes "1") ∷ []
+  pub first_mark : with_entries [] (codes "B=x=y" ∷ []) ≡ (codes "B", codes "x=y") ∷ []
+  pub no_text : with_entries [] ((codes "C=" ++ 255 ∷ []) ∷ []) ≡ []
+  pub no_name : with_entries [] (codes "=D" ∷ []) ≡ ([], codes "D") ∷ []
+  pub no_value : with_entries [] (codes "E=" ∷ []) ≡ (codes "E", []) ∷ []
+  pub in_order : with_entries [] (codes "A=1" ∷ codes "E=" ∷ codes "A=3" ∷ codes "=D" ∷ [])
+      ≡ (codes "A", codes "1") ∷ (codes "E", []) ∷ ([], codes "D") ∷ []

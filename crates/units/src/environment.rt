@@ -97,6 +97,11 @@ pub fn add_entry(alloc: Global, vars: &mut Vars, entry: &[u8]) -> Result<(), All
     push_new(alloc, vars, &entry[..place], &entry[place + 1..])
 }
 
+/// The variables of some entries.
+pub fn entries_law()
+    ensures { spec.EntriesLaw }
+{}
+
 /// The variables of the environment that are UTF-8, of those with one name the first.
 pub fn collect_vars<R: Env>(rt: &R, alloc: Global) -> Result<Vars, AllocError> {
     let mut vars = Vars::new(alloc);

@@ -2,8 +2,6 @@
 #![tactic(auto)]
 
 mod environment;
-#[cfg(test)]
-mod tests;
 
 ghost use Rattle.std.specs.Prelude.{◌≡◌, ◌<◌};
 

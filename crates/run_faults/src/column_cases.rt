@@ -1,0 +1,107 @@
+//! The runs over a column, each read and each write of which fails in turn, and what comes of each.
+
+use crate::cases::{Case, OVER_FILES};
+use units_run::Status;
+
+// A cell of three is an error.
+const COLUMN: Case = Case {
+    words: b"-f,main.units,--column,1,z,m",
+    input: b"1,a\n2,b\nx,c\n",
+    take: 0,
+    status: Status::Refused,
+    out: b"4,a\n8,b\nerror: not a number,c\n",
+    ..OVER_FILES
+};
+
+// The input cannot be read to its end, so no row is written.
+const UNREAD: Case = Case {
+    status: Status::ReadFault,
+    out: b"",
+    ..COLUMN
+};
+
+const UNWRITTEN: Case = Case {
+    status: Status::WriteFault,
+    ..COLUMN
+};
+
+// The notices cannot be written, so no row is.
+const UNTOLD: Case = Case {
+    out: b"",
+    ..UNWRITTEN
+};
+
+// The first record is a header.
+const HEADED: Case = Case {
+    words: b"-f,main.units,--header,--column,1,z,m",
+    input: b"z,n\n2,b\n",
+    status: Status::Done,
+    out: b"z,n\n8,b\n",
+    ..COLUMN
+};
+
+pub(crate) const COLUMN_CASES: &[Case] = &[
+    COLUMN,
+    Case { take: 1, ..UNREAD },
+    Case { take: 2, ..UNREAD },
+    Case { take: 3, ..UNREAD },
+    Case { take: 4, ..UNREAD },
+    Case {
+        out_put: 1,
+        out: b"",
+        ..UNWRITTEN
+    },
+    Case {
+        out_put: 2,
+        out: b"4,a\n8,b\n",
+        ..UNWRITTEN
+    },
+    Case {
+        out_put: 3,
+        out: b"4,a\n8,b\nerror: n",
+        ..UNWRITTEN
+    },
+    Case {
+        out_put: 4,
+        out: b"4,a\n8,b\nerror: not a num",
+        ..UNWRITTEN
+    },
+    Case {
+        err_put: 1,
+        err: b"",
+        ..UNTOLD
+    },
+    Case {
+        err_put: 2,
+        err: b"main.uni",
+        ..UNTOLD
+    },
+    Case {
+        err_put: 3,
+        err: b"main.units:2: no",
+        ..UNTOLD
+    },
+    Case {
+        err_put: 4,
+        err: b"main.units:2: no file: g",
+        ..UNTOLD
+    },
+    Case {
+        err_put: 5,
+        err: b"main.units:2: no file: gone.unit",
+        ..UNTOLD
+    },
+    HEADED,
+    Case {
+        take: 3,
+        status: Status::ReadFault,
+        out: b"",
+        ..HEADED
+    },
+    Case {
+        out_put: 1,
+        status: Status::WriteFault,
+        out: b"",
+        ..HEADED
+    },
+];

@@ -1,0 +1,17 @@
+use Rattle.std.proofs.Common.{refl}
+use Rattle.std.specs.Str.{chars, is_utf8}
+use Rattle.std.specs.Char.{encode_utf8}
+use Rattle.units.proofs.environment.entries_law.Goals as goal
+
+pub returns : goal.returns
+unfolding is_utf8 chars encode_utf8
+returns c = record {
+  none = refl;
+  no_mark = refl;
+  first_counts = refl;
+  first_mark = refl;
+  no_text = refl;
+  no_name = refl;
+  no_value = refl;
+  in_order = refl;
+}
