@@ -9,7 +9,7 @@ use Rattle.quantity.specs.Amount.{Amount, are_reciprocal, conform, is_number}
 use Rattle.quantity.specs.Powers.{power_of}
 use Rattle.quantity.specs.Products.{product_of, quotient_of}
 use Rattle.quantity.specs.Sums.{difference_of, sum_of}
-use Rattle.quantity.specs.Text.{shown}
+use Rattle.quantity.specs.Text.{amount_text}
 use Rattle.quantity.specs.declared.fault.QuantityFault.{QuantityFault}
 use Rattle.quantity.specs.declared.fault.QuantityFault.TheVariants as step
 use Rattle.digits_print.specs.declared.style.Style.TheVariants as style
@@ -45,7 +45,7 @@ taken Pow x y = power_of x y
 
 -- a quantity, exactly
 abbrev pub exactly : Amount → List ℕ
-exactly x = shown style.Exact x
+exactly x = amount_text style.Exact x
 
 -- two quantities that do not conform
 abbrev pub unlike_text : Amount → Amount → List ℕ

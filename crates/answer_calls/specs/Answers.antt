@@ -1,7 +1,7 @@
 -- What calls for replies and reports answer.
 use Rattle.std.specs.Prelude.{◌++◌, ℕ, List, [], Bool, codes, if◌then◌else◌}
 use Rattle.digits_print.specs.declared.style.Style.TheVariants.{Exact}
-use Rattle.quantity.specs.Text.{shown}
+use Rattle.quantity.specs.Text.{amount_text}
 use Rattle.def_entry.specs.Tables.{Table}
 use Rattle.reply.specs.declared.options.Options.{Options}
 use Rattle.reply.specs.declared.reply.FromValue.{FromValue}
@@ -13,7 +13,8 @@ use Rattle.survey.specs.Checks.{check_report}
 use Rattle.survey.specs.Conformable.{conformable_report}
 use Rattle.survey.specs.Searches.{search_report}
 use Rattle.answer_calls.specs.declared.call.Asked.{Asked}
-use Rattle.answer_calls.specs.declared.call.Asked.TheVariants.{Conversion, Definition, Value, Check, Search, Conformable}
+use Rattle.answer_calls.specs.declared.call.Asked.TheVariants.{Conversion, Definition, Value, Check, Search}
+use Rattle.answer_calls.specs.declared.call.Asked.TheVariants.{Conformable}
 
 -- the line that stands behind what is refused
 abbrev pub mark_text : (refused : Bool) → List ℕ
@@ -29,7 +30,7 @@ line_text line refused = (line ++ codes "\n") ++ mark_text refused
 
 -- what a text is worth, exact, or its fault
 abbrev pub value_text : FromValue → List ℕ
-value_text (Good x) = line_text (shown Exact x) Bool.false
+value_text (Good x) = line_text (amount_text Exact x) Bool.false
 value_text (Bad text) = line_text text Bool.true
 
 -- the report on what conforms to a value, or its fault

@@ -1,7 +1,7 @@
 //! Answers to calls.
 
 ghost use Rattle.std.specs.Prelude.{◌≡◌, ◌++◌, ◌<◌, OnOk};
-ghost use Rattle.deck.specs.Tables.{table as table_of};
+ghost use Rattle.deck.specs.Tables as tables;
 ghost use Rattle.reply.specs.Options.{IsPrintable};
 ghost use Rattle.answer_calls.specs.Answers as spec;
 
@@ -54,7 +54,7 @@ fn put_asked<L: Ledger>(
     requires some { 0 < blank.parts }
     ensures deck { live.new.deck ≡ live.old.deck }
     ensures answer { OnOk result (answers.new.items
-        ≡ answers.old.items ++ spec.asked_text (table_of live.old.deck) options.now asked.entry) }
+        ≡ answers.old.items ++ spec.asked_text (tables.table live.old.deck) options.now asked.entry) }
 {
     let mut steps: Steps<L> = Steps::new(blank);
     match asked {
@@ -70,14 +70,8 @@ fn put_asked<L: Ledger>(
             let value = from_value(alloc, live, options, from, &mut steps)?;
             put_value(alloc, answers, &value)
         }
-        Asked::Check => {
-            let report = check_report(alloc, live, options, &mut steps)?;
-            put_report(answers, &report)
-        }
-        Asked::Search(text) => {
-            let report = search_report(alloc, live, text)?;
-            put_report(answers, &report)
-        }
+        Asked::Check => put_report(answers, &check_report(alloc, live, options, &mut steps)?),
+        Asked::Search(text) => put_report(answers, &search_report(alloc, live, text)?),
         Asked::Conformable(from) => {
             let value = from_value(alloc, live, options, from, &mut steps)?;
             put_conformable(alloc, live, answers, &value, &mut steps)
@@ -115,7 +109,7 @@ fn put_conformable<L: Ledger>(
 ) -> Result<(), AllocError>
     ensures deck { live.new.deck ≡ live.old.deck }
     ensures answer { OnOk result (answers.new.items
-        ≡ answers.old.items ++ spec.conformable_text (table_of live.old.deck) value.now) }
+        ≡ answers.old.items ++ spec.conformable_text (tables.table live.old.deck) value.now) }
 {
     match value {
         FromValue::Good(value) => {

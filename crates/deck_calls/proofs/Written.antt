@@ -9,16 +9,21 @@ use Rattle.deck_calls.specs.Answers.{items_behind, line_text}
 
 -- what is written of the item at a place, and of the items behind it
 
+-- the texts from a place on are written as the one there and those behind it
 pub text_written : (texts : List (List ℕ)) (i : ℕ) (d : List ℕ) → i < length texts
     → items_behind (drop i texts) ≡ codes " | " ++ get_or texts i d ++ items_behind (drop (i + 1) texts)
 text_written texts i d h = ap items_behind (drop_more texts i d h)
 
+-- the same of keys
 pub key_written : (keys : List Key) (i : ℕ) (d : Key) → i < length keys
-    → items_behind (map key_text (drop i keys)) ≡ codes " | " ++ key_text (get_or keys i d) ++ items_behind (map key_text (drop (i + 1) keys))
+    → items_behind (map key_text (drop i keys)) ≡ codes " | " ++ key_text (get_or keys i d)
+    ++ items_behind (map key_text (drop (i + 1) keys))
 key_written keys i d h = ap (λ rest. items_behind (map key_text rest)) (drop_more keys i d h)
 
+-- the same of lines
 pub line_written : (lines : List DeckLine) (i : ℕ) (d : DeckLine) → i < length lines
-    → items_behind (map line_text (drop i lines)) ≡ codes " | " ++ line_text (get_or lines i d) ++ items_behind (map line_text (drop (i + 1) lines))
+    → items_behind (map line_text (drop i lines)) ≡ codes " | " ++ line_text (get_or lines i d)
+    ++ items_behind (map line_text (drop (i + 1) lines))
 line_written lines i d h = ap (λ rest. items_behind (map line_text rest)) (drop_more lines i d h)
 
 pub ruleset appends = (append_assoc, append-nil)

@@ -1,7 +1,7 @@
 //! Answers in writing.
 
 ghost use Rattle.std.specs.Prelude.{◌≡◌, ◌++◌, codes, IfOk, OnOk};
-ghost use Rattle.def_entry.specs.Faults.{entry_fault_text as entry_fault_text_of};
+ghost use Rattle.def_entry.specs.Faults as faults;
 ghost use Rattle.deck_calls.specs.Answers as answers;
 
 use deck::DeckFault;
@@ -35,7 +35,7 @@ pub(crate) fn fault_text(alloc: Global, fault: DeckFault) -> Result<Vec<u8>, All
 
 // Why a line defines no key.
 fn line_fault_text(alloc: Global, fault: EntryFault) -> Result<Vec<u8>, AllocError>
-    ensures { IfOk result (λ text. text.items ≡ entry_fault_text_of fault) }
+    ensures { IfOk result (λ text. text.items ≡ faults.entry_fault_text fault) }
 {
     match fault {
         EntryFault::OutOfMemory | EntryFault::Parse(ParseFault::OutOfMemory) => Err(AllocError),

@@ -1,5 +1,6 @@
 //! The calls, and how a line spells one.
 
+use def_entry::cut_at;
 use std::str;
 
 // A call with its arguments.
@@ -95,49 +96,38 @@ fn plain_question(line: &[u8]) -> Option<Question<'static>> {
 
 // The call that makes a deck, keeps it or prepares for one.
 fn board_call<'a>(word: &[u8], rest: &'a [u8]) -> Option<Call<'a>> {
-    if word == b"locale".as_slice() {
-        Some(Call::Locale(rest))
-    } else if word == b"set".as_slice() {
-        let (name, value) = split_at_space(rest);
-        Some(Call::Set(name, value))
-    } else if word == b"load".as_slice() {
-        Some(Call::Load(rest))
-    } else if word == b"text".as_slice() {
-        Some(Call::Text(rest))
-    } else if word == b"snapshot".as_slice() {
-        Some(Call::Snapshot)
-    } else {
-        None
+    match word {
+        b"locale" => Some(Call::Locale(rest)),
+        b"set" => {
+            let (name, value) = split_at_space(rest);
+            Some(Call::Set(name, value))
+        }
+        b"load" => Some(Call::Load(rest)),
+        b"text" => Some(Call::Text(rest)),
+        b"snapshot" => Some(Call::Snapshot),
+        _ => None,
     }
 }
 
 // The question about a key.
 fn key_question<'a>(word: &[u8], rest: &'a [u8]) -> Option<Question<'a>> {
-    if word == b"entry".as_slice() {
-        Some(Question::Entry(rest))
-    } else if word == b"place".as_slice() {
-        Some(Question::Place(rest))
-    } else {
-        None
+    match word {
+        b"entry" => Some(Question::Entry(rest)),
+        b"place" => Some(Question::Place(rest)),
+        _ => None,
     }
 }
 
 // The edit that a word and its arguments spell.
 fn read_edit<'a>(word: &[u8], rest: &'a [u8]) -> Option<Edit<'a>> {
-    if word == b"define".as_slice() {
-        Some(Edit::Define(rest))
-    } else if word == b"drop".as_slice() {
-        Some(Edit::Drop(rest))
-    } else if word == b"append".as_slice() {
-        Some(Edit::Append(rest))
-    } else if word == b"switch".as_slice() {
-        Some(Edit::Switch)
-    } else if word == b"back".as_slice() {
-        Some(Edit::Back)
-    } else if word == b"splice".as_slice() {
-        Some(Edit::Splice(read_change(rest)?))
-    } else {
-        None
+    match word {
+        b"define" => Some(Edit::Define(rest)),
+        b"drop" => Some(Edit::Drop(rest)),
+        b"append" => Some(Edit::Append(rest)),
+        b"switch" => Some(Edit::Switch),
+        b"back" => Some(Edit::Back),
+        b"splice" => Some(Edit::Splice(read_change(rest)?)),
+        _ => None,
     }
 }
 
@@ -156,8 +146,5 @@ fn read_number(text: &[u8]) -> Option<usize> {
 
 // What stands before the first space, and what stands behind it.
 fn split_at_space(text: &[u8]) -> (&[u8], &[u8]) {
-    match text.iter().position(|byte| *byte == b' ') {
-        Some(end) => (&text[..end], &text[end + 1..]),
-        None => (text, b""),
-    }
+    cut_at(text, b' ').unwrap_or((text, b""))
 }

@@ -1,5 +1,6 @@
 -- The report on a definition file.
-use Rattle.std.specs.Prelude.{◌++◌, ℕ, List, [], Bool, true, false, codes, length, flat_map, count_by, nat_le, if◌then◌else◌}
+use Rattle.std.specs.Prelude.{◌++◌, ℕ, List, [], Bool, true, false, codes, length, flat_map, count_by, nat_le}
+use Rattle.std.specs.Prelude.{if◌then◌else◌}
 use Rattle.std.specs.Fmt.{decimal}
 use Rattle.units_io.specs.FileMap.{longest_file}
 use Rattle.def_lines.specs.declared.line.Line.{Line}

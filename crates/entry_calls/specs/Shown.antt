@@ -3,7 +3,8 @@ use Rattle.std.specs.Prelude.{◌++◌, ℕ, List, [], codes, length, if◌then�
 use Rattle.std.specs.Fmt.{decimal}
 use Rattle.std.specs.Option.{is_some}
 use Rattle.def_entry.specs.declared.key.Key.{Key}
-use Rattle.def_entry.specs.Entries.{Entry, FunctionDef, What, Primitive, Dimensionless, Body, Function, Alias, Table, ListOf}
+use Rattle.def_entry.specs.Entries.{Entry, FunctionDef, What, Primitive, Dimensionless, Body, Function, Alias, Table}
+use Rattle.def_entry.specs.Entries.{ListOf}
 use Rattle.def_entry.specs.Keys.{key_text}
 
 -- a function, with the parts that it has beside its forward expression

@@ -65,8 +65,10 @@ impl Report {
         requires few_entries { self.old.entries + 1 < 2 ^ 64 }
         requires few_refusals { self.old.refusals + 1 < 2 ^ 64 }
         ensures rows { OnOk result (self.new.rows.items ≡ self.old.rows.items ++ row_of line.now) }
-        ensures entries { OnOk result (self.new.entries ≡ self.old.entries + (if is_entry_line line.now then 1 else 0)) }
-        ensures refusals { OnOk result (self.new.refusals ≡ self.old.refusals + (if is_refused_line line.now then 1 else 0)) }
+        ensures entries { OnOk result
+            (self.new.entries ≡ self.old.entries + (if is_entry_line line.now then 1 else 0)) }
+        ensures refusals { OnOk result
+            (self.new.refusals ≡ self.old.refusals + (if is_refused_line line.now then 1 else 0)) }
     {
         match finding_on(alloc, line.text.as_bytes())? {
             Finding::Other => {}
@@ -91,7 +93,8 @@ impl Report {
         mark: &[u8],
         text: &Text,
     ) -> Result<(), AllocError>
-        ensures rows { OnOk result (self.new.rows.items ≡ self.old.rows.items ++ (decimal number ++ mark.now ++ text.now ++ codes "\n")) }
+        ensures rows { OnOk result (self.new.rows.items
+            ≡ self.old.rows.items ++ (decimal number ++ mark.now ++ text.now ++ codes "\n")) }
         ensures entries { self.new.entries ≡ self.old.entries }
         ensures refusals { self.new.refusals ≡ self.old.refusals }
     {

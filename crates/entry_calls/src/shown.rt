@@ -2,9 +2,9 @@
 
 ghost use Rattle.std.specs.Prelude.{◌≡◌, ◌++◌, [], codes, if◌then◌else◌, IfOk, OnOk};
 ghost use Rattle.std.specs.Fmt.{decimal};
-ghost use Rattle.def_entry.specs.Keys.{key_text as text_of_key};
+ghost use Rattle.def_entry.specs.Keys as keys;
 ghost use Rattle.def_entry.specs.Views.{entry_view, function_view, what_view};
-ghost use Rattle.entry_calls.specs.Shown.{entry_text as shown_entry, function_text as shown_function, what_text as shown_what};
+ghost use Rattle.entry_calls.specs.Shown as spec;
 
 use def_entry::{Entry, FunctionDef, Key, KeyFault, What, key_text, read_key};
 use std::alloc::{AllocError, Global};
@@ -12,7 +12,7 @@ use units_io::Text;
 
 // The text of a key, what its entry says, and the text of its entry, with bars between.
 pub(crate) fn entry_text(alloc: Global, key: &Key, entry: Entry<'_>) -> Result<Text, AllocError>
-    ensures { IfOk result (λ text. text ≡ shown_entry key.now (entry_view entry.entry)) }
+    ensures { IfOk result (λ text. text ≡ spec.entry_text key.now (entry_view entry.entry)) }
 {
     let mut shown = key_shown(alloc, key)?.into_bytes();
     shown.extend_from_slice(b" | ")?;
@@ -24,7 +24,7 @@ pub(crate) fn entry_text(alloc: Global, key: &Key, entry: Entry<'_>) -> Result<T
 
 // The text of a key, which is read as a key and written again.
 fn key_shown(alloc: Global, key: &Key) -> Result<Text, AllocError>
-    ensures { IfOk result (λ text. text ≡ text_of_key key.now) }
+    ensures { IfOk result (λ text. text ≡ keys.key_text key.now) }
 {
     let text = key_text(alloc, key)?;
     match read_key(alloc, text.as_bytes()) {
@@ -36,7 +36,7 @@ fn key_shown(alloc: Global, key: &Key) -> Result<Text, AllocError>
 
 // What an entry says, in a few words.
 fn what_text(alloc: Global, what: &What) -> Result<Text, AllocError>
-    ensures { IfOk result (λ text. text ≡ shown_what (what_view what.now)) }
+    ensures { IfOk result (λ text. text ≡ spec.what_text (what_view what.now)) }
 {
     match what {
         What::Primitive => Text::from_bytes(alloc, b"primitive"),
@@ -70,7 +70,7 @@ fn list_text(alloc: Global, len: usize) -> Result<Text, AllocError>
 // A function, with the parts that it has beside its forward expression.
 #[tactic(auto, using(crate::proofs::Parts::same_parts))]
 fn function_text(alloc: Global, function: &FunctionDef) -> Result<Text, AllocError>
-    ensures { IfOk result (λ text. text ≡ shown_function (function_view function.now)) }
+    ensures { IfOk result (λ text. text ≡ spec.function_text (function_view function.now)) }
 {
     let mut shown = Vec::from_slice(alloc, b"function")?;
     put_if(&mut shown, function.in_unit.is_some(), b" in")?;

@@ -26,6 +26,7 @@ name_in (Callee g) = function_name g
 name_in (One x) = []
 name_in (Two x y) = []
 
+-- the function of an entry has the name of its key
 callee_name : (means : WordUse → Meaning) (name : List ℕ) (what : What) (g : Callable) → HasTarget means what
     → meaning_of means name what ≡ Callee g → function_name g ≡ name
 unfolding name_in
@@ -66,6 +67,7 @@ module _ (lines : List (List ℕ)) (read : PartWords) (f : Found) (is : IsFound 
       ap (λ name. meaning_of (means (known lines)) name (what_view f.row.now.what)) (sym named_so) ∙ is_callee_at,
     )
 
+-- a line that is not there has no words
 pub words_absent : (lines : List (List ℕ)) (read : PartWords) (id : ℕ) (part : Part) → slice_get lines id ≡ None
     → words_of read part ≡ holder_words lines read (Of id part)
 words_absent lines read id part h = sym (ap (λ o. line_words o read part) h)

@@ -43,6 +43,7 @@ unfolding with_lines
 lines_snoc k [] line = refl
 lines_snoc k (l ∷ lines) line = lines_snoc (with_line k l) lines line
 
+-- a prefix with a unit that is known stays known where more is
 both_extends : (k l : Known) → Extends k l → (p u : List ℕ) (m : Meaning)
     → both (k p) (k u) ≡ Some m → both (l p) (l u) ≡ Some m
 both_extends k l more p u m h = by (k p) (k u) refl refl h
@@ -56,6 +57,7 @@ both_extends k l more p u m h = by (k p) (k u) refl refl h
     by (Some (Callee x)) b e f g = cc
     by None b e f g = cc
 
+-- so does a word
 pub found_extends : (k l : Known) → Extends k l → (word : List ℕ) (m : Meaning) → found k word ≡ Some m
     → found l word ≡ Some m
 unfolding found
@@ -82,6 +84,7 @@ first_known k u us h = by (is_some (found k u.text)) refl
     by true e = (e, sym (ap (λ c. c && are_known k us) e) ∙ h)
     by false e = let no : false ≡ true = sym (ap (λ c. c && are_known k us) e) ∙ h in cc
 
+-- where all words are known, each is
 known_at : (k : Known) (us : List WordUse) → are_known k us ≡ true → (i : ℕ) (u : WordUse) → slice_get us i ≡ Some u
     → is_some (found k u.text) ≡ true
 known_at k [] h i u e = cc
@@ -89,6 +92,7 @@ known_at k (v ∷ us) h zero u e =
     let p : v ≡ u = cc in subst (λ w. is_some (found k w.text) ≡ true) p (first_known k v us h).0
 known_at k (v ∷ us) h (suc i) u e = known_at k us (first_known k v us h).1 i u e
 
+-- a known word stays known
 still_known : (k l : Known) → Extends k l → (word : List ℕ) → is_some (found k word) ≡ true
     → is_some (found l word) ≡ true
 still_known k l more word h = by (found k word) refl
@@ -97,6 +101,7 @@ still_known k l more word h = by (found k word) refl
     by None e = absurd (true≢false (sym h ∙ ap is_some e))
     by (Some m) e = ap is_some (found_extends k l more word m e)
 
+-- so do all of some
 all_known_extends : (k l : Known) → Extends k l → (us : List WordUse) → are_known k us ≡ true → are_known l us ≡ true
 all_known_extends k l more [] h = refl
 all_known_extends k l more (u ∷ us) h =
@@ -110,6 +115,7 @@ meaning_extends law k l more name words what are all = law (means k) (means l) n
     means_extends k l more u
     (known_at k (words_of words part) (all part) i u (ap (λ us. slice_get us i) (are part) ∙ e)))
 
+-- the target of an alias stays a function
 target_extends : (k l : Known) → Extends k l → (words : PartWords) (what : What)
     → AreWordsOf words what → AllKnown k words → HasTarget (means k) what → HasTarget (means l) what
 target_extends k l more words Primitive are all h = tt

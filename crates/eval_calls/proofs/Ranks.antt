@@ -15,12 +15,15 @@ use Rattle.tree_eval.specs.Entries.{function_words, words_if}
 use Rattle.eval_calls.specs.declared.parts.PartWords.{PartWords}
 use Rattle.eval_calls.specs.Parts.{AreWordsOf}
 
+-- the greater of a number and 0 is the number
 pub max_zero : (n : ℕ) → max n 0 ≡ n
 max_zero n = omega arith
 
+-- one more is the next number
 plus_one : (n : ℕ) → n + 1 ≡ suc n
 plus_one n = omega arith
 
+-- the greatest of three, by either two first
 max_assoc : (a b c : ℕ) → max a (max b c) ≡ max (max a b) c
 max_assoc a b c = omega arith
 
@@ -77,6 +80,7 @@ module _ (means : WordUse → Meaning) where
       let z = max_zero (rank_of h.0) in
       omega (arith, a, b, z)
 
+-- a number that is not less than 2^32 is at least that
 not_below : (n : ℕ) → ¬ (n < 2 ^ 32) → 2 ^ 32 ≤ n
 not_below n h = omega arith
 

@@ -36,10 +36,12 @@ pub lines_count : {Y : Type 0} (rows : List (Vec ℕ Y × Row)) (lines : List (L
     → length rows ≡ length lines
 lines_count rows lines view = sym (length-map rows (λ entry. entry.1.line)) ∙ ap length view
 
+-- no line leaves nothing known
 none_behind : (name : List ℕ) → with_lines nothing [] name ≡ None
 unfolding with_lines
 none_behind name = refl
 
+-- so nothing is known without lines
 none_known : (name : List ℕ) → known [] name ≡ None
 unfolding known
 none_known name = none_behind name
@@ -54,6 +56,7 @@ no_rows rows unknown none as_one = subst (λ rows. AreRows rows unknown) (sym no
   as_one = as_one;
 })
 
+-- what is there twice is one
 some_same : {A : Type 0} {x y : A} → Some x ≡ Some y → x ≡ y
 some_same e = cc
 
@@ -165,6 +168,7 @@ insert_new (e ∷ es) key row none = by (bytes_eq key.items e.0.items) refl (ins
     by false at later =
         rw at (ap (λ rows. e ∷ rows) (later (sym (ap (λ b. cond b (Some e.1) (row_of es key.items)) at) ∙ none)))
 
+-- where rows say what lines say, they mean the same
 as_meaning : SayingLaw → MeaningLaw
 unfolding SayingLaw
 as_meaning law = law

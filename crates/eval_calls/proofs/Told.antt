@@ -30,16 +30,20 @@ pub data Kind (b : Bool) (m : Meaning) : Type 0 where
   OfName : b ≡ false → (x : Expanded) → m ≡ One x → Kind b m
   OfFunction : b ≡ true → (f : Callable) → m ≡ Callee f → Kind b m
 
+-- a kept worth is no function
 kept_value : (w : Worth) → is_callable (kept w) ≡ false
 kept_value (Ok q) = refl
 kept_value (Err f) = refl
 
+-- a name that is one tree is no function
 name_kind : (x : Expanded) (m : Meaning) → m ≡ One x → Kind (is_callable (outcome_of m)) m
 name_kind x m e = OfName (ap (λ n. is_callable (outcome_of n)) e ∙ kept_value (value x None)) x e
 
+-- and one that is a function is
 function_kind : (f : Callable) (m : Meaning) → m ≡ Callee f → Kind (is_callable (outcome_of m)) m
 function_kind f m e = OfFunction (ap (λ n. is_callable (outcome_of n)) e) f e
 
+-- so it is told of each entry
 kind : (means : WordUse → Meaning) (name : List ℕ) (what : What) → HasTarget means what
     → Kind (is_callable (outcome_of (meaning_of means name what))) (meaning_of means name what)
 kind means name Primitive h = name_kind _ _ refl
@@ -120,6 +124,7 @@ module _ (lines : List (List ℕ)) (f : Found) (is : IsFound lines f) where
     pub is_known : is_some (known lines name) ≡ true
     is_known = ap is_some name_known
 
+-- an unknown name has no value
 pub unknown_value : (k : Known) (name : List ℕ) → k name ≡ None → is_one (k name) ≡ false
 unknown_value k name h = ap is_one h
 
@@ -130,6 +135,7 @@ pub known_found : (lines : List (List ℕ)) (name : List ℕ) (r : Option Found)
 known_found lines name None h none = sym (ap is_some none)
 known_found lines name (Some f) h none = sym (is_known lines f h.0 name h.1)
 
+-- a name has a value exactly where it is one tree
 pub value_is_one : (m : Option Meaning) (r : Option (Bor Outcome)) → IfSome r (λ o. IsValue m o.now)
     → IfNone r (is_one m ≡ false) → is_some r ≡ is_one m
 value_is_one m None h none = sym none
@@ -140,12 +146,14 @@ pub told_two : (lines : List (List ℕ)) (m n : Option Meaning) (a b : Bor Outco
     → IsToldOf lines (both m n) (told.Two a b)
 told_two lines m n a b v w = (v.0, w.0, ap₂ (λ k l. or_one (both k l)) v.1 w.1, v.2, w.2)
 
+-- without a value in front there is no pair
 both_left : (a b : Option Meaning) → is_one a ≡ false → both a b ≡ None
 both_left (Some (One x)) b h = absurd (true≢false h)
 both_left (Some (Two x y)) b h = refl
 both_left (Some (Callee x)) b h = refl
 both_left None b h = refl
 
+-- nor without one behind
 both_right : (a b : Option Meaning) → is_one b ≡ false → both a b ≡ None
 both_right (Some (One x)) (Some (One y)) h = absurd (true≢false h)
 both_right (Some (One x)) (Some (Two y z)) h = refl
@@ -155,14 +163,17 @@ both_right (Some (Two x y)) b h = refl
 both_right (Some (Callee x)) b h = refl
 both_right None b h = refl
 
+-- where the first has no value, one is told
 pub told_left : (lines : List (List ℕ)) (m n : Option Meaning) (o : Bor Outcome) → is_one m ≡ false → o.now ≡ Value one
     → IsToldOf lines (both m n) (told.One o)
 told_left lines m n o h e = told_unknown lines (both m n) o (both_left m n h) e
 
+-- so it is where the second has none
 pub told_right : (lines : List (List ℕ)) (m n : Option Meaning) (o : Bor Outcome) → is_one n ≡ false → o.now ≡ Value one
     → IsToldOf lines (both m n) (told.One o)
 told_right lines m n o h e = told_unknown lines (both m n) o (both_right m n h) e
 
+-- there is a pair exactly where both have values
 both_some : (a b : Option Meaning) → is_some (both a b) ≡ (is_one a && is_one b)
 both_some (Some (One x)) (Some (One y)) = refl
 both_some (Some (One x)) (Some (Two y z)) = refl
@@ -177,23 +188,28 @@ found_whole : (k : Known) (word : List ℕ) → cut_at 95 word ≡ None → foun
 unfolding found
 found_whole k word h = rw h refl
 
+-- a word with an underscore is its prefix and its unit
 found_parts : (k : Known) (word prefix unit : List ℕ) → cut_at 95 word ≡ Some (prefix, unit)
     → found k word ≡ both (k prefix) (k unit)
 unfolding found
 found_parts k word prefix unit h = rw h refl
 
+-- what is told of a word without one is told of its name
 pub told_whole : (lines : List (List ℕ)) (word : List ℕ) (t : Told) → cut_at 95 word ≡ None
     → IsToldOf lines (known lines word) t → IsToldOf lines (found (known lines) word) t
 told_whole lines word t h = subst (λ m. IsToldOf lines m t) (sym (found_whole (known lines) word h))
 
+-- and of one with it, of both its names
 pub told_parts : (lines : List (List ℕ)) (word prefix unit : List ℕ) (t : Told) → cut_at 95 word ≡ Some (prefix, unit)
     → IsToldOf lines (both (known lines prefix) (known lines unit)) t → IsToldOf lines (found (known lines) word) t
 told_parts lines word prefix unit t h =
     subst (λ m. IsToldOf lines m t) (sym (found_parts (known lines) word prefix unit h))
 
+-- a word without an underscore is known as its name is
 pub knows_whole : (k : Known) (word : List ℕ) → cut_at 95 word ≡ None → is_some (k word) ≡ is_some (found k word)
 knows_whole k word h = sym (ap is_some (found_whole k word h))
 
+-- and one with it as both its names are
 pub knows_parts : (k : Known) (word prefix unit : List ℕ) → cut_at 95 word ≡ Some (prefix, unit)
     → (is_one (k prefix) && is_one (k unit)) ≡ is_some (found k word)
 knows_parts k word prefix unit h = sym (ap is_some (found_parts k word prefix unit h) ∙ both_some (k prefix) (k unit))
@@ -211,10 +227,12 @@ told_rank lines m f is h = by (row_kind lines f is)
     by (OfName named x e) =
         absurd (true≢false (sym h.0 ∙ ap is_callee (at_line lines f is ∙ ap Some e)))
 
+-- a name with a value has the rank 0
 pub no_rank_one : (lines : List (List ℕ)) (m : Option Meaning) (o : Bor Outcome) → IsToldOf lines m (told.One o)
     → 0 ≡ rank_of_meaning (or_one m)
 no_rank_one lines m o h = sym (ap rank_of_meaning h.1)
 
+-- so have a prefix and a unit
 pub no_rank_two : (lines : List (List ℕ)) (m : Option Meaning) (p u : Bor Outcome) → IsToldOf lines m (told.Two p u)
     → 0 ≡ rank_of_meaning (or_one m)
 no_rank_two lines m p u h = sym (ap rank_of_meaning h.2)
@@ -232,10 +250,12 @@ pub told_is_function : (lines : List (List ℕ)) (word : List ℕ) (id : ℕ)
     → IsToldOf lines (found (known lines) word) (told.Function id) → IsTrue true ↔ IsFunction (known lines) word
 told_is_function lines word id h = (λ _. (callee_at lines id, h.1), λ _. refl)
 
+-- a word that stands for no function is none
 no_function : (k : Known) (word : List ℕ) → ((f : Callable) → stands k word ≡ Callee f → ⊥)
     → IsTrue false ↔ IsFunction k word
 no_function k word h = (λ e. absurd (true≢false (sym e)), λ is. absurd (h is.0 is.1))
 
+-- so is a word of which one value is told
 pub told_one_no_function : (lines : List (List ℕ)) (word : List ℕ) (o : Bor Outcome)
     → IsToldOf lines (found (known lines) word) (told.One o) → IsTrue false ↔ IsFunction (known lines) word
 told_one_no_function lines word o h = no_function (known lines) word none
@@ -243,6 +263,7 @@ told_one_no_function lines word o h = no_function (known lines) word none
     none : (f : Callable) → stands (known lines) word ≡ Callee f → ⊥
     none f e = let two : One h.0 ≡ Callee f = sym h.1 ∙ e in cc
 
+-- and one of which two are
 pub told_two_no_function : (lines : List (List ℕ)) (word : List ℕ) (p u : Bor Outcome)
     → IsToldOf lines (found (known lines) word) (told.Two p u) → IsTrue false ↔ IsFunction (known lines) word
 told_two_no_function lines word p u h = no_function (known lines) word none

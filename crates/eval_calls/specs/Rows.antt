@@ -42,6 +42,10 @@ pub record Keeps (known : Known) (row : Row) : Type 0 where
   pub outcome : row.outcome ≡ outcome_of (meaning_in known row)
   pub rank : row.rank ≡ rank_of_meaning (meaning_in known row)
 
+-- a row of this name and this line
+abbrev pub IsRowOf : Known → (name line : List ℕ) → Row → Type 0
+IsRowOf known name line row = Keeps known row × (row.name ≡ name) × (row.line ≡ line)
+
 -- its name is known by it
 pub record IsRow (known : Known) (row : Row) : Type 0 where
   pub keeps : Keeps known row

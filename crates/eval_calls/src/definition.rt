@@ -37,11 +37,11 @@ pub(crate) fn define(alloc: Global, table: &mut Table, line: &[u8]) -> Result<Te
     ensures kept { OnErr result (table.new ≡ table.old) }
     ensures refused { IfErr result (cause.OrNoMemory (cause.IsNotDefined table.old line.now)) }
 {
-    let Definition { name, what } = read_definition(alloc, line)?;
-    if table.find(name.as_bytes()).is_some() {
+    let said = read_definition(alloc, line)?;
+    if table.find(said.name.as_bytes()).is_some() {
         return Err(Refusal::DefinedTwice);
     }
-    let row = new_row::<Brand>(alloc, table, line, name, what, Blank::new(1))?;
+    let row = new_row::<Brand>(alloc, table, line, said, Blank::new(1))?;
     let text = outcome_text(alloc, &row.outcome)?;
     table.push(alloc, row)?;
     Ok(text)
@@ -92,27 +92,24 @@ fn rank_of(table: &Table, what: &What, words: &PartWords) -> Result<u32, Refusal
     }
 }
 
-// The row of a definition, in one step that nobody counts.
+// The row of a line that says this, in one step that nobody counts.
 fn new_row<L: Ledger>(
     alloc: Global,
     table: &Table,
     line: &[u8],
-    name: Text,
-    what: What,
+    said: Definition,
     blank: Blank,
 ) -> Result<Row, Refusal>
-    requires name { lines.name_of line.now ≡ name }
-    requires what { lines.what_of line.now ≡ what_view what }
+    requires said { Says line.now said }
     requires ledger { blank.name ≡ L.name }
     requires parts { blank.parts ≡ L.parts }
     requires some { 0 < blank.parts }
-    ensures row { IfOk result (λ row. spec.Keeps (lines.known table.now) row × (row.name ≡ name)
-        × (row.line ≡ line.now)) }
+    ensures row { IfOk result (spec.IsRowOf (lines.known table.now) said.name line.now) }
     ensures refused { IfErr result (cause.OrNoMemory
         (cause.MayNotStand (lines.known table.now) (lines.what_of line.now))) }
 {
-    let words = PartWords::of_what(alloc, &what)?;
-    let rank = rank_of(table, &what, &words)?;
+    let words = PartWords::of_what(alloc, &said.what)?;
+    let rank = rank_of(table, &said.what, &words)?;
     let scene = Scene {
         table,
         words: &words,
@@ -122,15 +119,15 @@ fn new_row<L: Ledger>(
         alloc,
         &scene,
         table.len(),
-        name.as_bytes(),
-        &what,
+        said.name.as_bytes(),
+        &said.what,
         &mut steps,
     )?;
     let line = Text::from_bytes(alloc, line)?;
     Ok(Row {
-        name,
+        name: said.name,
         line,
-        what,
+        what: said.what,
         words,
         outcome,
         rank,

@@ -15,8 +15,8 @@ use units_io::{Files, Text, Vars};
 
 // The answers to lines, one a line. The first line, `load FILE`, loads a deck; where it does not, its answer is the
 // only one. `value EXPRESSION` is a query of its live table and `lines` tells its lines; `define LINE`, `drop KEY`,
-// `switch LOCALE` and `append FILE` are edits, which `undo` takes back and `redo` makes again. The only error is want of
-// memory.
+// `switch LOCALE` and `append FILE` are edits, which `undo` takes back and `redo` makes again. The only
+// error is want of memory.
 pub(crate) fn answers_to<F: Files>(
     alloc: Global,
     files: &mut F,

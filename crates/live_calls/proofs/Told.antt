@@ -18,10 +18,12 @@ pub told : {A : Type 0} (r : Result A AllocError) (items : A → List ℕ) (answ
 told (Ok x) items answered wanted shown says answers is = says wanted answers ∙ is
 told (Err e) items answered wanted shown says answers is = tt
 
+-- where the text of an expression is read, the text of its answer is that of its value
 pub value_shown : (t : Table) (e : Syntax) (read : Result Syntax ParseFault) → read ≡ Ok e
     → query_text (answer t e) ≡ value_text t read
 value_shown t e read is = rw is refl
 
+-- the same of a function's inverse at an expression
 pub inverse_shown : (t : Table) (name : List ℕ) (e : Syntax) (read : Result Syntax ParseFault)
     → is_present t (key kind.Func name) ≡ true → read ≡ Ok e
     → query_text (inverse_at t name (answer t e)) ≡ inverse_text t name read

@@ -5,7 +5,7 @@ use Rattle.std.specs.Fmt.{decimal}
 use Rattle.expr_tree.specs.Syntax.{Syntax}
 use Rattle.expr_tree.specs.declared.fault.ParseFault.{ParseFault}
 use Rattle.quantity.specs.Amount.{Amount}
-use Rattle.quantity.specs.Text.{shown}
+use Rattle.quantity.specs.Text.{amount_text}
 use Rattle.digits_print.specs.declared.style.Style.TheVariants.{Exact}
 use Rattle.def_entry.specs.Faults.{parse_fault_text}
 use Rattle.def_entry.specs.Keys.{key}
@@ -21,7 +21,7 @@ use Rattle.live_table.specs.declared.fault.QueryFault.TheVariants.{Name, Value, 
 
 -- a quantity, or the fault of a query
 abbrev pub query_text : Result Amount QueryFault → List ℕ
-query_text (Ok q) = shown Exact q
+query_text (Ok q) = amount_text Exact q
 query_text (Err (Name fault)) = name_fault_text fault
 query_text (Err (Value fault)) = value_fault_text Exact fault
 query_text (Err OutOfMemory) = []

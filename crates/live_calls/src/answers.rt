@@ -1,7 +1,7 @@
 //! Answers in writing.
 
 ghost use Rattle.std.specs.Prelude.{◌≡◌, IfOk, Result, Err};
-ghost use Rattle.def_entry.specs.Faults.{parse_fault_text as parse_fault_text_of};
+ghost use Rattle.def_entry.specs.Faults as faults;
 ghost use Rattle.quantity.specs.Amount.{Amount};
 ghost use Rattle.live_table.specs.Answers as asked;
 ghost use Rattle.live_table.specs.declared.fault.QueryFault.{QueryFault};
@@ -53,7 +53,7 @@ pub(crate) fn query_text(
 // Why an expression has no tree.
 pub(crate) fn parse_fault_line(alloc: Global, fault: ParseFault) -> Result<Vec<u8>, AllocError>
     ensures told { IfOk result (λ _. fault ≡ ParseFault.OutOfMemory → ⊥) }
-    ensures text { IfOk result (λ text. text.items ≡ parse_fault_text_of fault) }
+    ensures text { IfOk result (λ text. text.items ≡ faults.parse_fault_text fault) }
 {
     match fault {
         ParseFault::OutOfMemory => Err(AllocError),

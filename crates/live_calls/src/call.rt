@@ -1,5 +1,6 @@
 //! The calls, and how a line spells one.
 
+use def_entry::cut_at;
 use std::str;
 
 // A call with its arguments.
@@ -70,8 +71,5 @@ fn read_number(text: &[u8]) -> Option<usize> {
 
 // What stands before the first space, and what stands behind it.
 fn split_at_space(text: &[u8]) -> (&[u8], &[u8]) {
-    match text.iter().position(|byte| *byte == b' ') {
-        Some(end) => (&text[..end], &text[end + 1..]),
-        None => (text, b""),
-    }
+    cut_at(text, b' ').unwrap_or((text, b""))
 }

@@ -1,7 +1,7 @@
 //! Queries of a live table, and their answers.
 
 ghost use Rattle.std.specs.Prelude.{◌≡◌, ◌<◌, true, IfOk, None};
-ghost use Rattle.def_entry.specs.Keys.{key as key_named};
+ghost use Rattle.def_entry.specs.Keys as keys;
 ghost use Rattle.def_entry.specs.Tables.{is_present};
 ghost use Rattle.def_entry.specs.declared.key.Kind.TheVariants as kind;
 ghost use Rattle.deck.specs.Tables.{table};
@@ -77,7 +77,7 @@ fn inverse_at(
     name: &[u8],
     tree: &Tree,
 ) -> Result<Quantity, QueryFault>
-    requires { is_present (table live.old.deck) (key_named kind.Func name.now) ≡ true }
+    requires { is_present (table live.old.deck) (keys.key kind.Func name.now) ≡ true }
     ensures deck { live.new.deck ≡ live.old.deck }
     ensures answer { asked.Answers result
         (answers.inverse_at (table live.old.deck) name.now (asked.answer (table live.old.deck) (syntax tree.now))) }
@@ -116,7 +116,7 @@ fn inverse_of<L: Ledger>(
     requires name { blank.name ≡ L.name }
     requires parts { blank.parts ≡ L.parts }
     requires some { 0 < blank.parts }
-    requires present { is_present (table live.old.deck) (key_named kind.Func name.now) ≡ true }
+    requires present { is_present (table live.old.deck) (keys.key kind.Func name.now) ≡ true }
     ensures deck { live.new.deck ≡ live.old.deck }
     ensures answer { asked.Answers result (asked.inverse_answer (table live.old.deck) name.now value.now) }
 {

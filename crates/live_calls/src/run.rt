@@ -7,14 +7,16 @@ use crate::edits::{append_answer, define_answer, drop_answer, switch_answer};
 use crate::queries::{all_answer, inverse_answer, value_answer};
 use crate::splices::{back_answer, splice_answer};
 use deck::{Deck, DeckFault, Settings, Splice};
+use def_entry::cut_at;
 use live_table::LiveTable;
 use std::alloc::{AllocError, Global};
 use units_io::{Files, Text, Vars};
 
-// The answers to lines, one a line. The first line, `load FILE`, loads a deck; where it does not, its answer is the only
-// one. `value EXPRESSION` and `unapply NAME EXPRESSION` are queries of its live table, `settle` asks for each name,
-// `counts` tells the counts, and `define LINE`, `drop KEY`, `switch LOCALE`, `append FILE`, `splice AT CUT LINE;LINE..`
-// and `back`, which takes the last splice back, are edits. The only error is want of memory.
+// The answers to lines, one a line. The first line, `load FILE`, loads a deck; where it does not,
+// its answer is the only one. `value EXPRESSION` and `unapply NAME EXPRESSION` are queries of its
+// live table, `settle` asks for each name, `counts` tells the counts, and `define LINE`, `drop KEY`,
+// `switch LOCALE`, `append FILE`, `splice AT CUT LINE;LINE..` and `back`, which takes the last
+// splice back, are edits. The only error is want of memory.
 pub(crate) fn answers_to<F: Files>(
     alloc: Global,
     files: &mut F,
@@ -124,8 +126,5 @@ fn american_settings(alloc: Global) -> Result<Settings, AllocError> {
 
 // What stands before the first line feed, and what stands behind it.
 fn split_first_line(lines: &[u8]) -> (&[u8], &[u8]) {
-    match lines.iter().position(|byte| *byte == b'\n') {
-        Some(end) => (&lines[..end], &lines[end + 1..]),
-        None => (lines, b""),
-    }
+    cut_at(lines, b'\n').unwrap_or((lines, b""))
 }

@@ -2,8 +2,7 @@
 
 ghost use Rattle.std.specs.Prelude.{◌≡◌, IfOk};
 ghost use Rattle.std.specs.Fmt.{decimal};
-ghost use Rattle.number_calls.specs.Answers.{order_text as order_text_of, truth_text as truth_text_of};
-ghost use Rattle.number_calls.specs.Answers.{IsAnswer, IsTaken, fraction_text, numeral_text};
+ghost use Rattle.number_calls.specs.Answers as spec;
 ghost use Rattle.frac128.specs.Decimals.{read};
 ghost use Rattle.frac128.specs.Numerals.{numeral_len_of};
 
@@ -25,7 +24,7 @@ pub(crate) fn line_answer(alloc: Global, line: &[u8]) -> Result<Text, AllocError
 
 // The answer to a call.
 fn answer_to(alloc: Global, call: &Call<'_>) -> Result<Text, AllocError>
-    ensures { IfOk result (λ text. IsAnswer call.now text) }
+    ensures { IfOk result (λ text. spec.IsAnswer call.now text) }
 {
     match call {
         Call::Step(step) => fraction_answer(alloc, step.taken()),
@@ -41,7 +40,7 @@ fn answer_to(alloc: Global, call: &Call<'_>) -> Result<Text, AllocError>
 impl Step {
     // The fraction that the step gives, or its fault.
     fn taken(&self) -> Result<Frac, FracFault>
-        ensures { IsTaken self.now result }
+        ensures { spec.IsTaken self.now result }
     {
         match self {
             Step::New(n, d) => Frac::new(*n, *d),
@@ -59,7 +58,7 @@ impl Step {
 
 // A fraction, or the text of a fault.
 fn fraction_answer(alloc: Global, taken: Result<Frac, FracFault>) -> Result<Text, AllocError>
-    ensures { IfOk result (λ text. text ≡ fraction_text taken) }
+    ensures { IfOk result (λ text. text ≡ spec.fraction_text taken) }
 {
     match taken {
         Ok(x) => print_exact(alloc, &x),
@@ -77,7 +76,7 @@ fn length_answer(alloc: Global, bytes: &[u8]) -> Result<Text, AllocError>
 
 // The value of a numeral, or the text of a fault.
 fn numeral_answer(alloc: Global, bytes: &[u8]) -> Result<Text, AllocError>
-    ensures { IfOk result (λ text. text ≡ numeral_text (read bytes.now)) }
+    ensures { IfOk result (λ text. text ≡ spec.numeral_text (read bytes.now)) }
 {
     match read_numeral(bytes) {
         Ok(numeral) => fraction_answer(alloc, numeral.value()),
@@ -88,14 +87,14 @@ fn numeral_answer(alloc: Global, bytes: &[u8]) -> Result<Text, AllocError>
 
 // Whether something is so.
 fn truth_text(is: bool) -> &'static [u8]
-    ensures { result.now ≡ truth_text_of is }
+    ensures { result.now ≡ spec.truth_text is }
 {
     if is { b"true" } else { b"false" }
 }
 
 // How the first of two fractions stands to the second.
 fn order_text(order: Ordering) -> &'static [u8]
-    ensures { result.now ≡ order_text_of order }
+    ensures { result.now ≡ spec.order_text order }
 {
     match order {
         Ordering::Less => b"less",

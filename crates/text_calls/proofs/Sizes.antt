@@ -1,5 +1,6 @@
 -- How large trees are: each is larger than its parts.
-use Rattle.std.proofs.Common.{◌≡◌, ◌+◌, ◌<◌, ℕ, zero, suc, List, [], ◌∷◌, length, map, get_or, ap, ◌∙◌, arith, Box, Global}
+use Rattle.std.proofs.Common.{◌≡◌, ◌+◌, ◌<◌, ℕ, zero, suc, List, [], ◌∷◌, length, map, get_or, ap, ◌∙◌, arith, Box}
+use Rattle.std.proofs.Common.{Global}
 use Rattle.expr_tree.specs.declared.operator.RootKind.{RootKind}
 use Rattle.expr_tree.specs.declared.operator.Scale.{Scale}
 use Rattle.expr_tree.specs.declared.operator.Sign.{Sign}
@@ -11,7 +12,8 @@ use Rattle.expr_tree.specs.declared.tree.Trees.{Trees}
 use Rattle.expr_tree.specs.Syntax.{Syntax, Members, NoMember, Member, Factors, NoFactor, Factor, Terms, NoTerm, Term}
 use Rattle.expr_tree.specs.Syntax as tree
 use Rattle.expr_tree.specs.Trees.{factor, factors, factors_of, members, syntax, term, terms, terms_of, trees_of}
-use Rattle.expr_tree.proofs.Views.{of_call, of_inverse, of_root, of_group, of_negate, of_power, of_juxtaposed, of_product, of_sum}
+use Rattle.expr_tree.proofs.Views.{of_call, of_inverse, of_root, of_group, of_negate, of_power, of_juxtaposed}
+use Rattle.expr_tree.proofs.Views.{of_product, of_sum}
 
 abbrev mutual
   pub size : Syntax → ℕ
@@ -38,47 +40,82 @@ abbrev mutual
   terms_size NoTerm = 0
   terms_size (Term s e ts) = suc (size e + terms_size ts)
 
-pub of_call_size : (t : Tree) (w : Box (List ℕ) Global) (e : Box Tree Global) → t ≡ made.Call w e → size (syntax t) ≡ suc (size (syntax e.value))
+-- a call is one greater than its operand
+pub of_call_size : (t : Tree) (w : Box (List ℕ) Global) (e : Box Tree Global) → t ≡ made.Call w e
+    → size (syntax t) ≡ suc (size (syntax e.value))
 of_call_size t w e is = ap (λ (x : Tree). size (syntax x)) is ∙ ap size (of_call w e)
 
-pub of_inverse_size : (t : Tree) (w : Box (List ℕ) Global) (e : Box Tree Global) → t ≡ made.Inverse w e → size (syntax t) ≡ suc (size (syntax e.value))
+-- so is an inverse
+pub of_inverse_size : (t : Tree) (w : Box (List ℕ) Global) (e : Box Tree Global) → t ≡ made.Inverse w e
+    → size (syntax t) ≡ suc (size (syntax e.value))
 of_inverse_size t w e is = ap (λ (x : Tree). size (syntax x)) is ∙ ap size (of_inverse w e)
 
-pub of_root_size : (t : Tree) (n : RootKind) (e : Box Tree Global) → t ≡ made.Root n e → size (syntax t) ≡ suc (size (syntax e.value))
+-- so is a root
+pub of_root_size : (t : Tree) (n : RootKind) (e : Box Tree Global) → t ≡ made.Root n e
+    → size (syntax t) ≡ suc (size (syntax e.value))
 of_root_size t n e is = ap (λ (x : Tree). size (syntax x)) is ∙ ap size (of_root n e)
 
+-- so is a group
 pub of_group_size : (t : Tree) (e : Box Tree Global) → t ≡ made.Group e → size (syntax t) ≡ suc (size (syntax e.value))
 of_group_size t e is = ap (λ (x : Tree). size (syntax x)) is ∙ ap size (of_group e)
 
-pub of_negate_size : (t : Tree) (e : Box Tree Global) → t ≡ made.Negate e → size (syntax t) ≡ suc (size (syntax e.value))
+-- so is a negated operand
+pub of_negate_size : (t : Tree) (e : Box Tree Global) → t ≡ made.Negate e
+    → size (syntax t) ≡ suc (size (syntax e.value))
 of_negate_size t e is = ap (λ (x : Tree). size (syntax x)) is ∙ ap size (of_negate e)
 
-pub of_power_size : (t : Tree) (e f : Box Tree Global) → t ≡ made.Power e f → size (syntax t) ≡ suc (size (syntax e.value) + size (syntax f.value))
+-- a power is one greater than both its parts
+pub of_power_size : (t : Tree) (e f : Box Tree Global) → t ≡ made.Power e f
+    → size (syntax t) ≡ suc (size (syntax e.value) + size (syntax f.value))
 of_power_size t e f is = ap (λ (x : Tree). size (syntax x)) is ∙ ap size (of_power e f)
 
-pub of_juxtaposed_size : (t : Tree) (es : Trees) → t ≡ made.Juxtaposed es → size (syntax t) ≡ suc (members_size (members (trees_of es)))
+-- operands side by side are one greater than all of them
+pub of_juxtaposed_size : (t : Tree) (es : Trees) → t ≡ made.Juxtaposed es
+    → size (syntax t) ≡ suc (members_size (members (trees_of es)))
 of_juxtaposed_size t es is = ap (λ (x : Tree). size (syntax x)) is ∙ ap size (of_juxtaposed es)
 
-pub of_product_size : (t : Tree) (fs : FactorList) → t ≡ made.Product fs → size (syntax t) ≡ suc (factors_size (factors (factors_of fs)))
+-- so is a product
+pub of_product_size : (t : Tree) (fs : FactorList) → t ≡ made.Product fs
+    → size (syntax t) ≡ suc (factors_size (factors (factors_of fs)))
 of_product_size t fs is = ap (λ (x : Tree). size (syntax x)) is ∙ ap size (of_product fs)
 
-pub of_sum_size : (t : Tree) (ts : TermList) → t ≡ made.Sum ts → size (syntax t) ≡ suc (terms_size (terms (terms_of ts)))
+-- so is a sum
+pub of_sum_size : (t : Tree) (ts : TermList) → t ≡ made.Sum ts
+    → size (syntax t) ≡ suc (terms_size (terms (terms_of ts)))
 of_sum_size t ts is = ap (λ (x : Tree). size (syntax x)) is ∙ ap size (of_sum ts)
 
-pub member_smaller : (ts : List Tree) (i : ℕ) (d : Tree) → i < length ts → size (syntax (get_or ts i d)) < members_size (members (map syntax ts))
+-- each of some operands is smaller than all together
+pub member_smaller : (ts : List Tree) (i : ℕ) (d : Tree) → i < length ts
+    → size (syntax (get_or ts i d)) < members_size (members (map syntax ts))
 member_smaller [] i d h = absurd (omega arith)
 member_smaller (t ∷ ts) zero d h = omega arith
 member_smaller (t ∷ ts) (suc i) d h = omega (arith, member_smaller ts i d (omega arith))
 
-pub factor_smaller : (fs : List (Scale × Tree)) (i : ℕ) (d : Scale × Tree) → i < length fs → size (syntax (get_or fs i d).1) < factors_size (factors (map factor fs))
+-- so is each member of a product
+pub factor_smaller : (fs : List (Scale × Tree)) (i : ℕ) (d : Scale × Tree) → i < length fs
+    → size (syntax (get_or fs i d).1) < factors_size (factors (map factor fs))
 factor_smaller [] i d h = absurd (omega arith)
 factor_smaller (f ∷ fs) zero d h = omega arith
 factor_smaller (f ∷ fs) (suc i) d h = omega (arith, factor_smaller fs i d (omega arith))
 
-pub term_smaller : (ts : List (Sign × Tree)) (i : ℕ) (d : Sign × Tree) → i < length ts → size (syntax (get_or ts i d).1) < terms_size (terms (map term ts))
+-- and each of a sum
+pub term_smaller : (ts : List (Sign × Tree)) (i : ℕ) (d : Sign × Tree) → i < length ts
+    → size (syntax (get_or ts i d).1) < terms_size (terms (map term ts))
 term_smaller [] i d h = absurd (omega arith)
 term_smaller (t ∷ ts) zero d h = omega arith
 term_smaller (t ∷ ts) (suc i) d h = omega (arith, term_smaller ts i d (omega arith))
 
-pub ruleset sizes =
-    (member_smaller, factor_smaller, term_smaller, of_call_size, of_inverse_size, of_root_size, of_group_size, of_negate_size, of_power_size, of_juxtaposed_size, of_product_size, of_sum_size)
+pub ruleset sizes = (
+  member_smaller,
+  factor_smaller,
+  term_smaller,
+  of_call_size,
+  of_inverse_size,
+  of_root_size,
+  of_group_size,
+  of_negate_size,
+  of_power_size,
+  of_juxtaposed_size,
+  of_product_size,
+  of_sum_size,
+)

@@ -11,7 +11,8 @@ use Rattle.expr_tree.specs.declared.word_list.WordKind.{WordKind}
 use Rattle.expr_tree.specs.declared.word_list.WordKind.TheVariants as kind
 use Rattle.expr_tree.specs.declared.word_list.WordUse.{WordUse}
 use Rattle.expr_tree.specs.Names.{is_name, is_refused}
-use Rattle.expr_tree.specs.Syntax.{Syntax, degree, Members, NoMember, Member, Factors, NoFactor, Factor, Terms, NoTerm, Term}
+use Rattle.expr_tree.specs.Syntax.{Syntax, degree, Members, NoMember, Member, Factors, NoFactor, Factor, Terms, NoTerm}
+use Rattle.expr_tree.specs.Syntax.{Term}
 use Rattle.expr_tree.specs.Syntax as tree
 use Rattle.expr_tree.specs.Words.{words_in}
 use Rattle.def_entry.specs.Faults.{parse_fault_text}

@@ -4,9 +4,8 @@ ghost use Rattle.std.specs.Prelude.{◌≡◌, ◌≢◌, ◌++◌, IfOk, None};
 ghost use Rattle.std.specs.Option.{option_copied};
 ghost use Rattle.expr_tree.specs.declared.fault.ParseFault.TheVariants as parse;
 ghost use Rattle.expr_tree.specs.Parsed.{parsed};
-ghost use Rattle.def_entry.specs.Faults.{parse_fault_text as fault_text};
-ghost use Rattle.text_calls.specs.Notation.{name_text, parsed_text, uses_text, verdict_text, words_text};
-ghost use Rattle.text_calls.specs.Notation.{kind_text as kind_text_of};
+ghost use Rattle.def_entry.specs.Faults as faults;
+ghost use Rattle.text_calls.specs.Notation as spec;
 
 use crate::line::split_at_blank;
 use crate::lookup::lookup_answer;
@@ -38,7 +37,7 @@ pub(crate) fn line_answer(alloc: Global, line: &[u8]) -> Result<Vec<u8>, AllocEr
 
 // The tree of a text, or its fault.
 fn answer_to(alloc: Global, text: &[u8], binder: Option<&[u8]>) -> Result<Vec<u8>, AllocError>
-    ensures { IfOk result (λ out. out.items ≡ parsed_text (parsed (option_copied binder.entry) text.now)) }
+    ensures { IfOk result (λ out. out.items ≡ spec.parsed_text (parsed (option_copied binder.entry) text.now)) }
 {
     let mut out = Vec::new(alloc);
     match parse_expr(alloc, text, binder) {
@@ -51,7 +50,7 @@ fn answer_to(alloc: Global, text: &[u8], binder: Option<&[u8]>) -> Result<Vec<u8
 
 // The tree of a copy of the tree of a text, or its fault.
 fn copy_of(alloc: Global, text: &[u8]) -> Result<Vec<u8>, AllocError>
-    ensures { IfOk result (λ out. out.items ≡ parsed_text (parsed None text.now)) }
+    ensures { IfOk result (λ out. out.items ≡ spec.parsed_text (parsed None text.now)) }
 {
     let mut out = Vec::new(alloc);
     match parse_expr(alloc, text, None) {
@@ -68,7 +67,7 @@ fn copy_of(alloc: Global, text: &[u8]) -> Result<Vec<u8>, AllocError>
 
 // That a text has a tree, or its fault.
 fn verdict_on(alloc: Global, text: &[u8]) -> Result<Vec<u8>, AllocError>
-    ensures { IfOk result (λ out. out.items ≡ verdict_text (parsed None text.now)) }
+    ensures { IfOk result (λ out. out.items ≡ spec.verdict_text (parsed None text.now)) }
 {
     let mut out = Vec::new(alloc);
     match parse_expr(alloc, text, None) {
@@ -81,7 +80,7 @@ fn verdict_on(alloc: Global, text: &[u8]) -> Result<Vec<u8>, AllocError>
 
 // The words of a text, or its fault.
 fn words_of(alloc: Global, text: &[u8]) -> Result<Vec<u8>, AllocError>
-    ensures { IfOk result (λ out. out.items ≡ words_text (parsed None text.now)) }
+    ensures { IfOk result (λ out. out.items ≡ spec.words_text (parsed None text.now)) }
 {
     let mut out = Vec::new(alloc);
     match parse_expr(alloc, text, None) {
@@ -98,7 +97,7 @@ fn words_of(alloc: Global, text: &[u8]) -> Result<Vec<u8>, AllocError>
 // Puts words at the end, each with how it stands.
 #[tactic(auto, using(crate::proofs::Written::words_written))]
 fn put_uses(out: &mut Vec<u8>, uses: &Words<'_>) -> Result<(), AllocError>
-    ensures { IfOk result (λ _. out.new.items ≡ out.old.items ++ uses_text uses.now) }
+    ensures { IfOk result (λ _. out.new.items ≡ out.old.items ++ spec.uses_text uses.now) }
 {
     for word in uses.as_slice() {
         out.extend_from_slice(kind_text(word.kind()))?;
@@ -109,7 +108,7 @@ fn put_uses(out: &mut Vec<u8>, uses: &Words<'_>) -> Result<(), AllocError>
 
 // How a word stands.
 fn kind_text(kind: WordKind) -> &'static [u8]
-    ensures { result.now ≡ kind_text_of kind }
+    ensures { result.now ≡ spec.kind_text kind }
 {
     match kind {
         WordKind::Plain => b" ",
@@ -120,7 +119,7 @@ fn kind_text(kind: WordKind) -> &'static [u8]
 
 // Whether some bytes are a name, or a refused one.
 fn naming(bytes: &[u8]) -> &'static [u8]
-    ensures { result.now ≡ name_text bytes.now }
+    ensures { result.now ≡ spec.name_text bytes.now }
 {
     if is_name(bytes) {
         b"name"
@@ -134,7 +133,7 @@ fn naming(bytes: &[u8]) -> &'static [u8]
 // Puts a fault at the end.
 fn put_fault(alloc: Global, out: &mut Vec<u8>, fault: ParseFault) -> Result<(), AllocError>
     requires { fault ≢ parse.OutOfMemory }
-    ensures { IfOk result (λ _. out.new.items ≡ out.old.items ++ fault_text fault) }
+    ensures { IfOk result (λ _. out.new.items ≡ out.old.items ++ faults.parse_fault_text fault) }
 {
     out.extend_from_slice(parse_fault_text(alloc, fault)?.as_bytes())?;
     Ok(())

@@ -1,9 +1,8 @@
 //! Lines of calls.
 
+use def_entry::cut_at;
+
 // What stands before the first blank, and what stands behind it.
 pub(crate) fn split_at_blank(line: &[u8]) -> (&[u8], &[u8]) {
-    match line.iter().position(|byte| *byte == b' ') {
-        Some(end) => (&line[..end], &line[end + 1..]),
-        None => (line, b""),
-    }
+    cut_at(line, b' ').unwrap_or((line, b""))
 }

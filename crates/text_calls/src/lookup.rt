@@ -1,7 +1,7 @@
 //! What a word leads to in a table of a few keys.
 
 ghost use Rattle.std.specs.Prelude.{◌≡◌, ◌++◌, IfOk};
-ghost use Rattle.def_entry.specs.Keys.{key as key_named};
+ghost use Rattle.def_entry.specs.Keys as key_spec;
 ghost use Rattle.def_entry.specs.SameKeys.{is_among, is_same, is_same_kind};
 ghost use Rattle.name_lookup.specs.Order.{plan};
 ghost use Rattle.name_lookup.specs.Plans.{run};
@@ -49,7 +49,7 @@ impl Present for Table {
 
 // Whether the key is of this kind and name.
 fn is_key(key: &Key, kind: Kind, name: &[u8]) -> bool
-    ensures { result ≡ is_same (key_named kind name.now) key.now }
+    ensures { result ≡ is_same (key_spec.key kind name.now) key.now }
 {
     is_kind(kind, key.kind) && name == key.name.as_bytes()
 }

@@ -1,9 +1,8 @@
 //! Trees in writing: each with its kind before its parts, in parentheses, and words in brackets.
 
 ghost use Rattle.std.specs.Prelude.{◌≡◌, ◌++◌, IfOk, codes};
-ghost use Rattle.expr_tree.specs.Trees.{factors, factors_of, members as members_in, syntax, terms, terms_of, trees_of};
-ghost use Rattle.text_calls.specs.Notation.{factors_text, members_text, numeral_text, power_text, tree_text, terms_text, word_text};
-ghost use Rattle.text_calls.specs.Notation.{scale_text as scale_text_of, sign_text as sign_text_of};
+ghost use Rattle.expr_tree.specs.Trees as trees;
+ghost use Rattle.text_calls.specs.Notation as spec;
 
 use expr_tree::{Factors, Scale, Sign, Terms, Tree, Trees};
 use frac128::Numeral;
@@ -13,27 +12,19 @@ use std::alloc::{AllocError, Global};
 #[cycle(put)]
 #[tactic(auto, using(crate::proofs::Sizes::sizes, crate::proofs::Written::written))]
 pub(crate) fn put_tree(alloc: Global, out: &mut Vec<u8>, tree: &Tree) -> Result<(), AllocError>
-    ensures { IfOk result (λ _. out.new.items ≡ out.old.items ++ tree_text (syntax tree.now)) }
+    ensures { IfOk result (λ _. out.new.items ≡ out.old.items ++ spec.tree_text (trees.syntax tree.now)) }
 {
     match tree {
         Tree::Number(x) => put_numeral(alloc, out, x),
-        Tree::Bar(quotient) => {
-            out.extend_from_slice(b"(bar ")?;
-            put_numeral(alloc, out, &quotient.top)?;
-            out.extend_from_slice(b" ")?;
-            put_numeral(alloc, out, &quotient.bottom)?;
-            out.extend_from_slice(b")")
-        }
+        Tree::Bar(quotient) => put_bar(alloc, out, &quotient.top, &quotient.bottom),
         Tree::Word(word) => put_word(out, word.as_bytes()),
         Tree::Argument => out.extend_from_slice(b"[]"),
         Tree::Call(word, operand) => {
-            out.extend_from_slice(b"(call ")?;
-            put_word(out, word.as_bytes())?;
+            put_opening(out, b"(call ", word.as_bytes())?;
             put_last(alloc, out, operand)
         }
         Tree::Inverse(word, operand) => {
-            out.extend_from_slice(b"(inverse ")?;
-            put_word(out, word.as_bytes())?;
+            put_opening(out, b"(inverse ", word.as_bytes())?;
             put_last(alloc, out, operand)
         }
         Tree::Root(kind, operand) => {
@@ -60,11 +51,39 @@ pub(crate) fn put_tree(alloc: Global, out: &mut Vec<u8>, tree: &Tree) -> Result<
     }
 }
 
+// Puts a quotient of two numerals at the end.
+#[tactic(auto, using(crate::proofs::Written::appends))]
+fn put_bar(
+    alloc: Global,
+    out: &mut Vec<u8>,
+    top: &Numeral,
+    bottom: &Numeral,
+) -> Result<(), AllocError>
+    ensures { IfOk result (λ _. out.new.items ≡ out.old.items
+        ++ codes "(bar " ++ spec.numeral_text top.now ++ codes " " ++ spec.numeral_text bottom.now ++ codes ")") }
+{
+    out.extend_from_slice(b"(bar ")?;
+    put_numeral(alloc, out, top)?;
+    out.extend_from_slice(b" ")?;
+    put_numeral(alloc, out, bottom)?;
+    out.extend_from_slice(b")")
+}
+
+// Puts the kind of a tree and its word at the end.
+#[tactic(auto, using(crate::proofs::Written::appends))]
+fn put_opening(out: &mut Vec<u8>, kind: &[u8], word: &[u8]) -> Result<(), AllocError>
+    ensures { IfOk result (λ _. out.new.items ≡ out.old.items ++ kind.now ++ spec.word_text word.now) }
+{
+    out.extend_from_slice(kind)?;
+    put_word(out, word)
+}
+
 // Puts the last part of a tree at the end.
 #[cycle(put)]
 #[tactic(auto, using(crate::proofs::Sizes::sizes, crate::proofs::Written::written))]
 fn put_last(alloc: Global, out: &mut Vec<u8>, tree: &Tree) -> Result<(), AllocError>
-    ensures { IfOk result (λ _. out.new.items ≡ out.old.items ++ codes " " ++ tree_text (syntax tree.now) ++ codes ")") }
+    ensures { IfOk result (λ _. out.new.items
+        ≡ out.old.items ++ codes " " ++ spec.tree_text (trees.syntax tree.now) ++ codes ")") }
 {
     out.extend_from_slice(b" ")?;
     put_tree(alloc, out, tree)?;
@@ -75,7 +94,9 @@ fn put_last(alloc: Global, out: &mut Vec<u8>, tree: &Tree) -> Result<(), AllocEr
 #[cycle(put)]
 #[tactic(auto, using(crate::proofs::Sizes::sizes, crate::proofs::Written::members_written))]
 fn put_members(alloc: Global, out: &mut Vec<u8>, members: &Trees) -> Result<(), AllocError>
-    ensures { IfOk result (λ _. out.new.items ≡ out.old.items ++ codes "(side" ++ members_text (members_in (trees_of members.now)) ++ codes ")") }
+    ensures { IfOk result (λ _. out.new.items
+        ≡ out.old.items ++ codes "(side"
+        ++ spec.members_text (trees.members (trees.trees_of members.now)) ++ codes ")") }
 {
     out.extend_from_slice(b"(side")?;
     for member in members.as_slice() {
@@ -89,7 +110,9 @@ fn put_members(alloc: Global, out: &mut Vec<u8>, members: &Trees) -> Result<(), 
 #[cycle(put)]
 #[tactic(auto, using(crate::proofs::Sizes::sizes, crate::proofs::Written::factors_written))]
 fn put_factors(alloc: Global, out: &mut Vec<u8>, members: &Factors) -> Result<(), AllocError>
-    ensures { IfOk result (λ _. out.new.items ≡ out.old.items ++ codes "(product" ++ factors_text (factors (factors_of members.now)) ++ codes ")") }
+    ensures { IfOk result (λ _. out.new.items
+        ≡ out.old.items ++ codes "(product"
+        ++ spec.factors_text (trees.factors (trees.factors_of members.now)) ++ codes ")") }
 {
     out.extend_from_slice(b"(product")?;
     for member in members.as_slice() {
@@ -103,7 +126,9 @@ fn put_factors(alloc: Global, out: &mut Vec<u8>, members: &Factors) -> Result<()
 #[cycle(put)]
 #[tactic(auto, using(crate::proofs::Sizes::sizes, crate::proofs::Written::terms_written))]
 fn put_terms(alloc: Global, out: &mut Vec<u8>, members: &Terms) -> Result<(), AllocError>
-    ensures { IfOk result (λ _. out.new.items ≡ out.old.items ++ codes "(sum" ++ terms_text (terms (terms_of members.now)) ++ codes ")") }
+    ensures { IfOk result (λ _. out.new.items
+        ≡ out.old.items ++ codes "(sum"
+        ++ spec.terms_text (trees.terms (trees.terms_of members.now)) ++ codes ")") }
 {
     out.extend_from_slice(b"(sum")?;
     for member in members.as_slice() {
@@ -115,7 +140,7 @@ fn put_terms(alloc: Global, out: &mut Vec<u8>, members: &Terms) -> Result<(), Al
 
 // A `*` or `/`.
 fn scale_text(scale: Scale) -> &'static [u8]
-    ensures { result.now ≡ scale_text_of scale }
+    ensures { result.now ≡ spec.scale_text scale }
 {
     match scale {
         Scale::Multiply => b" * ",
@@ -125,7 +150,7 @@ fn scale_text(scale: Scale) -> &'static [u8]
 
 // A `+` or `-`.
 fn sign_text(sign: Sign) -> &'static [u8]
-    ensures { result.now ≡ sign_text_of sign }
+    ensures { result.now ≡ spec.sign_text sign }
 {
     match sign {
         Sign::Plus => b" + ",
@@ -136,7 +161,7 @@ fn sign_text(sign: Sign) -> &'static [u8]
 // Puts a numeral at the end.
 #[tactic(auto, using(crate::proofs::Written::appends))]
 fn put_numeral(alloc: Global, out: &mut Vec<u8>, x: &Numeral) -> Result<(), AllocError>
-    ensures { IfOk result (λ _. out.new.items ≡ out.old.items ++ numeral_text x.now) }
+    ensures { IfOk result (λ _. out.new.items ≡ out.old.items ++ spec.numeral_text x.now) }
 {
     out.extend_from_slice(x.coefficient().to_string(alloc)?.as_bytes())?;
     put_power(alloc, out, x.scale())
@@ -145,7 +170,7 @@ fn put_numeral(alloc: Global, out: &mut Vec<u8>, x: &Numeral) -> Result<(), Allo
 // Puts a power of ten at the end.
 #[tactic(auto, using(crate::proofs::Written::appends))]
 fn put_power(alloc: Global, out: &mut Vec<u8>, power: i128) -> Result<(), AllocError>
-    ensures { IfOk result (λ _. out.new.items ≡ out.old.items ++ power_text power) }
+    ensures { IfOk result (λ _. out.new.items ≡ out.old.items ++ spec.power_text power) }
 {
     if power == 0 {
         return Ok(());
@@ -158,7 +183,7 @@ fn put_power(alloc: Global, out: &mut Vec<u8>, power: i128) -> Result<(), AllocE
 // Puts a word at the end.
 #[tactic(auto, using(crate::proofs::Written::appends))]
 pub(crate) fn put_word(out: &mut Vec<u8>, word: &[u8]) -> Result<(), AllocError>
-    ensures { IfOk result (λ _. out.new.items ≡ out.old.items ++ word_text word.now) }
+    ensures { IfOk result (λ _. out.new.items ≡ out.old.items ++ spec.word_text word.now) }
 {
     out.extend_from_slice(b"[")?;
     out.extend_from_slice(word)?;

@@ -15,15 +15,15 @@ reduce-requires-clause-target g c = c.in_ok-rank.ensures.rank.target
 pub returns-clause-row : goal.returns-clause-row
 returns-clause-row g c = (
   record {
-    name = ap name_of c.in_ok-line.ensures ∙ c.requires.name;
-    what = ap what_of c.in_ok-line.ensures ∙ c.requires.what;
+    name = ap name_of c.in_ok-line.ensures ∙ c.requires.said.0;
+    what = ap what_of c.in_ok-line.ensures ∙ c.requires.said.1;
     words = c.in_ok-words.ensures;
     all_known = c.in_ok-rank.ensures.rank.all_known;
     target = c.in_ok-rank.ensures.rank.target;
     outcome = c.in_ok-outcome.ensures.outcome
-        ∙ ap (λ name. outcome_of (meaning_of (means (known c.args.table.now)) name (what_view c.args.what)))
+        ∙ ap (λ name. outcome_of (meaning_of (means (known c.args.table.now)) name (what_view c.args.said.what)))
         c.as_bytes.ensures;
-    rank = c.in_ok-rank.ensures.rank.ranked c.args.name;
+    rank = c.in_ok-rank.ensures.rank.ranked c.args.said.name;
   },
   refl,
   c.in_ok-line.ensures,

@@ -4,4 +4,5 @@ use Rattle.text_calls.proofs.answer.put_uses.Given as goal
 
 -- what is written and what is still to be written
 abbrev pub invariant-loop-word : goal.invariant-loop-word
-invariant-loop-word l = l.out.items ++ uses_text (drop l.word-index l.word-items) ≡ l.initial.out.items ++ uses_text l.uses
+invariant-loop-word l = l.out.items ++ uses_text (drop l.word-index l.word-items)
+    ≡ l.initial.out.items ++ uses_text l.uses

@@ -23,12 +23,15 @@ decreases-put_terms l = 2 * terms_size (terms (terms_of l.members.now)) + 1
 
 abbrev pub invariant-put_members-loop-member : goal.invariant-put_members-loop-member
 invariant-put_members-loop-member l =
-    l.out.items ++ members_text (members (map syntax (drop l.member-index l.member-items))) ≡ l.initial.out.items ++ members_text (members (trees_of l.members))
+    l.out.items ++ members_text (members (map syntax (drop l.member-index l.member-items)))
+    ≡ l.initial.out.items ++ members_text (members (trees_of l.members))
 
 abbrev pub invariant-put_factors-loop-member : goal.invariant-put_factors-loop-member
 invariant-put_factors-loop-member l =
-    l.out.items ++ factors_text (factors (map factor (drop l.member-index l.member-items))) ≡ l.initial.out.items ++ factors_text (factors (factors_of l.members))
+    l.out.items ++ factors_text (factors (map factor (drop l.member-index l.member-items)))
+    ≡ l.initial.out.items ++ factors_text (factors (factors_of l.members))
 
 abbrev pub invariant-put_terms-loop-member : goal.invariant-put_terms-loop-member
 invariant-put_terms-loop-member l =
-    l.out.items ++ terms_text (terms (map term (drop l.member-index l.member-items))) ≡ l.initial.out.items ++ terms_text (terms (terms_of l.members))
+    l.out.items ++ terms_text (terms (map term (drop l.member-index l.member-items)))
+    ≡ l.initial.out.items ++ terms_text (terms (terms_of l.members))
