@@ -64,7 +64,9 @@ cut_off() {
     printf '2 yd\nin\n' >&"${COPROC[1]}"
     hear $'\t* 72\n\t/ 0.013888889\n' || return 99
     exec {answers}<&-
-    printf '2 yd\nin\nm\n' >&"${COPROC[1]}"
+    # It may have ended before it is given the last line.
+    trap '' PIPE
+    printf '2 yd\nin\nm\n' >&"${COPROC[1]}" 2> /dev/null
     wait "$pid"
 }
 

@@ -6,8 +6,9 @@
 makes LISTS random lists of words (20000 where none is given) from the SEED (1 where none is given),
 has the real clap read them, by tools/words_by_clap.rs, which it builds against Debian's package
 librust-clap-dev, and runs the built program on each. The status and both streams have to be those
-that follow from clap's fields. It prints how many runs had each ending and the first differences,
-and ends with status 1 where there is a difference.
+that follow from clap's fields; of a list that is taken and asks for something else than numbers,
+that it is taken. It prints how many runs had each ending and the first differences, and ends with
+status 1 where there is a difference.
 """
 
 import os
@@ -26,12 +27,11 @@ TOOLS = Path(__file__).resolve().parent
 REGISTRY = Path("/usr/share/cargo/registry")
 SHOWN = 5  # how many differences are printed
 USAGE = (2, b"", b"units: usage: units [options] [FROM [TO]]\n")
-UNSUPPORTED = (8, b"", b"units: unsupported\n")
+TAKEN = "taken"  # what is written does not follow from the words alone
+INPUT = [["1", "2"], ["3", "4", "5"]]  # the records that each run may read
 UNITS = ["m", "in", "ft", "yd"]
 VALUES = dict(zip(UNITS, map(Fraction, ["1", "0.0254", "0.3048", "0.9144"])))
-OTHER_OPTIONS = {"one-line", "compact", "terse", "quiet", "strict", "round", "verbose", "check"}
-OTHER_OPTIONS |= {"locale", "trial"}
-REFUSED = {"per", "sqrt", "cuberoot", "sin", "ln"}
+LAYOUT = {"one-line", "compact", "terse", "strict", "verbose"}
 
 MANIFEST = """[package]
 name = "words_by_clap"
@@ -51,7 +51,7 @@ directory = "{REGISTRY}"
 
 # Words
 FLAGS = "--exact --one-line -1 --compact --terse -t --quiet -q --strict -s".split()
-FLAGS += "--round -r --verbose -v --check -c".split()
+FLAGS += "--round -r --verbose -v --check -c --header --header".split()
 NUMBERS = "1 3 8 36 37 0 -1 +5 007 256 20000 20001 65536 x 3.0".split() + ["", " 3"]
 TEXTS = ["first.units", "gone.units", "", "m", "-", "--", "-q", "--file", "=first.units", "en_GB"]
 NAMES = ["m", "in", "ft", "yd", "kg", "per", "sin", "m2", "", "-", "help", "a b"]
@@ -67,6 +67,9 @@ def conversion(r):
     if r.randrange(2):
         digits = [["-d", r.choice(NUMBERS)], [f"--digits={r.randrange(1, 38)}"]]
         parts.append(r.choice([["--exact"], *digits]))
+    if r.randrange(3) == 0:
+        parts.append(r.choice([["--column", r.choice(NUMBERS)], [f"--column={r.randrange(4)}"]]))
+        parts += [["--header"]] * r.randrange(2)
     r.shuffle(parts)
     return [word for part in parts for word in part]
 
@@ -76,7 +79,7 @@ def any_word(r):
     if kind < 3:
         return [r.choice(FLAGS)]
     if kind < 5:
-        name = r.choice(["-d", "--digits", "--trial"])
+        name = r.choice(["-d", "--digits", "--trial", "--column", "--column"])
         value = r.choice(NUMBERS)
         return r.choice([[name, value], [f"{name}={value}"], [f"{name}{value}"]])
     if kind < 7:
@@ -107,29 +110,50 @@ def text_in(fields, name):
     return bytes.fromhex(fields[name][1:]) if name in fields else None
 
 
-def is_name(text):
-    return text is not None and text.isalpha() and text.isascii() and text.decode() not in REFUSED
+def content(text):
+    """A text without a final carriage return, a comment and the blanks around it."""
+    return text.removesuffix(b"\r").partition(b"#")[0].strip(b" \t")
+
+
+def fits(fields):
+    """Whether the arguments fit each other, all of which clap takes."""
+    if sum(name in fields for name in ["from", "check", "trial"]) > 1:
+        return False
+    if "column" in fields:
+        return "from" in fields and "to" in fields and content(text_in(fields, "to")) not in [b"", b"?"]
+    return "header" not in fields
+
+
+def converted(fields, factor):
+    """The records with a field converted."""
+    column = int(fields["column"])
+    records = [list(record) for record in INPUT]
+    for record in records[1 if "header" in fields else 0 :]:
+        if column <= len(record):
+            record[column - 1] = number_text(factor * int(record[column - 1]), fields)
+    return 0, "".join(",".join(record) + "\n" for record in records).encode(), b""
 
 
 def ending(line):
     """The status and the bytes on both streams that follow from what clap finds."""
-    if line == "refused":
-        return USAGE
     fields = {name: value for name, _, value in (word.partition("=") for word in line.split())}
-    if sum(name in fields for name in ["from", "check", "trial"]) > 1:
+    if line == "refused" or not fits(fields):
         return USAGE
     file, source, target = (text_in(fields, name) for name in ["file", "from", "to"])
-    if OTHER_OPTIONS & set(fields) or file is None or not is_name(source) or not is_name(target):
-        return UNSUPPORTED
-    if file == b"":
-        return None  # the name of no file: what the system says to it is not clap's
+    if file is None or file == b"" or "trial" in fields:
+        return TAKEN  # a trial makes up its own definitions
     if file != b"first.units":
         return 3, b"", b"units: no file: " + file + b"\n"
-    for name in [source, target]:
-        if name.decode() not in VALUES:
-            return 1, b"unknown unit: " + name + b"\n", b""
-    x, y = VALUES[source.decode()], VALUES[target.decode()]
-    return 0, f"\t* {number_text(x / y, fields)}\n\t/ {number_text(y / x, fields)}\n".encode(), b""
+    names = [text and text.decode() for text in [source, target]]
+    if any(name not in VALUES for name in names):
+        return TAKEN
+    factor = VALUES[names[0]] / VALUES[names[1]]
+    if "column" in fields:
+        return converted(fields, factor)
+    if LAYOUT & set(fields):
+        return TAKEN
+    forward, back = number_text(factor, fields), number_text(1 / factor, fields)
+    return 0, f"\t* {forward}\n\t/ {back}\n".encode(), b""
 
 
 # Runs
@@ -154,9 +178,14 @@ def by_clap(reader, lists):
 
 
 def by_program(program, folder, words):
-    how = {"cwd": folder, "stdin": subprocess.DEVNULL, "capture_output": True}
+    given = "".join(",".join(record) + "\n" for record in INPUT).encode()
+    how = {"cwd": folder, "input": given, "capture_output": True}
     run = subprocess.run([os.fsencode(program), *words], check=False, **how)
     return run.returncode, run.stdout, run.stderr
+
+
+def agree(want, came):
+    return came[0] in [0, 1, 3, 4] if want == TAKEN else want == came
 
 
 def main():
@@ -171,10 +200,10 @@ def main():
         wanted = [ending(line) for line in by_clap(build(folder), lists)]
         with ThreadPoolExecutor(os.cpu_count()) as pool:
             got = list(pool.map(lambda words: by_program(program, folder, words), lists))
-    rows = [row for row in zip(lists, wanted, got) if row[1] is not None]
-    different = [row for row in rows if row[1] != row[2]]
-    endings = Counter(want[0] for _, want, _ in rows)
-    tally = ", ".join(f"{endings[status]} with status {status}" for status in sorted(endings))
+    rows = list(zip(lists, wanted, got))
+    different = [row for row in rows if not agree(row[1], row[2])]
+    endings = Counter("taken" if want == TAKEN else f"with status {want[0]}" for _, want, _ in rows)
+    tally = ", ".join(f"{endings[ending]} {ending}" for ending in sorted(endings))
     print(f"{len(rows)} lists, {len(different)} differences: {tally}")
     for words, want, came in different[:SHOWN]:
         print(f"    {words}: {came}, not {want}")

@@ -29,6 +29,8 @@ fn command() -> Command {
         .arg(flag("round").short('r'))
         .arg(flag("verbose").short('v'))
         .arg(flag("check").short('c'))
+        .arg(option("column").value_parser(value_parser!(u16).range(1..)))
+        .arg(flag("header"))
         .arg(option("file").short('f'))
         .arg(option("locale").short('l'))
         .arg(option("trial").value_parser(value_parser!(u16).range(1..=20000)))
@@ -56,6 +58,7 @@ fn fields(words: Vec<OsString>) -> String {
     let mut found = Vec::new();
     for name in [
         "exact", "one-line", "compact", "terse", "quiet", "strict", "round", "verbose", "check",
+        "header",
     ] {
         if matches.get_flag(name) {
             found.push(name.to_string());
@@ -69,8 +72,10 @@ fn fields(words: Vec<OsString>) -> String {
     if let Some(digits) = matches.get_one::<u8>("digits") {
         found.push(format!("digits={digits}"));
     }
-    if let Some(trial) = matches.get_one::<u16>("trial") {
-        found.push(format!("trial={trial}"));
+    for name in ["trial", "column"] {
+        if let Some(number) = matches.get_one::<u16>(name) {
+            found.push(format!("{name}={number}"));
+        }
     }
     found.join(" ")
 }
