@@ -1,6 +1,7 @@
 //! What a walk leaves behind as it goes.
 
-ghost use Rattle.std.specs.Prelude.{◌≡◌, ◌<◌, ◌∷◌, [], ◌++◌, length, slice_get, Some, MatchOption, OnOk, OnErr};
+ghost use Rattle.std.specs.Prelude.{◌≡◌, ◌+◌, ◌^◌, ◌<◌, ◌∷◌, [], ◌++◌, length, slice_get, Some};
+ghost use Rattle.std.specs.Prelude.{MatchOption, OnOk, OnErr};
 ghost use Rattle.name_walk.specs.Traces.{AreEntered, no_traces, with_names, with_entered, with_closed, with_frame};
 ghost use Rattle.name_walk.specs.Traces.{IsCleared, without_order};
 
@@ -13,6 +14,26 @@ use std::marker::Model;
 pub(crate) struct Frame {
     pub(crate) name: usize,
     pub(crate) place: usize,
+}
+
+impl Frame {
+    // A name at its first step.
+    pub(crate) fn first(name: usize) -> Frame
+        ensures { result ≡ record { name = name; place = 0 } }
+    {
+        Frame { name, place: 0 }
+    }
+
+    // The same name, one step on.
+    pub(crate) fn next(self) -> Frame
+        requires { self.place + 1 < 2 ^ 64 }
+        ensures { result ≡ record { name = self.name; place = self.place + 1 } }
+    {
+        Frame {
+            place: self.place + 1,
+            ..self
+        }
+    }
 }
 
 // The mark of each name; the names that have one other than open, which are to be cleaned; those

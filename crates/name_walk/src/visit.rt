@@ -42,34 +42,29 @@ pub(crate) fn visit(
     ensures visited { IfOk result (IsVisited net.now.steps.now net.now.settled.now start traces.old traces.new) }
 {
     traces.enter(start)?;
-    let mut name = start;
-    let mut place = 0;
+    let mut here = Frame::first(start);
     loop {
-        let Some(step) = net.step(name, place) else {
-            traces.close(name)?;
-            let Some(frame) = traces.pop() else {
-                return Ok(None);
-            };
-            name = frame.name;
-            place = frame.place + 1;
-            continue;
-        };
-        let next = match step {
-            Step::Nowhere(word) => return Ok(Some(Fault::DeadEnd(word, Some(name)))),
-            Step::To(next) => next,
-        };
-        match mark_of(net, traces, next) {
-            Mark::Closed => place += 1,
-            Mark::OnPath => {
-                let names = chain(alloc, traces.frames(), name, next)?;
-                return Ok(Some(Fault::Cycle(names)));
+        match net.step(here.name, here.place) {
+            None => {
+                traces.close(here.name)?;
+                let Some(above) = traces.pop() else {
+                    return Ok(None);
+                };
+                here = above.next();
             }
-            Mark::Open => {
-                traces.push(Frame { name, place })?;
-                traces.enter(next)?;
-                name = next;
-                place = 0;
-            }
+            Some(Step::Nowhere(word)) => return Ok(Some(Fault::DeadEnd(word, Some(here.name)))),
+            Some(Step::To(next)) => match mark_of(net, traces, next) {
+                Mark::Closed => here = here.next(),
+                Mark::OnPath => {
+                    let names = chain(alloc, traces.frames(), here.name, next)?;
+                    return Ok(Some(Fault::Cycle(names)));
+                }
+                Mark::Open => {
+                    traces.push(here)?;
+                    traces.enter(next)?;
+                    here = Frame::first(next);
+                }
+            },
         }
     }
 }
