@@ -4,7 +4,6 @@ use crate::answer::{fault_text, line_of};
 use crate::call::{Call, read_call};
 use crate::edit::edit_answer;
 use crate::question::question_answer;
-use crate::settings::settings_copy;
 use deck::{Deck, DeckFault, Settings, Splice};
 use std::alloc::{AllocError, Global};
 use units_io::{Files, Text, Vars};
@@ -114,7 +113,7 @@ impl Board {
         files: &mut F,
         name: &[u8],
     ) -> Result<Vec<u8>, AllocError> {
-        let settings = settings_copy(alloc, &self.settings)?;
+        let settings = self.settings.copy(alloc)?;
         let outcome = Deck::load(alloc, files, name, settings);
         self.take_deck(alloc, outcome)
     }
@@ -126,7 +125,7 @@ impl Board {
         files: &mut F,
         name: &[u8],
     ) -> Result<Vec<u8>, AllocError> {
-        let settings = settings_copy(alloc, &self.settings)?;
+        let settings = self.settings.copy(alloc)?;
         let outcome = deck_of_text(alloc, files, name, settings);
         self.take_deck(alloc, outcome)
     }

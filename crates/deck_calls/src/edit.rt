@@ -6,7 +6,6 @@ ghost use Rattle.deck_calls.specs.Answers as answers;
 
 use crate::answer::{changes_text, fault_text, line_of};
 use crate::call::{Change, Edit};
-use crate::settings::settings_copy;
 use deck::{Deck, DeckFault, Settings, Splice};
 use deck_lines::{DeckLine, DeckLines};
 use def_entry::{KeyFault, Keys, read_key};
@@ -57,7 +56,7 @@ fn switch_answer(
     deck: &mut Deck,
     settings: &Settings,
 ) -> Result<Vec<u8>, AllocError> {
-    let settings = settings_copy(alloc, settings)?;
+    let settings = settings.copy(alloc)?;
     outcome_text(alloc, deck.switch(alloc, settings))
 }
 
@@ -89,7 +88,7 @@ fn back_answer(
 // The splice of these lines, each with the number 0, and these settings.
 fn splice_of(alloc: Global, change: Change<'_>, settings: &Settings) -> Result<Splice, AllocError> {
     let put = put_lines(alloc, change.lines)?;
-    let settings = settings_copy(alloc, settings)?;
+    let settings = settings.copy(alloc)?;
     Ok(Splice {
         at: change.at,
         cut: change.cut,

@@ -8,7 +8,6 @@ mod call;
 mod edit;
 mod question;
 mod same;
-mod settings;
 
 use board::answers_to;
 use std::io;

@@ -1,6 +1,6 @@
 //! Steps made of a live table.
 
-ghost use Rattle.std.specs.Prelude.{◌≡◌, ◌<◌, IfOk, OnErr, OnOk, reverse, vec_len};
+ghost use Rattle.std.specs.Prelude.{◌≡◌, ◌<◌, OnErr, OnOk, reverse, vec_len};
 ghost use Rattle.live_table.specs.Calls.{IsEdit};
 ghost use Rattle.edit_history.specs.Calls as calls;
 ghost use Rattle.edit_history.specs.Histories.{Lead};
@@ -103,7 +103,7 @@ fn exchange(
     splices_are_undone();
     // The lines of each deck are closed and within the limits.
     let _ = table.deck().lines();
-    let Ok(settings) = settings_copy(alloc, table.deck().settings()) else {
+    let Ok(settings) = table.deck().settings().copy(alloc) else {
         return Err(Step::Exchange { at, cut, put });
     };
     let change = Splice {
@@ -142,15 +142,6 @@ fn switch(alloc: Global, table: &mut LiveTable, settings: Settings) -> Result<St
         Ok(old) => Ok(Step::Switch(old)),
         Err(refused) => Err(Step::Switch(refused)),
     }
-}
-
-// The same settings.
-fn settings_copy(alloc: Global, settings: &Settings) -> Result<Settings, AllocError>
-    ensures { IfOk result (λ copy. copy ≡ settings.now) }
-{
-    let locale = settings.locale.copy(alloc)?;
-    let vars = settings.vars.copy(alloc)?;
-    Ok(Settings { locale, vars })
 }
 
 /// Puts other settings in force, and answers those before. A refusal, for want of memory, hands them back and changes

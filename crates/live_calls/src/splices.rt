@@ -17,7 +17,7 @@ pub(crate) fn splice_answer(
     change: Change<'_>,
 ) -> Result<Vec<u8>, AllocError> {
     *back = None;
-    let settings = settings_copy(alloc, live.deck().settings())?;
+    let settings = live.deck().settings().copy(alloc)?;
     let change = splice_of(alloc, change, settings)?;
     made_text(alloc, live, back, change)
 }
@@ -84,10 +84,4 @@ fn deck_line(alloc: Global, text: &[u8]) -> Result<DeckLine, AllocError> {
         text,
         mark,
     })
-}
-
-fn settings_copy(alloc: Global, settings: &Settings) -> Result<Settings, AllocError> {
-    let locale = settings.locale.copy(alloc)?;
-    let vars = settings.vars.copy(alloc)?;
-    Ok(Settings { locale, vars })
 }

@@ -6,7 +6,6 @@ ghost use Rattle.deck_lines.specs.Readings.{entry_in};
 ghost use Rattle.deck_lines.specs.declared.line.DeckLine.{DeckLine};
 
 use super::Deck;
-use crate::settings::Settings;
 use deck_lines::{LineStore, MarkedLines};
 use def_entry::{Key, What};
 use def_lines::Line;
@@ -20,7 +19,7 @@ impl Deck {
         ensures { IfOk result (λ copy. copy ≡ self.now) }
     {
         let store = copied_store(alloc, &self.store)?;
-        let settings = copied_settings(alloc, &self.settings)?;
+        let settings = self.settings.copy(alloc)?;
         let notices = copied_texts(alloc, &self.notices)?;
         Deck::from_parts(alloc, store, settings, notices)
     }
@@ -65,15 +64,6 @@ fn copied_definition(
     let name = Text::from_bytes(alloc, name)?;
     let what = entry.what.copy(alloc)?;
     Ok(Some((Key { kind, name }, what)))
-}
-
-// The same settings.
-fn copied_settings(alloc: Global, settings: &Settings) -> Result<Settings, AllocError>
-    ensures { IfOk result (λ copy. copy ≡ settings.now) }
-{
-    let locale = settings.locale.copy(alloc)?;
-    let vars = settings.vars.copy(alloc)?;
-    Ok(Settings { locale, vars })
 }
 
 // The same texts.
