@@ -33,113 +33,131 @@ in_two : (r : Worth) (f g : Amount → Worth) → (r >>= (λ w. f w >>= g)) ≡ 
 in_two (Ok w) f g = refl
 in_two (Err e) f g = refl
 
-module _ (means : WordUse → Meaning) (us : List WordUse) (place : ℕ) (all : List (Step × Syntax)) (a : Option Amount)
-  where
-    abbrev pub worth : Worth
-    worth = value (chain means all) a
+-- what has been taken, and what is left from member i on
+pub record IsRunning (means : WordUse → Meaning) (us : List WordUse) (place : ℕ) (all : List (Step × Syntax))
+    (a : Option Amount) (i : ℕ) (held : Amount) (next : ℕ) : Type 0 where
+  pub goes_on : value (chain means all) a ≡ chained held (links means (drop i all)) a
+  pub places : next + length (words_of (drop i all)) ≡ place + length (words_of all)
+  pub stand : Stand us next (words_of (drop i all))
+  pub lighter : weight_links (links means (drop i all)) < weight (chain means all)
 
-    -- what has been taken, and what is left from member i on
-    pub record IsRunning (i : ℕ) (held : Amount) (next : ℕ) : Type 0 where
-      pub goes_on : worth ≡ chained held (links means (drop i all)) a
-      pub places : next + length (words_of (drop i all)) ≡ place + length (words_of all)
-      pub stand : Stand us next (words_of (drop i all))
-      pub lighter : weight_links (links means (drop i all)) < weight (chain means all)
+-- the first member of a chain
+module _ (all : List (Step × Syntax)) {o : Step × Syntax} (is : slice_get all 0 ≡ Some o) where
+  split_first : all ≡ o ∷ drop 1 all
+  split_first = get_drop all 0 o is
 
-    -- the first member
-    module _ (o : Step × Syntax) (is : slice_get all 0 ≡ Some o) where
-      split_first : all ≡ o ∷ drop 1 all
-      split_first = get_drop all 0 o is
+  words_first : words_of all ≡ words_in o.1 ++ words_of (drop 1 all)
+  words_first = ap words_of split_first
 
-      words_first : words_of all ≡ words_in o.1 ++ words_of (drop 1 all)
-      words_first = ap words_of split_first
+  -- its words stand where those of all do
+  pub first_stand : (us : List WordUse) (place : ℕ) → Stand us place (words_of all) → Stand us place (words_in o.1)
+  first_stand us place h =
+      left_stands us place (words_in o.1) (words_of (drop 1 all)) (subst (Stand us place) words_first h)
 
-      worth_first : worth ≡ (value (expand means o.1) a >>= (λ v. chained v (links means (drop 1 all)) a))
-      worth_first = ap (λ y. value (chain means y) a) split_first
+  module _ (means : WordUse → Meaning) where
+    weight_first : weight (chain means all) ≡ suc (weight (expand means o.1) + weight_links (links means (drop 1 all)))
+    weight_first = ap (λ y. weight (chain means y)) split_first
 
-      weight_first : weight (chain means all)
-          ≡ suc (weight (expand means o.1) + weight_links (links means (drop 1 all)))
-      weight_first = ap (λ y. weight (chain means y)) split_first
+    -- it is lighter than all
+    pub first_lighter : 4 * weight (expand means o.1) + 1 < 4 * weight (chain means all)
+    first_lighter = omega (arith, weight_first)
 
-      pub first_stand : Stand us place (words_of all) → Stand us place (words_in o.1)
-      first_stand h = left_stands us place (words_in o.1) (words_of (drop 1 all)) (subst (Stand us place) words_first h)
+  module _ (means : WordUse → Meaning) (a : Option Amount) where
+    abbrev behind : Amount → Worth
+    behind v = chained v (links means (drop 1 all)) a
 
-      pub first_lighter : 4 * weight (expand means o.1) + 1 < 4 * weight (chain means all)
-      first_lighter = omega (arith, weight_first)
+    worth_first : value (chain means all) a ≡ (value (expand means o.1) a >>= behind)
+    worth_first = ap (λ y. value (chain means y) a) split_first
 
-      pub first_fault : (e : EvalFault) → Gives amount_in (Err e) (value (expand means o.1) a)
-          → Gives amount_in (Err e) worth
-      first_fault e h =
-          fault_first amount_in amount_in e (value (expand means o.1) a) (λ v. chained v (links means (drop 1 all)) a)
-          worth worth_first h
+    -- its fault is that of all
+    pub first_fault : (e : EvalFault) → Gives amount_in (Err e) (value (expand means o.1) a)
+        → Gives amount_in (Err e) (value (chain means all) a)
+    first_fault e h =
+        fault_first amount_in amount_in e (value (expand means o.1) a) behind (value (chain means all) a) worth_first h
 
-      pub begins : (held : Amount) (next : ℕ) → Stand us place (words_of all) → value (expand means o.1) a ≡ Ok held
-          → next ≡ place + length (words_in o.1) → IsRunning 1 held next
-      begins held next h v n =
-          let w : length (words_of all) ≡ length (words_in o.1) + length (words_of (drop 1 all)) =
-          ap length words_first ∙ length-append (words_in o.1) (words_of (drop 1 all)) in
-          record {
-            goes_on = worth_first ∙ ap (λ r. r >>= (λ x. chained x (links means (drop 1 all)) a)) v;
-            places = omega (arith, n, w);
-            stand = subst (λ k. Stand us k (words_of (drop 1 all))) (sym n)
-                (right_stands us place (words_in o.1) (words_of (drop 1 all)) (subst (Stand us place) words_first h));
-            lighter = omega (arith, weight_first);
-          }
+    -- with what it is worth the loop begins
+    pub begins : {us : List WordUse} {place next : ℕ} {held : Amount} → Stand us place (words_of all)
+        → value (expand means o.1) a ≡ Ok held → next ≡ place + length (words_in o.1)
+        → IsRunning means us place all a 1 held next
+    begins {us} {place} {next} {held} h v n =
+        let w : length (words_of all) ≡ length (words_in o.1) + length (words_of (drop 1 all)) =
+        ap length words_first ∙ length-append (words_in o.1) (words_of (drop 1 all)) in
+        record {
+          goes_on = worth_first ∙ ap (λ r. r >>= behind) v;
+          places = omega (arith, n, w);
+          stand = subst (λ k. Stand us k (words_of (drop 1 all))) (sym n)
+              (right_stands us place (words_in o.1) (words_of (drop 1 all)) (subst (Stand us place) words_first h));
+          lighter = omega (arith, weight_first means);
+        }
 
-    -- a further member
-    module _ (i : ℕ) (held : Amount) (next : ℕ) (running : IsRunning i held next) (o : Step × Syntax)
-        (is : slice_get all i ≡ Some o) where
-      split : drop i all ≡ o ∷ drop (i + 1) all
-      split = get_drop all i o is
+module _ {means : WordUse → Meaning} {us : List WordUse} {place : ℕ} {all : List (Step × Syntax)} {a : Option Amount}
+    {i : ℕ} {held : Amount} {next : ℕ} (running : IsRunning means us place all a i held next) where
+  -- a further member
+  module _ {o : Step × Syntax} (is : slice_get all i ≡ Some o) where
+    split : drop i all ≡ o ∷ drop (i + 1) all
+    split = get_drop all i o is
 
-      words_here : words_of (drop i all) ≡ words_in o.1 ++ words_of (drop (i + 1) all)
-      words_here = ap words_of split
+    words_here : words_of (drop i all) ≡ words_in o.1 ++ words_of (drop (i + 1) all)
+    words_here = ap words_of split
 
-      weight_here : weight_links (links means (drop i all)) ≡ weight (expand means o.1) + weight_links
-          (links means (drop (i + 1) all))
-      weight_here = ap (λ y. weight_links (links means y)) split
+    weight_here : weight_links (links means (drop i all))
+        ≡ weight (expand means o.1) + weight_links (links means (drop (i + 1) all))
+    weight_here = ap (λ y. weight_links (links means y)) split
 
-      pub member_stand : Stand us next (words_in o.1)
-      member_stand = left_stands us next (words_in o.1) (words_of (drop (i + 1) all))
-          (subst (Stand us next) words_here running.stand)
+    -- its words stand at the place
+    pub member_stand : Stand us next (words_in o.1)
+    member_stand = left_stands us next (words_in o.1) (words_of (drop (i + 1) all))
+        (subst (Stand us next) words_here running.stand)
 
-      pub member_lighter : 4 * weight (expand means o.1) + 3 < 4 * weight (chain means all)
-      member_lighter = omega (arith, weight_here, running.lighter)
+    -- it is lighter than all
+    pub member_lighter : 4 * weight (expand means o.1) + 3 < 4 * weight (chain means all)
+    member_lighter = omega (arith, weight_here, running.lighter)
 
-      abbrev others : Amount → Worth
-      others n = chained n (links means (drop (i + 1) all)) a
+    abbrev others : Amount → Worth
+    others n = chained n (links means (drop (i + 1) all)) a
 
-      abbrev here : Worth
-      here = with_worth o.0 held (value (expand means o.1) a)
+    abbrev here : Worth
+    here = with_worth o.0 held (value (expand means o.1) a)
 
-      worth_here : worth ≡ (here >>= others)
-      worth_here = running.goes_on ∙ ap (λ y. chained held (links means y) a) split
-          ∙ in_two (value (expand means o.1) a)
-          (step_worth o.0 held) others
+    worth_here : value (chain means all) a ≡ (here >>= others)
+    worth_here = running.goes_on ∙ ap (λ y. chained held (links means y) a) split
+        ∙ in_two (value (expand means o.1) a) (step_worth o.0 held) others
 
-      pub member_fault : (e : EvalFault) → Answers {A = Amount} (Err e) here → Gives amount_in (Err e) worth
-      member_fault e h = fault_first {A = Amount} (λ z. z) amount_in e here others worth worth_here h
+    -- its fault is that of all
+    pub member_fault : (e : EvalFault) → Answers {A = Amount} (Err e) here
+        → Gives amount_in (Err e) (value (chain means all) a)
+    member_fault e h =
+        fault_first {A = Amount} (λ z. z) amount_in e here others (value (chain means all) a) worth_here h
 
-      pub goes : (x : Amount) (after : ℕ) → here ≡ Ok x → after ≡ next + length (words_in o.1)
-          → IsRunning (i + 1) x after
-      goes x after j n =
-          let m : length (words_of (drop i all)) ≡ length (words_in o.1) + length (words_of (drop (i + 1) all)) =
-          ap length words_here ∙ length-append (words_in o.1) (words_of (drop (i + 1) all)) in
-          record {
-            goes_on = worth_here ∙ ap (λ r. r >>= others) j;
-            places = omega (arith, n, m, running.places);
-            stand = subst (λ k. Stand us k (words_of (drop (i + 1) all))) (sym n)
-                (right_stands us next (words_in o.1) (words_of (drop (i + 1) all))
-                (subst (Stand us next) words_here running.stand));
-            lighter = omega (arith, weight_here, running.lighter);
-          }
+    -- with what it makes the loop goes on
+    pub goes : {x : Amount} {after : ℕ} → here ≡ Ok x → after ≡ next + length (words_in o.1)
+        → IsRunning means us place all a (i + 1) x after
+    goes {x} {after} j n =
+        let m : length (words_of (drop i all)) ≡ length (words_in o.1) + length (words_of (drop (i + 1) all)) =
+        ap length words_here ∙ length-append (words_in o.1) (words_of (drop (i + 1) all)) in
+        record {
+          goes_on = worth_here ∙ ap (λ r. r >>= others) j;
+          places = omega (arith, n, m, running.places);
+          stand = subst (λ k. Stand us k (words_of (drop (i + 1) all))) (sym n)
+              (right_stands us next (words_in o.1) (words_of (drop (i + 1) all))
+              (subst (Stand us next) words_here running.stand));
+          lighter = omega (arith, weight_here, running.lighter);
+        }
 
-    -- after the last member
-    pub ends : (i : ℕ) (held : Amount) (next : ℕ) → IsRunning i held next → length all ≤ i
-        → (worth ≡ Ok held) × (next ≡ place + length (words_of all))
-    ends i held next running h =
-        let e : drop i all ≡ [] = drop_of_length-le all h in
-        let z : length (words_of (drop i all)) ≡ 0 = ap (λ y. length (words_of y)) e in
-        (running.goes_on ∙ ap (λ y. chained held (links means y) a) e, omega (arith, running.places, z))
+  -- after the last member
+  module _ (last : length all ≤ i) where
+    none_left : drop i all ≡ []
+    none_left = drop_of_length-le all last
+
+    -- what is held is what all are worth
+    pub end_worth : value (chain means all) a ≡ Ok held
+    end_worth = running.goes_on ∙ ap (λ y. chained held (links means y) a) none_left
+
+    -- and the place comes behind all
+    pub end_place : next ≡ place + length (words_of all)
+    end_place =
+        let z : length (words_of (drop i all)) ≡ 0 = ap (λ y. length (words_of y)) none_left in
+        omega (arith, running.places, z)
 
 -- no members
 pub empty_worth : (means : WordUse → Meaning) (all : List (Step × Syntax)) (a : Option Amount) → length all ≡ 0

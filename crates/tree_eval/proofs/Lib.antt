@@ -1,3 +1,4 @@
+pub mod Alone
 pub mod Arms
 pub mod Binding
 pub mod Calls
@@ -8,5 +9,6 @@ pub mod Places
 pub mod Same
 pub mod StepFaults
 pub mod Targets
+pub mod Uses
 pub mod Weight
 pub mod Words

@@ -58,20 +58,20 @@ module _ (means : WordUse → Meaning) where
     pub words : words_in e ≡ words_of os
     pub expands : expand means e ≡ chain means os
 
-  pub juxtaposed_is : (e : Syntax) (es : List Syntax) → e ≡ tree.Juxtaposed (members es) → IsChain e (map by_side es)
-  juxtaposed_is e es h = record {
+  pub juxtaposed_is : {e : Syntax} (es : List Syntax) → e ≡ tree.Juxtaposed (members es) → IsChain e (map by_side es)
+  juxtaposed_is es h = record {
     words = ap words_in h ∙ member_words es;
     expands = ap (expand means) h ∙ juxtaposed_chain es;
   }
 
-  pub product_is : (e : Syntax) (fs : List (Scale × Syntax)) → e ≡ tree.Product (factors fs) → IsChain e (map scaled fs)
-  product_is e fs h = record {
+  pub product_is : {e : Syntax} (fs : List (Scale × Syntax)) → e ≡ tree.Product (factors fs) → IsChain e (map scaled fs)
+  product_is fs h = record {
     words = ap words_in h ∙ factor_words fs;
     expands = ap (expand means) h ∙ product_chain fs;
   }
 
-  pub sum_is : (e : Syntax) (ts : List (Sign × Syntax)) → e ≡ tree.Sum (terms ts) → IsChain e (map signed ts)
-  sum_is e ts h = record {
+  pub sum_is : {e : Syntax} (ts : List (Sign × Syntax)) → e ≡ tree.Sum (terms ts) → IsChain e (map signed ts)
+  sum_is ts h = record {
     words = ap words_in h ∙ term_words ts;
     expands = ap (expand means) h ∙ sum_chain ts;
   }

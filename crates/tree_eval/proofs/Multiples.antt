@@ -1,5 +1,5 @@
 -- A number and a word side by side are worth what the number times the word is.
-use Rattle.std.proofs.Common.{◌≡◌, ◌+◌, ℕ, List, [], ◌∷◌, ◌++◌, Option, Result, Ok, Err, map, length}
+use Rattle.std.proofs.Common.{◌≡◌, ◌<◌, ◌+◌, ℕ, List, [], ◌∷◌, ◌++◌, Bool, Option, Result, Ok, Err, map, length}
 use Rattle.std.proofs.Common.{None, Some, refl, sym, ap, ◌∙◌, subst}
 use Rattle.std.specs.Prelude.{IfSome, OnOk, slice_get}
 use Rattle.expr_tree.specs.declared.word_list.WordUse.{WordUse}
@@ -10,14 +10,18 @@ use Rattle.frac128.specs.Fraction.{Fraction}
 use Rattle.quantity.specs.Amount.{Amount}
 use Rattle.units_io.specs.Outcomes.{◌>>=◌}
 use Rattle.tree_eval.specs.declared.step.Step.TheVariants.{Multiply}
-use Rattle.tree_eval.specs.Environment.{Stand}
-use Rattle.tree_eval.specs.Expanded.{Meaning}
-use Rattle.tree_eval.specs.Expansion.{expand, plain, plain_word}
+use Rattle.tree_eval.specs.declared.meaning.Meaning.{Meaning as Told}
+use Rattle.tree_eval.specs.Environment.{IsTold, Stand}
+use Rattle.tree_eval.specs.Expanded.{Callable, Meaning}
+use Rattle.tree_eval.specs.Expansion.{expand, plain_word}
 use Rattle.tree_eval.specs.Multiples.{IsMultiple, SaysNumber, multiple}
 use Rattle.tree_eval.specs.Operands.{by_side, chain, with_worth, words_of}
 use Rattle.tree_eval.specs.Steps.{Worth, step_worth}
+use Rattle.tree_eval.specs.Told.{IsUsable, told_worth}
 use Rattle.tree_eval.specs.Value.{value}
+use Rattle.tree_eval.proofs.Calls.{told_plain, usable}
 use Rattle.tree_eval.proofs.Listed.{IsChain}
+use Rattle.tree_eval.proofs.Places.{first_stands, first_within}
 
 only_last : (w : Worth) → (w >>= (λ x. Ok x)) ≡ w
 only_last (Ok x) = refl
@@ -34,10 +38,10 @@ first_step : (r w : Worth) → (r >>= (λ left. w >>= (λ x. step_worth Multiply
 first_step (Ok left) w = last_step left w
 first_step (Err e) w = refl
 
-multiple_worth : (means : WordUse → Meaning) (es : List Syntax) (x : Result Fraction FracFault) (a : Option Amount)
+product_worth : (means : WordUse → Meaning) (es : List Syntax) (x : Result Fraction FracFault) (a : Option Amount)
     (is : IsMultiple es x)
     → value (chain means (map by_side es)) a ≡ multiple x (value (expand means (Word is.1)) a)
-multiple_worth means es x a is =
+product_worth means es x a is =
     ap (λ y. value (chain means (map by_side y)) a) is.2
     ∙ first_step (value (expand means is.0) a) (value (expand means (Word is.1)) a)
     ∙ ap (λ r. r >>= (λ left. with_worth Multiply left (value (expand means (Word is.1)) a))) (is.4 means a)
@@ -47,19 +51,49 @@ multiple_words : (es : List Syntax) (x : Result Fraction FracFault) (is : IsMult
 multiple_words es x is =
     ap (λ y. words_of (map by_side y)) is.2 ∙ ap (λ ws. ws ++ (plain_word is.1 ∷ [])) is.3
 
--- a tree whose members are a number and a word
-module _ (means : WordUse → Meaning) (e : Syntax) (es : List Syntax) (chain : IsChain means e (map by_side es))
-    (x : Result Fraction FracFault) (is : IsMultiple es x) where
-  pub multiple_stands : (us : List WordUse) (p : ℕ) → Stand us p (words_in e) → Stand us p (plain_word is.1 ∷ [])
-  multiple_stands us p s = subst (Stand us p) (chain.words ∙ multiple_words es x is) s
+-- a tree whose members are a number and a word, as a call that looks for those tells
+module _ {means : WordUse → Meaning} {e : Syntax} (es : List Syntax) (chain : IsChain means e (map by_side es))
+    {r : Option (Result Fraction FracFault)} {x : Result Fraction FracFault} (some : r ≡ Some x)
+    (found : IfSome r (IsMultiple es)) where
+  -- they are
+  is : IsMultiple es x
+  is = subst (λ z. IfSome z (IsMultiple es)) some found
 
-  pub multiple_value : (a : Option Amount)
-      → value (expand means e) a ≡ multiple x (value (plain (means (plain_word is.1))) a)
-  multiple_value a = ap (λ y. value y a) chain.expands ∙ multiple_worth means es x a is
+  -- the tree has one word
+  only_word : words_in e ≡ plain_word is.1 ∷ []
+  only_word = chain.words ∙ multiple_words es x is
 
-  pub multiple_place : {A E : Type 0} (r : Result A E) (p q : ℕ) → q ≡ p + 1 → OnOk r (q ≡ p + length (words_in e))
-  multiple_place (Ok y) p q n = n ∙ ap (λ ws. p + length ws) (sym (chain.words ∙ multiple_words es x is))
-  multiple_place (Err f) p q n = tt
+  -- so the next place comes behind it
+  pub multiple_place : {A E : Type 0} (y : Result A E) (p : ℕ) {q : ℕ} → q ≡ p + 1
+      → OnOk y (q ≡ p + length (words_in e))
+  multiple_place (Ok z) p {q} n = n ∙ ap (λ ws. p + length ws) (sym only_word)
+  multiple_place (Err f) p n = tt
+
+  -- the word stands where the tree does
+  module _ (us : List WordUse) (p : ℕ) (here : Stand us p (words_in e)) where
+    word_stands : Stand us p (plain_word is.1 ∷ [])
+    word_stands = subst (Stand us p) only_word here
+
+    -- so the place is within
+    pub multiple_within : p < length us
+    multiple_within = first_within us p (plain_word is.1) [] word_stands
+
+    -- what is told of the place
+    module _ (has : ℕ → Bool) (callee : ℕ → Callable) (t : Told)
+        (told : (u : WordUse) → slice_get us p ≡ Some u → IsTold has callee (means u) t) where
+      -- is told of the word
+      word_told : IsTold has callee (means (plain_word is.1)) t
+      word_told = told (plain_word is.1) (first_stands us p (plain_word is.1) [] word_stands)
+
+      -- so it can be used
+      pub multiple_usable : IsUsable has t
+      multiple_usable = usable has callee (means (plain_word is.1)) t word_told
+
+      -- and with the number is worth what the tree is
+      pub multiple_worth : (a : Option Amount) → multiple x (told_worth callee t) ≡ value (expand means e) a
+      multiple_worth a =
+          sym (ap (λ y. value y a) chain.expands ∙ product_worth means es x a is
+          ∙ ap (multiple x) (told_plain has callee (means (plain_word is.1)) t a word_told))
 
 two_members : (es : List Syntax) (e f : Syntax) → length es ≡ 2 → slice_get es 0 ≡ Some e → slice_get es 1 ≡ Some f
     → es ≡ e ∷ f ∷ []

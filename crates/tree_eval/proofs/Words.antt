@@ -1,5 +1,5 @@
 -- A word before its operand, by what is told of it.
-use Rattle.std.proofs.Common.{◌≡◌, ℕ, Bool, Option, Ok, Err, refl, sym, ◌∙◌, ap}
+use Rattle.std.proofs.Common.{◌≡◌, ℕ, Bool, Option, Ok, Err, refl, sym, ◌∙◌, ap, subst}
 use Rattle.quantity.specs.Amount.{Amount}
 use Rattle.quantity.specs.Products.{product_of}
 use Rattle.tree_eval.specs.declared.direction.Direction.{Direction}
@@ -63,7 +63,7 @@ operated_chain Inverse has callee m (told.Two p u) y h n =
 operated_chain direction has callee m (told.Function id) y h n = absurd (n id refl)
 
 -- a word that is no function is multiplied by its operand
-pub operated_word : (direction : Direction) (has : ℕ → Bool) (callee : ℕ → Callable) (m : Meaning) (t : Told)
+operated_word : (direction : Direction) (has : ℕ → Bool) (callee : ℕ → Callable) (m : Meaning) (t : Told)
     (y : Expanded) (a : Option Amount)
     → IsTold has callee m t → ((id : ℕ) → t ≡ told.Function id → ⊥)
     → value (operated direction m y) a ≡ times (told_worth callee t) (value y a)
@@ -84,10 +84,10 @@ fault_keep fault.OutOfMemory r w h k = tt
 
 -- the exits of a product of two worths
 module _ (w r s : Worth) (is : w ≡ times r s) where
-  pub times_first : (e : EvalFault) → Gives amount_in (Err e) r → Gives amount_in (Err e) w
+  times_first : (e : EvalFault) → Gives amount_in (Err e) r → Gives amount_in (Err e) w
   times_first e h = fault_first amount_in amount_in e r (λ v. s >>= (λ u. amount (product_of v u))) w is h
 
-  pub times_second : (p : Held) (e : EvalFault) → Gives amount_in (Ok p) r → Gives amount_in (Err e) s
+  times_second : (p : Held) (e : EvalFault) → Gives amount_in (Ok p) r → Gives amount_in (Err e) s
       → Gives amount_in (Err e) w
   times_second p e h k =
       fault_first amount_in amount_in e s (λ u. amount (product_of (amount_in p) u)) w
@@ -98,24 +98,55 @@ module _ (w r s : Worth) (is : w ≡ times r s) where
   product_is p u h k = then amount_in u s (λ x. amount (product_of (amount_in p) x)) w
       (then amount_in p r (λ v. s >>= (λ x. amount (product_of v x))) w is h) k
 
-  pub times_fault : (p u : Held) (x y : Amount) (e : EvalFault) → x ≡ amount_in p → y ≡ amount_in u
+  times_fault : (p u : Held) (x y : Amount) (e : EvalFault) → x ≡ amount_in p → y ≡ amount_in u
       → Gives amount_in (Ok p) r → Gives amount_in (Ok u) s
       → Gives {A = Amount} (λ z. z) (Err e) (amount (product_of x y)) → Gives amount_in (Err e) w
   times_fault p u x y e f g h k q =
       let v : w ≡ amount (product_of x y) = product_is p u h k ∙ rw (f, g) refl in
       fault_keep e (amount (product_of x y)) w v q
 
-  pub times_ok : (p u : Held) (x y z : Amount) → x ≡ amount_in p → y ≡ amount_in u → Gives amount_in (Ok p) r
+  times_ok : (p u : Held) (x y z : Amount) → x ≡ amount_in p → y ≡ amount_in u → Gives amount_in (Ok p) r
       → Gives amount_in (Ok u) s
       → amount (product_of x y) ≡ Ok z → w ≡ Ok z
   times_ok p u x y z f g h k q = product_is p u h k ∙ (rw (f, g) refl ∙ q)
 
+-- a word that is no function, with an operand
+module _ (direction : Direction) (has : ℕ → Bool) (callee : ℕ → Callable) (m : Meaning) {t : Told} (y : Expanded)
+    (a : Option Amount) (h : IsTold has callee m t) (n : (id : ℕ) → t ≡ told.Function id → ⊥) where
+  abbrev whole : Worth
+  whole = value (operated direction m y) a
+
+  -- is worth the product
+  is_product : whole ≡ times (told_worth callee t) (value y a)
+  is_product = operated_word direction has callee m t y a h n
+
+  -- the fault of the word is that of both
+  pub word_fault : (e : EvalFault) → Gives amount_in (Err e) (told_worth callee t) → Gives amount_in (Err e) whole
+  word_fault = times_first whole (told_worth callee t) (value y a) is_product
+
+  module _ (p : Held) (k : Gives amount_in (Ok p) (told_worth callee t)) where
+    -- so is that of the operand behind a word that is worth something
+    pub behind_fault : (e : EvalFault) → Gives amount_in (Err e) (value y a) → Gives amount_in (Err e) whole
+    behind_fault e = times_second whole (told_worth callee t) (value y a) is_product p e k
+
+    module _ (u : Held) {z : Amount} (is : z ≡ amount_in u) (l : Gives amount_in (Ok u) (value y a)) where
+      -- so is that of the product
+      pub both_fault : (e : EvalFault) → Answers {A = Amount} (Err e) (amount (product_of (amount_in p) z))
+          → Gives amount_in (Err e) whole
+      both_fault e =
+          times_fault whole (told_worth callee t) (value y a) is_product p u (amount_in p) z e refl is k l
+
+      -- the product is what both are worth
+      pub both_ok : {r : Amount} → amount (product_of (amount_in p) z) ≡ Ok r → whole ≡ Ok r
+      both_ok {r} = times_ok whole (told_worth callee t) (value y a) is_product p u (amount_in p) z r refl is k l
+
 -- a function with its operand
-module _ (direction : Direction) (has : ℕ → Bool) (callee : ℕ → Callable) (m : Meaning) (id : ℕ) (y : Expanded)
-    (a : Option Amount)
-    (h : IsTold has callee m (told.Function id)) where
+module _ (direction : Direction) (has : ℕ → Bool) (callee : ℕ → Callable) (m : Meaning) {t : Told} (y : Expanded)
+    (a : Option Amount) (h : IsTold has callee m t) {id : ℕ} (function : t ≡ told.Function id) where
   taken_word : value (operated direction m y) a ≡ (value y a >>= taken direction (callee id))
-  taken_word = ap (λ k. value (operated direction k y) a) h.1 ∙ taken_callee direction (callee id) y a
+  taken_word =
+      let k : IsTold has callee m (told.Function id) = subst (IsTold has callee m) function h in
+      ap (λ x. value (operated direction x y) a) k.1 ∙ taken_callee direction (callee id) y a
 
   pub operand_fault : (e : EvalFault) → Gives amount_in (Err e) (value y a)
       → Gives amount_in (Err e) (value (operated direction m y) a)
@@ -123,7 +154,7 @@ module _ (direction : Direction) (has : ℕ → Bool) (callee : ℕ → Callable
       fault_first amount_in amount_in e (value y a) (taken direction (callee id))
       (value (operated direction m y) a) taken_word k
 
-  module _ (v : Held) (x : Amount) (k : Gives amount_in (Ok v) (value y a)) (is : x ≡ amount_in v) where
+  module _ (v : Held) {x : Amount} (k : Gives amount_in (Ok v) (value y a)) (is : x ≡ amount_in v) where
     taken_at : value (operated direction m y) a ≡ taken direction (callee id) x
     taken_at = then amount_in v (value y a) (taken direction (callee id))
         (value (operated direction m y) a) taken_word k
@@ -133,5 +164,5 @@ module _ (direction : Direction) (has : ℕ → Bool) (callee : ℕ → Callable
         → Gives amount_in (Err e) (value (operated direction m y) a)
     taken_fault e f = fault_keep e (taken direction (callee id) x) (value (operated direction m y) a) taken_at f
 
-    pub taken_ok : (z : Amount) → taken direction (callee id) x ≡ Ok z → value (operated direction m y) a ≡ Ok z
-    taken_ok z f = taken_at ∙ f
+    pub taken_ok : {z : Amount} → taken direction (callee id) x ≡ Ok z → value (operated direction m y) a ≡ Ok z
+    taken_ok f = taken_at ∙ f
