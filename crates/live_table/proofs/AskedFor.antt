@@ -26,9 +26,11 @@ use Rattle.deck.specs.Tables.{table}
 use Rattle.name_numbers.specs.FaultLaws.{NumberedFaultLaw}
 use Rattle.name_numbers.specs.Numbered.{AreWords, LeadToKnown, named}
 use Rattle.name_numbers.specs.SettlingLaws.{AreNewKeys, SettlingLaw}
+use Rattle.name_edges.specs.NameGraphs.{NameGraph}
 use Rattle.live_table.specs.declared.dead_end.DeadEnd.{DeadEnd}
 use Rattle.live_table.specs.declared.fault.QueryFault.{QueryFault}
 use Rattle.live_table.specs.Asked.{AreAllSettled, IsAnswered, IsAsked, IsClosing}
+use Rattle.live_table.specs.Edged.{IsLive}
 use Rattle.live_table.specs.Explored.{AreExplored, fault_at}
 use Rattle.live_table.specs.Exploring.{AreGrown, AreWritten, IsKnown, is_known}
 use Rattle.live_table.specs.Shown.{IsCutOff, IsRightTable, Shown}
@@ -36,6 +38,7 @@ use Rattle.live_table.specs.Sound.{IsSound}
 use Rattle.live_table.specs.States.{AsksKey, AsksWords, Event, after, after_query}
 use Rattle.live_table.specs.Stored.{Listed, key_at, shown}
 use Rattle.live_table.specs.Surrounded.{AreSettledWords}
+use Rattle.live_table.proofs.LinkedNames.{grown_edges}
 use Rattle.live_table.proofs.Growing.{grown_both, key_same, known_still, known_within, written_more}
 use Rattle.live_table.proofs.Queries.{IsQueryOf, are_marks, asked_fault, asked_none, cut_off, is_kept, reached_settled}
 use Rattle.live_table.proofs.Reached.{to_known}
@@ -54,6 +57,15 @@ grown_sound deck l m here there ends more r g s = record {
   numbers = g.nodes;
   right = subst IsRightTable (sym (same_shown deck l m here there ends more r g)) s.right;
   few = s.few;
+}
+
+-- and has its edges
+pub grown_live : (deck : Contents) (l m : Listed) (here there : List ℕ) (ends more : List DeadEnd) (r : ℕ)
+    → AreGrown (table deck) l m here there ends more → (g : NameGraph)
+    → IsLive deck l g r → IsLive deck m g r
+grown_live deck l m here there ends more r grown g live = record {
+  sound = grown_sound deck l m here there ends more r grown live.sound;
+  edges = grown_edges deck l m here there ends more r grown live.sound g live.edges;
 }
 
 -- ---- a query of words, and of a key

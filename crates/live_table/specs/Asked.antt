@@ -1,13 +1,15 @@
 -- What asking for names does to a live table.
 use Rattle.std.specs.Prelude.{◌≡◌, ◌⊎◌, ◌+◌, ◌^◌, ◌-◌, ◌≤◌, ℕ, min, List, [], ◌∷◌, map, take, length, Option, Some}
-use Rattle.std.specs.Prelude.{None, Result, Ok, Err}
+use Rattle.std.specs.Prelude.{None, MatchOption, Result, Ok, Err}
 use Rattle.std.specs.declared.alloc.AllocError.{AllocError}
 use Rattle.def_entry.specs.declared.key.Key.{Key}
 use Rattle.deck.specs.Tables.{table}
 use Rattle.def_entry.specs.Tables.{Table}
 use Rattle.name_walk.specs.declared.step.Step.{Step}
+use Rattle.name_walk.specs.Closed.{IsSettled}
 use Rattle.name_walk.specs.Faults as walk
 use Rattle.name_walk.specs.NewlyClosed.{AreNewlyClosed}
+use Rattle.table_names.specs.Faults.{key_fault}
 use Rattle.table_names.specs.declared.fault.NameFault.{NameFault}
 use Rattle.name_numbers.specs.Numbered.{named}
 use Rattle.live_table.specs.declared.dead_end.DeadEnd.{DeadEnd}
@@ -16,7 +18,7 @@ use Rattle.live_table.specs.declared.fault.QueryFault.TheVariants.{Name, Value, 
 use Rattle.live_table.specs.Explored.{fault_at}
 use Rattle.live_table.specs.Stored.{Listed, key_at}
 use Rattle.live_table.specs.Shown.{Follows, IsCutOff, Shown}
-use Rattle.live_table.specs.States.{Event, with_outcomes}
+use Rattle.live_table.specs.States.{AsksKey, Event, with_outcomes}
 
 -- the outcome of each key put in, and that many counted
 abbrev pub put_in : Shown → List Key → Shown
@@ -52,6 +54,15 @@ IsAsked event fault Given (Err (Name f)) before now old new = (fault ≡ Some f)
 IsAsked event fault Given (Err (Value _)) before now old new = ⊥
 IsAsked event fault Given (Err OutOfMemory) before now old new = IsCutOff (event ∷ []) before now old new
 
+-- a settled key has this number
+abbrev pub IsSettledKey : Listed → Key → ℕ → Type 0
+IsSettledKey l key n = (key ≡ key_at l.keys n) × IsSettled l.settled n
+
+-- a key was asked for
+abbrev pub IsKeyAsked : Key → Listed → Result ℕ QueryFault → Shown → Shown → ℕ → ℕ → Type 0
+IsKeyAsked key l result before now old new =
+    IsAsked (AsksKey key) (key_fault (table before.deck) key) (IsSettledKey l key) result before now old new
+
 -- a walk without a fault newly closes these names
 pub record IsClosing (l : Listed) (query : List Step) (order : List ℕ) : Type 0 where
   pub none : walk.fault l.graph [] query ≡ None
@@ -63,6 +74,11 @@ pub record IsFaulty (table : Table) (l : Listed) (ends : List DeadEnd) (query : 
     pub fault : walk.NameFault
     pub some : walk.fault l.graph [] query ≡ Some fault
     pub by_name : f ≡ named table (key_at l.keys) (fault_at ends) fault
+
+-- the walk of a query: the order of the names that it newly closes, or its first fault by name
+abbrev pub IsWalkedByName : Table → Listed → List DeadEnd → List Step → List ℕ → Option NameFault → Type 0
+IsWalkedByName table l ends query order fault =
+    MatchOption fault (IsClosing l query order) (IsFaulty table l ends query)
 
 -- nothing changes
 pub record IsStill (before now : Shown) (old new : ℕ) : Type 0 where

@@ -1,18 +1,18 @@
 //! Asking for names.
 
-ghost use Rattle.std.specs.Prelude.{◌≡◌, ◌∷◌, [], ℕ, Bool, true, OnOk};
+ghost use Rattle.std.specs.Prelude.{◌≡◌, ℕ, Bool, true, IfOk, OnOk};
 ghost use Rattle.def_entry.specs.Keys as key_spec;
-ghost use Rattle.def_entry.specs.Tables.{is_present};
-ghost use Rattle.name_walk.specs.Closed.{IsSettled};
+ghost use Rattle.def_entry.specs.Tables.{Table, is_present};
+ghost use Rattle.name_walk.specs.Nets.{IsNet};
+ghost use Rattle.name_walk.specs.Steps.{AreKnown};
 ghost use Rattle.deck.specs.Tables.{table};
-ghost use Rattle.table_names.specs.Faults.{key_fault, name_fault};
+ghost use Rattle.table_names.specs.Faults.{name_fault};
 ghost use Rattle.name_numbers.specs.Numbered.{LeadToKnown};
-ghost use Rattle.live_table.specs.Asked.{IsAnswered, IsAsked};
-ghost use Rattle.live_table.specs.Edged.{HasEdges};
+ghost use Rattle.live_table.specs.Asked.{IsAnswered, IsAsked, IsKeyAsked, IsWalkedByName};
+ghost use Rattle.live_table.specs.Edged.{IsLive};
 ghost use Rattle.live_table.specs.Explored.{AreExplored};
-ghost use Rattle.live_table.specs.Sound.{IsSound};
-ghost use Rattle.live_table.specs.States.{AsksKey, AsksWords};
-ghost use Rattle.live_table.specs.Stored.{key_at, listed, shown};
+ghost use Rattle.live_table.specs.States.{AsksWords};
+ghost use Rattle.live_table.specs.Stored.{listed, shown};
 ghost use Rattle.live_table.specs.Surrounded.{AreSettledWords};
 
 use crate::agenda::Agenda;
@@ -30,8 +30,9 @@ use expr_tree::Words;
 use name_edges::NameEdges;
 use name_numbers::{numbered_fault_law, settling_law};
 use name_walk::{Net, Step, StepList, Walker};
-use std::alloc::Global;
+use std::alloc::{AllocError, Global};
 use std::sync::ledger::Ledger;
+use table_names::NameFault;
 use units_io::Steps;
 
 /// Asks for the names of words: they have a name fault, or what they reach is settled, and their steps are
@@ -47,10 +48,8 @@ pub(crate) fn ask_words<L: Ledger>(
     words: &Words<'_>,
     steps: &mut Steps<L>,
 ) -> Result<StepList, QueryFault>
-    requires sound { IsSound deck.now (listed nodes.old) reductions.old }
-    requires edges { HasEdges deck.now (listed nodes.old) edges.old }
-    ensures sound { IsSound deck.now (listed nodes.new) reductions.new }
-    ensures edges { HasEdges deck.now (listed nodes.new) edges.new }
+    requires live { IsLive deck.now (listed nodes.old) edges.old reductions.old }
+    ensures live { IsLive deck.now (listed nodes.new) edges.new reductions.new }
     ensures asked { IsAsked (AsksWords words.now) (name_fault (table deck.now) words.now)
         (λ query. AreSettledWords (table deck.now) (listed nodes.new) words.now query.items) result
         (shown deck.now (listed nodes.old) reductions.old) (shown deck.now (listed nodes.new) reductions.new)
@@ -90,14 +89,10 @@ pub(crate) fn ask_key<L: Ledger>(
     name: &[u8],
     steps: &mut Steps<L>,
 ) -> Result<usize, QueryFault>
-    requires sound { IsSound deck.now (listed nodes.old) reductions.old }
-    requires edges { HasEdges deck.now (listed nodes.old) edges.old }
+    requires live { IsLive deck.now (listed nodes.old) edges.old reductions.old }
     requires present { is_present (table deck.now) (key_spec.key kind name.now) ≡ true }
-    ensures sound { IsSound deck.now (listed nodes.new) reductions.new }
-    ensures edges { HasEdges deck.now (listed nodes.new) edges.new }
-    ensures asked { IsAsked (AsksKey (key_spec.key kind name.now))
-        (key_fault (table deck.now) (key_spec.key kind name.now))
-        (λ n. (key_spec.key kind name.now ≡ key_at nodes.new.keys n) × IsSettled nodes.new.settled.items n) result
+    ensures live { IsLive deck.now (listed nodes.new) edges.new reductions.new }
+    ensures asked { IsKeyAsked (key_spec.key kind name.now) (listed nodes.new) result
         (shown deck.now (listed nodes.old) reductions.old) (shown deck.now (listed nodes.new) reductions.new)
         steps.old steps.new }
 {
@@ -135,39 +130,51 @@ fn settle_query<L: Ledger>(
     query: &[Step],
     steps: &mut Steps<L>,
 ) -> Result<(), QueryFault>
-    requires sound { IsSound deck.now (listed nodes.old) reductions.old }
-    requires edges { HasEdges deck.now (listed nodes.old) edges.old }
+    requires live { IsLive deck.now (listed nodes.old) edges.old reductions.old }
     requires explored { (known : ℕ → Bool) × AreExplored (table deck.now) (listed nodes.old) dead_ends.now known
         × LeadToKnown known query.now }
-    ensures sound { IsSound deck.now (listed nodes.new) reductions.new }
-    ensures edges { HasEdges deck.now (listed nodes.new) edges.new }
+    ensures live { IsLive deck.now (listed nodes.new) edges.new reductions.new }
     ensures keys { OnOk result (nodes.new.keys ≡ nodes.old.keys) }
     ensures answered { IsAnswered (table deck.now) (listed nodes.old) dead_ends.now query.now result
         (shown deck.now (listed nodes.old) reductions.old) (shown deck.now (listed nodes.new) reductions.new)
         steps.old steps.new }
 {
     numbered_fault_law();
+    if let Some(fault) = first_fault(alloc, nodes, walker, dead_ends, query)? {
+        return Err(QueryFault::Name(fault));
+    }
+    settle(
+        alloc,
+        deck,
+        nodes,
+        edges,
+        agenda,
+        reductions,
+        walker.order(),
+        steps,
+    )?;
+    Ok(())
+}
+
+// The first name fault of a query, or none, and then the walker has the order of the names that it newly closes.
+fn first_fault(
+    alloc: Global,
+    nodes: &Nodes,
+    walker: &mut Walker,
+    dead_ends: &[DeadEnd],
+    query: &[Step],
+) -> Result<Option<NameFault>, AllocError>
+    requires net { IsNet (listed nodes.now).graph (listed nodes.now).settled }
+    requires query { AreKnown (listed nodes.now).graph query.now }
+    ensures { IfOk result (λ fault. (table : Table)
+        → IsWalkedByName table (listed nodes.now) dead_ends.now query.now walker.new fault) }
+{
     let net = Net {
         steps: &nodes.steps,
         settled: &nodes.settled,
     };
     match walker.walk(alloc, &net, query)? {
-        None => {
-            settle(
-                alloc,
-                deck,
-                nodes,
-                edges,
-                agenda,
-                reductions,
-                walker.order(),
-                steps,
-            )?;
-            Ok(())
-        }
-        Some(fault) => {
-            let fault = named_fault(alloc, &nodes.keys, dead_ends, &fault)?;
-            Err(QueryFault::Name(fault))
-        }
+        Some(fault) => Ok(Some(named_fault(alloc, &nodes.keys, dead_ends, &fault)?)),
+        None => Ok(None),
     }
 }

@@ -9,22 +9,20 @@ use Rattle.table_names.specs.Reach.{key_reach}
 use Rattle.live_table.specs.Asked.{IsAsked}
 use Rattle.live_table.specs.States.{AsksKey}
 use Rattle.live_table.specs.Stored.{key_at, listed, shown}
-use Rattle.live_table.proofs.AskedFor.{cut_short, grown_sound, key_explored, key_explored_fault, key_explored_settled}
+use Rattle.live_table.proofs.AskedFor.{cut_short, grown_live, key_explored, key_explored_fault, key_explored_settled}
 use Rattle.live_table.proofs.AskedFor.{key_query}
 use Rattle.live_table.proofs.Growing.{grown_both, none_listed}
-use Rattle.live_table.proofs.LinkedNames.{grown_edges}
 use Rattle.live_table.proofs.asking.ask_key.Goals as goal
 
 pub put_key-requires-clause-listed : goal.put_key-requires-clause-listed
 put_key-requires-clause-listed g c = none_listed (table c.args.deck.now) (listed c.args.nodes.now) c.clear.new.self
     c.clear.ensures
 
-pub returns-in_err-n-clause-sound : goal.returns-in_err-n-clause-sound
-returns-in_err-n-clause-sound g c =
-    let t = table c.args.deck.now in
+pub returns-in_err-n-clause-live : goal.returns-in_err-n-clause-live
+returns-in_err-n-clause-live g c =
     let added = c.put_key.ensures.added [] in
-    grown_sound c.args.deck.now (listed c.args.nodes.now) (listed c.put_key.new.nodes) c.clear.new.self
-    c.put_key.new.agenda [] [] c.args.reductions.now added.grown c.requires.sound
+    grown_live c.args.deck.now (listed c.args.nodes.now) (listed c.put_key.new.nodes) c.clear.new.self
+    c.put_key.new.agenda [] [] c.args.reductions.now added.grown c.args.edges.now c.requires.live
 
 pub returns-in_err-n-clause-asked : goal.returns-in_err-n-clause-asked
 returns-in_err-n-clause-asked g c =
@@ -42,7 +40,7 @@ returns-in_err-n-clause-asked g c =
     (key_named c.args.kind c.args.name.now ∷ key_reach t (key_named c.args.kind c.args.name.now)) c.args.deck.now
     (listed c.args.nodes.now) (listed c.put_key.new.nodes) c.clear.new.self c.put_key.new.agenda [] []
     c.args.reductions.now c.args.steps.now
-    added.grown c.requires.sound (key_query t (key_named c.args.kind c.args.name.now)))
+    added.grown c.requires.live.sound (key_query t (key_named c.args.kind c.args.name.now)))
 
 pub explore-requires-clause-nodes : goal.explore-requires-clause-nodes
 explore-requires-clause-nodes g c =
@@ -56,16 +54,15 @@ explore-requires-clause-listed g c =
     let added = c.put_key.ensures.added [] in
     added.grown.listed
 
-pub returns-in_err-explore-clause-sound : goal.returns-in_err-explore-clause-sound
-returns-in_err-explore-clause-sound g c =
-    let t = table c.args.deck.now in
+pub returns-in_err-explore-clause-live : goal.returns-in_err-explore-clause-live
+returns-in_err-explore-clause-live g c =
     let added = c.put_key.ensures.added c.new-dead_ends.result.items in
-    grown_sound c.args.deck.now (listed c.args.nodes.now) (listed c.explore.new.nodes) c.clear.new.self
+    grown_live c.args.deck.now (listed c.args.nodes.now) (listed c.explore.new.nodes) c.clear.new.self
     c.explore.new.agenda c.new-dead_ends.result.items c.explore.new.dead_ends.items c.args.reductions.now
-    (grown_both t (listed c.args.nodes.now) (listed c.put_key.new.nodes) (listed c.explore.new.nodes)
-    c.clear.new.self c.put_key.new.agenda c.explore.new.agenda
+    (grown_both (table c.args.deck.now) (listed c.args.nodes.now) (listed c.put_key.new.nodes)
+    (listed c.explore.new.nodes) c.clear.new.self c.put_key.new.agenda c.explore.new.agenda
     c.new-dead_ends.result.items c.new-dead_ends.result.items c.explore.new.dead_ends.items added.grown
-    c.explore.ensures.grown) c.requires.sound
+    c.explore.ensures.grown) c.args.edges.now c.requires.live
 
 pub returns-in_err-explore-clause-asked : goal.returns-in_err-explore-clause-asked
 returns-in_err-explore-clause-asked g c =
@@ -87,18 +84,17 @@ returns-in_err-explore-clause-asked g c =
     c.clear.new.self c.put_key.new.agenda c.explore.new.agenda
     c.new-dead_ends.result.items c.new-dead_ends.result.items c.explore.new.dead_ends.items added.grown
     c.explore.ensures.grown)
-    c.requires.sound (key_query t (key_named c.args.kind c.args.name.now)))
+    c.requires.live.sound (key_query t (key_named c.args.kind c.args.name.now)))
 
-pub settle_query-requires-clause-sound : goal.settle_query-requires-clause-sound
-settle_query-requires-clause-sound g c =
-    let t = table c.args.deck.now in
+pub settle_query-requires-clause-live : goal.settle_query-requires-clause-live
+settle_query-requires-clause-live g c =
     let added = c.put_key.ensures.added c.new-dead_ends.result.items in
-    grown_sound c.args.deck.now (listed c.args.nodes.now) (listed c.explore.new.nodes) c.clear.new.self
+    grown_live c.args.deck.now (listed c.args.nodes.now) (listed c.explore.new.nodes) c.clear.new.self
     c.explore.new.agenda c.new-dead_ends.result.items c.explore.new.dead_ends.items c.args.reductions.now
-    (grown_both t (listed c.args.nodes.now) (listed c.put_key.new.nodes) (listed c.explore.new.nodes)
-    c.clear.new.self c.put_key.new.agenda c.explore.new.agenda
+    (grown_both (table c.args.deck.now) (listed c.args.nodes.now) (listed c.put_key.new.nodes)
+    (listed c.explore.new.nodes) c.clear.new.self c.put_key.new.agenda c.explore.new.agenda
     c.new-dead_ends.result.items c.new-dead_ends.result.items c.explore.new.dead_ends.items added.grown
-    c.explore.ensures.grown) c.requires.sound
+    c.explore.ensures.grown) c.args.edges.now c.requires.live
 
 pub settle_query-requires-clause-explored : goal.settle_query-requires-clause-explored
 settle_query-requires-clause-explored g c =
@@ -108,7 +104,7 @@ settle_query-requires-clause-explored g c =
     c.args.reductions.now
     c.clear.new.self c.put_key.new.agenda c.explore.new.agenda c.new-dead_ends.result.items
     c.explore.new.dead_ends.items
-    c.in_ok-n.n (key_named c.args.kind c.args.name.now) c.requires.sound added.grown c.explore.ensures.grown
+    c.in_ok-n.n (key_named c.args.kind c.args.name.now) c.requires.live.sound added.grown c.explore.ensures.grown
     c.in_ok-n.ensures.target c.in_ok-explore.ensures.explored c.deref.result.now
     (To c.in_ok-n.n ∷ []) c.deref.ensures.value refl
 
@@ -129,13 +125,13 @@ returns-in_err-settle_query-clause-asked g c =
     (listed c.explore.new.nodes) c.args.reductions.now
     c.clear.new.self c.put_key.new.agenda c.explore.new.agenda c.new-dead_ends.result.items
     c.explore.new.dead_ends.items
-    c.in_ok-n.n (key_named c.args.kind c.args.name.now) c.requires.sound added.grown c.explore.ensures.grown
+    c.in_ok-n.n (key_named c.args.kind c.args.name.now) c.requires.live.sound added.grown c.explore.ensures.grown
     c.in_ok-n.ensures.target c.in_ok-explore.ensures.explored c.numbered_fault_law.ensures
     c.settling_law.ensures c.deref.result.now (To c.in_ok-n.n ∷ []) c.deref.ensures.value refl
     (λ n. (key_named c.args.kind c.args.name.now ≡ key_at c.settle_query.new.nodes.keys n) × IsSettled
     c.settle_query.new.nodes.settled.items n)
     (shown c.args.deck.now (listed c.settle_query.new.nodes) c.settle_query.new.reductions) c.args.steps.now
-    c.settle_query.new.steps c.settle_query.ensures.sound.right
+    c.settle_query.new.steps c.settle_query.ensures.live.sound.right
     c.in_err-settle_query.field-0.0 c.in_err-settle_query.ensures.answered)
 
 pub returns-clause-asked : goal.returns-clause-asked
@@ -147,38 +143,9 @@ returns-clause-asked g c =
     (listed c.explore.new.nodes) c.args.reductions.now
     c.clear.new.self c.put_key.new.agenda c.explore.new.agenda c.new-dead_ends.result.items
     c.explore.new.dead_ends.items
-    c.in_ok-n.n (key_named c.args.kind c.args.name.now) c.requires.sound added.grown c.explore.ensures.grown
+    c.in_ok-n.n (key_named c.args.kind c.args.name.now) c.requires.live.sound added.grown c.explore.ensures.grown
     c.in_ok-n.ensures.target c.in_ok-explore.ensures.explored c.numbered_fault_law.ensures
     c.settling_law.ensures c.deref.result.now (To c.in_ok-n.n ∷ []) c.deref.ensures.value refl
     (listed c.settle_query.new.nodes) c.settle_query.new.reductions c.args.steps.now c.settle_query.new.steps
-    c.settle_query.ensures.sound
+    c.settle_query.ensures.live.sound
     c.in_ok-settle_query.ensures.keys a.0 a.1 a.2
-
-pub returns-in_err-n-clause-edges : goal.returns-in_err-n-clause-edges
-returns-in_err-n-clause-edges g c =
-    let t = table c.args.deck.now in
-    let added = c.put_key.ensures.added [] in
-    grown_edges c.args.deck.now (listed c.args.nodes.now) (listed c.put_key.new.nodes) c.clear.new.self
-    c.put_key.new.agenda [] [] c.args.reductions.now added.grown c.requires.sound c.args.edges.now c.requires.edges
-
-pub returns-in_err-explore-clause-edges : goal.returns-in_err-explore-clause-edges
-returns-in_err-explore-clause-edges g c =
-    let t = table c.args.deck.now in
-    let added = c.put_key.ensures.added c.new-dead_ends.result.items in
-    grown_edges c.args.deck.now (listed c.args.nodes.now) (listed c.explore.new.nodes) c.clear.new.self
-    c.explore.new.agenda c.new-dead_ends.result.items c.explore.new.dead_ends.items c.args.reductions.now
-    (grown_both t (listed c.args.nodes.now) (listed c.put_key.new.nodes) (listed c.explore.new.nodes)
-    c.clear.new.self c.put_key.new.agenda c.explore.new.agenda
-    c.new-dead_ends.result.items c.new-dead_ends.result.items c.explore.new.dead_ends.items added.grown
-    c.explore.ensures.grown) c.requires.sound c.args.edges.now c.requires.edges
-
-pub settle_query-requires-clause-edges : goal.settle_query-requires-clause-edges
-settle_query-requires-clause-edges g c =
-    let t = table c.args.deck.now in
-    let added = c.put_key.ensures.added c.new-dead_ends.result.items in
-    grown_edges c.args.deck.now (listed c.args.nodes.now) (listed c.explore.new.nodes) c.clear.new.self
-    c.explore.new.agenda c.new-dead_ends.result.items c.explore.new.dead_ends.items c.args.reductions.now
-    (grown_both t (listed c.args.nodes.now) (listed c.put_key.new.nodes) (listed c.explore.new.nodes)
-    c.clear.new.self c.put_key.new.agenda c.explore.new.agenda
-    c.new-dead_ends.result.items c.new-dead_ends.result.items c.explore.new.dead_ends.items added.grown
-    c.explore.ensures.grown) c.requires.sound c.args.edges.now c.requires.edges

@@ -9,30 +9,29 @@ use Rattle.live_table.specs.Asked.{IsAsked}
 use Rattle.live_table.specs.States.{AsksWords}
 use Rattle.live_table.specs.Stored.{listed, shown}
 use Rattle.live_table.specs.Surrounded.{AreSettledWords}
-use Rattle.live_table.proofs.AskedFor.{cut_short, explored_fault, explored_settled, grown_sound, words_explored}
+use Rattle.live_table.proofs.AskedFor.{cut_short, explored_fault, explored_settled, grown_live, words_explored}
 use Rattle.live_table.proofs.AskedFor.{words_query}
 use Rattle.live_table.proofs.Growing.{grown_both, none_listed}
-use Rattle.live_table.proofs.LinkedNames.{grown_edges}
 use Rattle.live_table.proofs.asking.ask_words.Goals as goal
 
 pub put_words-requires-clause-listed : goal.put_words-requires-clause-listed
 put_words-requires-clause-listed g c = none_listed (table c.args.deck.now) (listed c.args.nodes.now) c.clear.new.self
     c.clear.ensures
 
-pub returns-in_err-query-clause-sound : goal.returns-in_err-query-clause-sound
-returns-in_err-query-clause-sound g c =
-    grown_sound c.args.deck.now (listed c.args.nodes.now) (listed c.put_words.new.nodes) c.clear.new.self
+pub returns-in_err-query-clause-live : goal.returns-in_err-query-clause-live
+returns-in_err-query-clause-live g c =
+    grown_live c.args.deck.now (listed c.args.nodes.now) (listed c.put_words.new.nodes) c.clear.new.self
     c.put_words.new.agenda c.new-dead_ends.result.items c.put_words.new.dead_ends.items c.args.reductions.now
-    c.put_words.ensures.added.grown c.requires.sound
+    c.put_words.ensures.added.grown c.args.edges.now c.requires.live
 
-pub settle_query-requires-clause-sound : goal.settle_query-requires-clause-sound
-settle_query-requires-clause-sound g c =
-    grown_sound c.args.deck.now (listed c.args.nodes.now) (listed c.explore.new.nodes) c.clear.new.self
+pub settle_query-requires-clause-live : goal.settle_query-requires-clause-live
+settle_query-requires-clause-live g c =
+    grown_live c.args.deck.now (listed c.args.nodes.now) (listed c.explore.new.nodes) c.clear.new.self
     c.explore.new.agenda c.new-dead_ends.result.items c.explore.new.dead_ends.items c.args.reductions.now
     (grown_both (table c.args.deck.now) (listed c.args.nodes.now) (listed c.put_words.new.nodes)
     (listed c.explore.new.nodes) c.clear.new.self c.put_words.new.agenda c.explore.new.agenda
     c.new-dead_ends.result.items c.put_words.new.dead_ends.items c.explore.new.dead_ends.items
-    c.put_words.ensures.added.grown c.explore.ensures.grown) c.requires.sound
+    c.put_words.ensures.added.grown c.explore.ensures.grown) c.args.edges.now c.requires.live
 
 pub returns-in_err-query-clause-asked : goal.returns-in_err-query-clause-asked
 returns-in_err-query-clause-asked g c =
@@ -47,7 +46,7 @@ returns-in_err-query-clause-asked g c =
     (reach (table c.args.deck.now) c.args.words.now) c.args.deck.now
     (listed c.args.nodes.now) (listed c.put_words.new.nodes) c.clear.new.self c.put_words.new.agenda
     c.new-dead_ends.result.items c.put_words.new.dead_ends.items c.args.reductions.now c.args.steps.now
-    c.put_words.ensures.added.grown c.requires.sound (words_query (table c.args.deck.now) c.args.words.now))
+    c.put_words.ensures.added.grown c.requires.live.sound (words_query (table c.args.deck.now) c.args.words.now))
 
 pub settle_query-requires-clause-explored : goal.settle_query-requires-clause-explored
 settle_query-requires-clause-explored g c =
@@ -55,7 +54,8 @@ settle_query-requires-clause-explored g c =
     (listed c.explore.new.nodes) c.args.reductions.now
     c.clear.new.self c.put_words.new.agenda c.explore.new.agenda c.new-dead_ends.result.items
     c.put_words.new.dead_ends.items c.explore.new.dead_ends.items
-    c.args.words.now c.in_ok-query.query.items c.requires.sound c.put_words.ensures.added.grown c.explore.ensures.grown
+    c.args.words.now c.in_ok-query.query.items c.requires.live.sound c.put_words.ensures.added.grown
+    c.explore.ensures.grown
     c.in_ok-query.ensures.written
     c.in_ok-explore.ensures.explored c.deref.result.now c.as_slice.result.now c.deref.ensures.value
     c.as_slice.ensures
@@ -77,7 +77,7 @@ returns-in_err-explore-clause-asked g c =
     (listed c.explore.new.nodes) c.clear.new.self c.put_words.new.agenda c.explore.new.agenda
     c.new-dead_ends.result.items c.put_words.new.dead_ends.items c.explore.new.dead_ends.items
     c.put_words.ensures.added.grown c.explore.ensures.grown)
-    c.requires.sound (words_query (table c.args.deck.now) c.args.words.now))
+    c.requires.live.sound (words_query (table c.args.deck.now) c.args.words.now))
 
 pub returns-in_err-settle_query-clause-asked : goal.returns-in_err-settle_query-clause-asked
 returns-in_err-settle_query-clause-asked g c =
@@ -94,14 +94,15 @@ returns-in_err-settle_query-clause-asked g c =
     (listed c.explore.new.nodes) c.args.reductions.now
     c.clear.new.self c.put_words.new.agenda c.explore.new.agenda c.new-dead_ends.result.items
     c.put_words.new.dead_ends.items c.explore.new.dead_ends.items
-    c.args.words.now c.in_ok-query.query.items c.requires.sound c.put_words.ensures.added.grown c.explore.ensures.grown
+    c.args.words.now c.in_ok-query.query.items c.requires.live.sound c.put_words.ensures.added.grown
+    c.explore.ensures.grown
     c.in_ok-query.ensures.written
     c.in_ok-explore.ensures.explored c.numbered_fault_law.ensures c.settling_law.ensures c.deref.result.now
     c.as_slice.result.now c.deref.ensures.value c.as_slice.ensures
     (λ (query : SmallVec Step). AreSettledWords (table c.args.deck.now) (listed c.settle_query.new.nodes)
     c.args.words.now query.items)
     (shown c.args.deck.now (listed c.settle_query.new.nodes) c.settle_query.new.reductions) c.args.steps.now
-    c.settle_query.new.steps c.settle_query.ensures.sound.right
+    c.settle_query.new.steps c.settle_query.ensures.live.sound.right
     c.in_err-settle_query.field-0.0 c.in_err-settle_query.ensures.answered)
 
 pub returns-clause-asked : goal.returns-clause-asked
@@ -111,34 +112,20 @@ returns-clause-asked g c =
     (listed c.explore.new.nodes) c.args.reductions.now
     c.clear.new.self c.put_words.new.agenda c.explore.new.agenda c.new-dead_ends.result.items
     c.put_words.new.dead_ends.items c.explore.new.dead_ends.items
-    c.args.words.now c.in_ok-query.query.items c.requires.sound c.put_words.ensures.added.grown c.explore.ensures.grown
+    c.args.words.now c.in_ok-query.query.items c.requires.live.sound c.put_words.ensures.added.grown
+    c.explore.ensures.grown
     c.in_ok-query.ensures.written
     c.in_ok-explore.ensures.explored c.numbered_fault_law.ensures c.settling_law.ensures c.deref.result.now
     c.as_slice.result.now c.deref.ensures.value c.as_slice.ensures
     (listed c.settle_query.new.nodes) c.settle_query.new.reductions c.args.steps.now c.settle_query.new.steps
-    c.settle_query.ensures.sound
+    c.settle_query.ensures.live.sound
     c.in_ok-settle_query.ensures.keys c.in_ok-query.query refl a.0 a.1 a.2
 
-pub returns-in_err-query-clause-edges : goal.returns-in_err-query-clause-edges
-returns-in_err-query-clause-edges g c =
-    grown_edges c.args.deck.now (listed c.args.nodes.now) (listed c.put_words.new.nodes) c.clear.new.self
-    c.put_words.new.agenda c.new-dead_ends.result.items c.put_words.new.dead_ends.items c.args.reductions.now
-    c.put_words.ensures.added.grown c.requires.sound c.args.edges.now c.requires.edges
-
-pub settle_query-requires-clause-edges : goal.settle_query-requires-clause-edges
-settle_query-requires-clause-edges g c =
-    grown_edges c.args.deck.now (listed c.args.nodes.now) (listed c.explore.new.nodes) c.clear.new.self
+pub returns-in_err-explore-clause-live : goal.returns-in_err-explore-clause-live
+returns-in_err-explore-clause-live g c =
+    grown_live c.args.deck.now (listed c.args.nodes.now) (listed c.explore.new.nodes) c.clear.new.self
     c.explore.new.agenda c.new-dead_ends.result.items c.explore.new.dead_ends.items c.args.reductions.now
     (grown_both (table c.args.deck.now) (listed c.args.nodes.now) (listed c.put_words.new.nodes)
     (listed c.explore.new.nodes) c.clear.new.self c.put_words.new.agenda c.explore.new.agenda
     c.new-dead_ends.result.items c.put_words.new.dead_ends.items c.explore.new.dead_ends.items
-    c.put_words.ensures.added.grown c.explore.ensures.grown) c.requires.sound c.args.edges.now c.requires.edges
-
-pub returns-in_err-explore-clause-edges : goal.returns-in_err-explore-clause-edges
-returns-in_err-explore-clause-edges g c =
-    grown_edges c.args.deck.now (listed c.args.nodes.now) (listed c.explore.new.nodes) c.clear.new.self
-    c.explore.new.agenda c.new-dead_ends.result.items c.explore.new.dead_ends.items c.args.reductions.now
-    (grown_both (table c.args.deck.now) (listed c.args.nodes.now) (listed c.put_words.new.nodes)
-    (listed c.explore.new.nodes) c.clear.new.self c.put_words.new.agenda c.explore.new.agenda
-    c.new-dead_ends.result.items c.put_words.new.dead_ends.items c.explore.new.dead_ends.items
-    c.put_words.ensures.added.grown c.explore.ensures.grown) c.requires.sound c.args.edges.now c.requires.edges
+    c.put_words.ensures.added.grown c.explore.ensures.grown) c.args.edges.now c.requires.live

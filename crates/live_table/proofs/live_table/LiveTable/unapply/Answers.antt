@@ -55,7 +55,7 @@ returns-in_err-n-clause-after g c =
 
 pub inverse_worth-requires-clause-sound : goal.inverse_worth-requires-clause-sound
 inverse_worth-requires-clause-sound g c =
-    (c.ask_key.new.reductions, c.ask_key.ensures.sound)
+    (c.ask_key.new.reductions, c.ask_key.ensures.live.sound)
 
 pub inverse_worth-requires-clause-settled : goal.inverse_worth-requires-clause-settled
 inverse_worth-requires-clause-settled g c =

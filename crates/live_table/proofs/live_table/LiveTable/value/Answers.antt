@@ -66,7 +66,7 @@ returns-in_err-query-clause-after g c =
 
 pub worth-requires-clause-sound : goal.worth-requires-clause-sound
 worth-requires-clause-sound g c =
-    (c.ask_words.new.reductions, c.ask_words.ensures.sound)
+    (c.ask_words.new.reductions, c.ask_words.ensures.live.sound)
 
 pub worth-requires-clause-settled : goal.worth-requires-clause-settled
 worth-requires-clause-settled g c =
