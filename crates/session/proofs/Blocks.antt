@@ -29,11 +29,12 @@ grown_twice None xs ys = refl
 grown_twice (Some held) xs ys = ap Some (append_assoc held xs ys)
 
 -- all of some bytes is a front of them
-front_all : (o out : Option (List ℕ)) (xs : List ℕ) → out ≡ grown o xs → GrowsByFront o out xs
+pub front_all : (o out : Option (List ℕ)) (xs : List ℕ) → out ≡ grown o xs → GrowsByFront o out xs
 front_all o out xs e = (length xs, omega arith, e ∙ ap (grown o) (sym (take_all (length xs) xs (omega arith))))
 
 -- a front of some bytes is a front of more
-front_more : (o out : Option (List ℕ)) (xs ys : List ℕ) → Begins xs ys → GrowsByFront o out xs → GrowsByFront o out ys
+pub front_more : (o out : Option (List ℕ)) (xs ys : List ℕ) → Begins xs ys → GrowsByFront o out xs
+    → GrowsByFront o out ys
 front_more o out xs ys b f = subst (GrowsByFront o out) (sym b.1) (
   f.0,
   omega (arith, f.1, length-append xs b.0),
@@ -66,6 +67,11 @@ pub any_rose : (a b c x y z p q : ℕ) → a ≤ b → x ≤ y → Rose b c ⊎ 
 any_rose a b c x y z p q h k (inl r) = inl (rose_since a b c h r)
 any_rose a b c x y z p q h k (inr (inl r)) = inr (inl (rose_since x y z k r))
 any_rose a b c x y z p q h k (inr (inr r)) = inr (inr r)
+
+-- so did one of two
+pub either_rose : (a b c x y z : ℕ) → a ≤ b → x ≤ y → Rose b c ⊎ Rose y z → Rose a c ⊎ Rose x z
+either_rose a b c x y z h k (inl r) = inl (rose_since a b c h r)
+either_rose a b c x y z h k (inr r) = inr (rose_since x y z k r)
 
 -- one of two is one of three
 pub of_two : {A B C : Type 0} → A ⊎ B → A ⊎ B ⊎ C
@@ -118,12 +124,13 @@ module _ (first : Talk) (taken : List ℕ) (held : Option (List ℕ)) (session :
   told = talk_over first (whole_lines taken)
 
   -- all that was said is written
-  abbrev base : Base
-  base = record { out = told.out; err = told.err; steps = before.steps }
+  abbrev pub written : Base
+  written = record { out = told.out; err = told.err; steps = before.steps }
 
   -- with nothing said since, the session stands
   pub stands : (said : Said) → said.out.items ≡ [] → said.err.items ≡ []
-      → Stands base first taken held (record { said = said; session = session; files = now.files; steps = now.steps })
+      → Stands written first taken held
+      (record { said = said; session = session; files = now.files; steps = now.steps })
   stands said o e = record {
     at = record {
       out = sym (append-nil told.out) ∙ ap (λ t. told.out ++ t) (sym o);
@@ -137,7 +144,7 @@ module _ (first : Talk) (taken : List ℕ) (held : Option (List ℕ)) (session :
   }
 
   -- a front of what was written and is now said is a front of the whole
-  pub fronts : (talk : Talk) (said : Said) (after : Outside) → IsBefore base talk said
+  pub fronts : (talk : Talk) (said : Said) (after : Outside) → IsBefore written talk said
       → GrowsByFront now.out after.out said.out.items → GrowsByFront now.err after.err said.err.items
       → IsFront (output_of talk) before after
   fronts talk said after b o e = record {
@@ -149,7 +156,7 @@ module _ (first : Talk) (taken : List ℕ) (held : Option (List ℕ)) (session :
 
   -- the session waits again once what was said is written
   pub waits : (front : List ℕ) (held_now : Option (List ℕ)) (said : Said) (new : Known) (after : Outside)
-      → Stands base first front held_now
+      → Stands written first front held_now
       (record { said = said; session = new; files = after.files; steps = after.steps })
       → after.out ≡ grown now.out said.out.items → after.err ≡ grown now.err said.err.items
       → Waits first front held_now new before after
@@ -167,7 +174,7 @@ module _ (first : Talk) (taken : List ℕ) (held : Option (List ℕ)) (session :
 
   -- the whole run, once the talk over its input is written
   pub whole : (talk : Talk) (said : Said) (new : Known) (after : Outside) (old : FileMap) → before.files ≡ Some old
-      → IsAt base talk (record { said = said; session = new; files = after.files; steps = after.steps })
+      → IsAt written talk (record { said = said; session = new; files = after.files; steps = after.steps })
       → after.out ≡ grown now.out said.out.items → after.err ≡ grown now.err said.err.items
       → IsAll (output_of talk) before after
   whole talk said new after old h at o e = record {
@@ -239,35 +246,23 @@ pub went : (input taken rest bytes more : List ℕ) → input ≡ taken ++ rest 
     → (taken ++ bytes) ++ more ≡ input
 went input taken rest bytes more p q = append_assoc taken bytes more ∙ ap (λ t. taken ++ t) (sym q) ∙ sym p
 
-pub ended_input : (input taken rest : List ℕ) → input ≡ taken ++ rest → rest ≡ [] → taken ≡ input
-ended_input input taken rest p q = sym (p ∙ ap (λ t. taken ++ t) q ∙ append-nil taken)
-
 module _ (first : Talk) (taken : List ℕ) (held : Option (List ℕ)) (session : Known) (before now : Outside)
     (w : Waits first taken held session before now) where
   -- the same of the whole input
   pub fronts_at : (i input : List ℕ) (said : Said) (after : Outside) → i ≡ input
-      → IsBefore (base first taken held session before now w) (talk_on first i) said
+      → IsBefore (written first taken held session before now w) (talk_on first i) said
       → GrowsByFront now.out after.out said.out.items → GrowsByFront now.err after.err said.err.items
       → IsFront (output_of (talk_on first input)) before after
   fronts_at i input said after p b o e = subst (λ t. IsFront (output_of (talk_on first t)) before after) p
       (fronts first taken held session before now w (talk_on first i) said after b o e)
 
   pub whole_at : (i input : List ℕ) (said : Said) (new : Known) (after : Outside) (old : FileMap) → i ≡ input
-      → before.files ≡ Some old → IsAt (base first taken held session before now w) (talk_on first i)
+      → before.files ≡ Some old → IsAt (written first taken held session before now w) (talk_on first i)
       (record { said = said; session = new; files = after.files; steps = after.steps })
       → after.out ≡ grown now.out said.out.items → after.err ≡ grown now.err said.err.items
       → IsAll (output_of (talk_on first input)) before after
   whole_at i input said new after old p h at o e = subst (λ t. IsAll (output_of (talk_on first t)) before after) p
       (whole first taken held session before now w (talk_on first i) said new after old h at o e)
-
-  -- at the end of the input
-  pub stands_end : (input : List ℕ) (said : Said) → taken ≡ input → said.out.items ≡ [] → said.err.items ≡ []
-      → Stands (base first taken held session before now w) first input held
-      (record { said = said; session = session; files = now.files; steps = now.steps })
-  stands_end input said p o e =
-      subst (λ t. Stands (base first taken held session before now w) first t held
-      (record { said = said; session = session; files = now.files; steps = now.steps })) p
-      (stands first taken held session before now w said o e)
 
 pub heard_over : (base : Base) (first : Talk) (taken input whole : List ℕ) (now : Now) (left : Option (List ℕ))
     (rest : List ℕ) → IsOver base first taken input now → whole ≡ taken ++ rest → left ≡ Some rest
@@ -275,10 +270,8 @@ pub heard_over : (base : Base) (first : Talk) (taken input whole : List ℕ) (no
 heard_over base first taken input whole now left rest o p q =
     inr (ap (λ t. list_any is_last (whole_lines t)) (taken_is whole taken rest left p q) ∙ o.last)
 
-pub all_front : (o out : Option (List ℕ)) (xs : List ℕ) → out ≡ grown o xs → GrowsByFront o out xs
-all_front o out xs e = front_all o out xs e
-
-pub ended_before : (result : Result (Unit {0}) SessionFault) (base : Base) (first : Talk) (input : List ℕ) (now : Now)
+pub ended_before : {A : Type 0} (result : Result A SessionFault) (base : Base) (first : Talk) (input : List ℕ)
+    (now : Now)
     → MatchResult result (λ _. IsAt base (talk_on first input) now) (λ _. IsBefore base (talk_on first input) now.said)
     → IsBefore base (talk_on first input) now.said
 ended_before (Ok done) base first input now at = at_before base (talk_on first input) (talk_on first input) [] now at

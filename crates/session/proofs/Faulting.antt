@@ -1,5 +1,5 @@
 -- The count of failed fetches behind an answer.
-use Rattle.std.proofs.Common.{◌≡◌, ℕ, refl, Ok, Err}
+use Rattle.std.proofs.Common.{◌≡◌, ◌∙◌, ℕ, Bool, false, ap, refl, Ok, Err}
 use Rattle.std.specs.Prelude.{Result}
 use Rattle.session.specs.Answering.{faults_after}
 use Rattle.session.specs.declared.fault.SessionFault.{SessionFault}
@@ -12,3 +12,8 @@ unread n (Ok x) h = refl
 unread n (Err ReadFailed) h = absurd (h refl)
 unread n (Err WriteFailed) h = refl
 unread n (Err OutOfMemory) h = refl
+
+-- nor did a fetch fail where the session goes on
+pub still : (before now : ℕ) (fed : Result Bool SessionFault) → fed ≡ Ok false → now ≡ faults_after before fed
+    → now ≡ before
+still before now fed is counted = counted ∙ ap (faults_after before) is

@@ -11,6 +11,7 @@ pub mod Replying
 pub mod Counted
 pub mod Faulting
 pub mod Blocks
+pub mod Ending
 pub mod TalkedThrough
 pub mod LogicalSizes
 pub mod DeckSizes

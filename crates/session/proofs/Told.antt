@@ -11,7 +11,7 @@ use Rattle.live_table.specs.States.{Becomes, Event}
 use Rattle.live_table.proofs.Following.{follows_both}
 use Rattle.reply.specs.declared.options.Options.{Options}
 use Rattle.session.specs.Answers.{editing}
-use Rattle.session.specs.EditResults.{EditResult, Made, Refused}
+use Rattle.session.specs.EditResults.{EditResult, Refused}
 use Rattle.session.specs.Parts.{IsEdited, Makes, Said}
 use Rattle.session.specs.Queries.{Leaves, after_events}
 use Rattle.session.specs.Sessions.{State, known, known_dated, state_of}

@@ -1,14 +1,16 @@
 -- What the answer to a line leaves.
-use Rattle.std.specs.Prelude.{◌≡◌, ◌+◌, ℕ, Result, Ok, Err, IsErrOf, ⊤}
+use Rattle.std.specs.Prelude.{◌≡◌, ◌+◌, ◌≤◌, ℕ, Result, Ok, Err, IsErrOf, ⊤}
 use Rattle.std.specs.declared.option.Option.{Option}
-use Rattle.units_io.specs.Faults.{next}
+use Rattle.units_io.specs.Faults.{Rose, next}
 use Rattle.units_io.specs.FileMap.{FileMap}
 use Rattle.session.specs.declared.answer.LineReply.{LineReply}
 use Rattle.session.specs.declared.fault.SessionFault.{SessionFault}
 use Rattle.session.specs.declared.fault.SessionFault.TheVariants.{ReadFailed, WriteFailed}
 use Rattle.session.specs.Answers.{Answer}
-use Rattle.session.specs.Sessions.{Known}
-use Rattle.session.specs.Telling.{when_told}
+use Rattle.session.specs.Commands.{Command, is_load}
+use Rattle.session.specs.Sessions.{Known, state_of}
+use Rattle.session.specs.Steps.{answer_to}
+use Rattle.session.specs.Telling.{TellsIf, when_told}
 
 -- what a line can change: the session, the files and the count of steps
 pub record Scene : Type 0 where
@@ -32,10 +34,32 @@ abbrev pub IsAnswered : Answer → Result LineReply SessionFault → Scene → S
 IsAnswered answer (Ok reply) before after = Says answer reply before after
 IsAnswered answer (Err _) before after = ⊤
 
+-- a line that asks for this was answered by the state before it, where the files are told, or where it loads none
+abbrev pub IsAnswerTo : Command → Result LineReply SessionFault → Scene → Scene → Type 0
+IsAnswerTo command result before after =
+    (m : FileMap) → TellsIf (is_load command) before.files m
+    → IsAnswered (answer_to (state_of before.session m) command) result before after
+
 -- the count of failed fetches afterwards: one more exactly where a file could not be read
 abbrev pub faults_after : {A : Type 0} → (faults : ℕ) → Result A SessionFault → ℕ
 faults_after faults (Err ReadFailed) = next faults
 faults_after faults _ = faults
+
+-- how often a fetch failed, and how often a store
+pub record FileFaults : Type 0 where
+  pub fetches : ℕ
+  pub stores : ℕ
+
+abbrev pub file_faults : (fetches stores : ℕ) → FileFaults
+file_faults fetches stores = record { fetches = fetches; stores = stores }
+
+-- file faults are counted: a fetch failed exactly where a file could not be read, and where a file could not be written
+-- a store failed
+pub record AreCounted {A : Type 0} (result : Result A SessionFault) (before now : FileFaults) : Type 0 where
+  pub counted : now.fetches ≡ faults_after before.fetches result
+  pub cause : IsErrOf result ReadFailed → Rose before.fetches now.fetches
+  pub written : IsErrOf result WriteFailed → Rose before.stores now.stores
+  pub later : before.stores ≤ now.stores
 
 -- no file fault
 abbrev pub IsCalm : {A : Type 0} → Result A SessionFault → Type 0

@@ -26,3 +26,5 @@ pub mod TextDecks
 pub mod TrialLines
 pub mod Trials
 pub mod Trialing
+pub mod Worlds
+pub mod Runs

@@ -1,16 +1,20 @@
 -- The state of a session.
-use Rattle.std.specs.Prelude.{[], ℕ, List, Option, Some, None, refl, if◌then◌else◌, codes}
+use Rattle.std.specs.Prelude.{[], ℕ, List, Option, Some, None, refl, if◌then◌else◌, codes, map}
 use Rattle.std.specs.Coded.{Coded, code_by, coded×, coded_list, coded_option, coded_ℕ}
 use Rattle.units_io.specs.FileMap.{FileMap}
+use Rattle.deck.specs.Tables.{table as table_in}
 use Rattle.deck.specs.contracts.settings.Settings as settings
 use Rattle.deck_lines.specs.contracts.line.DeckLine as line
+use Rattle.edit_history.specs.Histories.{Course, Follows}
 use Rattle.edit_history.specs.Versions.{Version}
 use Rattle.live_table.specs.Shown.{Shown}
 use Rattle.live_table.specs.contracts.live_table.LiveTable as live_table
+use Rattle.reply.specs.Options.{IsPrintable}
 use Rattle.reply.specs.contracts.options.Options as options
 use Rattle.reply.specs.declared.options.Options.{Options}
-use Rattle.session.specs.Versions.{Dated, Versions}
-use Rattle.watch.specs.Watched.{Subject}
+use Rattle.session.specs.Versions.{Dated, Versions, dated}
+use Rattle.watch.specs.Watched.{AreCurrent, Subject, subject_of}
+use Rattle.watch.specs.declared.watch.Watch.{Watch}
 
 -- what contracts see of a session: how replies are written, the live table, the text of FROM where one is pending, the
 -- versions of the deck that an undo and a redo give back, and the conversions that are watched
@@ -60,6 +64,17 @@ known options table pending versions watched =
 -- the same of a live table with the versions of its deck
 abbrev pub known_dated : Options → Dated → (pending : Option (List ℕ)) → (watched : List Subject) → Known
 known_dated options d pending watched = known options d.table pending d.versions watched
+
+-- a session of these parts, as contracts see it
+abbrev pub known_by : Options → Shown → Course → (pending : Option (List ℕ)) → List Watch → Known
+known_by options table history pending watches =
+    known_dated options (dated table history) pending (map subject_of watches)
+
+-- parts of one session: its replies can be printed, its history is one of its deck, and each reply that is kept of what
+-- is watched is that in its table
+abbrev pub AreParts : Options → Shown → Course → List Watch → Type 0
+AreParts options table history watches =
+    IsPrintable options × Follows history table.deck × AreCurrent (table_in table.deck) options watches
 
 -- the live table of a session with the versions of its deck
 abbrev pub dated_in : Known → Dated

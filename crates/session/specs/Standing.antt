@@ -1,5 +1,6 @@
 -- Where a session stands while its input comes.
-use Rattle.std.specs.Prelude.{◌≡◌, ◌+◌, ◌++◌, ℕ, List, Bool, true, false, Result, Ok, Err, Some}
+use Rattle.std.specs.Prelude.{◌≡◌, ◌+◌, ◌++◌, ◌∷◌, [], ℕ, List, Bool, true, false, Result, Ok, Err, Some}
+use Rattle.std.specs.Prelude.{MatchResult}
 use Rattle.std.specs.declared.option.Option.{Option}
 use Rattle.std.specs.List.{list_any}
 use Rattle.units_io.specs.FileMap.{FileMap}
@@ -60,3 +61,10 @@ abbrev pub Fed : Result Bool SessionFault → Base → Talk → (taken more : Li
 Fed (Ok false) base first taken more held now = Stands base first taken held now
 Fed (Ok true) base first taken more held now = IsOver base first taken (taken ++ more) now
 Fed (Err fault) base first taken more held now = IsBefore base (talk_on first (taken ++ more)) now.said
+
+-- a block was taken up, or the end of the input where it is empty
+abbrev pub IsTakenUp : (block : List ℕ) → Result Bool SessionFault → Base → Talk → (taken more : List ℕ)
+    → (held : Option (List ℕ)) → Now → Type 0
+IsTakenUp [] result base first taken more held now =
+    MatchResult result (λ _. IsAt base (talk_on first taken) now) (λ _. IsBefore base (talk_on first taken) now.said)
+IsTakenUp (b ∷ block) result base first taken more held now = Fed result base first (taken ++ b ∷ block) more held now

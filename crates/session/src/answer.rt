@@ -1,23 +1,21 @@
 //! The answer to a line of a session.
 
-ghost use Rattle.std.specs.Prelude.{◌≡◌, ◌≤◌, ℕ, List, length, map, None, Some, IfOk, IsErrOf, OnOk, [], false};
+ghost use Rattle.std.specs.Prelude.{◌≡◌, ◌≤◌, ℕ, List, length, None, Some, IfOk, IsErrOf, OnOk, [], false, true};
 ghost use Rattle.units_io.specs.FileMap.{FileMap, longest_file, with_file};
 ghost use Rattle.units_io.specs.Faults.{Rose};
-ghost use Rattle.deck.specs.Tables as tables;
 ghost use Rattle.deck_save.specs.Saved.{saved_file};
-ghost use Rattle.edit_history.specs.Histories.{Follows};
 ghost use Rattle.reply.specs.Options.{IsPrintable};
-ghost use Rattle.session.specs.Answering.{IsAnswered, IsCalm, faults_after, scene_of};
+ghost use Rattle.session.specs.Answering.{AreCounted, IsAnswerTo, IsCalm, file_faults, scene_of};
 ghost use Rattle.session.specs.Answers.{files_saved, saved_line};
 ghost use Rattle.session.specs.Commands as commands;
 ghost use Rattle.session.specs.Hearing.{longest_line};
+ghost use Rattle.session.specs.Lines as lines;
 ghost use Rattle.session.specs.Parts.{IsLine, IsSaid};
 ghost use Rattle.session.specs.Seen.{seen_command};
-ghost use Rattle.session.specs.Sessions.{known, known_dated, state_of};
+ghost use Rattle.session.specs.Sessions.{AreParts, known, known_by, state_of};
 ghost use Rattle.session.specs.Steps as spec;
-ghost use Rattle.session.specs.Telling.{TellsIf};
-ghost use Rattle.session.specs.Versions.{Versions, dated};
-ghost use Rattle.watch.specs.Watched.{AreCurrent, Subject, subject_of};
+ghost use Rattle.session.specs.Versions.{Versions};
+ghost use Rattle.watch.specs.Watched.{Subject};
 
 use crate::asking::{converted, defined, listed, valued};
 use crate::command::{Command, read_command};
@@ -32,7 +30,7 @@ use deck_save::{SaveFault, save_text};
 use edit_history::History;
 use live_table::LiveTable;
 use reply::{FromValue, Options};
-use std::alloc::Global;
+use std::alloc::{AllocError, Global};
 use std::sync::ledger::Ledger;
 use survey::search_report;
 use units_io::{Files, Steps, StoreFault, Text};
@@ -57,6 +55,24 @@ pub(crate) fn saying(alloc: Global, out: Text) -> LineReply
         out,
         err: no_text(alloc),
         done: false,
+    }
+}
+
+// Some words and a word behind them, on a line of `out`.
+fn saying_word(alloc: Global, words: &[u8], word: &[u8]) -> Result<LineReply, AllocError>
+    ensures { IfOk result (λ reply. IsLine reply (lines.word_line words.now word.now) [] false) }
+{
+    Ok(saying(alloc, word_line(alloc, words, word)?))
+}
+
+// The answer to a line that ends the session.
+fn last_reply(alloc: Global) -> LineReply
+    ensures { IsLine result [] [] true }
+{
+    LineReply {
+        out: no_text(alloc),
+        err: no_text(alloc),
+        done: true,
     }
 }
 
@@ -184,7 +200,7 @@ fn save<F: Files>(
             store(alloc, name, text.as_bytes(), files)?;
             Ok(saying(alloc, no_text(alloc)))
         }
-        Err(SaveFault::TooLong) => Ok(saying(alloc, word_line(alloc, b"file too long: ", name)?)),
+        Err(SaveFault::TooLong) => Ok(saying_word(alloc, b"file too long: ", name)?),
         Err(SaveFault::OutOfMemory) => Err(SessionFault::OutOfMemory),
     }
 }
@@ -225,27 +241,18 @@ fn perform<L: Ledger>(
     command: Command<'_>,
     steps: &mut Steps<L>,
 ) -> Result<LineReply, SessionFault>
-    requires printable { IsPrintable options.now }
-    requires follows { Follows history.old table.old.deck }
-    requires current { AreCurrent (tables.table table.old.deck) options.now watches.old }
+    requires parts { AreParts options.now table.old history.old watches.old }
     requires no_file { commands.names_file (seen_command command) ≡ false }
-    ensures said { (m : FileMap) → IsSaid
-        (spec.answer_to (state_of (known_dated options.now (dated table.old history.old) pending.old
-        (map subject_of watches.old)) m) (seen_command command.entry)) result
-        (known_dated options.now (dated table.new history.new) pending.new (map subject_of watches.new))
-        steps.old steps.new }
+    ensures said { (m : FileMap) → IsSaid (spec.answer_to
+        (state_of (known_by options.now table.old history.old pending.old watches.old) m) (seen_command command.entry))
+        result (known_by options.now table.new history.new pending.new watches.new) steps.old steps.new }
     ensures done { IfOk result (λ reply. reply.done ≡ commands.is_quit (seen_command command.entry)) }
-    ensures follows { Follows history.new table.new.deck }
-    ensures current { AreCurrent (tables.table table.new.deck) options.now watches.new }
+    ensures parts { AreParts options.now table.new history.new watches.new }
     ensures calm { IsCalm result }
 {
     match command {
         Command::Blank => answer_blank(alloc, options, table, pending, steps),
-        Command::Quit => Ok(LineReply {
-            out: no_text(alloc),
-            err: no_text(alloc),
-            done: true,
-        }),
+        Command::Quit => Ok(last_reply(alloc)),
         Command::Conformable => answer_conformable(alloc, options, table, pending, steps),
         Command::Search(text) => Ok(saying(alloc, search_report(alloc, table, text)?)),
         Command::Edit(change) => edit(alloc, options, table, history, watches, change, steps),
@@ -256,10 +263,8 @@ fn perform<L: Ledger>(
             Ok(saying(alloc, no_text(alloc)))
         }
         Command::Stats => Ok(saying(alloc, statistics(alloc, table)?)),
-        Command::Unknown(word) => {
-            Ok(saying(alloc, word_line(alloc, b"unknown command: ", word)?))
-        }
-        Command::Bad(word) => Ok(saying(alloc, word_line(alloc, b"bad command: ", word)?)),
+        Command::Unknown(word) => Ok(saying_word(alloc, b"unknown command: ", word)?),
+        Command::Bad(word) => Ok(saying_word(alloc, b"bad command: ", word)?),
         Command::Expression(text) => {
             answer_expression(alloc, options, table, pending, text, steps)
         }
@@ -278,17 +283,11 @@ impl Session {
         steps: &mut Steps<L>,
     ) -> Result<LineReply, SessionFault>
         requires { length line.now ≤ longest_line }
-        ensures answer { (m : FileMap) →
-            TellsIf (commands.is_load (commands.command_of line.now)) (F.files files.old) m →
-            IsAnswered (spec.answer_to (state_of self.old m) (commands.command_of line.now)) result
-            (scene_of self.old (F.files files.old) steps.old)
-            (scene_of self.new (F.files files.new) steps.new) }
+        ensures answer { IsAnswerTo (commands.command_of line.now) result
+            (scene_of self.old (F.files files.old) steps.old) (scene_of self.new (F.files files.new) steps.new) }
         ensures done { IfOk result (λ reply. reply.done ≡ commands.is_quit (commands.command_of line.now)) }
-        ensures counted { F.faults files.new ≡ faults_after (F.faults files.old) result }
-        ensures read { IsErrOf result SessionFault.ReadFailed → Rose (F.faults files.old) (F.faults files.new) }
-        ensures written { IsErrOf result SessionFault.WriteFailed →
-            Rose (F.store_faults files.old) (F.store_faults files.new) }
-        ensures later { F.store_faults files.old ≤ F.store_faults files.new }
+        ensures faults { AreCounted result (file_faults (F.faults files.old) (F.store_faults files.old))
+            (file_faults (F.faults files.new) (F.store_faults files.new)) }
         ensures kept { commands.is_save (commands.command_of line.now) ≡ false →
             (F.files files.new ≡ F.files files.old) × (F.store_faults files.new ≡ F.store_faults files.old) }
     {

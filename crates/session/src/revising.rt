@@ -1,22 +1,18 @@
 //! Edits of the deck of a session, and what they tell of what is watched.
 
-ghost use Rattle.std.specs.Prelude.{◌≡◌, ℕ, List, map, Some, IfOk, IsErrOf, [], false};
+ghost use Rattle.std.specs.Prelude.{◌≡◌, ℕ, List, Some, IfOk, IsErrOf, [], false};
 ghost use Rattle.std.specs.declared.option.Option.{Option};
 ghost use Rattle.units_io.specs.FileMap.{FileMap};
 ghost use Rattle.units_io.specs.Faults.{Rose};
-ghost use Rattle.deck.specs.Tables as tables;
-ghost use Rattle.edit_history.specs.Histories.{Follows};
-ghost use Rattle.reply.specs.Options.{IsPrintable};
 ghost use Rattle.session.specs.Answering.{IsCalm, faults_after};
 ghost use Rattle.session.specs.Answers.{editing};
 ghost use Rattle.session.specs.Commands as commands;
 ghost use Rattle.session.specs.EditResults.{edited_by};
 ghost use Rattle.session.specs.Parts.{IsSaid};
 ghost use Rattle.session.specs.Seen.{seen_edit};
-ghost use Rattle.session.specs.Sessions.{known_dated, state_of};
+ghost use Rattle.session.specs.Sessions.{AreParts, known_by, state_of};
 ghost use Rattle.session.specs.Steps as spec;
 ghost use Rattle.session.specs.Versions.{dated};
-ghost use Rattle.watch.specs.Watched.{AreCurrent, subject_of};
 
 use crate::answer::{LineReply, saying};
 use crate::command::DeckEdit;
@@ -42,17 +38,13 @@ pub(crate) fn edit<L: Ledger>(
     change: DeckEdit<'_>,
     steps: &mut Steps<L>,
 ) -> Result<LineReply, SessionFault>
-    requires printable { IsPrintable options.now }
-    requires follows { Follows history.old table.old.deck }
-    requires current { AreCurrent (tables.table table.old.deck) options.now watches.old }
-    ensures said { (pending : Option (List ℕ)) (m : FileMap) → let was = dated table.old history.old in IsSaid
-        (editing (edited_by (seen_edit change.entry) was) []
-        (state_of (known_dated options.now was pending (map subject_of watches.old)) m)) result
-        (known_dated options.now (dated table.new history.new) pending (map subject_of watches.new))
-        steps.old steps.new }
+    requires parts { AreParts options.now table.old history.old watches.old }
+    ensures said { (pending : Option (List ℕ)) (m : FileMap) → IsSaid
+        (editing (edited_by (seen_edit change.entry) (dated table.old history.old)) []
+        (state_of (known_by options.now table.old history.old pending watches.old) m))
+        result (known_by options.now table.new history.new pending watches.new) steps.old steps.new }
     ensures done { IfOk result (λ reply. reply.done ≡ false) }
-    ensures follows { Follows history.new table.new.deck }
-    ensures current { AreCurrent (tables.table table.new.deck) options.now watches.new }
+    ensures parts { AreParts options.now table.new history.new watches.new }
     ensures calm { IsCalm result }
 {
     match make_edit(alloc, table, history, change)? {
@@ -76,17 +68,12 @@ pub(crate) fn load<F: Files, L: Ledger>(
     files: &mut F,
     steps: &mut Steps<L>,
 ) -> Result<LineReply, SessionFault>
-    requires printable { IsPrintable options.now }
-    requires follows { Follows history.old table.old.deck }
-    requires current { AreCurrent (tables.table table.old.deck) options.now watches.old }
-    ensures said { (pending : Option (List ℕ)) (m : FileMap) → F.files files.old ≡ Some m → IsSaid
-        (spec.answer_to (state_of (known_dated options.now (dated table.old history.old) pending
-        (map subject_of watches.old)) m) (commands.Load name.now)) result
-        (known_dated options.now (dated table.new history.new) pending (map subject_of watches.new))
-        steps.old steps.new }
+    requires parts { AreParts options.now table.old history.old watches.old }
+    ensures said { (pending : Option (List ℕ)) (m : FileMap) → F.files files.old ≡ Some m → IsSaid (spec.answer_to
+        (state_of (known_by options.now table.old history.old pending watches.old) m) (commands.Load name.now))
+        result (known_by options.now table.new history.new pending watches.new) steps.old steps.new }
     ensures done { IfOk result (λ reply. reply.done ≡ false) }
-    ensures follows { Follows history.new table.new.deck }
-    ensures current { AreCurrent (tables.table table.new.deck) options.now watches.new }
+    ensures parts { AreParts options.now table.new history.new watches.new }
     ensures kept { F.files files.new ≡ F.files files.old }
     ensures stores { F.store_faults files.new ≡ F.store_faults files.old }
     ensures counted { F.faults files.new ≡ faults_after (F.faults files.old) result }

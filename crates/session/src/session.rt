@@ -37,23 +37,15 @@ impl Drop for Session {
 }
 
 impl Model for Session {
-    ghost use Rattle.std.specs.Prelude.{map};
-    ghost use Rattle.deck.specs.Tables as tables;
-    ghost use Rattle.reply.specs.Options.{IsPrintable};
-    ghost use Rattle.edit_history.specs.Histories.{Follows};
-    ghost use Rattle.session.specs.Sessions.{Known, known_code, known_dated};
-    ghost use Rattle.session.specs.Versions.{dated};
-    ghost use Rattle.watch.specs.Watched.{AreCurrent, subject_of};
+    ghost use Rattle.session.specs.Sessions.{AreParts, Known, known_by, known_code};
 
     ghost Value = { Known };
 
     ghost coded = { known_code };
 
-    ghost view = { λ s.
-        known_dated s.options (dated s.table s.history) s.pending (map subject_of s.watches) };
+    ghost view = { λ s. known_by s.options s.table s.history s.pending s.watches };
 
-    ghost invariant = { λ s. IsPrintable s.options × Follows s.history s.table.deck
-        × AreCurrent (tables.table s.table.deck) s.options s.watches };
+    ghost invariant = { λ s. AreParts s.options s.table s.history s.watches };
 }
 
 impl Session {

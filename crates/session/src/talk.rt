@@ -1,11 +1,10 @@
 //! A session that answers the bytes of an input, block by block.
 
-ghost use Rattle.std.specs.Prelude.{◌≡◌, ◌++◌, ◌≤◌, List, ℕ, Some, [], length, IfOk, IfSome, IsErrOf, MatchResult};
+ghost use Rattle.std.specs.Prelude.{◌≡◌, ◌++◌, ◌≤◌, List, ℕ, Some, [], length, IfOk, IfSome, MatchResult};
 ghost use Rattle.std.specs.Prelude.{codes, false};
 ghost use Rattle.std.specs.Option.{option_copied};
 ghost use Rattle.units_io.specs.FileMap.{FileMap};
-ghost use Rattle.units_io.specs.Faults.{Rose};
-ghost use Rattle.session.specs.Answering.{IsAnswered, faults_after, scene_of};
+ghost use Rattle.session.specs.Answering.{AreCounted, IsAnswered, file_faults, scene_of};
 ghost use Rattle.session.specs.Hearing.{is_last, is_last_read, longest_line, readable};
 ghost use Rattle.session.specs.Parts.{IsLine};
 ghost use Rattle.session.specs.Sessions.{state_of};
@@ -39,11 +38,8 @@ pub fn feed<F: Files, L: Ledger>(
         (now_of said.old session.old (F.files files.old) steps.old) →
         Fed result base first (taken ++ block.now) more held.new
         (now_of said.new session.new (F.files files.new) steps.new) }
-    ensures counted { F.faults files.new ≡ faults_after (F.faults files.old) result }
-    ensures cause { IsErrOf result SessionFault.ReadFailed → Rose (F.faults files.old) (F.faults files.new) }
-    ensures written { IsErrOf result SessionFault.WriteFailed →
-        Rose (F.store_faults files.old) (F.store_faults files.new) }
-    ensures later { F.store_faults files.old ≤ F.store_faults files.new }
+    ensures faults { AreCounted result (file_faults (F.faults files.old) (F.store_faults files.old))
+        (file_faults (F.faults files.new) (F.store_faults files.new)) }
 {
     let mut rest = block;
     while let Some((piece, behind)) = cut_at(rest, b'\n') {
@@ -74,11 +70,8 @@ pub fn feed_end<F: Files, L: Ledger>(
         (λ _. IsAt base (talk_on first input)
         (now_of said.new session.new (F.files files.new) steps.new))
         (λ _. IsBefore base (talk_on first input) said.new) }
-    ensures counted { F.faults files.new ≡ faults_after (F.faults files.old) result }
-    ensures cause { IsErrOf result SessionFault.ReadFailed → Rose (F.faults files.old) (F.faults files.new) }
-    ensures written { IsErrOf result SessionFault.WriteFailed →
-        Rose (F.store_faults files.old) (F.store_faults files.new) }
-    ensures later { F.store_faults files.old ≤ F.store_faults files.new }
+    ensures faults { AreCounted result (file_faults (F.faults files.old) (F.store_faults files.old))
+        (file_faults (F.faults files.new) (F.store_faults files.new)) }
 {
     if held.is_empty() {
         return Ok(());
@@ -107,11 +100,8 @@ fn end_line<F: Files, L: Ledger>(
         (now_of said.new session.new (F.files files.new) steps.new))
         (λ _. IsBefore base
         (with_answer talk (spec.answer talk.state (part ++ piece.now)) (part ++ piece.now)) said.new) }
-    ensures counted { F.faults files.new ≡ faults_after (F.faults files.old) result }
-    ensures cause { IsErrOf result SessionFault.ReadFailed → Rose (F.faults files.old) (F.faults files.new) }
-    ensures written { IsErrOf result SessionFault.WriteFailed →
-        Rose (F.store_faults files.old) (F.store_faults files.new) }
-    ensures later { F.store_faults files.old ≤ F.store_faults files.new }
+    ensures faults { AreCounted result (file_faults (F.faults files.old) (F.store_faults files.old))
+        (file_faults (F.faults files.new) (F.store_faults files.new)) }
 {
     if held.is_empty() {
         let done = reply(alloc, session, short(piece), said, files, steps);
@@ -156,11 +146,8 @@ fn reply<F: Files, L: Ledger>(
         (λ done. (done ≡ is_last part) × IsAt base (with_answer talk (spec.answer talk.state part) part)
         (now_of said.new session.new (F.files files.new) steps.new))
         (λ _. IsBefore base (with_answer talk (spec.answer talk.state part) part) said.new) }
-    ensures counted { F.faults files.new ≡ faults_after (F.faults files.old) result }
-    ensures cause { IsErrOf result SessionFault.ReadFailed → Rose (F.faults files.old) (F.faults files.new) }
-    ensures written { IsErrOf result SessionFault.WriteFailed →
-        Rose (F.store_faults files.old) (F.store_faults files.new) }
-    ensures later { F.store_faults files.old ≤ F.store_faults files.new }
+    ensures faults { AreCounted result (file_faults (F.faults files.old) (F.store_faults files.old))
+        (file_faults (F.faults files.new) (F.store_faults files.new)) }
 {
     let reply = match answer_line(alloc, session, line, files, steps) {
         Ok(reply) => reply,
@@ -186,11 +173,8 @@ fn answer_line<F: Files, L: Ledger>(
         (scene_of session.old (F.files files.old) steps.old)
         (scene_of session.new (F.files files.new) steps.new) }
     ensures done { IfOk result (λ reply. reply.done ≡ is_last_read (option_copied line.entry)) }
-    ensures counted { F.faults files.new ≡ faults_after (F.faults files.old) result }
-    ensures cause { IsErrOf result SessionFault.ReadFailed → Rose (F.faults files.old) (F.faults files.new) }
-    ensures written { IsErrOf result SessionFault.WriteFailed →
-        Rose (F.store_faults files.old) (F.store_faults files.new) }
-    ensures later { F.store_faults files.old ≤ F.store_faults files.new }
+    ensures faults { AreCounted result (file_faults (F.faults files.old) (F.store_faults files.old))
+        (file_faults (F.faults files.new) (F.store_faults files.new)) }
 {
     match line {
         Some(line) => session.line(alloc, line, files, steps),

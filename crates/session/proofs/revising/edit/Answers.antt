@@ -17,4 +17,4 @@ returns-in_ok-told-in-Made-clause-said g c = λ pending m.
     c.tell_changes.new.steps
     (is_made _ c.in_ok-make_edit.field-0 _ _ c.in-Made.is (c.in_ok-make_edit.ensures {u = tt}).edit) told.queries
     c.tell_changes.ensures.deck told.watched
-    (c.saying.ensures.out ∙ told.told (table_in c.args.table.now.deck) c.requires.current) c.saying.ensures.err
+    (c.saying.ensures.out ∙ told.told (table_in c.args.table.now.deck) c.requires.parts.2) c.saying.ensures.err

@@ -26,7 +26,7 @@ returns-in_ok-notices-in-Ok-clause-said g c = λ pending m files.
     c.tell_changes.new.steps
     (edit_made c.histories_are_timelines.ensures outcome c.args.name.now c.args.table.now c.append.new.table
     c.args.history.now c.append.new.self made c.in-Ok.ensures.ok c.in-Ok.ensures.noted) told.queries
-    c.tell_changes.ensures.deck told.watched (told.told (table_in c.args.table.now.deck) c.requires.current)
+    c.tell_changes.ensures.deck told.watched (told.told (table_in c.args.table.now.deck) c.requires.parts.2)
     (c.from.ensures ∙ c.in_ok-notices-in-Ok.ensures {u = tt}
     ∙ ap (λ (d : Contents). lines_of_texts d.notices) (c.deck.ensures.deck ∙ c.tell_changes.ensures.deck)
     ∙ ap notice_lines (sym made))

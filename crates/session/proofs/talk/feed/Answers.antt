@@ -20,8 +20,8 @@ returns-in-Ok-true-clause-told g c = λ base first taken more s.
 
 pub loop-piece-preserved : goal.loop-piece-preserved
 loop-piece-preserved g c = record {
-  counted = c.in-Ok-false.ensures.counted ∙ c.loop-piece.invariant.counted;
-  later = omega (arith, c.in-Ok-false.ensures.later, c.loop-piece.invariant.later);
+  counted = c.in-Ok-false.ensures.faults.counted ∙ c.loop-piece.invariant.counted;
+  later = omega (arith, c.in-Ok-false.ensures.faults.later, c.loop-piece.invariant.later);
   fed = λ base first taken s.
       let p = c.loop-piece.invariant.fed base first taken s in
       let told = c.in-Ok-false.ensures.told base (talk_over first (whole_lines (taken ++ p.0)))

@@ -1,4 +1,4 @@
-use Rattle.std.proofs.Common.{◌≡◌, ◌∙◌, [], Some, false, IfOk, OnOk, map, sym, subst, ap, refl}
+use Rattle.std.proofs.Common.{◌≡◌, ◌∙◌, [], Some, false, IfOk, OnOk, map, sym, subst, ap, refl, arith}
 use Rattle.units_io.specs.FileMap.{FileMap}
 use Rattle.deck.specs.Decks.{Contents}
 use Rattle.deck_save.specs.Saved.{saved_file}
@@ -70,5 +70,26 @@ returns-in_default-clause-done g c =
     subst (λ (a : Command). IfOk c.perform.result (λ reply. reply.done ≡ is_quit a)) c.read_command.ensures
     c.perform.ensures.done
 
-pub returns-in_default-clause-counted : goal.returns-in_default-clause-counted
-returns-in_default-clause-counted g c = unread _ c.perform.result c.perform.ensures.calm.0
+pub returns-in_default-clause-faults : goal.returns-in_default-clause-faults
+returns-in_default-clause-faults g c = record {
+  counted = unread _ c.perform.result c.perform.ensures.calm.0;
+  cause = λ e. absurd (c.perform.ensures.calm.0 e);
+  written = λ e. absurd (c.perform.ensures.calm.1 e);
+  later = omega arith;
+}
+
+pub returns-in-Save-clause-faults : goal.returns-in-Save-clause-faults
+returns-in-Save-clause-faults g c = record {
+  counted = c.save.ensures.fetches ∙ unread _ c.save.result c.save.ensures.unread;
+  cause = λ e. absurd (c.save.ensures.unread e);
+  written = c.save.ensures.cause;
+  later = c.save.ensures.later;
+}
+
+pub returns-in-Load-clause-faults : goal.returns-in-Load-clause-faults
+returns-in-Load-clause-faults g c = record {
+  counted = c.load.ensures.counted;
+  cause = c.load.ensures.cause;
+  written = λ e. absurd (c.load.ensures.unwritten e);
+  later = omega (arith, c.load.ensures.stores);
+}

@@ -1,0 +1,59 @@
+-- What a session over a source is.
+use Rattle.std.specs.Prelude.{◌≡◌, ◌⊎◌, ◌≤◌, ℕ, List, [], Bool, true, false, Result, Ok, Err, Some, None}
+use Rattle.std.specs.declared.option.Option.{Option}
+use Rattle.units_io.specs.Faults.{Rose}
+use Rattle.units_io.specs.FileMap.{FileMap}
+use Rattle.session.specs.Outside.{Outside, IsReadToEnd, TookMoreThan}
+use Rattle.session.specs.Sessions.{Known}
+use Rattle.session.specs.Talks.{Talk}
+use Rattle.session.specs.Waiting.{Opens, Waits}
+use Rattle.session.specs.Worlds.{World, outside}
+use Rattle.session.specs.Written.{IsEnded, session_course}
+use Rattle.session.specs.declared.fault.SessionFault.{SessionFault}
+use Rattle.session.specs.declared.fault.SessionFault.TheVariants.{ReadFailed, WriteFailed, OutOfMemory}
+use Rattle.session.specs.declared.over_source.SessionEnd.{SessionEnd}
+use Rattle.session.specs.declared.over_source.SessionEnd.TheVariants.{Done, ReadFault, WriteFault, NoMemory}
+use Rattle.session.specs.declared.over_source.SessionEnd.TheVariants.{InputTooLong}
+use Rattle.session.specs.declared.said.Said.{Said}
+
+-- the cause of an ending that is not the end of the input or of the session: a read or a fetch failed, a write or a
+-- store failed, or more was taken than the limit
+pub record HasItsCause (ending : SessionEnd) (before after : World) : Type 0 where
+  pub read : ending ≡ ReadFault →
+      Rose before.source.faults after.source.faults ⊎ Rose before.files.fetch_faults after.files.fetch_faults
+  pub write : ending ≡ WriteFault →
+      Rose before.out.faults after.out.faults ⊎ Rose before.err.faults after.err.faults
+      ⊎ Rose before.files.store_faults after.files.store_faults
+  pub too_long : ending ≡ InputTooLong → TookMoreThan 4294967296 before.source.taken after.source.taken
+
+-- a session that opens with what is said, and then answered the lines of a source, and ended so
+pub record IsSessionRun (said : Said) (session : Known) (ending : SessionEnd) (before after : World) : Type 0 where
+  -- at the end all is written that the session says over its whole input; or a front of it, which where the input is
+  -- too long, and where the source failed, is exactly what is shown for the whole lines of the bytes taken
+  pub told : (first : Talk) (input : List ℕ) (start : Outside) → before.source.left ≡ Some input →
+      Opens first said session start (outside before) →
+      IsEnded (session_course first input) ending start (outside after)
+  -- a session that is done has read its input to the end, or to a line that ends it
+  pub heard : (first : Talk) (input : List ℕ) (start : Outside) → before.source.left ≡ Some input →
+      Opens first said session start (outside before) → ending ≡ Done → IsReadToEnd input after.source.left
+  -- every other ending has its cause
+  pub caused : HasItsCause ending before after
+
+-- the same of a session that waits for its first line, all that it said before is written
+pub record AreAnswered (held : Option (List ℕ)) (session : Known) (ending : SessionEnd) (before after : World) : Type 0
+  where
+    pub told : (first : Talk) (input : List ℕ) (start : Outside) (files : FileMap) →
+        before.source.left ≡ Some input → start.files ≡ Some files → start.fetch_faults ≤ before.files.fetch_faults →
+        Waits first [] held session start (outside before) →
+        IsEnded (session_course first input) ending start (outside after)
+    pub heard : (first : Talk) (input : List ℕ) (start : Outside) → before.source.left ≡ Some input →
+        Waits first [] held session start (outside before) → ending ≡ Done → IsReadToEnd input after.source.left
+    pub caused : HasItsCause ending before after
+
+-- how a session ends by what was taken up, unless it goes on
+abbrev pub end_of : Result Bool SessionFault → Option SessionEnd
+end_of (Ok false) = None
+end_of (Ok true) = Some Done
+end_of (Err ReadFailed) = Some ReadFault
+end_of (Err WriteFailed) = Some WriteFault
+end_of (Err OutOfMemory) = Some NoMemory

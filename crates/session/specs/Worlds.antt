@@ -1,0 +1,49 @@
+-- All that a session over a source touches, and a run of the program.
+use Rattle.std.specs.Prelude.{ℕ, List}
+use Rattle.std.specs.declared.option.Option.{Option}
+use Rattle.units_io.specs.FileMap.{FileMap}
+use Rattle.session.specs.Outside.{Outside, outside_of}
+
+-- a source: the bytes that are left of it, how many were taken, and how often a read failed
+pub record SourceSeen : Type 0 where
+  pub left : Option (List ℕ)
+  pub taken : ℕ
+  pub faults : ℕ
+
+abbrev pub source_of : (left : Option (List ℕ)) → (taken faults : ℕ) → SourceSeen
+source_of left taken faults = record { left = left; taken = taken; faults = faults }
+
+-- a sink: the bytes that stand on it, and how often a write failed
+pub record SinkSeen : Type 0 where
+  pub written : Option (List ℕ)
+  pub faults : ℕ
+
+abbrev pub sink_of : (written : Option (List ℕ)) → (faults : ℕ) → SinkSeen
+sink_of written faults = record { written = written; faults = faults }
+
+-- files: what is told of them, how often a fetch failed, and how often a store
+pub record FilesSeen : Type 0 where
+  pub told : Option FileMap
+  pub fetch_faults : ℕ
+  pub store_faults : ℕ
+
+abbrev pub files_of : (told : Option FileMap) → (fetch_faults store_faults : ℕ) → FilesSeen
+files_of told fetch_faults store_faults =
+    record { told = told; fetch_faults = fetch_faults; store_faults = store_faults }
+
+-- all that a run touches, and the count of steps
+pub record World : Type 0 where
+  pub source : SourceSeen
+  pub out : SinkSeen
+  pub err : SinkSeen
+  pub files : FilesSeen
+  pub steps : ℕ
+
+abbrev pub world_of : SourceSeen → (out err : SinkSeen) → FilesSeen → (steps : ℕ) → World
+world_of source out err files steps = record { source = source; out = out; err = err; files = files; steps = steps }
+
+-- what is told of it
+abbrev pub outside : World → Outside
+outside world =
+    outside_of world.source.left world.out.written world.err.written world.files.told world.files.fetch_faults
+    world.steps
