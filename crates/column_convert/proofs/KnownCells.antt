@@ -16,7 +16,8 @@ use Rattle.column_convert.specs.declared.known.Known.{Known}
 use Rattle.column_convert.specs.declared.memory.Memory.{Memory}
 use Rattle.column_convert.specs.declared.signed.Signed.{Signed}
 use Rattle.column_convert.specs.Cells.{behind_minus, cell_of, cell_options, number_queries, number_reply}
-use Rattle.column_convert.specs.Known.{AreKnown, IsCellOf, IsEmpty, IsKnownCell, IsRemembered, IsRememberedCell, IsSigned}
+use Rattle.column_convert.specs.Known.{AreKnown, IsCellOf, IsEmpty, IsKnownCell, IsRemembered, IsRememberedCell}
+use Rattle.column_convert.specs.Known.{IsSigned}
 use Rattle.column_convert.specs.Products.{product_text}
 use Rattle.column_convert.specs.Worths.{product_worth}
 use Rattle.column_convert.proofs.Replies.{product_trimmed}

@@ -8,3 +8,4 @@ pub mod Rows
 pub mod Written
 pub mod Blocks
 pub mod Examples
+pub mod Drafts

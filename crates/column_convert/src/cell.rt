@@ -7,7 +7,7 @@ ghost use Rattle.reply.specs.Calls.{AreMade};
 ghost use Rattle.reply.specs.Options.{IsPrintable};
 ghost use Rattle.column_convert.specs.Cells as spec;
 ghost use Rattle.column_convert.specs.Known.{IsRemembered, IsSigned};
-ghost use Rattle.column_convert.specs.Products.{product_text as product_text_of};
+ghost use Rattle.column_convert.specs.Products as products;
 
 use crate::memory::Memory;
 use crate::signed::{Signed, behind_minus};
@@ -160,7 +160,7 @@ fn call_text(alloc: Global, name: &[u8], number: &[u8]) -> Result<Text, AllocErr
 
 /// So much of a text. The only error is want of memory.
 pub(crate) fn product_text(alloc: Global, number: &[u8], from: &[u8]) -> Result<Text, AllocError>
-    ensures { IfOk result (λ text. text ≡ product_text_of number.now from.now) }
+    ensures { IfOk result (λ text. text ≡ products.product_text number.now from.now) }
 {
     let mut text = Vec::new(alloc);
     text.extend_from_slice(b"(".as_slice())?;

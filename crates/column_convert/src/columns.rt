@@ -1,22 +1,23 @@
 //! A column of a text of records.
 
 ghost use Rattle.std.specs.Prelude.{◌≡◌, ◌≤◌, ◌||◌, IfOk, OnOk, Some};
-ghost use Rattle.def_lines.specs.Blanks.{trimmed};
 ghost use Rattle.deck.specs.Tables as tables;
 ghost use Rattle.reply.specs.Calls.{AreMade};
 ghost use Rattle.reply.specs.Options.{IsPrintable};
 ghost use Rattle.column_convert.specs.Blocks.{behind_first, block_of, first};
 ghost use Rattle.column_convert.specs.Inputs.{behind, input_of};
-ghost use Rattle.column_convert.specs.Known.{IsRemembered};
+ghost use Rattle.column_convert.specs.Drafts.{IsReady};
 ghost use Rattle.column_convert.specs.Rows as spec;
-ghost use Rattle.column_convert.specs.Written.{IsIdle, IsNextWritten, text_in};
+ghost use Rattle.column_convert.specs.Written.{IsNextWritten, text_in};
 
 use crate::block::Block;
+use crate::conversion::Conversion;
+use crate::draft::Draft;
 use crate::memory::Memory;
 use crate::records::Records;
 use crate::row::write_row;
 use crate::written::{new_writer, written};
-use csv::{ByteRecord, Writer};
+use csv::ByteRecord;
 use live_table::LiveTable;
 use reply::Options;
 use std::alloc::{AllocError, Global};
@@ -93,28 +94,22 @@ impl Columns {
     {
         // What is kept is right also where nothing is asked.
         table.kept_right();
-        let mut writer = new_writer(alloc);
-        let mut memory = Memory::new();
+        let conversion = Conversion { options, from, to };
+        let mut draft = Draft {
+            writer: new_writer(alloc),
+            memory: Memory::new(),
+        };
         let mut count = 0;
         let mut any = false;
         while count < most {
-            let Some(refused) = self.write_next(
-                alloc,
-                table,
-                options,
-                from,
-                to,
-                &mut memory,
-                &mut writer,
-                steps,
-            )?
+            let Some(refused) = self.write_next(alloc, table, &conversion, &mut draft, steps)?
             else {
-                return closed(writer, count, any);
+                return closed(draft, count, any);
             };
             any = either(any, refused);
             count += 1;
         }
-        closed(writer, count, any)
+        closed(draft, count, any)
     }
 
     // Writes the next row, and tells whether its cell is an error, or `None` exactly where all were given.
@@ -122,24 +117,20 @@ impl Columns {
         &mut self,
         alloc: Global,
         table: &mut LiveTable,
-        options: &Options,
-        from: &[u8],
-        to: &[u8],
-        memory: &mut Memory,
-        writer: &mut Writer<Vec<u8>>,
+        conversion: &Conversion<'_>,
+        draft: &mut Draft,
         steps: &mut Steps<L>,
     ) -> Result<Option<bool>, AllocError>
-        requires printable { IsPrintable options.now }
-        requires known { IsRemembered table.old (trimmed from.now) to.now memory.old }
-        requires idle { IsIdle writer.old }
-        ensures idle { OnOk result (IsIdle writer.new) }
-        ensures row { IfOk result (λ refused. IsNextWritten writer.old writer.new refused
-            (spec.next_row (tables.table table.old.deck) options.now from.now to.now self.old)) }
+        requires printable { IsPrintable conversion.now.options.now }
+        requires ready { IsReady table.old conversion.now draft.old }
+        ensures ready { OnOk result (IsReady table.new conversion.now draft.new) }
+        ensures row { IfOk result (λ refused. IsNextWritten draft.old.writer draft.new.writer refused
+            (spec.next_row (tables.table table.old.deck) conversion.now.options.now conversion.now.from.now
+            conversion.now.to.now self.old)) }
         ensures left { OnOk result (self.new ≡ behind self.old) }
         ensures queries { AreMade
-            (spec.next_queries (tables.table table.old.deck) options.now from.now to.now self.old)
-            result table.old table.new steps.old steps.new }
-        ensures known { OnOk result (IsRemembered table.new (trimmed from.now) to.now memory.new) }
+            (spec.next_queries (tables.table table.old.deck) conversion.now.options.now conversion.now.from.now
+            conversion.now.to.now self.old) result table.old table.new steps.old steps.new }
         ensures deck { table.new.deck ≡ table.old.deck }
     {
         // What is kept is right also where nothing is asked.
@@ -147,19 +138,15 @@ impl Columns {
         if !self.records.read(&mut self.last)? {
             return Ok(None);
         }
-        let headed = self.headed;
         let refused = write_row(
             alloc,
             table,
-            options,
-            from,
-            to,
+            conversion,
             &self.last,
             self.place,
-            headed,
-            memory,
+            self.headed,
             &mut self.changed,
-            writer,
+            draft,
             steps,
         )?;
         self.headed = false;
@@ -175,9 +162,11 @@ fn either(a: bool, b: bool) -> bool
 }
 
 // The rows that were written, of which this tells how many they are and whether a cell of them is an error.
-fn closed(writer: Writer<Vec<u8>>, count: usize, any: bool) -> Result<Block, AllocError>
-    ensures { IfOk result (λ block. (text_in writer ≡ Some block.text) × (block.rows ≡ count) × (block.refused ≡ any)) }
+fn closed(draft: Draft, count: usize, any: bool) -> Result<Block, AllocError>
+    ensures { IfOk result (λ block.
+        (text_in draft.writer ≡ Some block.text) × (block.rows ≡ count) × (block.refused ≡ any)) }
 {
+    let Draft { writer, memory: _ } = draft;
     let text = written(writer)?;
     Ok(Block {
         text,

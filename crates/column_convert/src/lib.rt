@@ -4,6 +4,8 @@
 mod block;
 mod cell;
 mod columns;
+mod conversion;
+mod draft;
 mod known;
 mod laws;
 mod memory;

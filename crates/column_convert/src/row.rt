@@ -2,20 +2,19 @@
 
 ghost use Rattle.std.specs.Prelude.{◌≡◌, ◌<◌, [], IfOk, OnOk, get_or, length, slice_set};
 ghost use Rattle.csv.specs.Records.{fields_of};
-ghost use Rattle.def_lines.specs.Blanks.{trimmed};
 ghost use Rattle.deck.specs.Tables as tables;
 ghost use Rattle.reply.specs.Calls.{AreMade};
 ghost use Rattle.reply.specs.Options.{IsPrintable};
-ghost use Rattle.column_convert.specs.Known.{IsRemembered};
+ghost use Rattle.column_convert.specs.Drafts.{IsReady};
 ghost use Rattle.column_convert.specs.Rows as spec;
 ghost use Rattle.column_convert.specs.Written.{IsIdle, IsWritten};
 
 use crate::cell::{Cell, convert_cell};
-use crate::memory::Memory;
+use crate::conversion::Conversion;
+use crate::draft::Draft;
 use crate::written::write_record;
 use csv::{ByteRecord, Writer};
 use live_table::LiveTable;
-use reply::Options;
 use std::alloc::{AllocError, Global};
 use std::sync::ledger::Ledger;
 use units_io::Steps;
@@ -25,40 +24,38 @@ use units_io::Steps;
 pub(crate) fn write_row<L: Ledger>(
     alloc: Global,
     table: &mut LiveTable,
-    options: &Options,
-    from: &[u8],
-    to: &[u8],
+    conversion: &Conversion<'_>,
     fields: &ByteRecord,
     place: usize,
     headed: bool,
-    memory: &mut Memory,
     changed: &mut ByteRecord,
-    writer: &mut Writer<Vec<u8>>,
+    draft: &mut Draft,
     steps: &mut Steps<L>,
 ) -> Result<bool, AllocError>
-    requires printable { IsPrintable options.now }
-    requires known { IsRemembered table.old (trimmed from.now) to.now memory.old }
-    requires idle { IsIdle writer.old }
-    ensures idle { OnOk result (IsIdle writer.new) }
-    ensures row { IfOk result (λ refused. IsWritten writer.old writer.new refused
-        (spec.row (tables.table table.old.deck) options.now from.now to.now place headed (fields_of fields.now))) }
+    requires printable { IsPrintable conversion.now.options.now }
+    requires ready { IsReady table.old conversion.now draft.old }
+    ensures ready { OnOk result (IsReady table.new conversion.now draft.new) }
+    ensures row { IfOk result (λ refused. IsWritten draft.old.writer draft.new.writer refused
+        (spec.row (tables.table table.old.deck) conversion.now.options.now conversion.now.from.now
+        conversion.now.to.now place headed (fields_of fields.now))) }
     ensures queries { AreMade
-        (spec.row_queries (tables.table table.old.deck) options.now from.now to.now place headed (fields_of fields.now))
-        result table.old table.new steps.old steps.new }
-    ensures known { OnOk result (IsRemembered table.new (trimmed from.now) to.now memory.new) }
+        (spec.row_queries (tables.table table.old.deck) conversion.now.options.now conversion.now.from.now
+        conversion.now.to.now place headed (fields_of fields.now)) result table.old table.new steps.old steps.new }
     ensures deck { table.new.deck ≡ table.old.deck }
 {
     // What is kept is right also where nothing is asked.
     table.kept_right();
     if headed {
-        return write_kept(writer, fields);
+        return write_kept(&mut draft.writer, fields);
     }
     match fields.get(place) {
         Some(field) => {
+            let Conversion { options, from, to } = *conversion;
+            let memory = &mut draft.memory;
             let cell = convert_cell(alloc, table, options, from, to, field, memory, steps)?;
-            write_cell(writer, changed, fields, place, &cell)
+            write_cell(&mut draft.writer, changed, fields, place, &cell)
         }
-        None => write_kept(writer, fields),
+        None => write_kept(&mut draft.writer, fields),
     }
 }
 

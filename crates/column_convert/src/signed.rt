@@ -1,7 +1,7 @@
 //! Numbers in cells.
 
 ghost use Rattle.std.specs.Prelude.{◌≡◌, IfSome};
-ghost use Rattle.column_convert.specs.Cells.{behind_minus as behind_minus_of};
+ghost use Rattle.column_convert.specs.Cells as cells;
 ghost use Rattle.column_convert.specs.Known.{IsSigned};
 ghost use Rattle.column_convert.specs.Products.{signed_text};
 
@@ -31,7 +31,7 @@ impl Signed {
 
 /// What stands behind a minus at the front, or the whole text where none stands there.
 pub(crate) fn behind_minus(text: &[u8]) -> &[u8]
-    ensures { result.now ≡ behind_minus_of text.now }
+    ensures { result.now ≡ cells.behind_minus text.now }
 {
     let Some((first, rest)) = text.split_first() else {
         return text;
@@ -41,7 +41,7 @@ pub(crate) fn behind_minus(text: &[u8]) -> &[u8]
 
 // Whether a minus stands at the front.
 fn has_minus(text: &[u8]) -> bool
-    ensures { text.now ≡ signed_text result (behind_minus_of text.now) }
+    ensures { text.now ≡ signed_text result (cells.behind_minus text.now) }
 {
     let Some((first, _)) = text.split_first() else {
         return false;

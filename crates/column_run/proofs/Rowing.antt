@@ -68,7 +68,8 @@ fewer t options from to n i count is some =
     go [] none less = absurd (some none)
     go (fields ∷ left) more less = omega (arith, less)
 
-module _ (options : Options) (from to : List ℕ) (whole : Input) (start : Option (List ℕ)) (before : Shown) (old : ℕ) where
+module _ (options : Options) (from to : List ℕ) (whole : Input) (start : Option (List ℕ)) (before : Shown)
+    (old : ℕ) where
   abbrev rows_at : Input → List ColumnRow
   rows_at i = rows (table before.deck) options from to i
 
@@ -124,7 +125,8 @@ module _ (options : Options) (from to : List ℕ) (whole : Input) (start : Optio
           ≡ (text_of u.done ++ block.text) ++ text_of (rows_at (behind_first n left))
       text_next =
           text_now
-          ∙ ap (λ (rs : List ColumnRow). text_of u.done ++ text_of rs) (law (table before.deck) options from to n left).0
+          ∙ ap (λ (rs : List ColumnRow). text_of u.done ++ text_of rs)
+          (law (table before.deck) options from to n left).0
           ∙ ap (λ t. text_of u.done ++ t) (text_both (rows_at (first n left)) (rows_at (behind_first n left)))
           ∙ ap (λ (b : Block). text_of u.done ++ (b.text ++ text_of (rows_at (behind_first n left)))) (sym block_is)
           ∙ sym (append_assoc (text_of u.done) block.text (text_of (rows_at (behind_first n left))))

@@ -35,7 +35,8 @@ returns-in_err-to_value-clause-asked g c =
     to_cut c.args.from.now c.args.to.now c.args.n.now (syntax c.args.trees.now.from_tree)
     (syntax c.args.trees.now.to_tree) c.args.table.now c.requires c.ask.new.table c.args.steps.now c.ask.new.steps
     c.ask.ensures.deck c.ask.ensures.few c.in_ok-from_value.ensures.query c.in-Some.from_value p.0
-    (at_some _ _ c.in-Some.from_value c.in-Some.is c.in_ok-from_value.ensures.value) p.1 c.ask-2.new.table c.ask-2.new.steps
+    (at_some _ _ c.in-Some.from_value c.in-Some.is c.in_ok-from_value.ensures.value) p.1 c.ask-2.new.table
+    c.ask-2.new.steps
     c.ask-2.ensures.deck _ c.from_residual-in_err-to_value.result
     c.from_residual-in_err-to_value.ensures.1 c.in_err-to_value.ensures.query
 
@@ -45,7 +46,8 @@ returns-in_default-2-clause-asked g c =
     both_begun c.args.from.now c.args.to.now c.args.n.now (syntax c.args.trees.now.from_tree)
     (syntax c.args.trees.now.to_tree) c.args.table.now c.requires c.ask.new.table c.args.steps.now c.ask.new.steps
     c.ask.ensures.deck c.ask.ensures.few c.in_ok-from_value.ensures.query c.in-Some.from_value p.0
-    (at_some _ _ c.in-Some.from_value c.in-Some.is c.in_ok-from_value.ensures.value) p.1 c.ask-2.new.table c.ask-2.new.steps
+    (at_some _ _ c.in-Some.from_value c.in-Some.is c.in_ok-from_value.ensures.value) p.1 c.ask-2.new.table
+    c.ask-2.new.steps
     c.ask-2.ensures.deck c.ask-2.ensures.few c.in_ok-to_value.ensures.query
 
 pub returns-clause-known : goal.returns-clause-known
@@ -54,7 +56,8 @@ returns-clause-known g c =
     both_known c.args.from.now c.args.to.now c.args.n.now (syntax c.args.trees.now.from_tree)
     (syntax c.args.trees.now.to_tree) c.args.table.now c.requires c.ask.new.table c.args.steps.now c.ask.new.steps
     c.ask.ensures.deck c.ask.ensures.few c.in_ok-from_value.ensures.query c.in-Some.from_value p.0
-    (at_some _ _ c.in-Some.from_value c.in-Some.is c.in_ok-from_value.ensures.value) p.1 c.ask-2.new.table c.ask-2.new.steps
+    (at_some _ _ c.in-Some.from_value c.in-Some.is c.in_ok-from_value.ensures.value) p.1 c.ask-2.new.table
+    c.ask-2.new.steps
     c.ask-2.ensures.deck c.ask-2.ensures.few c.in_ok-to_value.ensures.query
     c.in-Some-2.to_value (at_some _ _ c.in-Some-2.to_value c.in-Some-2.is c.in_ok-to_value.ensures.value)
 
@@ -64,5 +67,6 @@ returns-clause-asked g c =
     both_begun c.args.from.now c.args.to.now c.args.n.now (syntax c.args.trees.now.from_tree)
     (syntax c.args.trees.now.to_tree) c.args.table.now c.requires c.ask.new.table c.args.steps.now c.ask.new.steps
     c.ask.ensures.deck c.ask.ensures.few c.in_ok-from_value.ensures.query c.in-Some.from_value p.0
-    (at_some _ _ c.in-Some.from_value c.in-Some.is c.in_ok-from_value.ensures.value) p.1 c.ask-2.new.table c.ask-2.new.steps
+    (at_some _ _ c.in-Some.from_value c.in-Some.is c.in_ok-from_value.ensures.value) p.1 c.ask-2.new.table
+    c.ask-2.new.steps
     c.ask-2.ensures.deck c.ask-2.ensures.few c.in_ok-to_value.ensures.query

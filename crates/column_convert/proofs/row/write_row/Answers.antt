@@ -17,11 +17,11 @@ pub returns-in_ok-cell-in-Some-clause-queries : goal.returns-in_ok-cell-in-Some-
 returns-in_ok-cell-in-Some-clause-queries g c =
     subst (λ (es : List Event).
     AreMade es c.write_cell.result c.args.table.now c.convert_cell.new.table c.args.steps.now c.convert_cell.new.steps)
-    (field_queries (table_of c.args.table.now.deck) c.args.options.now c.args.from.now c.args.to.now
+    (field_queries (table_of c.args.table.now.deck) c.args.conversion.now.options.now c.args.conversion.now.from.now c.args.conversion.now.to.now
     (fields_of c.args.fields.now) c.args.place c.args.headed c.in-Some.field.now c.if-headed.false
     c.in-Some.ensures.value)
     (made c.write_cell.result
-    (cell_queries (table_of c.args.table.now.deck) c.args.options.now c.args.from.now c.args.to.now
+    (cell_queries (table_of c.args.table.now.deck) c.args.conversion.now.options.now c.args.conversion.now.from.now c.args.conversion.now.to.now
     c.in-Some.field.now)
     c.args.table.now c.convert_cell.new.table c.args.steps.now c.convert_cell.new.steps c.convert_cell.ensures.deck
     c.in_ok-cell-in-Some.ensures.queries)

@@ -19,11 +19,13 @@ use Rattle.column_convert.proofs.columns.Columns.next_rows.Goals as goal
 
 pub loop-count-init : goal.loop-count-init
 loop-count-init g c = record {
-  idle = c.new_writer-writer.ensures.idle;
-  known = nothing_known c.args.table.now (trimmed c.args.from.now) c.args.to.now c.new-memory.result c.new-memory.ensures;
+  ready = record {
+    idle = c.new_writer.ensures.idle;
+    known = nothing_known c.args.table.now (trimmed c.args.from.now) c.args.to.now c.new.result c.new.ensures;
+  };
   at = underway_start c.args.options.now c.args.from.now c.args.to.now c.args.self.now c.args.most c.args.table.now
       c.args.steps.now
-      (text_in c.new_writer-writer.result) c.new_writer-writer.ensures.empty c.kept_right.ensures;
+      (text_in c.new_writer.result) c.new_writer.ensures.empty c.kept_right.ensures;
 }
 
 pub returns-in_err-refused-clause-queries : goal.returns-in_err-refused-clause-queries
@@ -33,62 +35,61 @@ returns-in_err-refused-clause-queries g c =
     c.from_residual.ensures.1
     (failed c.args.options.now c.args.from.now c.args.to.now c.args.self.now c.args.most c.args.table.now
     c.args.steps.now
-    c.loop-count.self c.loop-count.count c.loop-count.any (text_in c.loop-count.writer) c.loop-count.table
+    c.loop-count.self c.loop-count.count c.loop-count.any (text_in c.loop-count.draft.writer) c.loop-count.table
     c.loop-count.steps u (omega (arith, c.loop-count-test.true)) c.write_next.new.table c.write_next.new.steps
     c.write_next.ensures.deck c.in_err-refused.ensures.queries)
 
 pub returns-in_default-clause-left : goal.returns-in_default-clause-left
 returns-in_default-clause-left g c =
     let u = c.loop-count.invariant.at in
-    let none = none_there c.loop-count.writer c.write_next.new.writer _ (subst
-    (λ (r : Option Bool). IsNextWritten c.loop-count.writer c.write_next.new.writer r
+    let none = none_there c.loop-count.draft.writer c.write_next.new.draft.writer _ (subst
+    (λ (r : Option Bool). IsNextWritten c.loop-count.draft.writer c.write_next.new.draft.writer r
     (next_row (table c.loop-count.table.deck) c.args.options.now c.args.from.now c.args.to.now c.loop-count.self))
     c.in_default.is c.in_ok-refused.ensures.row) in
     whatever c.closed.result
     (c.in_ok-refused.ensures.left
     ∙ sym (ended c.args.options.now c.args.from.now c.args.to.now c.args.self.now c.args.most c.args.table.now
     c.args.steps.now
-    c.loop-count.self c.loop-count.count c.loop-count.any (text_in c.loop-count.writer) c.loop-count.table
+    c.loop-count.self c.loop-count.count c.loop-count.any (text_in c.loop-count.draft.writer) c.loop-count.table
     c.loop-count.steps u none.0).1)
 
 pub returns-in_default-clause-queries : goal.returns-in_default-clause-queries
 returns-in_default-clause-queries g c =
     let u = c.loop-count.invariant.at in
-    let none = none_there c.loop-count.writer c.write_next.new.writer _ (subst
-    (λ (r : Option Bool). IsNextWritten c.loop-count.writer c.write_next.new.writer r
+    let none = none_there c.loop-count.draft.writer c.write_next.new.draft.writer _ (subst
+    (λ (r : Option Bool). IsNextWritten c.loop-count.draft.writer c.write_next.new.draft.writer r
     (next_row (table c.loop-count.table.deck) c.args.options.now c.args.from.now c.args.to.now c.loop-count.self))
     c.in_default.is c.in_ok-refused.ensures.row) in
     made c.closed.result _ c.args.table.now c.write_next.new.table c.args.steps.now c.write_next.new.steps
     (c.write_next.ensures.deck ∙ u.deck)
     (follows_ended c.args.options.now c.args.from.now c.args.to.now c.args.self.now c.args.most c.args.table.now
     c.args.steps.now
-    c.loop-count.self c.loop-count.count c.loop-count.any (text_in c.loop-count.writer) c.loop-count.table
+    c.loop-count.self c.loop-count.count c.loop-count.any (text_in c.loop-count.draft.writer) c.loop-count.table
     c.loop-count.steps u none.0 c.write_next.new.table c.write_next.new.steps c.in_ok-refused.ensures.queries)
 
 pub loop-count-preserved : goal.loop-count-preserved
 loop-count-preserved g c =
     let u = c.loop-count.invariant.at in
-    let one = row_there c.loop-count.writer c.write_next.new.writer c.in-Some.refused _ (subst
-    (λ (r : Option Bool). IsNextWritten c.loop-count.writer c.write_next.new.writer r
+    let one = row_there c.loop-count.draft.writer c.write_next.new.draft.writer c.in-Some.refused _ (subst
+    (λ (r : Option Bool). IsNextWritten c.loop-count.draft.writer c.write_next.new.draft.writer r
     (next_row (table c.loop-count.table.deck) c.args.options.now c.args.from.now c.args.to.now c.loop-count.self))
     c.in-Some.is c.in_ok-refused.ensures.row) in
     record {
-      idle = c.in_ok-refused.ensures.idle;
-      known = c.in_ok-refused.ensures.known;
+      ready = c.in_ok-refused.ensures.ready;
       at = subst
           (λ (i : Input). IsUnderway c.args.options.now c.args.from.now c.args.to.now c.args.self.now c.args.most
           c.args.table.now c.args.steps.now
-          i (c.loop-count.count + 1) c.either-any.result (text_in c.write_next.new.writer) c.write_next.new.table
+          i (c.loop-count.count + 1) c.either-any.result (text_in c.write_next.new.draft.writer) c.write_next.new.table
           c.write_next.new.steps)
           (sym c.in_ok-refused.ensures.left)
           (underway_next c.args.options.now c.args.from.now c.args.to.now c.args.self.now c.args.most c.args.table.now
           c.args.steps.now
-          c.loop-count.self c.loop-count.count c.loop-count.any (text_in c.loop-count.writer) c.loop-count.table
+          c.loop-count.self c.loop-count.count c.loop-count.any (text_in c.loop-count.draft.writer) c.loop-count.table
           c.loop-count.steps u (omega (arith, c.loop-count-test.true)) c.write_next.new.table c.write_next.new.steps
           c.write_next.ensures.deck c.in_ok-refused.ensures.queries one.0 one.1 c.either-any.result
           (c.either-any.ensures ∙ ap (λ (b : Bool). c.loop-count.any || b) one.2.refused_is)
-          (text_in c.write_next.new.writer)
-          (appended (text_in c.loop-count.writer) (text_in c.write_next.new.writer) _ one.0.text u.text_is one.2.text));
+          (text_in c.write_next.new.draft.writer)
+          (appended (text_in c.loop-count.draft.writer) (text_in c.write_next.new.draft.writer) _ one.0.text u.text_is one.2.text));
     }
 
 pub returns-clause-left : goal.returns-clause-left
@@ -97,7 +98,7 @@ returns-clause-left g c =
     whatever c.closed-2.result
     (sym (full c.args.options.now c.args.from.now c.args.to.now c.args.self.now c.args.most c.args.table.now
     c.args.steps.now
-    c.loop-count.self c.loop-count.count c.loop-count.any (text_in c.loop-count.writer) c.loop-count.table
+    c.loop-count.self c.loop-count.count c.loop-count.any (text_in c.loop-count.draft.writer) c.loop-count.table
     c.loop-count.steps u (omega (arith, c.loop-count-test.false))).2)
 
 pub returns-clause-queries : goal.returns-clause-queries
@@ -107,23 +108,23 @@ returns-clause-queries g c =
     (subst (λ (es : List Event). Follows es c.args.table.now c.loop-count.table c.args.steps.now c.loop-count.steps)
     (sym (full c.args.options.now c.args.from.now c.args.to.now c.args.self.now c.args.most c.args.table.now
     c.args.steps.now
-    c.loop-count.self c.loop-count.count c.loop-count.any (text_in c.loop-count.writer) c.loop-count.table
+    c.loop-count.self c.loop-count.count c.loop-count.any (text_in c.loop-count.draft.writer) c.loop-count.table
     c.loop-count.steps u (omega (arith, c.loop-count-test.false))).1)
     u.follows)
 
 pub returns-in_default-clause-block : goal.returns-in_default-clause-block
 returns-in_default-clause-block g c =
     let u = c.loop-count.invariant.at in
-    let none = none_there c.loop-count.writer c.write_next.new.writer _ (subst
-    (λ (r : Option Bool). IsNextWritten c.loop-count.writer c.write_next.new.writer r
+    let none = none_there c.loop-count.draft.writer c.write_next.new.draft.writer _ (subst
+    (λ (r : Option Bool). IsNextWritten c.loop-count.draft.writer c.write_next.new.draft.writer r
     (next_row (table c.loop-count.table.deck) c.args.options.now c.args.from.now c.args.to.now c.loop-count.self))
     c.in_default.is c.in_ok-refused.ensures.row) in
     subst (λ (rs : List ColumnRow). IfOk c.closed.result (λ block. block ≡ block_of rs))
     (sym (ended c.args.options.now c.args.from.now c.args.to.now c.args.self.now c.args.most c.args.table.now
     c.args.steps.now
-    c.loop-count.self c.loop-count.count c.loop-count.any (text_in c.loop-count.writer) c.loop-count.table
+    c.loop-count.self c.loop-count.count c.loop-count.any (text_in c.loop-count.draft.writer) c.loop-count.table
     c.loop-count.steps u none.0).0)
-    (block_is c.closed.result (text_in c.write_next.new.writer) c.loop-count.count c.loop-count.any u.done
+    (block_is c.closed.result (text_in c.write_next.new.draft.writer) c.loop-count.count c.loop-count.any u.done
     c.closed.ensures (ap text_in none.1 ∙ u.text_is) u.count_is u.refused_is)
 
 pub returns-clause-block : goal.returns-clause-block
@@ -132,8 +133,8 @@ returns-clause-block g c =
     subst (λ (rs : List ColumnRow). IfOk c.closed-2.result (λ block. block ≡ block_of rs))
     (sym (full c.args.options.now c.args.from.now c.args.to.now c.args.self.now c.args.most c.args.table.now
     c.args.steps.now
-    c.loop-count.self c.loop-count.count c.loop-count.any (text_in c.loop-count.writer) c.loop-count.table
+    c.loop-count.self c.loop-count.count c.loop-count.any (text_in c.loop-count.draft.writer) c.loop-count.table
     c.loop-count.steps u
     (omega (arith, c.loop-count-test.false))).0)
-    (block_is c.closed-2.result (text_in c.loop-count.writer) c.loop-count.count c.loop-count.any u.done
+    (block_is c.closed-2.result (text_in c.loop-count.draft.writer) c.loop-count.count c.loop-count.any u.done
     c.closed-2.ensures u.text_is u.count_is u.refused_is)
