@@ -16,7 +16,7 @@ use Rattle.column_convert.specs.Blocks.{is_refused}
 use Rattle.column_run.specs.Outputs.{IsWritten, is_over}
 use Rattle.column_run.specs.declared.end.ColumnEnd.{ColumnEnd}
 use Rattle.column_run.specs.declared.end.ColumnEnd.TheVariants as column
-use Rattle.column_run.proofs.Writing.{front_all}
+use Rattle.session.proofs.Blocks.{front_all}
 use Rattle.units_run.specs.Calls.{column_run, rows_of, steps_of}
 use Rattle.units_run.specs.Endings.{IsConverted, IsStated, IsWorked, column_status}
 use Rattle.units_run.specs.Planning.{IsColumn, IsPlan}

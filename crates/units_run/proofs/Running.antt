@@ -1,8 +1,9 @@
 -- The run of a plan.
 use Rattle.std.proofs.Common.{◌≡◌, ◌≤◌, ◌⊎◌, inl, inr, ℕ, List, Bool, true, false, Some, None, refl, sym, ap, subst}
-use Rattle.std.proofs.Common.{◌∙◌, arith}
+use Rattle.std.proofs.Common.{◌∙◌, ◌||◌, arith}
 use Rattle.std.specs.declared.option.Option.{Option}
-use Rattle.units_io.specs.Bytes.{grown}
+use Rattle.units_io.specs.Bytes.{grown, GrowsByFront}
+use Rattle.units_io.specs.Faults.{Rose}
 use Rattle.units_io.specs.FileMap.{FileMap}
 use Rattle.session.specs.Hearing.{heard}
 use Rattle.session.specs.Input.{whole_lines, lines_of}
@@ -11,7 +12,7 @@ use Rattle.session.specs.Sessions.{Known}
 use Rattle.session.specs.Talks.{Talk}
 use Rattle.session.specs.Telling.{TellsIf, when_told}
 use Rattle.session.specs.Waiting.{Opens}
-use Rattle.session.specs.Written.{Course, IsAll, IsEnded, session_course}
+use Rattle.session.specs.Written.{Course, IsAll, IsEnded, IsFront, Output, session_course}
 use Rattle.session.specs.declared.over_source.SessionEnd.{SessionEnd}
 use Rattle.session.specs.declared.over_source.SessionEnd.TheVariants as end
 use Rattle.session.specs.declared.said.Said.{Said}
@@ -23,6 +24,8 @@ use Rattle.units_run.specs.declared.plan.Plan.TheVariants.{Whole, Opened}
 use Rattle.units_run.specs.declared.status.Status.{Status}
 use Rattle.units_run.specs.declared.status.Status.TheVariants.{Done, Refused, Usage, NoFile, ReadFault, WriteFault}
 use Rattle.units_run.specs.declared.status.Status.TheVariants.{NoMemory, InputTooLong}
+use Rattle.units_run.proofs.Planned.{or_true}
+use Rattle.column_run.proofs.Writing.{grown_none}
 
 worked_stated : (missing : Bool) (status : Status) → IsWorked missing status → IsStated status
 worked_stated missing Done w = tt
@@ -124,6 +127,34 @@ opened_run want first files input end before after is ended =
     (λ (w : plans.Plan). IsLeftOf w (plan_course w files input) (plan_end w files input) (status_of end) before after)
     (sym is) (session_left (session_course first input) end before after ended)
 
+-- where nothing is written, what stands is a front of anything
+front_same : (o after : Option (List ℕ)) (xs : List ℕ) → after ≡ o → GrowsByFront o after xs
+front_same o after xs e = (0, omega arith, e ∙ grown_none o)
+
+unwritten : (output : Output) (before after : Outside) → after.out ≡ before.out → after.err ≡ before.err
+    → IsFront output before after
+unwritten output before after o e = record {
+  out = front_same before.out after.out output.out o;
+  err = front_same before.err after.err output.err e;
+}
+
+-- no plan, since a file could not be read
+pub unread_run : (want : plans.Plan) (files : FileMap) (input : List ℕ) (before after : Outside)
+    → after.out ≡ before.out → after.err ≡ before.err → Rose before.fetch_faults after.fetch_faults
+    → IsLeftOf want (plan_course want files input) (plan_end want files input) ReadFault before after
+unread_run (plans.Whole run) files input before after o e rose =
+    (unwritten _ before after o e, λ calm. absurd (calm rose))
+unread_run (plans.Opened talk) files input before after o e rose =
+    (unwritten _ before after o e, λ calm. absurd (calm rose))
+unread_run (plans.Columns work) files input before after o e rose = (o, front_same before.err after.err _ e)
+
+-- a failed read is no failed write, and no input that is too long
+pub no_write : ReadFault ≡ WriteFault → ⊥
+no_write is = cc
+
+pub not_long : ReadFault ≡ InputTooLong → ⊥
+not_long is = cc
+
 -- files that are told are as they were when nothing changes them
 pub tells_stay : (needed : Bool) (files : Option FileMap) (m : FileMap) → TellsIf needed files m
     → files ≡ when_told files m
@@ -158,6 +189,25 @@ done_end end.ReadFault is = cc
 done_end end.WriteFault is = cc
 done_end end.NoMemory is = cc
 done_end end.InputTooLong is = cc
+
+-- a session that came to its end is worked
+pub session_worked : (missing : Bool) (e : SessionEnd) → IsStated (status_of e) → IsWorked missing (status_of e)
+session_worked missing end.Done s = tt
+session_worked missing end.ReadFault s = absurd s
+session_worked missing end.WriteFault s = absurd s
+session_worked missing end.NoMemory s = absurd s
+session_worked missing end.InputTooLong s = absurd s
+
+-- words that lead to a session or to a column, and yet to a whole run: there is no deck
+pub no_session_done : (session column : Bool) (status : Status) → ((session || column) ≡ true → status ≡ NoFile)
+    → session ≡ true → status ≡ Done → ⊥
+no_session_done true column status h opens done = let e : Done ≡ NoFile = sym done ∙ h refl in cc
+no_session_done false column status h opens done = cc
+
+pub no_column_worked : (session column : Bool) (status : Status) → ((session || column) ≡ true → status ≡ NoFile)
+    → column ≡ true → IsWorked false status → ⊥
+no_column_worked session true status h converts worked = subst (IsWorked false) (h (or_true session)) worked
+no_column_worked session false status h converts worked = cc
 
 -- an ending that is neither a failed read nor a failed write is no fault
 pub no_fault : (ending : Status) → (ending ≡ ReadFault → ⊥) → (ending ≡ WriteFault → ⊥) → IsFaultless ending

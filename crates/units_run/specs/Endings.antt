@@ -101,6 +101,6 @@ IsLeftOf (Columns work) course wanted ending before after = IsConverted course.w
 IsLeftOf plan course wanted ending before after = IsLeft course wanted ending before after
 
 -- what a run leaves: that of its words, variables, files and input, by its ending
-abbrev pub IsRun : Call → Status → (before after : Outside) → Type 0
-IsRun call ending before after =
+abbrev pub IsRunOf : Call → Status → (before after : Outside) → Type 0
+IsRunOf call ending before after =
     IsLeftOf (plan_for call) (course_of call) (run_of call).status ending before after

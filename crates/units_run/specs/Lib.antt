@@ -3,6 +3,7 @@ pub mod BuiltIn
 pub mod Calls
 pub mod Definitions
 pub mod Endings
+pub mod Headline
 pub mod Needs
 pub mod Options
 pub mod Planning

@@ -1,15 +1,19 @@
 -- A plan as the program has it.
-use Rattle.std.specs.Prelude.{◌≡◌, ◌+◌, ◌||◌, ◌≤◌, ℕ, Bool, true, Some, Result, Ok, Err, ⊤}
+use Rattle.std.specs.Prelude.{◌≡◌, ◌+◌, ◌||◌, ◌≤◌, ℕ, List, Bool, true, Some, Result, Ok, Err, ⊤}
+use Rattle.std.specs.declared.option.Option.{Option}
 use Rattle.std.specs.declared.alloc.AllocError.{AllocError}
 use Rattle.units_io.specs.FileMap.{FileMap}
 use Rattle.live_table.specs.Shown.{Follows, Shown}
 use Rattle.reply.specs.Options.{IsPrintable}
 use Rattle.reply.specs.declared.reply.Reply.{Reply}
+use Rattle.session.specs.Outside.{outside_of}
 use Rattle.session.specs.Standing.{IsAt}
+use Rattle.session.specs.Telling.{when_told}
 use Rattle.session.specs.Waiting.{at_first}
 use Rattle.session.specs.declared.said.Said.{Said}
 use Rattle.units_run.specs.Asked.{Asked}
-use Rattle.units_run.specs.Endings.{MayEnd}
+use Rattle.units_run.specs.Calls.{column_run}
+use Rattle.units_run.specs.Endings.{IsConverted, MayEnd}
 use Rattle.units_run.specs.Plans as plans
 use Rattle.units_run.specs.declared.plan.Plan.{Plan}
 use Rattle.units_run.specs.Work.{fresh}
@@ -57,6 +61,25 @@ IsFor taken missing session column (Whole said status) =
 IsFor taken missing session column (Opened said opened) = (taken ≡ true) × (session ≡ true)
 IsFor taken missing session column (Columns plan) =
     (taken ≡ true) × (column ≡ true) × IsPrintable plan.options × (1 ≤ plan.column)
+
+-- what a conversion of a column touches
+pub record Ends : Type 0 where
+  pub left : Option (List ℕ)
+  pub out : Option (List ℕ)
+  pub err : Option (List ℕ)
+  pub steps : ℕ
+
+abbrev pub ends_of : (left out err : Option (List ℕ)) → (steps : ℕ) → Ends
+ends_of left out err steps = record { left = left; out = out; err = err; steps = steps }
+
+-- a planned column is converted, whatever files stand beside it
+abbrev pub IsConversion : ColumnPlan → Status → (before after : Ends) → Type 0
+IsConversion plan ending before after =
+    (work : plans.ColumnWork) (m : FileMap) (input : List ℕ) (files : Option FileMap) (faults now n : ℕ) →
+    before.left ≡ Some input → IsColumn work plan n before.steps → files ≡ when_told files m →
+    IsConverted (column_run work m input).output (column_run work m input).status ending
+    (outside_of before.left before.out before.err files faults n)
+    (outside_of after.left after.out after.err files now after.steps)
 
 -- a live table gave this reply, and made the queries for it
 abbrev pub IsReplied : Asked → Result Reply AllocError → Shown → Shown → (old new : ℕ) → Type 0

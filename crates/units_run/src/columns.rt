@@ -1,16 +1,11 @@
 //! The conversion of a column.
 
 ghost use Rattle.std.specs.Prelude.{◌≡◌, ◌≤◌, ◌⊎◌, [], List, ℕ, Some, false};
-ghost use Rattle.std.specs.declared.option.Option.{Option};
 ghost use Rattle.reply.specs.Options.{IsPrintable};
-ghost use Rattle.session.specs.Outside.{TookMoreThan, outside_of};
-ghost use Rattle.session.specs.Telling.{when_told};
-ghost use Rattle.units_io.specs.FileMap.{FileMap};
+ghost use Rattle.session.specs.Outside.{TookMoreThan};
 ghost use Rattle.units_io.specs.Faults.{Rose};
-ghost use Rattle.units_run.specs.Calls as calls;
 ghost use Rattle.units_run.specs.Endings as spec;
-ghost use Rattle.units_run.specs.Planning.{IsColumn};
-ghost use Rattle.units_run.specs.Plans.{ColumnWork};
+ghost use Rattle.units_run.specs.Planning as planning;
 
 use crate::column_plan::ColumnPlan;
 use crate::status::Status;
@@ -30,13 +25,10 @@ pub(crate) fn convert_column<S: Source, O: Sink, E: Sink, L: Ledger>(
     err: &mut E,
     steps: &mut Steps<L>,
 ) -> Status
-    requires printable { IsPrintable plan.options }
-    requires column { 1 ≤ plan.column }
-    ensures told { (work : ColumnWork) (m : FileMap) (input : List ℕ) (files : Option FileMap) (faults now n : ℕ) →
-        S.left src.old ≡ Some input → IsColumn work plan n steps.old → files ≡ when_told files m →
-        spec.IsConverted (calls.column_run work m input).output (calls.column_run work m input).status result
-        (outside_of (S.left src.old) (O.written out.old) (E.written err.old) files faults n)
-        (outside_of (S.left src.new) (O.written out.new) (E.written err.new) files now steps.new) }
+    requires { IsPrintable plan.options × (1 ≤ plan.column) }
+    ensures told { planning.IsConversion plan result
+        (planning.ends_of (S.left src.old) (O.written out.old) (E.written err.old) steps.old)
+        (planning.ends_of (S.left src.new) (O.written out.new) (E.written err.new) steps.new) }
     ensures ends { spec.IsStated result → spec.IsWorked false result }
     ensures whole { (input : List ℕ) → S.left src.old ≡ Some input → spec.IsWorked false result →
         S.left src.new ≡ Some [] }
@@ -46,10 +38,9 @@ pub(crate) fn convert_column<S: Source, O: Sink, E: Sink, L: Ledger>(
     ensures too_long { result ≡ Status.InputTooLong → TookMoreThan 16777216 (S.taken src.old) (S.taken src.new) }
 {
     leaves_law();
-    match put_all(err, plan.notices.as_slice()) {
-        Ok(()) => {}
-        Err(_) => return Status::WriteFault,
-    }
+    let Ok(()) = put_all(err, plan.notices.as_slice()) else {
+        return Status::WriteFault;
+    };
     let mut plan = plan;
     let end = run_columns(
         alloc,

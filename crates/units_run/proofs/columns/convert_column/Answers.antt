@@ -10,11 +10,11 @@ use Rattle.units_run.specs.declared.status.Status.{Status}
 use Rattle.units_run.proofs.Converting.{converted, ends_worked, rows_same, steps_same}
 use Rattle.units_run.proofs.columns.convert_column.Goals as goal
 
-pub returns-in-Err-clause-told : goal.returns-in-Err-clause-told
-returns-in-Err-clause-told g c = λ work m input files faults now n q at fs. record {
+pub returns-in_default-clause-told : goal.returns-in_default-clause-told
+returns-in_default-clause-told g c = λ work m input files faults now n q at fs. record {
   out = (0, omega arith, grown_none (g.O.Sink.written c.args.out.now));
   err = subst (GrowsByFront (g.E.Sink.written c.args.err.now) (g.E.Sink.written c.put_all.new.sink))
-      (c.as_slice.ensures.value ∙ at.err) c.in-Err.ensures.front;
+      (c.as_slice.ensures.value ∙ at.err) c.in_default.ensures.front;
 }
 
 pub returns-clause-told : goal.returns-clause-told
