@@ -110,7 +110,7 @@ fn refused(alloc: Global, fault: EvalFault) -> Refusal
     ensures { cause.IsTold fault result }
 {
     match fault {
-        EvalFault::Value(fault) => match fault_text(alloc, &fault) {
+        EvalFault::Value(fault) => match fault_text(alloc, fault.get()) {
             Ok(text) => Refusal::Fault(text),
             Err(_) => Refusal::OutOfMemory,
         },

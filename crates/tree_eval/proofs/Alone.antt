@@ -1,18 +1,20 @@
--- A word alone, by what is told of it.
-use Rattle.std.proofs.Common.{◌≡◌, ◌<◌, ◌∷◌, ℕ, List, [], Bool, Option, Some, length, sym, ◌∙◌, ap, subst}
+-- A word alone, by the place where it stands.
+use Rattle.std.proofs.Common.{◌≡◌, ◌<◌, ◌∷◌, ℕ, zero, suc, List, [], Option, Some, Result, length, refl, sym}
+use Rattle.std.proofs.Common.{arith, subst}
 use Rattle.std.specs.Prelude.{slice_get}
 use Rattle.expr_tree.specs.declared.word_list.WordUse.{WordUse}
 use Rattle.expr_tree.specs.Syntax as tree
 use Rattle.expr_tree.specs.Syntax.{Syntax}
 use Rattle.expr_tree.specs.Words.{words_in}
 use Rattle.quantity.specs.Amount.{Amount}
-use Rattle.tree_eval.specs.declared.meaning.Meaning.{Meaning as Told}
-use Rattle.tree_eval.specs.Environment.{IsTold, Stand}
-use Rattle.tree_eval.specs.Expanded.{Callable, Meaning}
-use Rattle.tree_eval.specs.Expansion.{expand, plain_word}
-use Rattle.tree_eval.specs.Told.{IsUsable, told_worth}
+use Rattle.tree_eval.specs.declared.fault.EvalFault.{EvalFault}
+use Rattle.tree_eval.specs.declared.step.Step.{Step}
+use Rattle.tree_eval.specs.Answers.{Gives}
+use Rattle.tree_eval.specs.Environment.{Stand}
+use Rattle.tree_eval.specs.Expanded.{Meaning}
+use Rattle.tree_eval.specs.Expansion.{expand, plain, plain_word}
+use Rattle.tree_eval.specs.Operands.{with_worth}
 use Rattle.tree_eval.specs.Value.{value}
-use Rattle.tree_eval.proofs.Calls.{told_plain, usable}
 use Rattle.tree_eval.proofs.Places.{first_stands, first_within}
 
 -- a tree that is a word and stands at a place
@@ -26,18 +28,27 @@ module _ (us : List WordUse) (p : ℕ) {e : Syntax} {w : List ℕ} (is : e ≡ t
     pub alone_within : p < length us
     alone_within = first_within us p (plain_word w) [] word_stands
 
-    -- what is told of the place
-    module _ (means : WordUse → Meaning) (has : ℕ → Bool) (callee : ℕ → Callable) (t : Told)
-        (told : (u : WordUse) → slice_get us p ≡ Some u → IsTold has callee (means u) t) where
-      -- is told of the word
-      alone_told : IsTold has callee (means (plain_word w)) t
-      alone_told = told (plain_word w) (first_stands us p (plain_word w) [] word_stands)
+    -- what is given for the word at the place is given for the tree
+    pub alone_gives : (means : WordUse → Meaning) (a : Option Amount) {A : Type 0} (seen : A → Amount)
+        (r : Result A EvalFault)
+        → ((u : WordUse) → slice_get us p ≡ Some u → Gives seen r (value (plain (means u)) a))
+        → Gives seen r (value (expand means e) a)
+    alone_gives means a seen r h =
+        subst (λ y. Gives seen r (value (expand means y) a)) (sym is)
+        (h (plain_word w) (first_stands us p (plain_word w) [] word_stands))
 
-      -- so it can be used
-      pub alone_usable : IsUsable has t
-      alone_usable = usable has callee (means (plain_word w)) t alone_told
+    -- so it is for both as one more member
+    pub member_gives : (means : WordUse → Meaning) (a : Option Amount) (step : Step) (held : Amount) {A : Type 0}
+        (seen : A → Amount) (r : Result A EvalFault)
+        → ((u : WordUse) → slice_get us p ≡ Some u
+        → Gives seen r (with_worth step held (value (plain (means u)) a)))
+        → Gives seen r (with_worth step held (value (expand means e) a))
+    member_gives means a step held seen r h =
+        subst (λ y. Gives seen r (with_worth step held (value (expand means y) a))) (sym is)
+        (h (plain_word w) (first_stands us p (plain_word w) [] word_stands))
 
-      -- and is worth what the tree is
-      pub alone_worth : (a : Option Amount) → told_worth callee t ≡ value (expand means e) a
-      alone_worth a =
-          sym (ap (λ y. value (expand means y) a) is ∙ told_plain has callee (means (plain_word w)) t a alone_told)
+-- a place within words holds one of them
+pub word_at : (us : List WordUse) (p : ℕ) → p < length us → (u : WordUse) × (slice_get us p ≡ Some u)
+word_at [] p h = let z : ⊥ = omega (arith, h) in absurd z
+word_at (u ∷ us) zero h = (u, refl)
+word_at (u ∷ us) (suc p) h = word_at us p (omega (arith, h))

@@ -9,8 +9,7 @@ use Rattle.expr_tree.specs.Syntax.{Syntax}
 use Rattle.expr_tree.specs.Words.{words_in}
 use Rattle.quantity.specs.Amount.{Amount}
 use Rattle.tree_eval.specs.declared.fault.EvalFault.{EvalFault}
-use Rattle.tree_eval.specs.declared.held.Held.{Held}
-use Rattle.tree_eval.specs.Answers.{Gives, amount_in}
+use Rattle.tree_eval.specs.Answers.{Gives}
 use Rattle.tree_eval.specs.Environment.{Stand}
 use Rattle.tree_eval.specs.Expanded.{Meaning}
 use Rattle.tree_eval.specs.Expansion.{expand}
@@ -23,12 +22,12 @@ use Rattle.tree_eval.proofs.Weight.{weight}
 
 -- the one part of a tree, whose words stand where the tree's do
 pub record IsPart (means : WordUse → Meaning) (us : List WordUse) (p : ℕ) (e part : Syntax) : Type 0 where
-  pub lighter : 4 * weight (expand means part) + 2 < 4 * weight (expand means e) + 1
+  pub lighter : 8 * weight (expand means part) + 3 < 8 * weight (expand means e) + 2
   pub stand : Stand us p (words_in part)
 
 -- a base and its exponent, which are the parts of a tree
 pub record IsPair (means : WordUse → Meaning) (us : List WordUse) (p : ℕ) (e b x : Syntax) : Type 0 where
-  pub lighter : 4 * (weight (expand means b) + weight (expand means x)) + 2 < 4 * weight (expand means e) + 1
+  pub lighter : 8 * (weight (expand means b) + weight (expand means x)) + 3 < 8 * weight (expand means e) + 2
   pub stand : Stand us p (words_in b ++ words_in x)
 
 -- the part of each kind of tree that has one, and the two of a power
@@ -60,10 +59,10 @@ module _ (means : WordUse → Meaning) {us : List WordUse} {p : ℕ} where
 
 -- each of the two is lighter than both
 module _ (means : WordUse → Meaning) (b x : Syntax) where
-  pub base_lighter : 4 * weight (expand means b) + 1 < 4 * (weight (expand means b) + weight (expand means x)) + 2
+  pub base_lighter : 8 * weight (expand means b) + 2 < 8 * (weight (expand means b) + weight (expand means x)) + 3
   base_lighter = omega arith
 
-  pub exponent_lighter : 4 * weight (expand means x) + 1 < 4 * (weight (expand means b) + weight (expand means x)) + 2
+  pub exponent_lighter : 8 * weight (expand means x) + 2 < 8 * (weight (expand means b) + weight (expand means x)) + 3
   exponent_lighter = omega arith
 
 -- and their words stand one behind the other
@@ -77,7 +76,7 @@ module _ (us : List WordUse) (p : ℕ) (b x : Syntax) (s : Stand us p (words_in 
 -- a tree that is a list of members
 module _ {means : WordUse → Meaning} {e : Syntax} {os : List (Step × Syntax)} (is : IsChain means e os) where
   -- is heavier than they are
-  pub chain_lighter : 4 * weight (chain means os) < 4 * weight (expand means e) + 1
+  pub chain_lighter : 8 * weight (chain means os) + 1 < 8 * weight (expand means e) + 2
   chain_lighter = let w : weight (expand means e) ≡ weight (chain means os) = ap weight is.expands in omega (arith, w)
 
   -- their words stand where its do
@@ -85,11 +84,11 @@ module _ {means : WordUse → Meaning} {e : Syntax} {os : List (Step × Syntax)}
   chain_stands us p s = subst (Stand us p) is.words s
 
   -- what is given for them is given for it
-  pub chain_gives : (a : Option Amount) (r : Result Held EvalFault) → Gives amount_in r (value (chain means os) a)
-      → Gives amount_in r (value (expand means e) a)
-  chain_gives a r h = subst (λ y. Gives amount_in r (value y a)) (sym is.expands) h
+  pub chain_gives : (a : Option Amount) {A : Type 0} (seen : A → Amount) (r : Result A EvalFault)
+      → Gives seen r (value (chain means os) a) → Gives seen r (value (expand means e) a)
+  chain_gives a seen r h = subst (λ y. Gives seen r (value y a)) (sym is.expands) h
 
   -- and what comes behind them comes behind it
-  pub chain_ends : (r : Result Held EvalFault) (p q : ℕ) → OnOk r (q ≡ p + length (words_of os))
+  pub chain_ends : {A : Type 0} (r : Result A EvalFault) (p q : ℕ) → OnOk r (q ≡ p + length (words_of os))
       → OnOk r (q ≡ p + length (words_in e))
   chain_ends r p q h = subst (λ ws. OnOk r (q ≡ p + length ws)) (sym is.words) h

@@ -9,7 +9,7 @@ use Rattle.expr_tree.specs.Words.{words_in}
 use Rattle.quantity.specs.Amount.{Amount}
 use Rattle.tree_eval.specs.declared.fault.EvalFault.{EvalFault}
 use Rattle.tree_eval.specs.declared.step.Step.{Step}
-use Rattle.tree_eval.specs.Answers.{Answers, Gives, amount_in}
+use Rattle.tree_eval.specs.Answers.{Gives, amount_in}
 use Rattle.tree_eval.specs.Environment.{Stand}
 use Rattle.tree_eval.specs.Expanded.{Meaning}
 use Rattle.tree_eval.specs.Expansion.{expand}
@@ -59,7 +59,7 @@ module _ (all : List (Step × Syntax)) {o : Step × Syntax} (is : slice_get all 
     weight_first = ap (λ y. weight (chain means y)) split_first
 
     -- it is lighter than all
-    pub first_lighter : 4 * weight (expand means o.1) + 1 < 4 * weight (chain means all)
+    pub first_lighter : 8 * weight (expand means o.1) + 2 < 8 * weight (chain means all)
     first_lighter = omega (arith, weight_first)
 
   module _ (means : WordUse → Meaning) (a : Option Amount) where
@@ -70,8 +70,8 @@ module _ (all : List (Step × Syntax)) {o : Step × Syntax} (is : slice_get all 
     worth_first = ap (λ y. value (chain means y) a) split_first
 
     -- its fault is that of all
-    pub first_fault : (e : EvalFault) → Gives amount_in (Err e) (value (expand means o.1) a)
-        → Gives amount_in (Err e) (value (chain means all) a)
+    pub first_fault : (e : EvalFault)
+        → Gives amount_in (Err e) (value (expand means o.1) a) → Gives amount_in (Err e) (value (chain means all) a)
     first_fault e h =
         fault_first amount_in amount_in e (value (expand means o.1) a) behind (value (chain means all) a) worth_first h
 
@@ -110,7 +110,7 @@ module _ {means : WordUse → Meaning} {us : List WordUse} {place : ℕ} {all : 
         (subst (Stand us next) words_here running.stand)
 
     -- it is lighter than all
-    pub member_lighter : 4 * weight (expand means o.1) + 3 < 4 * weight (chain means all)
+    pub member_lighter : 8 * weight (expand means o.1) + 4 < 8 * weight (chain means all)
     member_lighter = omega (arith, weight_here, running.lighter)
 
     abbrev others : Amount → Worth
@@ -124,10 +124,9 @@ module _ {means : WordUse → Meaning} {us : List WordUse} {place : ℕ} {all : 
         ∙ in_two (value (expand means o.1) a) (step_worth o.0 held) others
 
     -- its fault is that of all
-    pub member_fault : (e : EvalFault) → Answers {A = Amount} (Err e) here
+    pub member_fault : (e : EvalFault) → Gives amount_in (Err e) here
         → Gives amount_in (Err e) (value (chain means all) a)
-    member_fault e h =
-        fault_first {A = Amount} (λ z. z) amount_in e here others (value (chain means all) a) worth_here h
+    member_fault e h = fault_first amount_in amount_in e here others (value (chain means all) a) worth_here h
 
     -- with what it makes the loop goes on
     pub goes : {x : Amount} {after : ℕ} → here ≡ Ok x → after ≡ next + length (words_in o.1)

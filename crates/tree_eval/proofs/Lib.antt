@@ -7,7 +7,6 @@ pub mod Listed
 pub mod Multiples
 pub mod Places
 pub mod Same
-pub mod StepFaults
 pub mod Targets
 pub mod Uses
 pub mod Weight

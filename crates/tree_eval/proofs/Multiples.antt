@@ -9,18 +9,20 @@ use Rattle.frac128.specs.declared.fault.FracFault.{FracFault}
 use Rattle.frac128.specs.Fraction.{Fraction}
 use Rattle.quantity.specs.Amount.{Amount}
 use Rattle.units_io.specs.Outcomes.{◌>>=◌}
+use Rattle.tree_eval.specs.declared.multiple.Factor.{Factor}
 use Rattle.tree_eval.specs.declared.step.Step.TheVariants.{Multiply}
 use Rattle.tree_eval.specs.declared.meaning.Meaning.{Meaning as Told}
+use Rattle.tree_eval.specs.declared.fault.EvalFault.{EvalFault}
+use Rattle.tree_eval.specs.Answers.{Gives}
 use Rattle.tree_eval.specs.Environment.{IsTold, Stand}
 use Rattle.tree_eval.specs.Expanded.{Callable, Meaning}
 use Rattle.tree_eval.specs.Expansion.{expand, plain_word}
-use Rattle.tree_eval.specs.Multiples.{IsMultiple, SaysNumber, multiple}
+use Rattle.tree_eval.specs.Multiples.{IsMultiple, SaysNumber, multiple, said}
 use Rattle.tree_eval.specs.Operands.{by_side, chain, with_worth, words_of}
 use Rattle.tree_eval.specs.Steps.{Worth, step_worth}
 use Rattle.tree_eval.specs.Told.{IsUsable, told_worth}
 use Rattle.tree_eval.specs.Value.{value}
 use Rattle.tree_eval.proofs.Calls.{told_plain, usable}
-use Rattle.tree_eval.proofs.Listed.{IsChain}
 use Rattle.tree_eval.proofs.Places.{first_stands, first_within}
 
 only_last : (w : Worth) → (w >>= (λ x. Ok x)) ≡ w
@@ -51,26 +53,25 @@ multiple_words : (es : List Syntax) (x : Result Fraction FracFault) (is : IsMult
 multiple_words es x is =
     ap (λ y. words_of (map by_side y)) is.2 ∙ ap (λ ws. ws ++ (plain_word is.1 ∷ [])) is.3
 
--- a tree whose members are a number and a word, as a call that looks for those tells
-module _ {means : WordUse → Meaning} {e : Syntax} (es : List Syntax) (chain : IsChain means e (map by_side es))
-    {r : Option (Result Fraction FracFault)} {x : Result Fraction FracFault} (some : r ≡ Some x)
-    (found : IfSome r (IsMultiple es)) where
+-- members that are a number and a word, as a call that looks for those tells
+module _ (es : List Syntax) {r : Option Factor} {f : Factor} (some : r ≡ Some f)
+    (found : IfSome r (λ x. IsMultiple es (said x))) where
   -- they are
-  is : IsMultiple es x
-  is = subst (λ z. IfSome z (IsMultiple es)) some found
+  is : IsMultiple es (said f)
+  is = subst (λ z. IfSome z (λ x. IsMultiple es (said x))) some found
 
-  -- the tree has one word
-  only_word : words_in e ≡ plain_word is.1 ∷ []
-  only_word = chain.words ∙ multiple_words es x is
+  -- they have one word
+  only_word : words_of (map by_side es) ≡ plain_word is.1 ∷ []
+  only_word = multiple_words es (said f) is
 
-  -- so the next place comes behind it
+  -- so the next place comes behind them
   pub multiple_place : {A E : Type 0} (y : Result A E) (p : ℕ) {q : ℕ} → q ≡ p + 1
-      → OnOk y (q ≡ p + length (words_in e))
+      → OnOk y (q ≡ p + length (words_of (map by_side es)))
   multiple_place (Ok z) p {q} n = n ∙ ap (λ ws. p + length ws) (sym only_word)
   multiple_place (Err f) p n = tt
 
-  -- the word stands where the tree does
-  module _ (us : List WordUse) (p : ℕ) (here : Stand us p (words_in e)) where
+  -- the word stands where they do
+  module _ (us : List WordUse) (p : ℕ) (here : Stand us p (words_of (map by_side es))) where
     word_stands : Stand us p (plain_word is.1 ∷ [])
     word_stands = subst (Stand us p) only_word here
 
@@ -79,7 +80,7 @@ module _ {means : WordUse → Meaning} {e : Syntax} (es : List Syntax) (chain : 
     multiple_within = first_within us p (plain_word is.1) [] word_stands
 
     -- what is told of the place
-    module _ (has : ℕ → Bool) (callee : ℕ → Callable) (t : Told)
+    module _ (means : WordUse → Meaning) (has : ℕ → Bool) (callee : ℕ → Callable) (t : Told)
         (told : (u : WordUse) → slice_get us p ≡ Some u → IsTold has callee (means u) t) where
       -- is told of the word
       word_told : IsTold has callee (means (plain_word is.1)) t
@@ -89,11 +90,13 @@ module _ {means : WordUse → Meaning} {e : Syntax} (es : List Syntax) (chain : 
       pub multiple_usable : IsUsable has t
       multiple_usable = usable has callee (means (plain_word is.1)) t word_told
 
-      -- and with the number is worth what the tree is
-      pub multiple_worth : (a : Option Amount) → multiple x (told_worth callee t) ≡ value (expand means e) a
-      multiple_worth a =
-          sym (ap (λ y. value y a) chain.expands ∙ product_worth means es x a is
-          ∙ ap (multiple x) (told_plain has callee (means (plain_word is.1)) t a word_told))
+      -- and what is given for it with the number is given for all
+      pub multiple_gives : (a : Option Amount) {A : Type 0} (seen : A → Amount) (r : Result A EvalFault)
+          → Gives seen r (multiple (said f) (told_worth callee t))
+          → Gives seen r (value (chain means (map by_side es)) a)
+      multiple_gives a seen r =
+          subst (Gives seen r) (sym (product_worth means es (said f) a is
+          ∙ ap (multiple (said f)) (told_plain has callee (means (plain_word is.1)) t a word_told)))
 
 two_members : (es : List Syntax) (e f : Syntax) → length es ≡ 2 → slice_get es 0 ≡ Some e → slice_get es 1 ≡ Some f
     → es ≡ e ∷ f ∷ []
@@ -104,7 +107,7 @@ two_members (x ∷ y ∷ z ∷ zs) e f n p q = cc
 
 -- two members, of which the first says a number and the second is a word
 pub is_multiple : (es : List Syntax) (e : Syntax) (w : List ℕ) → length es ≡ 2 → slice_get es 0 ≡ Some e
-    → slice_get es 1 ≡ Some (Word w) → (x : Option (Result Fraction FracFault)) → IfSome x (λ _. words_in e ≡ [])
-    → IfSome x (SaysNumber e) → IfSome x (IsMultiple es)
+    → slice_get es 1 ≡ Some (Word w) → (x : Option Factor) → IfSome x (λ _. words_in e ≡ [])
+    → IfSome x (λ f. SaysNumber e (said f)) → IfSome x (λ f. IsMultiple es (said f))
 is_multiple es e w n p q None h s = tt
 is_multiple es e w n p q (Some x) h s = (e, w, two_members es e (Word w) n p q, h, s)

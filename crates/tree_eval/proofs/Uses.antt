@@ -7,11 +7,10 @@ use Rattle.expr_tree.specs.Syntax as tree
 use Rattle.expr_tree.specs.Syntax.{Syntax}
 use Rattle.expr_tree.specs.Words.{words_in}
 use Rattle.quantity.specs.Amount.{Amount}
-use Rattle.tree_eval.specs.Answers.{Gives, amount_in}
+use Rattle.tree_eval.specs.Answers.{Gives}
 use Rattle.tree_eval.specs.declared.direction.Direction.{Direction}
 use Rattle.tree_eval.specs.declared.direction.Direction.TheVariants.{Forward, Inverse}
 use Rattle.tree_eval.specs.declared.fault.EvalFault.{EvalFault}
-use Rattle.tree_eval.specs.declared.held.Held.{Held}
 use Rattle.tree_eval.specs.declared.meaning.Meaning.{Meaning as Told}
 use Rattle.tree_eval.specs.declared.meaning.Meaning.TheVariants as told
 use Rattle.tree_eval.specs.Directions.{operated}
@@ -96,7 +95,7 @@ module _ (direction : Direction) (us : List WordUse) (p : ℕ) {e : Syntax} (w :
     -- a call with the operand may be made at a place: the word can be used, the operand stands there and is lighter
     pub record IsOperandAt (q : ℕ) : Type 0 where
       pub can : IsUsable has t
-      pub lighter : 4 * (weight_told callee t + weight (expand means x)) + 3 < 4 * weight (expand means e) + 1
+      pub lighter : 8 * (weight_told callee t + weight (expand means x)) + 5 < 8 * weight (expand means e) + 2
       pub stand : Stand us q (words_in x)
 
     -- it may at the next place
@@ -113,8 +112,8 @@ module _ (direction : Direction) (us : List WordUse) (p : ℕ) {e : Syntax} (w :
         }
 
     -- what is given for each word that is told of so is given for the tree
-    pub use_gives : (a : Option Amount) (r : Result Held EvalFault)
-        → ((m : Meaning) → IsTold has callee m t → Gives amount_in r (value (operated direction m (expand means x)) a))
-        → Gives amount_in r (value (expand means e) a)
-    use_gives a r h =
-        subst (λ y. Gives amount_in r (value y a)) (sym use_expands) (h (means (word_of direction w)) use_told)
+    pub use_gives : (a : Option Amount) {A : Type 0} (seen : A → Amount) (r : Result A EvalFault)
+        → ((m : Meaning) → IsTold has callee m t → Gives seen r (value (operated direction m (expand means x)) a))
+        → Gives seen r (value (expand means e) a)
+    use_gives a seen r h =
+        subst (λ y. Gives seen r (value y a)) (sym use_expands) (h (means (word_of direction w)) use_told)

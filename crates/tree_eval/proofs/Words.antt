@@ -1,16 +1,14 @@
 -- A word before its operand, by what is told of it.
-use Rattle.std.proofs.Common.{◌≡◌, ℕ, Bool, Option, Ok, Err, refl, sym, ◌∙◌, ap, subst}
+use Rattle.std.proofs.Common.{◌≡◌, ℕ, Bool, Option, Result, Ok, Err, refl, sym, ◌∙◌, ap, subst}
 use Rattle.quantity.specs.Amount.{Amount}
 use Rattle.quantity.specs.Products.{product_of}
 use Rattle.tree_eval.specs.declared.direction.Direction.{Direction}
 use Rattle.tree_eval.specs.declared.direction.Direction.TheVariants.{Forward, Inverse}
 use Rattle.tree_eval.specs.declared.fault.EvalFault.{EvalFault}
-use Rattle.tree_eval.specs.declared.fault.EvalFault.TheVariants as fault
-use Rattle.tree_eval.specs.declared.held.Held.{Held}
 use Rattle.tree_eval.specs.declared.meaning.Meaning.{Meaning as Told}
 use Rattle.tree_eval.specs.declared.meaning.Meaning.TheVariants as told
 use Rattle.tree_eval.specs.declared.step.Step.TheVariants.{Multiply}
-use Rattle.tree_eval.specs.Answers.{Answers, Gives, amount_in}
+use Rattle.tree_eval.specs.Answers.{Gives, amount_in}
 use Rattle.tree_eval.specs.Environment.{IsTold}
 use Rattle.tree_eval.specs.Expanded.{Callable, Expanded, Meaning, Callee, Chain, Link, NoLink}
 use Rattle.tree_eval.specs.Directions.{operated, taken}
@@ -19,7 +17,7 @@ use Rattle.units_io.specs.Outcomes.{◌>>=◌}
 use Rattle.tree_eval.specs.Steps.{Worth, amount, step_worth}
 use Rattle.tree_eval.specs.Told.{told_worth}
 use Rattle.tree_eval.specs.Value.{value}
-use Rattle.tree_eval.proofs.Binding.{fault_first, then}
+use Rattle.tree_eval.proofs.Binding.{fault_first}
 use Rattle.tree_eval.proofs.Calls.{told_plain}
 
 -- both are worth something, or the first fault comes
@@ -77,38 +75,25 @@ taken_callee : (direction : Direction) (f : Callable) (y : Expanded) (a : Option
 taken_callee Forward f y a = refl
 taken_callee Inverse f y a = refl
 
--- a fault stands for equal worths alike
-fault_keep : (e : EvalFault) (r w : Worth) → w ≡ r → Gives {A = Amount} (λ z. z) (Err e) r → Gives amount_in (Err e) w
-fault_keep (fault.Value f) r w h k = h ∙ k
-fault_keep fault.OutOfMemory r w h k = tt
+-- what is given stands for equal worths alike
+gives_same : {A : Type 0} (f : A → Amount) (r : Result A EvalFault) {v w : Worth} → w ≡ v → Gives f r v → Gives f r w
+gives_same f r is h = subst (Gives f r) (sym is) h
 
 -- the exits of a product of two worths
 module _ (w r s : Worth) (is : w ≡ times r s) where
   times_first : (e : EvalFault) → Gives amount_in (Err e) r → Gives amount_in (Err e) w
   times_first e h = fault_first amount_in amount_in e r (λ v. s >>= (λ u. amount (product_of v u))) w is h
 
-  times_second : (p : Held) (e : EvalFault) → Gives amount_in (Ok p) r → Gives amount_in (Err e) s
-      → Gives amount_in (Err e) w
-  times_second p e h k =
-      fault_first amount_in amount_in e s (λ u. amount (product_of (amount_in p) u)) w
-      (then amount_in p r (λ v. s >>= (λ u. amount (product_of v u))) w is h) k
+  module _ {p : Amount} (k : r ≡ Ok p) where
+    times_behind : w ≡ (s >>= (λ u. amount (product_of p u)))
+    times_behind = is ∙ ap (λ x. times x s) k
 
-  product_is : (p u : Held) → Gives amount_in (Ok p) r → Gives amount_in (Ok u) s
-      → w ≡ amount (product_of (amount_in p) (amount_in u))
-  product_is p u h k = then amount_in u s (λ x. amount (product_of (amount_in p) x)) w
-      (then amount_in p r (λ v. s >>= (λ x. amount (product_of v x))) w is h) k
+    times_second : (e : EvalFault) → Gives amount_in (Err e) s
+        → Gives amount_in (Err e) w
+    times_second e h = fault_first amount_in amount_in e s (λ u. amount (product_of p u)) w times_behind h
 
-  times_fault : (p u : Held) (x y : Amount) (e : EvalFault) → x ≡ amount_in p → y ≡ amount_in u
-      → Gives amount_in (Ok p) r → Gives amount_in (Ok u) s
-      → Gives {A = Amount} (λ z. z) (Err e) (amount (product_of x y)) → Gives amount_in (Err e) w
-  times_fault p u x y e f g h k q =
-      let v : w ≡ amount (product_of x y) = product_is p u h k ∙ rw (f, g) refl in
-      fault_keep e (amount (product_of x y)) w v q
-
-  times_ok : (p u : Held) (x y z : Amount) → x ≡ amount_in p → y ≡ amount_in u → Gives amount_in (Ok p) r
-      → Gives amount_in (Ok u) s
-      → amount (product_of x y) ≡ Ok z → w ≡ Ok z
-  times_ok p u x y z f g h k q = product_is p u h k ∙ (rw (f, g) refl ∙ q)
+    times_both : {u : Amount} → s ≡ Ok u → w ≡ amount (product_of p u)
+    times_both l = times_behind ∙ ap (λ x. x >>= (λ u. amount (product_of p u))) l
 
 -- a word that is no function, with an operand
 module _ (direction : Direction) (has : ℕ → Bool) (callee : ℕ → Callable) (m : Meaning) {t : Told} (y : Expanded)
@@ -121,24 +106,21 @@ module _ (direction : Direction) (has : ℕ → Bool) (callee : ℕ → Callable
   is_product = operated_word direction has callee m t y a h n
 
   -- the fault of the word is that of both
-  pub word_fault : (e : EvalFault) → Gives amount_in (Err e) (told_worth callee t) → Gives amount_in (Err e) whole
-  word_fault = times_first whole (told_worth callee t) (value y a) is_product
+  pub word_fault : (e : EvalFault)
+      → Gives amount_in (Err e) (told_worth callee t) → Gives amount_in (Err e) whole
+  word_fault e k = times_first whole (told_worth callee t) (value y a) is_product e k
 
-  module _ (p : Held) (k : Gives amount_in (Ok p) (told_worth callee t)) where
+  module _ {p : Amount} (k : told_worth callee t ≡ Ok p) where
     -- so is that of the operand behind a word that is worth something
-    pub behind_fault : (e : EvalFault) → Gives amount_in (Err e) (value y a) → Gives amount_in (Err e) whole
-    behind_fault e = times_second whole (told_worth callee t) (value y a) is_product p e k
+    pub behind_fault : (e : EvalFault)
+        → Gives amount_in (Err e) (value y a) → Gives amount_in (Err e) whole
+    behind_fault e l = times_second whole (told_worth callee t) (value y a) is_product k e l
 
-    module _ (u : Held) {z : Amount} (is : z ≡ amount_in u) (l : Gives amount_in (Ok u) (value y a)) where
-      -- so is that of the product
-      pub both_fault : (e : EvalFault) → Answers {A = Amount} (Err e) (amount (product_of (amount_in p) z))
-          → Gives amount_in (Err e) whole
-      both_fault e =
-          times_fault whole (told_worth callee t) (value y a) is_product p u (amount_in p) z e refl is k l
-
-      -- the product is what both are worth
-      pub both_ok : {r : Amount} → amount (product_of (amount_in p) z) ≡ Ok r → whole ≡ Ok r
-      both_ok {r} = times_ok whole (told_worth callee t) (value y a) is_product p u (amount_in p) z r refl is k l
+    -- what the product of both gives, they give
+    pub both_give : {u : Amount} → value y a ≡ Ok u → {A : Type 0} (f : A → Amount) (r : Result A EvalFault)
+        → Gives f r (amount (product_of p u)) → Gives f r whole
+    both_give l f r j =
+        gives_same f r (times_both whole (told_worth callee t) (value y a) is_product k l) j
 
 -- a function with its operand
 module _ (direction : Direction) (has : ℕ → Bool) (callee : ℕ → Callable) (m : Meaning) {t : Told} (y : Expanded)
@@ -148,21 +130,14 @@ module _ (direction : Direction) (has : ℕ → Bool) (callee : ℕ → Callable
       let k : IsTold has callee m (told.Function id) = subst (IsTold has callee m) function h in
       ap (λ x. value (operated direction x y) a) k.1 ∙ taken_callee direction (callee id) y a
 
+  -- the fault of the operand is that of both
   pub operand_fault : (e : EvalFault) → Gives amount_in (Err e) (value y a)
       → Gives amount_in (Err e) (value (operated direction m y) a)
   operand_fault e k =
-      fault_first amount_in amount_in e (value y a) (taken direction (callee id))
-      (value (operated direction m y) a) taken_word k
+      fault_first amount_in amount_in e (value y a) (taken direction (callee id)) (value (operated direction m y) a) taken_word k
 
-  module _ (v : Held) {x : Amount} (k : Gives amount_in (Ok v) (value y a)) (is : x ≡ amount_in v) where
-    taken_at : value (operated direction m y) a ≡ taken direction (callee id) x
-    taken_at = then amount_in v (value y a) (taken direction (callee id))
-        (value (operated direction m y) a) taken_word k
-        ∙ ap (taken direction (callee id)) (sym is)
-
-    pub taken_fault : (e : EvalFault) → Answers {A = Amount} (Err e) (taken direction (callee id) x)
-        → Gives amount_in (Err e) (value (operated direction m y) a)
-    taken_fault e f = fault_keep e (taken direction (callee id) x) (value (operated direction m y) a) taken_at f
-
-    pub taken_ok : {z : Amount} → taken direction (callee id) x ≡ Ok z → value (operated direction m y) a ≡ Ok z
-    taken_ok f = taken_at ∙ f
+  -- what the function gives at what the operand is worth, both give
+  pub taken_give : {u : Amount} → value y a ≡ Ok u → {A : Type 0} (f : A → Amount) (r : Result A EvalFault)
+      → Gives f r (taken direction (callee id) u) → Gives f r (value (operated direction m y) a)
+  taken_give k f r j =
+      gives_same f r (taken_word ∙ ap (λ x. x >>= taken direction (callee id)) k) j

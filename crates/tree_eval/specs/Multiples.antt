@@ -4,15 +4,23 @@ use Rattle.expr_tree.specs.declared.word_list.WordUse.{WordUse}
 use Rattle.expr_tree.specs.Syntax.{Syntax, Word}
 use Rattle.expr_tree.specs.Words.{words_in}
 use Rattle.frac128.specs.declared.fault.FracFault.{FracFault}
+use Rattle.frac128.specs.Decimals.{value_of}
 use Rattle.frac128.specs.Fraction.{Fraction}
 use Rattle.quantity.specs.Amount.{Amount}
 use Rattle.units_io.specs.Outcomes.{◌>>=◌}
+use Rattle.tree_eval.specs.declared.multiple.Factor.{Factor}
+use Rattle.tree_eval.specs.declared.multiple.Factor.TheVariants as factor
 use Rattle.tree_eval.specs.declared.step.Step.TheVariants.{Multiply}
 use Rattle.tree_eval.specs.Expanded.{Meaning}
 use Rattle.tree_eval.specs.Expansion.{expand}
 use Rattle.tree_eval.specs.Operands.{with_worth}
-use Rattle.tree_eval.specs.Steps.{Worth, number}
+use Rattle.tree_eval.specs.Steps.{Worth, number, numeral_quotient}
 use Rattle.tree_eval.specs.Value.{value}
+
+-- the number that is said, a numeral or one over another
+abbrev pub said : Factor → Result Fraction FracFault
+said (factor.Numeral x) = value_of x.now
+said (factor.Bar bar) = numeral_quotient bar.now.top bar.now.bottom
 
 -- a tree is worth this number wherever it stands
 abbrev pub SaysNumber : Syntax → Result Fraction FracFault → Type 0

@@ -10,11 +10,6 @@ use Rattle.tree_eval.specs.declared.refusal.Refusal.{Refusal}
 use Rattle.tree_eval.specs.declared.refusal.Refusal.TheVariants as refusal
 use Rattle.tree_eval.specs.Faults.{fault_of}
 
--- the fault of a step is handed on, want of memory too
-abbrev pub IsFaultOf : QuantityFault → EvalFault → Type 0
-IsFaultOf step.OutOfMemory answer = answer ≡ OutOfMemory
-IsFaultOf step_fault answer = answer ≡ Value (fault_of step_fault)
-
 -- a refusal by the function of this name
 abbrev pub named : Refusal → List ℕ → ValueFault
 named refusal.NotInDomain name = fault.NotInDomain name
@@ -30,3 +25,8 @@ named refusal.CallsTooDeep name = fault.CallsTooDeep name
 abbrev pub IsFault : EvalFault → ValueFault → Type 0
 IsFault (Value fault) expected = expected ≡ fault
 IsFault OutOfMemory expected = ⊤
+
+-- the fault of a step is handed on, want of memory too
+abbrev pub IsFaultOf : QuantityFault → EvalFault → Type 0
+IsFaultOf step.OutOfMemory answer = answer ≡ OutOfMemory
+IsFaultOf step_fault answer = IsFault answer (fault_of step_fault)

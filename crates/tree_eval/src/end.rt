@@ -7,6 +7,7 @@ ghost use Rattle.tree_eval.specs.Ends.{IsEnd, end_tested};
 ghost use Rattle.tree_eval.specs.Refusals.{named};
 ghost use Rattle.tree_eval.specs.Tests as spec;
 
+use crate::answer::fraction_answer;
 use crate::fault::EvalFault;
 use crate::holder::Part;
 use crate::refusal::Refusal;
@@ -128,7 +129,7 @@ impl<'f> End<'f> {
         let Some(span) = self.span else {
             return Ok(());
         };
-        if is_within(span, &number_in(unit, q)?) {
+        if is_within(span, &number_in(alloc, unit, q)?) {
             Ok(())
         } else {
             Err(self.outside.by(alloc, name))
@@ -137,11 +138,11 @@ impl<'f> End<'f> {
 }
 
 // The number of a quantity in the unit, or its own where no unit stands.
-fn number_in(unit: Option<&Quantity>, q: &Quantity) -> Result<Frac, EvalFault>
+fn number_in(alloc: Global, unit: Option<&Quantity>, q: &Quantity) -> Result<Frac, EvalFault>
     ensures { Answers result (spec.number_in (option_copied unit.entry) q.now) }
 {
     match unit {
-        Some(unit) => Ok(q.value().div(&unit.value())?),
+        Some(unit) => fraction_answer(alloc, q.value().div(&unit.value())),
         None => Ok(q.value()),
     }
 }

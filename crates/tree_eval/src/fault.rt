@@ -1,7 +1,9 @@
 //! Why an expression has no value.
 
 ghost use Rattle.std.specs.Prelude.{◌≡◌, IfOk};
+ghost use Rattle.tree_eval.specs.Refusals.{IsFault, IsFaultOf};
 
+use crate::kept_fault::KeptFault;
 use frac128::FracFault;
 use quantity::{Quantity, QuantityFault};
 use std::alloc::{AllocError, Global};
@@ -40,7 +42,8 @@ pub enum ValueFault {
 #[derive(Drop)]
 pub enum EvalFault {
     /// The expression has no value.
-    Value(ValueFault),
+    // The answers of an evaluation nest with it: each has room for a place in memory, and not for two quantities.
+    Value(KeptFault),
     /// Want of memory.
     OutOfMemory,
 }
@@ -82,31 +85,37 @@ impl From<AllocError> for EvalFault {
     }
 }
 
-impl From<FracFault> for EvalFault {
-    ghost use Rattle.std.specs.Prelude.{◌≡◌};
-    ghost use Rattle.tree_eval.specs.declared.fault.EvalFault.TheVariants.{Value};
-    ghost use Rattle.tree_eval.specs.declared.fault.ValueFault.TheVariants.{Number};
-
-    ghost from_gives = { λ number fault. fault ≡ Value (Number number) };
-
-    fn from(fault: FracFault) -> EvalFault {
-        EvalFault::Value(ValueFault::Number(fault))
+impl EvalFault {
+    // This fault, or want of memory.
+    pub(crate) fn of_value(alloc: Global, fault: ValueFault) -> EvalFault
+        ensures { IsFault result fault }
+    {
+        match KeptFault::new(alloc, fault) {
+            Ok(fault) => EvalFault::Value(fault),
+            Err(_) => EvalFault::OutOfMemory,
+        }
     }
-}
 
-impl From<QuantityFault> for EvalFault {
-    ghost use Rattle.tree_eval.specs.Refusals.{IsFaultOf};
+    // The fault of a step on numbers, or want of memory.
+    pub(crate) fn of_number(alloc: Global, fault: FracFault) -> EvalFault
+        ensures { IsFault result (ValueFault.Number fault) }
+    {
+        EvalFault::of_value(alloc, ValueFault::Number(fault))
+    }
 
-    ghost from_gives = { λ step fault. IsFaultOf step fault };
-
-    fn from(fault: QuantityFault) -> EvalFault {
+    // The fault of a step on quantities, or want of memory.
+    pub(crate) fn of_step(alloc: Global, fault: QuantityFault) -> EvalFault
+        ensures { IsFaultOf fault result }
+    {
         match fault {
-            QuantityFault::Number(fault) => EvalFault::Value(ValueFault::Number(fault)),
-            QuantityFault::NotConformable(x, y) => EvalFault::Value(ValueFault::NotConformable(
-                x, y,
-            )),
-            QuantityFault::ExponentNotNumber => EvalFault::Value(ValueFault::ExponentNotNumber),
-            QuantityFault::ExponentRange => EvalFault::Value(ValueFault::ExponentRange),
+            QuantityFault::Number(fault) => EvalFault::of_number(alloc, fault),
+            QuantityFault::NotConformable(x, y) => {
+                EvalFault::of_value(alloc, ValueFault::NotConformable(x, y))
+            }
+            QuantityFault::ExponentNotNumber => {
+                EvalFault::of_value(alloc, ValueFault::ExponentNotNumber)
+            }
+            QuantityFault::ExponentRange => EvalFault::of_value(alloc, ValueFault::ExponentRange),
             QuantityFault::OutOfMemory => EvalFault::OutOfMemory,
         }
     }

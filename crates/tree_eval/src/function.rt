@@ -13,6 +13,7 @@ ghost use Rattle.tree_eval.specs.Expanded as expanded;
 ghost use Rattle.tree_eval.specs.Expansion.{expand_if};
 ghost use Rattle.tree_eval.specs.Value as spec;
 
+use crate::answer::number_answer;
 use crate::direction::Direction;
 use crate::end::End;
 use crate::env::Env;
@@ -197,8 +198,8 @@ fn unapply_table<E: Env>(
     if !value.conforms(unit.get()) {
         return Err(Refusal::WrongArgument.by(alloc, name));
     }
-    let y = value.value().div(&unit.get().value())?;
-    looked_up(alloc, name, table.points.back(&y))
+    let y = number_answer(alloc, value.value().div(&unit.get().value()))?;
+    looked_up(alloc, name, table.points.back(&y.value()))
 }
 
 // The number of the function that an alias stands for.

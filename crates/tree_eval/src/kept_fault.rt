@@ -1,4 +1,4 @@
-//! The faults of names.
+//! Faults as they are kept.
 
 ghost use Rattle.std.specs.Prelude.{◌≡◌, IfOk};
 
@@ -6,8 +6,8 @@ use crate::fault::ValueFault;
 use std::alloc::{AllocError, Global};
 use std::marker::Model;
 
-/// The fault of a name, in memory of its own: few names have one, and two quantities may stand in it, which would make
-/// the outcome of each other name as large. Contracts see the fault.
+/// A fault in memory of its own: few names and steps have one, and two quantities may stand in it, which would make
+/// each outcome and each answer as large. Contracts see the fault.
 #[derive(Drop)]
 pub struct KeptFault {
     fault: Box<ValueFault>,
@@ -33,6 +33,13 @@ impl KeptFault {
             Ok(fault) => Ok(KeptFault { fault }),
             Err(_) => Err(AllocError),
         }
+    }
+
+    /// The fault itself.
+    pub fn into_fault(self) -> ValueFault
+        ensures { result ≡ self }
+    {
+        Box::into_inner(self.fault)
     }
 
     /// The fault.

@@ -1,6 +1,7 @@
 //! Evaluation of expressions and functions over an environment that lends the outcomes of names.
 #![tactic(auto)]
 
+mod answer;
 mod direction;
 mod end;
 mod env;

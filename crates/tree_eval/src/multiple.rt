@@ -3,10 +3,13 @@
 ghost use Rattle.std.specs.Prelude.{◌≡◌, [], IfSome};
 ghost use Rattle.expr_tree.specs.Trees.{syntax, trees_of};
 ghost use Rattle.expr_tree.specs.Words.{words_in};
-ghost use Rattle.tree_eval.specs.Answers.{Gives, amount_in};
+ghost use Rattle.tree_eval.specs.Answers.{Answers, Gives, amount_in};
 ghost use Rattle.tree_eval.specs.Multiples as spec;
+ghost use Rattle.tree_eval.specs.Operands.{with_worth};
+ghost use Rattle.tree_eval.specs.Steps.{step_worth};
 ghost use Rattle.tree_eval.specs.Told.{IsUsable, told_worth};
 
+use crate::answer::{amount_answer, number_answer};
 use crate::env::Env;
 use crate::fault::EvalFault;
 use crate::held::Held;
@@ -15,15 +18,34 @@ use crate::numeral::quotient;
 use crate::outcome::Outcome;
 use crate::step::Step;
 use crate::word::join_word;
-use expr_tree::{Tree, Trees, view_law};
-use frac128::{Frac, FracFault};
+use expr_tree::{Quotient, Tree, Trees, view_law};
+use frac128::{Frac, FracFault, Numeral};
 use quantity::Quantity;
 use std::alloc::Global;
 
-// The number before a word, where no more stands side by side. What it needs room for is not cleared for other trees.
+/// A number that a tree says by itself.
+#[derive(Clone, Copy)]
+pub(crate) enum Factor<'t> {
+    Numeral(&'t Numeral),
+    Bar(&'t Quotient),
+}
+
+impl Factor<'_> {
+    // The number.
+    fn value(self) -> Result<Frac, FracFault>
+        ensures { result ≡ spec.said self.entry }
+    {
+        match self {
+            Factor::Numeral(x) => x.value(),
+            Factor::Bar(bar) => quotient(&bar.top, &bar.bottom),
+        }
+    }
+}
+
+// The number before a word, where no more stands side by side. What it needs room for is gone before others nest.
 #[inline(never)]
-pub(crate) fn factor_of_word(trees: &Trees) -> Option<Result<Frac, FracFault>>
-    ensures { IfSome result (spec.IsMultiple (trees_of trees.now)) }
+pub(crate) fn factor_of_word(trees: &Trees) -> Option<Factor<'_>>
+    ensures { IfSome result (λ factor. spec.IsMultiple (trees_of trees.now) (spec.said factor)) }
 {
     view_law();
     if trees.len() != 2 {
@@ -36,35 +58,54 @@ pub(crate) fn factor_of_word(trees: &Trees) -> Option<Result<Frac, FracFault>>
 }
 
 // The number that a tree says by itself.
-fn number_of(tree: &Tree) -> Option<Result<Frac, FracFault>>
-    ensures says { IfSome result (spec.SaysNumber (syntax tree.now)) }
+fn number_of(tree: &Tree) -> Option<Factor<'_>>
+    ensures says { IfSome result (λ factor. spec.SaysNumber (syntax tree.now) (spec.said factor)) }
     ensures wordless { IfSome result (λ _. words_in (syntax tree.now) ≡ []) }
 {
     view_law();
     match tree {
-        Tree::Number(x) => Some(x.value()),
-        Tree::Bar(bar) => Some(quotient(&bar.top, &bar.bottom)),
+        Tree::Number(x) => Some(Factor::Numeral(x)),
+        Tree::Bar(quotient) => Some(Factor::Bar(quotient)),
         _ => None,
     }
 }
 
-// What a number times a word alone is worth. The value of a name is taken as it is lent.
+// Puts what a number times a word alone is worth.
 #[inline(never)]
-pub(crate) fn multiple<'a, E: Env>(
+pub(crate) fn put_multiple<'a, E: Env>(
     alloc: Global,
     env: &'a E,
-    factor: Result<Frac, FracFault>,
+    factor: Factor<'_>,
     meaning: Meaning<'a>,
-) -> Result<Held<'a>, EvalFault>
+    held: &mut Held<'a>,
+) -> Result<(), EvalFault>
     requires { IsUsable (E.has env.now) meaning }
-    ensures { Gives amount_in result (spec.multiple factor (told_worth (E.callee env.now) meaning.entry)) }
+    ensures { Gives (λ _. amount_in held.new) result
+        (spec.multiple (spec.said factor.entry) (told_worth (E.callee env.now) meaning.entry)) }
 {
-    let number = Quantity::number(alloc, factor?);
+    let number = number_answer(alloc, factor.value())?;
+    *held = Held::Own(multiple(alloc, env, number, meaning)?);
+    Ok(())
+}
+
+// A number times a word alone. The value of a name is taken as it is lent.
+fn multiple<'a, E: Env>(
+    alloc: Global,
+    env: &'a E,
+    number: Quantity,
+    meaning: Meaning<'a>,
+) -> Result<Quantity, EvalFault>
+    requires { IsUsable (E.has env.now) meaning }
+    ensures { Answers result (with_worth Step.Multiply number (told_worth (E.callee env.now) meaning.entry)) }
+{
     match meaning {
-        Meaning::One(Outcome::Value(q)) => Ok(Held::Own(number.times(alloc, q)?)),
-        _ => {
-            let left = Held::Own(number);
-            Ok(Held::Own(join_word(alloc, env, left, Step::Multiply, meaning)?))
-        }
+        Meaning::One(Outcome::Value(q)) => product(alloc, number, q),
+        _ => join_word(alloc, env, Held::Own(number), Step::Multiply, meaning),
     }
+}
+
+fn product(alloc: Global, number: Quantity, q: &Quantity) -> Result<Quantity, EvalFault>
+    ensures { Answers result (step_worth Step.Multiply number q.now) }
+{
+    amount_answer(alloc, number.times(alloc, q))
 }

@@ -5,24 +5,33 @@ ghost use Rattle.frac128.specs.Decimals.{value_of};
 ghost use Rattle.tree_eval.specs.Answers.{Gives, amount_in};
 ghost use Rattle.tree_eval.specs.Steps as spec;
 
+use crate::answer::number_answer;
 use crate::fault::EvalFault;
 use crate::held::Held;
 use frac128::{Frac, FracFault, Numeral};
-use quantity::Quantity;
 use std::alloc::Global;
 
-// The value of a numeral.
-pub(crate) fn numeral<'a>(alloc: Global, x: &Numeral) -> Result<Held<'a>, EvalFault>
-    ensures { Gives amount_in result (spec.number (value_of x.now)) }
+// Puts the value of a numeral.
+#[inline(never)]
+pub(crate) fn put_numeral(alloc: Global, x: &Numeral, held: &mut Held<'_>) -> Result<(), EvalFault>
+    ensures { Gives (λ _. amount_in held.new) result (spec.number (value_of x.now)) }
 {
-    Ok(Held::Own(Quantity::number(alloc, x.value()?)))
+    *held = Held::Own(number_answer(alloc, x.value())?);
+    Ok(())
 }
 
-// The quotient of two numerals.
-pub(crate) fn bar<'a>(alloc: Global, x: &Numeral, y: &Numeral) -> Result<Held<'a>, EvalFault>
-    ensures { Gives amount_in result (spec.number (spec.numeral_quotient x.now y.now)) }
+// Puts the quotient of two numerals.
+#[inline(never)]
+pub(crate) fn put_bar(
+    alloc: Global,
+    x: &Numeral,
+    y: &Numeral,
+    held: &mut Held<'_>,
+) -> Result<(), EvalFault>
+    ensures { Gives (λ _. amount_in held.new) result (spec.number (spec.numeral_quotient x.now y.now)) }
 {
-    Ok(Held::Own(Quantity::number(alloc, quotient(x, y)?)))
+    *held = Held::Own(number_answer(alloc, quotient(x, y))?);
+    Ok(())
 }
 
 // The same as a fraction.

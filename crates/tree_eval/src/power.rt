@@ -1,9 +1,10 @@
 //! Powers and roots.
 
 ghost use Rattle.quantity.specs.Powers.{power_of};
-ghost use Rattle.tree_eval.specs.Answers.{Answers, amount_in};
+ghost use Rattle.tree_eval.specs.Answers.{Answers, Gives, amount_in};
 ghost use Rattle.tree_eval.specs.Steps as spec;
 
+use crate::answer::{amount_answer, number_answer};
 use crate::fault::EvalFault;
 use crate::held::Held;
 use expr_tree::RootKind;
@@ -11,22 +12,42 @@ use frac128::Frac;
 use quantity::Quantity;
 use std::alloc::Global;
 
-// A power, which takes the names of its base over.
-pub(crate) fn power(
+// Puts a power of what is held in its place.
+#[inline(never)]
+pub(crate) fn take_power(
     alloc: Global,
-    base: Held<'_>,
+    held: &mut Held<'_>,
     exponent: &Quantity,
-) -> Result<Quantity, EvalFault>
+) -> Result<(), EvalFault>
+    ensures { Gives (λ _. amount_in held.new) result (spec.amount (power_of (amount_in held.old) exponent.now)) }
+{
+    let base = held.take(alloc);
+    *held = Held::Own(power(alloc, base, exponent)?);
+    Ok(())
+}
+
+// Puts the root of this kind of what is held in its place.
+#[inline(never)]
+pub(crate) fn take_root(alloc: Global, kind: RootKind, held: &mut Held<'_>) -> Result<(), EvalFault>
+    ensures { Gives (λ _. amount_in held.new) result (spec.root kind (amount_in held.old)) }
+{
+    let base = held.take(alloc);
+    *held = Held::Own(root(alloc, kind, base)?);
+    Ok(())
+}
+
+// A power, which takes the names of its base over.
+fn power(alloc: Global, base: Held<'_>, exponent: &Quantity) -> Result<Quantity, EvalFault>
     ensures { Answers result (spec.amount (power_of (amount_in base.entry) exponent.now)) }
 {
     let base = base.own(alloc)?;
-    Ok(base.raised(alloc, exponent)?)
+    amount_answer(alloc, base.raised(alloc, exponent))
 }
 
 // The root of this kind.
-pub(crate) fn root(alloc: Global, kind: RootKind, base: Held<'_>) -> Result<Quantity, EvalFault>
+fn root(alloc: Global, kind: RootKind, base: Held<'_>) -> Result<Quantity, EvalFault>
     ensures { Answers result (spec.root kind (amount_in base.entry)) }
 {
-    let exponent = Frac::new(1, i128::from(kind.degree()))?;
-    power(alloc, base, &Quantity::number(alloc, exponent))
+    let exponent = number_answer(alloc, Frac::new(1, i128::from(kind.degree())))?;
+    power(alloc, base, &exponent)
 }

@@ -10,7 +10,6 @@ ghost use Rattle.tree_eval.specs.Told.{IsKept};
 use crate::env::Env;
 use crate::fault::EvalFault;
 use crate::holder::{Holder, Part};
-use crate::kept_fault::KeptFault;
 use crate::outcome::Outcome;
 use crate::scope::eval;
 use def_entry::What;
@@ -38,21 +37,18 @@ pub fn reduce<E: Env, L: Ledger>(
     match what {
         What::Primitive => Ok(Outcome::Value(Quantity::one(alloc, name)?)),
         What::Dimensionless | What::ListOf(_) => Ok(Outcome::Value(Quantity::unity(alloc))),
-        What::Body(tree) => kept(
-            alloc,
-            eval(alloc, env, Holder::Of(id, Part::Body), tree, None),
-        ),
+        What::Body(tree) => kept(eval(alloc, env, Holder::Of(id, Part::Body), tree, None)),
         What::Function(_) | What::Alias(_) | What::Table(_) => Ok(Outcome::Callable),
     }
 }
 
 // A value or a fault as it is kept.
-fn kept(alloc: Global, worth: Result<Quantity, EvalFault>) -> Result<Outcome, AllocError>
+fn kept(worth: Result<Quantity, EvalFault>) -> Result<Outcome, AllocError>
     ensures { IsKept result worth }
 {
     match worth {
         Ok(q) => Ok(Outcome::Value(q)),
-        Err(EvalFault::Value(fault)) => Ok(Outcome::Fault(KeptFault::new(alloc, fault)?)),
+        Err(EvalFault::Value(fault)) => Ok(Outcome::Fault(fault)),
         Err(EvalFault::OutOfMemory) => Err(AllocError),
     }
 }

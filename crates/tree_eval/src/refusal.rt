@@ -22,11 +22,12 @@ pub(crate) enum Refusal {
 
 impl Refusal {
     // The fault with the name of the function, or want of memory.
+    #[inline(never)]
     pub(crate) fn by(self, alloc: Global, name: &[u8]) -> EvalFault
         ensures { spec.IsFault result (spec.named self name.now) }
     {
         match Text::from_bytes(alloc, name) {
-            Ok(name) => EvalFault::Value(self.named(name)),
+            Ok(name) => EvalFault::of_value(alloc, self.named(name)),
             Err(_) => EvalFault::OutOfMemory,
         }
     }

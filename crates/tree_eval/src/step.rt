@@ -2,14 +2,17 @@
 
 ghost use Rattle.std.specs.Prelude.{◌≡◌};
 ghost use Rattle.quantity.specs.Answers.{IsAnswer};
-ghost use Rattle.tree_eval.specs.Answers.{Answers, amount_in};
+ghost use Rattle.frac128.specs.Decimals.{value_of};
+ghost use Rattle.tree_eval.specs.Answers.{Answers, Gives, amount_in};
 ghost use Rattle.tree_eval.specs.Expansion.{scaling, signing};
+ghost use Rattle.tree_eval.specs.Operands.{with_worth};
 ghost use Rattle.tree_eval.specs.Steps as spec;
 
+use crate::answer::{amount_answer, fraction_answer, scaled_answer};
 use crate::fault::EvalFault;
 use crate::held::Held;
 use expr_tree::{Scale, Sign};
-use frac128::Frac;
+use frac128::{Frac, Numeral};
 use quantity::{Quantity, QuantityFault};
 use std::alloc::Global;
 
@@ -57,10 +60,59 @@ impl Step {
         ensures { Answers result (spec.step_worth self (amount_in left.entry) right.now) }
     {
         let left = left.own(alloc)?;
-        Ok(self.join_owned(alloc, left, right)?)
+        amount_answer(alloc, self.join_owned(alloc, left, right))
+    }
+
+    // The running value with one more member, in its place.
+    #[inline(never)]
+    pub(crate) fn take_lent(
+        self,
+        alloc: Global,
+        held: &mut Held<'_>,
+        right: &Quantity,
+    ) -> Result<(), EvalFault>
+        ensures { Gives (λ _. amount_in held.new) result
+            (spec.step_worth self (amount_in held.old) right.now) }
+    {
+        let left = held.take(alloc);
+        *held = Held::Own(self.join(alloc, left, right)?);
+        Ok(())
     }
 
     // The same. It takes the names of a factor of its own over where it can.
+    #[inline(never)]
+    pub(crate) fn take_held(
+        self,
+        alloc: Global,
+        held: &mut Held<'_>,
+        right: &mut Held<'_>,
+    ) -> Result<(), EvalFault>
+        ensures { Gives (λ _. amount_in held.new) result
+            (spec.step_worth self (amount_in held.old) (amount_in right.old)) }
+    {
+        let left = held.take(alloc);
+        *held = Held::Own(self.join_held(alloc, left, right.take(alloc))?);
+        Ok(())
+    }
+
+    // The running value with a numeral as one more member, in its place.
+    #[inline(never)]
+    pub(crate) fn take_numeral(
+        self,
+        alloc: Global,
+        held: &mut Held<'_>,
+        right: &Numeral,
+    ) -> Result<(), EvalFault>
+        ensures { Gives (λ _. amount_in held.new) result
+            (with_worth self (amount_in held.old) (spec.number (value_of right.now))) }
+    {
+        let right = fraction_answer(alloc, right.value())?;
+        let left = held.take(alloc);
+        *held = Held::Own(self.join_number(alloc, left, &right)?);
+        Ok(())
+    }
+
+    // The running value with one more member. The result takes the names of a factor of its own over where it can.
     pub(crate) fn join_held(
         self,
         alloc: Global,
@@ -69,28 +121,39 @@ impl Step {
     ) -> Result<Quantity, EvalFault>
         ensures { Answers result (spec.step_worth self (amount_in left.entry) (amount_in right.entry)) }
     {
-        match self {
-            Step::Multiply => match right {
-                Held::Own(right) => Ok(left.own(alloc)?.times_all(alloc, right)?),
-                Held::Lent(right) => self.join(alloc, left, right),
-            },
-            _ => self.join(alloc, left, right.get()),
-        }
+        let left = left.own(alloc)?;
+        amount_answer(alloc, self.join_all(alloc, left, right))
     }
 
     // The running value with a number as one more member.
-    pub(crate) fn join_number(
-        self,
-        alloc: Global,
-        left: Held<'_>,
-        right: &Frac,
-    ) -> Result<Quantity, EvalFault>
+    fn join_number(self, alloc: Global, left: Held<'_>, right: &Frac) -> Result<Quantity, EvalFault>
         ensures { Answers result (spec.step_worth self (amount_in left.entry) (spec.plain_number right.now)) }
     {
+        let left = left.own(alloc)?;
         match self {
-            Step::Multiply => Ok(left.own(alloc)?.times_number(right)?),
-            Step::Divide => Ok(left.own(alloc)?.over_number(right)?),
-            _ => self.join(alloc, left, &Quantity::number(alloc, *right)),
+            Step::Multiply => scaled_answer(alloc, left.times_number(right)),
+            Step::Divide => scaled_answer(alloc, left.over_number(right)),
+            _ => {
+                let right = Quantity::number(alloc, *right);
+                amount_answer(alloc, self.join_owned(alloc, left, &right))
+            }
+        }
+    }
+
+    fn join_all(
+        self,
+        alloc: Global,
+        left: Quantity,
+        right: Held<'_>,
+    ) -> Result<Quantity, QuantityFault>
+        ensures { IsAnswer result (spec.step_of self left (amount_in right.entry)) }
+    {
+        match self {
+            Step::Multiply => match right {
+                Held::Own(right) => left.times_all(alloc, right),
+                Held::Lent(right) => left.times(alloc, right),
+            },
+            _ => self.join_owned(alloc, left, right.get()),
         }
     }
 

@@ -1,13 +1,12 @@
 //! Tables of points, as functions of quantities.
 
-ghost use Rattle.tree_eval.specs.Answers.{Answers, amount_in};
+ghost use Rattle.tree_eval.specs.Answers.{Answers};
 ghost use Rattle.tree_eval.specs.Value as spec;
-ghost use Rattle.piecewise.specs.Tables.{x_at, y_at};
 
 use crate::fault::EvalFault;
 use crate::refusal::Refusal;
 use frac128::Frac;
-use piecewise::{Points, TableFault};
+use piecewise::TableFault;
 use quantity::Quantity;
 use std::alloc::Global;
 
@@ -22,6 +21,6 @@ pub(crate) fn looked_up(
     match found {
         Ok(x) => Ok(Quantity::number(alloc, x)),
         Err(TableFault::OutsideTable) => Err(Refusal::OutsideTable.by(alloc, name)),
-        Err(TableFault::Number(fault)) => Err(EvalFault::from(fault)),
+        Err(TableFault::Number(fault)) => Err(EvalFault::of_number(alloc, fault)),
     }
 }

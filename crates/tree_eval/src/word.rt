@@ -18,7 +18,7 @@ use std::alloc::Global;
 
 // What a word alone is worth: a name, a prefix times a unit, or the fault of a function that has no
 // argument.
-pub(crate) fn word_worth<'a, E: Env>(
+fn word_worth<'a, E: Env>(
     alloc: Global,
     env: &'a E,
     meaning: Meaning<'a>,
@@ -31,6 +31,40 @@ pub(crate) fn word_worth<'a, E: Env>(
         Meaning::Two(prefix, unit) => Ok(Held::Own(both(alloc, prefix, unit)?)),
         Meaning::Function(id) => Err(Refusal::NeedsArgument.by(alloc, env.function_name(id))),
     }
+}
+
+// Puts what a word alone is worth.
+#[inline(never)]
+pub(crate) fn put_word<'a, E: Env>(
+    alloc: Global,
+    env: &'a E,
+    meaning: Meaning<'a>,
+    held: &mut Held<'a>,
+) -> Result<(), EvalFault>
+    requires { spec.IsUsable (E.has env.now) meaning }
+    ensures { answer.Gives (λ _. answer.amount_in held.new) result
+        (spec.told_worth (E.callee env.now) meaning.entry) }
+{
+    *held = word_worth(alloc, env, meaning)?;
+    Ok(())
+}
+
+// A running value with a word alone as one more member, in its place.
+#[inline(never)]
+pub(crate) fn take_word<'a, E: Env>(
+    alloc: Global,
+    env: &'a E,
+    held: &mut Held<'a>,
+    step: Step,
+    meaning: Meaning<'a>,
+) -> Result<(), EvalFault>
+    requires { spec.IsUsable (E.has env.now) meaning }
+    ensures { answer.Gives (λ _. answer.amount_in held.new) result (with_worth step (answer.amount_in held.old)
+        (spec.told_worth (E.callee env.now) meaning.entry)) }
+{
+    let left = held.take(alloc);
+    *held = Held::Own(join_word(alloc, env, left, step, meaning)?);
+    Ok(())
 }
 
 // A running value with a word alone as one more member. The value of a name is taken as it is lent.

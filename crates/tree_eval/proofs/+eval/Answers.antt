@@ -1,39 +1,30 @@
-use Rattle.std.proofs.Common.{rules, arith, ap, sym, ◌∙◌, subst}
+use Rattle.std.proofs.Common.{rules, arith, Ok, ap, sym, ◌∙◌}
 use Rattle.std.specs.Option.{option_copied}
 use Rattle.std.proofs.lemmas.Result.{err_from_is_err_and}
 use Rattle.def_entry.specs.Views.{what_view}
 use Rattle.expr_tree.specs.Syntax as tree
 use Rattle.expr_tree.specs.Trees.{syntax}
-use Rattle.quantity.specs.Amount.{Amount}
-use Rattle.tree_eval.specs.Answers.{Answers, Gives, amount_in}
 use Rattle.tree_eval.specs.declared.direction.Direction.TheVariants.{Forward, Inverse}
-use Rattle.tree_eval.specs.Operands.{with_worth}
-use Rattle.tree_eval.proofs.Alone.{alone_usable, alone_within, alone_worth}
+use Rattle.tree_eval.proofs.Alone.{alone_gives, alone_within, member_gives}
 use Rattle.tree_eval.proofs.Arms.{base_lighter, base_stands, chain_ends, chain_gives, chain_lighter, chain_stands}
 use Rattle.tree_eval.proofs.Arms.{exponent_lighter, exponent_stands, group_part, negate_part, power_pair, root_part}
 use Rattle.tree_eval.proofs.Chains.{begins, end_place, end_worth, first_fault, first_lighter, first_stand, goes}
 use Rattle.tree_eval.proofs.Chains.{member_fault, member_lighter, member_stand}
 use Rattle.tree_eval.proofs.Listed.{juxtaposed_is, product_is, sum_is}
-use Rattle.tree_eval.proofs.Multiples.{multiple_place, multiple_usable, multiple_within, multiple_worth}
+use Rattle.tree_eval.proofs.Multiples.{multiple_gives, multiple_place, multiple_usable, multiple_within}
 use Rattle.tree_eval.proofs.Targets.{alias_target}
 use Rattle.tree_eval.proofs.Uses.{use_gives, use_operand, use_within}
-use Rattle.tree_eval.proofs.Words.{behind_fault, both_fault, both_ok, operand_fault, taken_fault, taken_ok, word_fault}
+use Rattle.tree_eval.proofs.Words.{behind_fault, both_give, operand_fault, taken_give, word_fault}
 use Rattle.tree_eval.proofs.+eval.Goals as goal
 
-pub scope::Scope::worth-next_meaning-requires : goal.scope::Scope::worth-next_meaning-requires
-scope::Scope::worth-next_meaning-requires g t c =
+pub scope::Scope::worth-word-requires : goal.scope::Scope::worth-word-requires
+scope::Scope::worth-word-requires g t c =
     alone_within _ _ (ap syntax c.in-Word.is ∙ c.view_law.ensures.word c.in-Word.field-0) c.requires
-
-pub scope::Scope::worth-word_worth-requires : goal.scope::Scope::worth-word_worth-requires
-scope::Scope::worth-word_worth-requires g t c =
-    alone_usable _ _ (ap syntax c.in-Word.is ∙ c.view_law.ensures.word c.in-Word.field-0) c.requires _ _ _ _
-    c.next_meaning.ensures.told
 
 pub scope::Scope::worth-returns-in-Word-clause-worth : goal.scope::Scope::worth-returns-in-Word-clause-worth
 scope::Scope::worth-returns-in-Word-clause-worth g t c =
-    subst (Gives amount_in c.word_worth.result)
-    (alone_worth _ _ (ap syntax c.in-Word.is ∙ c.view_law.ensures.word c.in-Word.field-0) c.requires
-    _ _ _ _ c.next_meaning.ensures.told _) c.word_worth.ensures
+    alone_gives _ _ (ap syntax c.in-Word.is ∙ c.view_law.ensures.word c.in-Word.field-0) c.requires
+    (g.E.Env.means c.args.self.now.env.now) _ _ _ c.word.ensures.worth
 
 pub scope::Scope::worth-next_meaning-meaning-requires : goal.scope::Scope::worth-next_meaning-meaning-requires
 scope::Scope::worth-next_meaning-meaning-requires g t c =
@@ -55,7 +46,7 @@ scope::Scope::worth-returns-in-Call-clause-worth g t c =
     (ap syntax c.in-Call.is
     ∙ (c.view_law.ensures.call c.in-Call.field-0 c.in-Call.operand
     ∙ ap (λ y. tree.Call c.in-Call.field-0.value (syntax y)) (sym c.deref-in-Call.ensures)))
-    c.requires _ _ _ _ c.next_meaning-meaning.ensures.told _ _ c.operated.ensures.worth
+    c.requires _ _ _ _ c.next_meaning-meaning.ensures.told _ _ _ c.operated.ensures.worth
 
 pub scope::Scope::worth-next_meaning-meaning-requires-in-Inverse
     : goal.scope::Scope::worth-next_meaning-meaning-requires-in-Inverse
@@ -79,7 +70,7 @@ scope::Scope::worth-returns-in-Inverse-clause-worth g t c =
     (ap syntax c.in-Inverse.is
     ∙ (c.view_law.ensures.inverse c.in-Inverse.field-0 c.in-Inverse.operand
     ∙ ap (λ y. tree.Inverse c.in-Inverse.field-0.value (syntax y)) (sym c.deref-in-Inverse.ensures)))
-    c.requires _ _ _ _ c.next_meaning-meaning-in-Inverse.ensures.told _ _ c.operated-in-Inverse.ensures.worth
+    c.requires _ _ _ _ c.next_meaning-meaning-in-Inverse.ensures.told _ _ _ c.operated-in-Inverse.ensures.worth
 
 pub scope::Scope::worth-worth-requires : goal.scope::Scope::worth-worth-requires
 scope::Scope::worth-worth-requires g t c κs within =
@@ -126,62 +117,29 @@ scope::Scope::power-worth-requires-2 g t c κs within =
     let lighter = exponent_lighter (g.E.Env.means c.args.self.now.env.now) (syntax c.args.base.now)
     (syntax c.args.exponent.now) in
     let stand = exponent_stands _ _ (syntax c.args.base.now) (syntax c.args.exponent.now) c.requires
-    c.in_ok-base.ensures.place in
+    c.in_ok-worth.ensures.place in
     search (rules, arith)
 
-pub scope::Scope::worth-chain-requires : goal.scope::Scope::worth-chain-requires
-scope::Scope::worth-chain-requires g t c κs within =
+pub scope::Scope::worth-juxtaposed-requires : goal.scope::Scope::worth-juxtaposed-requires
+scope::Scope::worth-juxtaposed-requires g t c κs within =
     let is = juxtaposed_is (g.E.Env.means c.args.self.now.env.now) _
     (ap syntax c.in-Juxtaposed.is ∙ c.view_law.ensures.juxtaposed c.in-Juxtaposed.trees) in
     search (rules, arith, chain_lighter is, chain_stands is _ _ c.requires)
 
-pub scope::Scope::worth-next_meaning-meaning-requires-in-Some-factor_of_word
-    : goal.scope::Scope::worth-next_meaning-meaning-requires-in-Some-factor_of_word
-scope::Scope::worth-next_meaning-meaning-requires-in-Some-factor_of_word g t c =
+pub scope::Scope::worth-returns-in-Juxtaposed-clause-worth : goal.scope::Scope::worth-returns-in-Juxtaposed-clause-worth
+scope::Scope::worth-returns-in-Juxtaposed-clause-worth g t c =
     let is = juxtaposed_is (g.E.Env.means c.args.self.now.env.now) _
     (ap syntax c.in-Juxtaposed.is ∙ c.view_law.ensures.juxtaposed c.in-Juxtaposed.trees) in
-    multiple_within _ is c.in-Some-factor_of_word.is c.factor_of_word.ensures _ _ c.requires
+    chain_gives is _ _ _ c.juxtaposed.ensures.worth
 
-pub scope::Scope::worth-multiple-requires : goal.scope::Scope::worth-multiple-requires
-scope::Scope::worth-multiple-requires g t c =
+pub scope::Scope::worth-returns-in-Juxtaposed-clause-place : goal.scope::Scope::worth-returns-in-Juxtaposed-clause-place
+scope::Scope::worth-returns-in-Juxtaposed-clause-place g t c =
     let is = juxtaposed_is (g.E.Env.means c.args.self.now.env.now) _
     (ap syntax c.in-Juxtaposed.is ∙ c.view_law.ensures.juxtaposed c.in-Juxtaposed.trees) in
-    multiple_usable _ is c.in-Some-factor_of_word.is c.factor_of_word.ensures _ _ c.requires _ _ _
-    c.next_meaning-meaning-in-Some-factor_of_word.ensures.told
+    chain_ends is _ _ _ c.juxtaposed.ensures.place
 
-pub scope::Scope::worth-returns-in-Some-factor_of_word-clause-worth
-    : goal.scope::Scope::worth-returns-in-Some-factor_of_word-clause-worth
-scope::Scope::worth-returns-in-Some-factor_of_word-clause-worth g t c =
-    let is = juxtaposed_is (g.E.Env.means c.args.self.now.env.now) _
-    (ap syntax c.in-Juxtaposed.is ∙ c.view_law.ensures.juxtaposed c.in-Juxtaposed.trees) in
-    subst (Gives amount_in c.multiple.result)
-    (multiple_worth _ is c.in-Some-factor_of_word.is c.factor_of_word.ensures _ _ c.requires
-    _ _ _ c.next_meaning-meaning-in-Some-factor_of_word.ensures.told _) c.multiple.ensures
-
-pub scope::Scope::worth-returns-in-Some-factor_of_word-clause-place
-    : goal.scope::Scope::worth-returns-in-Some-factor_of_word-clause-place
-scope::Scope::worth-returns-in-Some-factor_of_word-clause-place g t c =
-    let is = juxtaposed_is (g.E.Env.means c.args.self.now.env.now) _
-    (ap syntax c.in-Juxtaposed.is ∙ c.view_law.ensures.juxtaposed c.in-Juxtaposed.trees) in
-    multiple_place _ is c.in-Some-factor_of_word.is c.factor_of_word.ensures c.multiple.result _
-    c.next_meaning-meaning-in-Some-factor_of_word.ensures.place
-
-pub scope::Scope::worth-returns-in-None-factor_of_word-clause-worth
-    : goal.scope::Scope::worth-returns-in-None-factor_of_word-clause-worth
-scope::Scope::worth-returns-in-None-factor_of_word-clause-worth g t c =
-    let is = juxtaposed_is (g.E.Env.means c.args.self.now.env.now) _
-    (ap syntax c.in-Juxtaposed.is ∙ c.view_law.ensures.juxtaposed c.in-Juxtaposed.trees) in
-    chain_gives is _ _ c.chain.ensures.worth
-
-pub scope::Scope::worth-returns-in-None-factor_of_word-clause-place
-    : goal.scope::Scope::worth-returns-in-None-factor_of_word-clause-place
-scope::Scope::worth-returns-in-None-factor_of_word-clause-place g t c =
-    let is = juxtaposed_is (g.E.Env.means c.args.self.now.env.now) _
-    (ap syntax c.in-Juxtaposed.is ∙ c.view_law.ensures.juxtaposed c.in-Juxtaposed.trees) in
-    chain_ends is _ _ _ c.chain.ensures.place
-
-pub scope::Scope::worth-chain-requires-in-Product : goal.scope::Scope::worth-chain-requires-in-Product
-scope::Scope::worth-chain-requires-in-Product g t c κs within =
+pub scope::Scope::worth-chain-requires : goal.scope::Scope::worth-chain-requires
+scope::Scope::worth-chain-requires g t c κs within =
     let is = product_is (g.E.Env.means c.args.self.now.env.now) _
     (ap syntax c.in-Product.is ∙ c.view_law.ensures.product c.in-Product.factors) in
     search (rules, arith, chain_lighter is, chain_stands is _ _ c.requires)
@@ -190,13 +148,13 @@ pub scope::Scope::worth-returns-in-Product-clause-worth : goal.scope::Scope::wor
 scope::Scope::worth-returns-in-Product-clause-worth g t c =
     let is = product_is (g.E.Env.means c.args.self.now.env.now) _
     (ap syntax c.in-Product.is ∙ c.view_law.ensures.product c.in-Product.factors) in
-    chain_gives is _ _ c.chain-in-Product.ensures.worth
+    chain_gives is _ _ _ c.chain.ensures.worth
 
 pub scope::Scope::worth-returns-in-Product-clause-place : goal.scope::Scope::worth-returns-in-Product-clause-place
 scope::Scope::worth-returns-in-Product-clause-place g t c =
     let is = product_is (g.E.Env.means c.args.self.now.env.now) _
     (ap syntax c.in-Product.is ∙ c.view_law.ensures.product c.in-Product.factors) in
-    chain_ends is _ _ _ c.chain-in-Product.ensures.place
+    chain_ends is _ _ _ c.chain.ensures.place
 
 pub scope::Scope::worth-chain-requires-in-Sum : goal.scope::Scope::worth-chain-requires-in-Sum
 scope::Scope::worth-chain-requires-in-Sum g t c κs within =
@@ -208,7 +166,7 @@ pub scope::Scope::worth-returns-in-Sum-clause-worth : goal.scope::Scope::worth-r
 scope::Scope::worth-returns-in-Sum-clause-worth g t c =
     let is = sum_is (g.E.Env.means c.args.self.now.env.now) _
     (ap syntax c.in-Sum.is ∙ c.view_law.ensures.sum c.in-Sum.terms) in
-    chain_gives is _ _ c.chain-in-Sum.ensures.worth
+    chain_gives is _ _ _ c.chain-in-Sum.ensures.worth
 
 pub scope::Scope::worth-returns-in-Sum-clause-place : goal.scope::Scope::worth-returns-in-Sum-clause-place
 scope::Scope::worth-returns-in-Sum-clause-place g t c =
@@ -216,64 +174,65 @@ scope::Scope::worth-returns-in-Sum-clause-place g t c =
     (ap syntax c.in-Sum.is ∙ c.view_law.ensures.sum c.in-Sum.terms) in
     chain_ends is _ _ _ c.chain-in-Sum.ensures.place
 
-pub scope::Scope::operated-returns-in_err-word-clause-worth
-    : goal.scope::Scope::operated-returns-in_err-word-clause-worth
-scope::Scope::operated-returns-in_err-word-clause-worth g t c m h =
-    let p = err_from_is_err_and c.from_residual-in_err-word.result c.from_residual-in_err-word.ensures.1 in
-    rw (p.1, p.2) (word_fault _ _ _ _ _ _ h c.in_default.not-Function _ c.in_err-word.ensures)
+pub scope::Scope::operated-returns-in_err-put_word-clause-worth : goal.scope::Scope::operated-returns-in_err-put_word-clause-worth
+scope::Scope::operated-returns-in_err-put_word-clause-worth g t c m h =
+    let p = err_from_is_err_and c.from_residual-in_err-put_word.result c.from_residual-in_err-put_word.ensures.1 in
+    rw (p.1, p.2) (word_fault _ _ _ _ _ _ h c.in_default.not-Function _ c.in_err-put_word.ensures)
 
-pub scope::Scope::operated-returns-in_err-operand-2-clause-worth
-    : goal.scope::Scope::operated-returns-in_err-operand-2-clause-worth
-scope::Scope::operated-returns-in_err-operand-2-clause-worth g t c m h =
-    let p = err_from_is_err_and c.from_residual-in_err-operand-2.result c.from_residual-in_err-operand-2.ensures.1 in
-    rw (p.1, p.2) (behind_fault _ _ _ _ _ _ h c.in_default.not-Function c.in_ok-word.word c.in_ok-word.ensures _
-    c.in_err-operand-2.ensures.worth)
-
-pub scope::Scope::operated-returns-in_err-join-clause-worth
-    : goal.scope::Scope::operated-returns-in_err-join-clause-worth
-scope::Scope::operated-returns-in_err-join-clause-worth g t c m h =
-    let p = err_from_is_err_and c.from_residual-in_err-join.result c.from_residual-in_err-join.ensures.1 in
-    rw (p.1, p.2) (both_fault _ _ _ _ _ _ h c.in_default.not-Function c.in_ok-word.word c.in_ok-word.ensures
-    c.in_ok-operand-2.operand c.get-2.ensures c.in_ok-operand-2.ensures.worth _ c.in_err-join.ensures)
+pub scope::Scope::operated-returns-in_err-worth-2-clause-worth : goal.scope::Scope::operated-returns-in_err-worth-2-clause-worth
+scope::Scope::operated-returns-in_err-worth-2-clause-worth g t c m h =
+    let p = err_from_is_err_and c.from_residual-in_err-worth-2.result c.from_residual-in_err-worth-2.ensures.1 in
+    rw (p.1, p.2) (behind_fault _ _ _ _ _ _ h c.in_default.not-Function c.in_ok-put_word.ensures _
+    c.in_err-worth-2.ensures.worth)
 
 pub scope::Scope::operated-returns-clause-worth : goal.scope::Scope::operated-returns-clause-worth
 scope::Scope::operated-returns-clause-worth g t c m h =
-    both_ok _ _ _ _ _ _ h c.in_default.not-Function c.in_ok-word.word c.in_ok-word.ensures c.in_ok-operand-2.operand
-    c.get-2.ensures c.in_ok-operand-2.ensures.worth c.in_ok-join.ensures
+    both_give _ _ _ _ _ _ h c.in_default.not-Function c.in_ok-put_word.ensures
+    (c.in_ok-worth-2.ensures.worth ∙ ap (λ x. Ok x) (sym c.get.ensures)) _ _ c.take_lent.ensures
 
-pub scope::Scope::operated-returns-in_err-operand-clause-worth
-    : goal.scope::Scope::operated-returns-in_err-operand-clause-worth
-scope::Scope::operated-returns-in_err-operand-clause-worth g t c m h =
+pub scope::Scope::operated-returns-in_err-worth-clause-worth : goal.scope::Scope::operated-returns-in_err-worth-clause-worth
+scope::Scope::operated-returns-in_err-worth-clause-worth g t c m h =
     let p = err_from_is_err_and c.from_residual.result c.from_residual.ensures.1 in
-    rw (p.1, p.2) (operand_fault _ _ _ _ _ _ h c.in-Function.is _ c.in_err-operand.ensures.worth)
+    rw (p.1, p.2) (operand_fault _ _ _ _ _ _ h c.in-Function.is _ c.in_err-worth.ensures.worth)
 
-pub scope::Scope::operated-returns-in_err-take-clause-worth
-    : goal.scope::Scope::operated-returns-in_err-take-clause-worth
-scope::Scope::operated-returns-in_err-take-clause-worth g t c m h =
-    let p = err_from_is_err_and c.from_residual-in_err-take.result c.from_residual-in_err-take.ensures.1 in
-    rw (p.1, p.2) (taken_fault _ _ _ _ _ _ h c.in-Function.is c.in_ok-operand.operand c.in_ok-operand.ensures.worth
-    c.get.ensures _ c.in_err-take.ensures)
-
-pub scope::Scope::operated-returns-in-Function-clause-worth
-    : goal.scope::Scope::operated-returns-in-Function-clause-worth
+pub scope::Scope::operated-returns-in-Function-clause-worth : goal.scope::Scope::operated-returns-in-Function-clause-worth
 scope::Scope::operated-returns-in-Function-clause-worth g t c m h =
-    taken_ok _ _ _ _ _ _ h c.in-Function.is c.in_ok-operand.operand c.in_ok-operand.ensures.worth c.get.ensures
-    c.in_ok-take.ensures
+    taken_give _ _ _ _ _ _ h c.in-Function.is c.in_ok-worth.ensures.worth _ _
+    c.put_taken.ensures
+
+pub scope::Scope::juxtaposed-next_meaning-meaning-requires : goal.scope::Scope::juxtaposed-next_meaning-meaning-requires
+scope::Scope::juxtaposed-next_meaning-meaning-requires g t c =
+    multiple_within _ c.in-Some.is c.factor_of_word.ensures _ _ c.requires
+
+pub scope::Scope::juxtaposed-put_multiple-requires : goal.scope::Scope::juxtaposed-put_multiple-requires
+scope::Scope::juxtaposed-put_multiple-requires g t c =
+    multiple_usable _ c.in-Some.is c.factor_of_word.ensures _ _ c.requires _ _ _ _
+    c.next_meaning-meaning.ensures.told
+
+pub scope::Scope::juxtaposed-returns-in-Some-clause-worth : goal.scope::Scope::juxtaposed-returns-in-Some-clause-worth
+scope::Scope::juxtaposed-returns-in-Some-clause-worth g t c =
+    multiple_gives _ c.in-Some.is c.factor_of_word.ensures _ _ c.requires _ _ _ _
+    c.next_meaning-meaning.ensures.told _ _ _ c.put_multiple.ensures
+
+pub scope::Scope::juxtaposed-returns-in-Some-clause-place : goal.scope::Scope::juxtaposed-returns-in-Some-clause-place
+scope::Scope::juxtaposed-returns-in-Some-clause-place g t c =
+    multiple_place _ c.in-Some.is c.factor_of_word.ensures c.put_multiple.result _
+    c.next_meaning-meaning.ensures.place
 
 pub scope::Scope::chain-worth-requires : goal.scope::Scope::chain-worth-requires
 scope::Scope::chain-worth-requires g t c κs within =
     let lighter = first_lighter _ c.get.ensures (g.E.Env.means c.args.self.now.env.now) in
     search (rules, arith, lighter, first_stand _ c.get.ensures _ _ c.requires)
 
-pub scope::Scope::chain-returns-in_err-held-clause-worth : goal.scope::Scope::chain-returns-in_err-held-clause-worth
-scope::Scope::chain-returns-in_err-held-clause-worth g t c =
+pub scope::Scope::chain-returns-in_err-worth-clause-worth : goal.scope::Scope::chain-returns-in_err-worth-clause-worth
+scope::Scope::chain-returns-in_err-worth-clause-worth g t c =
     let p = err_from_is_err_and c.from_residual.result c.from_residual.ensures.1 in
     rw (p.1, p.2) (first_fault _ c.get.ensures (g.E.Env.means c.args.self.now.env.now)
-    (option_copied c.args.self.now.arg) _ c.in_err-held.ensures.worth)
+    (option_copied c.args.self.now.arg) _ c.in_err-worth.ensures.worth)
 
 pub scope::Scope::chain-loop-i-init : goal.scope::Scope::chain-loop-i-init
 scope::Scope::chain-loop-i-init g t c =
-    begins _ c.get.ensures _ _ c.requires c.in_ok-held.ensures.worth c.in_ok-held.ensures.place
+    begins _ c.get.ensures _ _ c.requires c.in_ok-worth.ensures.worth c.in_ok-worth.ensures.place
 
 pub scope::Scope::chain-with_member-requires : goal.scope::Scope::chain-with_member-requires
 scope::Scope::chain-with_member-requires g t c κs within =
@@ -299,21 +258,14 @@ pub scope::Scope::chain-returns-clause-place : goal.scope::Scope::chain-returns-
 scope::Scope::chain-returns-clause-place g t c =
     end_place c.loop-i.invariant (omega (arith, c.len-i-end.ensures))
 
-pub scope::Scope::with_member-next_meaning-meaning-requires
-    : goal.scope::Scope::with_member-next_meaning-meaning-requires
-scope::Scope::with_member-next_meaning-meaning-requires g t c =
+pub scope::Scope::with_member-with_word-requires : goal.scope::Scope::with_member-with_word-requires
+scope::Scope::with_member-with_word-requires g t c =
     alone_within _ _ (ap syntax c.in-Word.is ∙ c.view_law.ensures.word c.in-Word.field-0) c.requires
-
-pub scope::Scope::with_member-join_word-requires : goal.scope::Scope::with_member-join_word-requires
-scope::Scope::with_member-join_word-requires g t c =
-    alone_usable _ _ (ap syntax c.in-Word.is ∙ c.view_law.ensures.word c.in-Word.field-0) c.requires _ _ _ _
-    c.next_meaning-meaning.ensures.told
 
 pub scope::Scope::with_member-returns-in-Word-clause-worth : goal.scope::Scope::with_member-returns-in-Word-clause-worth
 scope::Scope::with_member-returns-in-Word-clause-worth g t c =
-    subst (λ r. Answers {A = Amount} c.join_word.result (with_worth c.args.operand.step (amount_in c.args.left) r))
-    (alone_worth _ _ (ap syntax c.in-Word.is ∙ c.view_law.ensures.word c.in-Word.field-0) c.requires
-    _ _ _ _ c.next_meaning-meaning.ensures.told _) c.join_word.ensures
+    member_gives _ _ (ap syntax c.in-Word.is ∙ c.view_law.ensures.word c.in-Word.field-0) c.requires
+    (g.E.Env.means c.args.self.now.env.now) _ _ _ _ _ c.with_word.ensures.worth
 
 pub function::take-target_of-requires-clause-word : goal.function::take-target_of-requires-clause-word
 function::take-target_of-requires-clause-word g t c =

@@ -1,64 +1,71 @@
-use Rattle.std.proofs.Common.{◌+◌, ◌*◌, option_map}
+use Rattle.std.proofs.Common.{◌+◌, ◌*◌, map, option_map}
 use Rattle.std.specs.Option.{option_copied}
-use Rattle.expr_tree.specs.Trees.{syntax}
+use Rattle.expr_tree.specs.Trees.{syntax, trees_of}
 use Rattle.tree_eval.specs.Answers.{amount_in}
 use Rattle.tree_eval.specs.Expansion.{expand, expand_if}
-use Rattle.tree_eval.specs.Operands.{chain, operands_of}
+use Rattle.tree_eval.specs.Operands.{by_side, chain, operands_of}
 use Rattle.tree_eval.proofs.Chains.{IsRunning}
 use Rattle.tree_eval.proofs.Weight.{weight, weight_callable, weight_given, weight_told}
 use Rattle.tree_eval.proofs.+eval.Given as goal
 
 abbrev pub decreases-scope::tree_worth : goal.decreases-scope::tree_worth
-decreases-scope::tree_worth g l = 4 * weight (expand (g.E.Env.means l.env.now) (syntax l.tree.now)) + 2
+decreases-scope::tree_worth g l = 8 * weight (expand (g.E.Env.means l.env.now) (syntax l.tree.now)) + 3
 
 abbrev pub decreases-scope::Scope::worth : goal.decreases-scope::Scope::worth
-decreases-scope::Scope::worth g l = 4 * weight (expand (g.E.Env.means l.self.now.env.now) (syntax l.tree.now)) + 1
+decreases-scope::Scope::worth g l = 8 * weight (expand (g.E.Env.means l.self.now.env.now) (syntax l.tree.now)) + 2
 
 abbrev pub decreases-scope::Scope::root : goal.decreases-scope::Scope::root
-decreases-scope::Scope::root g l = 4 * weight (expand (g.E.Env.means l.self.now.env.now) (syntax l.operand.now)) + 2
+decreases-scope::Scope::root g l = 8 * weight (expand (g.E.Env.means l.self.now.env.now) (syntax l.operand.now)) + 3
 
 abbrev pub decreases-scope::Scope::negated : goal.decreases-scope::Scope::negated
-decreases-scope::Scope::negated g l = 4 * weight (expand (g.E.Env.means l.self.now.env.now) (syntax l.operand.now)) + 2
+decreases-scope::Scope::negated g l = 8 * weight (expand (g.E.Env.means l.self.now.env.now) (syntax l.operand.now)) + 3
 
 abbrev pub decreases-scope::Scope::power : goal.decreases-scope::Scope::power
 decreases-scope::Scope::power g l =
-    4 * (weight (expand (g.E.Env.means l.self.now.env.now) (syntax l.base.now))
-    + weight (expand (g.E.Env.means l.self.now.env.now) (syntax l.exponent.now))) + 2
+    8 * (weight (expand (g.E.Env.means l.self.now.env.now) (syntax l.base.now))
+    + weight (expand (g.E.Env.means l.self.now.env.now) (syntax l.exponent.now))) + 3
 
 abbrev pub decreases-scope::Scope::operated : goal.decreases-scope::Scope::operated
 decreases-scope::Scope::operated g l =
-    4 * (weight_told (g.E.Env.callee l.self.now.env.now) l.meaning
-    + weight (expand (g.E.Env.means l.self.now.env.now) (syntax l.operand.now))) + 3
+    8 * (weight_told (g.E.Env.callee l.self.now.env.now) l.meaning
+    + weight (expand (g.E.Env.means l.self.now.env.now) (syntax l.operand.now))) + 5
+
+abbrev pub decreases-scope::put_taken : goal.decreases-scope::put_taken
+decreases-scope::put_taken g l = 8 * weight_callable (g.E.Env.callee l.env.now l.id) + 4
+
+abbrev pub decreases-scope::Scope::juxtaposed : goal.decreases-scope::Scope::juxtaposed
+decreases-scope::Scope::juxtaposed g l =
+    8 * weight (chain (g.E.Env.means l.self.now.env.now) (map by_side (trees_of l.trees.now))) + 1
 
 abbrev pub decreases-scope::Scope::chain : goal.decreases-scope::Scope::chain
-decreases-scope::Scope::chain g l = 4 * weight (chain (g.E.Env.means l.self.now.env.now) (operands_of l.operands))
+decreases-scope::Scope::chain g l = 8 * weight (chain (g.E.Env.means l.self.now.env.now) (operands_of l.operands))
 
 abbrev pub decreases-scope::Scope::with_member : goal.decreases-scope::Scope::with_member
 decreases-scope::Scope::with_member g l =
-    4 * weight (expand (g.E.Env.means l.self.now.env.now) (syntax l.operand.tree.now)) + 3
+    8 * weight (expand (g.E.Env.means l.self.now.env.now) (syntax l.operand.tree.now)) + 4
 
 abbrev pub decreases-scope::Scope::with_worth : goal.decreases-scope::Scope::with_worth
 decreases-scope::Scope::with_worth g l =
-    4 * weight (expand (g.E.Env.means l.self.now.env.now) (syntax l.operand.tree.now)) + 2
+    8 * weight (expand (g.E.Env.means l.self.now.env.now) (syntax l.operand.tree.now)) + 3
 
 abbrev pub decreases-function::take : goal.decreases-function::take
-decreases-function::take g l = 4 * weight_callable (g.E.Env.callee l.env.now l.id) + 2
+decreases-function::take g l = 8 * weight_callable (g.E.Env.callee l.env.now l.id) + 3
 
 abbrev pub decreases-function::apply_function : goal.decreases-function::apply_function
-decreases-function::apply_function g l = 4 * weight_callable (g.E.Env.callee l.env.now l.id) + 1
+decreases-function::apply_function g l = 8 * weight_callable (g.E.Env.callee l.env.now l.id) + 2
 
 abbrev pub decreases-function::unapply_function : goal.decreases-function::unapply_function
-decreases-function::unapply_function g l = 4 * weight_callable (g.E.Env.callee l.env.now l.id) + 1
+decreases-function::unapply_function g l = 8 * weight_callable (g.E.Env.callee l.env.now l.id) + 2
 
 abbrev pub decreases-function::apply_table : goal.decreases-function::apply_table
-decreases-function::apply_table g l = 4 * weight_callable (g.E.Env.callee l.env.now l.id) + 1
+decreases-function::apply_table g l = 8 * weight_callable (g.E.Env.callee l.env.now l.id) + 2
 
 abbrev pub decreases-function::unapply_table : goal.decreases-function::unapply_table
-decreases-function::unapply_table g l = 4 * weight_callable (g.E.Env.callee l.env.now l.id) + 1
+decreases-function::unapply_table g l = 8 * weight_callable (g.E.Env.callee l.env.now l.id) + 2
 
 abbrev pub decreases-function::check_end : goal.decreases-function::check_end
 decreases-function::check_end g l =
-    4 * weight_given (expand_if (g.E.Env.means l.env.now) (option_map syntax l.end.now.unit.now)) + 3
+    8 * weight_given (expand_if (g.E.Env.means l.env.now) (option_map syntax l.end.now.unit.now)) + 4
 
 abbrev pub invariant-scope::Scope::chain-loop-i : goal.invariant-scope::Scope::chain-loop-i
 invariant-scope::Scope::chain-loop-i g l =

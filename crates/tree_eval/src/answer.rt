@@ -1,0 +1,67 @@
+//! The answers of steps, as those of an evaluation.
+
+ghost use Rattle.std.specs.Prelude.{Result};
+ghost use Rattle.quantity.specs.Amount.{Amount};
+ghost use Rattle.quantity.specs.Answers.{IsAnswer, IsStepOnNumbers};
+ghost use Rattle.quantity.specs.declared.fault.QuantityFault.{QuantityFault as StepFault};
+ghost use Rattle.tree_eval.specs.Answers.{Answers};
+ghost use Rattle.tree_eval.specs.Steps as spec;
+
+use crate::fault::EvalFault;
+use frac128::{Frac, FracFault};
+use quantity::{Quantity, QuantityFault};
+use std::alloc::Global;
+
+// What a step on fractions answers.
+pub(crate) fn fraction_answer(
+    alloc: Global,
+    answer: Result<Frac, FracFault>,
+) -> Result<Frac, EvalFault>
+    ensures { Answers result (spec.fraction answer) }
+{
+    match answer {
+        Ok(x) => Ok(x),
+        Err(fault) => Err(EvalFault::of_number(alloc, fault)),
+    }
+}
+
+// The same, as a number without exponents.
+pub(crate) fn number_answer(
+    alloc: Global,
+    answer: Result<Frac, FracFault>,
+) -> Result<Quantity, EvalFault>
+    ensures { Answers result (spec.number answer) }
+{
+    match answer {
+        Ok(x) => Ok(Quantity::number(alloc, x)),
+        Err(fault) => Err(EvalFault::of_number(alloc, fault)),
+    }
+}
+
+// What a step answers that only numbers may fail.
+pub(crate) fn scaled_answer(
+    alloc: Global,
+    answer: Result<Quantity, FracFault>,
+) -> Result<Quantity, EvalFault>
+    ensures { (expected : Result Amount StepFault) → IsStepOnNumbers answer expected
+        → Answers result (spec.amount expected) }
+{
+    match answer {
+        Ok(q) => Ok(q),
+        Err(fault) => Err(EvalFault::of_number(alloc, fault)),
+    }
+}
+
+// What a step on quantities answers.
+pub(crate) fn amount_answer(
+    alloc: Global,
+    answer: Result<Quantity, QuantityFault>,
+) -> Result<Quantity, EvalFault>
+    ensures { (expected : Result Amount StepFault) → IsAnswer answer expected
+        → Answers result (spec.amount expected) }
+{
+    match answer {
+        Ok(q) => Ok(q),
+        Err(fault) => Err(EvalFault::of_step(alloc, fault)),
+    }
+}
