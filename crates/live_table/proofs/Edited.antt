@@ -1,5 +1,5 @@
 -- From nodes before an edit to the answer of its call.
-use Rattle.std.proofs.Common.{◌≡◌, ℕ, List, length, sym, ◌∙◌, ap, subst}
+use Rattle.std.proofs.Common.{◌≡◌, ℕ, List, [], length, sym, ◌∙◌, ap, subst}
 use Rattle.std.specs.Prelude.{Result, Ok}
 use Rattle.std.proofs.lemmas.List.{length-map}
 use Rattle.def_entry.specs.declared.key.Key.{Key}
@@ -9,12 +9,15 @@ use Rattle.deck.specs.Decks.{Contents}
 use Rattle.deck.specs.Tables.{table}
 use Rattle.deck.specs.declared.fault.DeckFault.{DeckFault}
 use Rattle.name_edges.specs.NameGraphs.{NameGraph}
+use Rattle.live_table.specs.declared.dead_end.DeadEnd.{DeadEnd}
 use Rattle.live_table.specs.Calls.{IsEdit}
 use Rattle.live_table.specs.Edged.{IsLive}
+use Rattle.live_table.specs.Exploring.{WereExplored}
 use Rattle.live_table.specs.Forgotten.{AreForgotten, CanForget}
 use Rattle.live_table.specs.Shown.{Shown}
 use Rattle.live_table.specs.Stored.{Listed, shown}
 use Rattle.live_table.proofs.AfterForgetting.{is_edit, live_after}
+use Rattle.live_table.proofs.StillExplored.{none_explored}
 
 -- a live table may forget
 pub live_can : (deck : Contents) (l : Listed) (g : NameGraph) (r : ℕ) → IsLive deck l g r → CanForget l g
@@ -32,8 +35,12 @@ module _ (law : ChangedLaw) (before after : Contents) (l m : Listed) (g h : Name
     changed : IsChange before after given
     changed = subst (λ (ks : List Key). IsChange before after ks) (sym same) change
 
-    pub live_edited : IsLive after m h r
-    live_edited = live_after before after l m g h r given live changed f law
+    pub live_edited : (names : List ℕ) (ends : List DeadEnd) → names ≡ []
+        → IsLive after m h r × WereExplored (table after) m names ends
+    live_edited names ends none = (
+      live_after before after l m g h r given live changed f law,
+      none_explored (table after) m names ends none,
+    )
 
     pub edit_done : (old : Shown) → shown before l r ≡ old → IsEdit old (shown after m r)
     edit_done old is = subst (λ (s : Shown). IsEdit s (shown after m r)) is

@@ -106,27 +106,29 @@ settled_within t l nodes n e =
     let c : length l.outcomes ≡ length l.keys = nodes.outcome_count in omega arith
 
 -- so is a known one
-pub known_within : (t : Table) (l : Listed) (list : List ℕ) → AreNodes t l → AreListed t l list → (n : ℕ)
-    → IsKnown l list n → n < length l.keys
-known_within t l list nodes right n (inl e) = settled_within t l nodes n e
-known_within t l list nodes right n (inr i) = right.within n i
+pub known_within : (t : Table) (l : Listed) (before list : List ℕ) → AreNodes t l → AreListed t l before list → (n : ℕ)
+    → IsKnown l before list n → n < length l.keys
+known_within t l before list nodes right n (inl e) = settled_within t l nodes n e
+known_within t l before list nodes right n (inr (inl i)) = right.gone n i
+known_within t l before list nodes right n (inr (inr i)) = right.within n i
 
 -- ---- what was written stays written
-module _ (t : Table) (l m : Listed) (here there : List ℕ) (ends more : List DeadEnd) (nodes : AreNodes t l)
-    (right : AreListed t l here)
-    (grown : AreGrown t l m here there ends more) where
-  pub known_still : (n : ℕ) → IsKnown l here n → IsKnown m there n
+module _ (t : Table) (l m : Listed) (before here there : List ℕ) (ends more : List DeadEnd) (nodes : AreNodes t l)
+    (right : AreListed t l before here)
+    (grown : AreGrown t l m before here there ends more) where
+  pub known_still : (n : ℕ) → IsKnown l before here n → IsKnown m before there n
   known_still n (inl e) = inl (grown.settled_still n e)
-  known_still n (inr i) = inr (in_more here there n grown.list_more i)
+  known_still n (inr (inl i)) = inr (inl i)
+  known_still n (inr (inr i)) = inr (inr (in_more here there n grown.list_more i))
 
   pub keys_same : (n : ℕ) → n < length l.keys → key_at m.keys n ≡ key_at l.keys n
   keys_same n h = key_same l.keys m.keys n grown.keys_more h
 
-  pub written_more : (us : List WordUse) (xs : List Step) → AreWritten t l here ends us xs
-      → AreWritten t m there more us xs
+  pub written_more : (us : List WordUse) (xs : List Step) → AreWritten t l before here ends us xs
+      → AreWritten t m before there more us xs
   written_more us xs w = record {
     words = same_words t (key_at l.keys) (key_at m.keys) (fault_at ends) (fault_at more) us xs
-        (λ n i. keys_same n (known_within t l here nodes right n (w.targets n i)))
+        (λ n i. keys_same n (known_within t l before here nodes right n (w.targets n i)))
         (λ b i holder. fault_same ends more b grown.ends_more (w.nowhere b i) holder) w.words;
     targets = λ n i. known_still n (w.targets n i);
     nowhere = λ b i.
@@ -135,10 +137,36 @@ module _ (t : Table) (l m : Listed) (here there : List ℕ) (ends more : List De
   }
 
 -- ---- what is added behind what was added
-pub grown_none : (t : Table) (l : Listed) (list : List ℕ) (ends more : List DeadEnd) → AreNodes t l → AreListed t l list
-    → IsMore ends more
-    → AreGrown t l l list list ends more
-grown_none t l list ends more nodes right growing = record {
+-- no numbers are listed
+pub none_listed : (t : Table) (l : Listed) (before list : List ℕ) → ((n : ℕ) → In n before → n < length l.keys)
+    → list ≡ [] → AreListed t l before list
+none_listed t l before list gone e = subst (AreListed t l before) (sym e) (record {
+  gone = gone;
+  within = λ n i. absurd i;
+  fresh = λ n i. absurd i;
+  new = λ n i. absurd i;
+  present = λ n i. absurd i;
+  once = nothing_twice;
+})
+
+-- a table has grown with none of its listed numbers
+pub grown_alone : (t : Table) (l m : Listed) (before here there : List ℕ) (ends more : List DeadEnd)
+    → AreGrown t l m before here there ends more → AreGrown t l m before [] [] ends more
+grown_alone t l m before here there ends more grown = record {
+  nodes = grown.nodes;
+  kept = grown.kept;
+  listed = none_listed t m before [] grown.listed.gone refl;
+  keys_more = grown.keys_more;
+  settled_still = grown.settled_still;
+  list_more = λ i x e. e;
+  ends_more = grown.ends_more;
+}
+
+-- a table is grown by nothing
+pub grown_none : (t : Table) (l : Listed) (before list : List ℕ) (ends more : List DeadEnd) → AreNodes t l
+    → AreListed t l before list → IsMore ends more
+    → AreGrown t l l before list list ends more
+grown_none t l before list ends more nodes right growing = record {
   nodes = nodes;
   kept = refl;
   listed = right;
@@ -149,9 +177,10 @@ grown_none t l list ends more nodes right growing = record {
 }
 
 -- grown twice, a table is grown
-pub grown_both : (t : Table) (l m k : Listed) (here list there : List ℕ) (xs ys zs : List DeadEnd)
-    → AreGrown t l m here list xs ys → AreGrown t m k list there ys zs → AreGrown t l k here there xs zs
-grown_both t l m k here list there xs ys zs a b = record {
+pub grown_both : (t : Table) (l m k : Listed) (before here list there : List ℕ) (xs ys zs : List DeadEnd)
+    → AreGrown t l m before here list xs ys → AreGrown t m k before list there ys zs
+    → AreGrown t l k before here there xs zs
+grown_both t l m k before here list there xs ys zs a b = record {
   nodes = b.nodes;
   kept = b.kept ∙ a.kept;
   listed = b.listed;
@@ -161,20 +190,21 @@ grown_both t l m k here list there xs ys zs a b = record {
   ends_more = λ i x e. b.ends_more i x (a.ends_more i x e);
 }
 
--- a table is grown by nothing
-pub added_none : (t : Table) (l : Listed) (list : List ℕ) (ends more : List DeadEnd) → AreNodes t l → AreListed t l list
-    → IsMore ends more
-    → AreAdded t l l list list ends more
-added_none t l list ends more nodes right growing = record {
-  grown = grown_none t l list ends more nodes right growing;
+-- nothing is added
+pub added_none : (t : Table) (l : Listed) (before list : List ℕ) (ends more : List DeadEnd) → AreNodes t l
+    → AreListed t l before list → IsMore ends more
+    → AreAdded t l l before list list ends more
+added_none t l before list ends more nodes right growing = record {
+  grown = grown_none t l before list ends more nodes right growing;
   same = record { steps = λ n h o. refl; callees = λ n h o. refl; looks = λ n h o. refl };
 }
 
 -- added twice, numbers are added
-pub added_both : (t : Table) (l m k : Listed) (here list there : List ℕ) (xs ys zs : List DeadEnd)
-    → AreAdded t l m here list xs ys → AreAdded t m k list there ys zs → AreAdded t l k here there xs zs
-added_both t l m k here list there xs ys zs a b = record {
-  grown = grown_both t l m k here list there xs ys zs a.grown b.grown;
+pub added_both : (t : Table) (l m k : Listed) (before here list there : List ℕ) (xs ys zs : List DeadEnd)
+    → AreAdded t l m before here list xs ys → AreAdded t m k before list there ys zs
+    → AreAdded t l k before here there xs zs
+added_both t l m k before here list there xs ys zs a b = record {
+  grown = grown_both t l m k before here list there xs ys zs a.grown b.grown;
   same = record {
     steps = λ n h o. b.same.steps n (longer n h) tt ∙ a.same.steps n h tt;
     callees = λ n h o. b.same.callees n (longer n h) tt ∙ a.same.callees n h tt;
@@ -184,9 +214,3 @@ added_both t l m k here list there xs ys zs a b = record {
   where
     longer : (n : ℕ) → n < length l.keys → n < length m.keys
     longer n h = let q : length l.keys ≤ length m.keys = more_length l.keys m.keys a.grown.keys_more in omega arith
-
--- no numbers are listed
-pub none_listed : (t : Table) (l : Listed) (list : List ℕ) → list ≡ [] → AreListed t l list
-none_listed t l list e =
-    subst (AreListed t l) (sym e)
-    (record { within = λ n i. absurd i; fresh = λ n i. absurd i; present = λ n i. absurd i; once = nothing_twice })

@@ -19,9 +19,9 @@ use Rattle.live_table.proofs.Named.{named_added, not_there}
 -- ---- what is kept
 pub kept_same : (keys : List Key) (a b : Nodes) → listed b ≡ listed a → b.gathered ≡ a.gathered → IsExtension keys a b
 kept_same keys a b e f = record {
-  added = λ t is nodes list ends right.
-      subst (λ (m : Listed). AreAdded t (listed a) m list list ends ends) (sym e)
-      (added_none t (listed a) list ends ends nodes right (λ i x q. q));
+  added = λ t is nodes before list ends right.
+      subst (λ (m : Listed). AreAdded t (listed a) m before list list ends ends) (sym e)
+      (added_none t (listed a) before list ends ends nodes right (λ i x q. q));
   gathered = f;
 }
 
@@ -32,10 +32,10 @@ kept_itself keys a = kept_same keys a a refl refl
 -- what is added twice is added
 pub kept_on : (keys : List Key) (a b c : Nodes) → IsExtension keys a b → IsExtension keys b c → IsExtension keys a c
 kept_on keys a b c h k = record {
-  added = λ t is nodes list ends right.
-      let x = h.added t is nodes list ends right in
-      added_both t (listed a) (listed b) (listed c) list list list ends ends ends x
-      (k.added t is x.grown.nodes list ends x.grown.listed);
+  added = λ t is nodes before list ends right.
+      let x = h.added t is nodes before list ends right in
+      added_both t (listed a) (listed b) (listed c) before list list list ends ends ends x
+      (k.added t is x.grown.nodes before list ends x.grown.listed);
   gathered = k.gathered ∙ h.gathered;
 }
 
@@ -48,10 +48,10 @@ pub kept_named : (keys : List Key) (a b : Nodes) (k : Key) (flag : Bool) → IsN
     → flag ≡ is_among keys k
     → is_among a.keys k ≡ false → b.gathered ≡ a.gathered → IsExtension keys a b
 kept_named keys a b k flag named is new e = record {
-  added = λ t of nodes list ends right.
-      subst (λ (m : Listed). AreAdded t (listed a) m list list ends ends) (sym named.named)
+  added = λ t of nodes before list ends right.
+      subst (λ (m : Listed). AreAdded t (listed a) m before list list ends ends) (sym named.named)
       (named_added t (listed a) k flag named.callee named.steps named.looks named.no_steps named.no_looks
-      (is ∙ present_among t keys k of) nodes (not_there a.keys k new) list ends right);
+      (is ∙ present_among t keys k of) nodes (not_there a.keys k new) before list ends right);
   gathered = e;
 }
 

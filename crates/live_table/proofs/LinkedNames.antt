@@ -67,8 +67,8 @@ pub gathered : (targets : List ℕ) (xs : List Step) → ((m : ℕ) → In m tar
 gathered targets xs are m = (λ c. (are m).0 (member_in m targets c), λ i. in_member m targets ((are m).1 i))
 
 -- ---- names are added
-module _ (deck : Contents) (l m : Listed) (here there : List ℕ) (ends more : List DeadEnd) (r : ℕ)
-    (grown : AreGrown (table deck) l m here there ends more) (sound : IsSound deck l r) where
+module _ (deck : Contents) (l m : Listed) (before here there : List ℕ) (ends more : List DeadEnd) (r : ℕ)
+    (grown : AreGrown (table deck) l m before here there ends more) (sound : IsSound deck l r) where
   not_new : (n : ℕ) → IsSettled m.settled n → length l.keys ≤ n → ⊥
   not_new n e s =
       let now : is_some (map_of.get (kept_of m.keys m.outcomes) (key_at m.keys n)) ≡ true =

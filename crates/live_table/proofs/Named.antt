@@ -193,15 +193,20 @@ module _ (t : Table) (l : Listed) (k : Key) (b : Bool) (c : Callee) (v : SmallVe
     looked = looked;
   }
 
-  pub named_added : (list : List ℕ) (ends : List DeadEnd) → AreListed t l list → AreAdded t l m list list ends ends
-  named_added list ends right = record {
+  one_more_within : (n : ℕ) → n < length l.keys → n < length m.keys
+  one_more_within n h = let s : length m.keys ≡ suc (length l.keys) = one_more l.keys k in omega arith
+
+  pub named_added : (before list : List ℕ) (ends : List DeadEnd) → AreListed t l before list
+      → AreAdded t l m before list list ends ends
+  named_added before list ends right = record {
     grown = record {
       nodes = named_nodes;
       kept = nothing_kept l.keys l.outcomes k nodes.outcome_count;
       listed = record {
-        within = λ n i. let h : n < length l.keys = right.within n i in
-            let s : length m.keys ≡ suc (length l.keys) = one_more l.keys k in omega arith;
+        gone = λ n i. one_more_within n (right.gone n i);
+        within = λ n i. one_more_within n (right.within n i);
         fresh = λ n i e. right.fresh n i (was n e);
+        new = right.new;
         present = λ n i. subst (λ (q : Key). is_present t q ≡ true) (sym (key_front n (right.within n i)))
             (right.present n i);
         once = right.once;

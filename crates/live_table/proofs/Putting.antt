@@ -1,7 +1,7 @@
 -- A number that is put on the agenda.
 use Rattle.std.proofs.Common.{◌≡◌, ◌<◌, ◌++◌, ◌∷◌, [], ℕ, Bool, true, false, cond, List, Some, length}
 use Rattle.std.proofs.Common.{get_or, sym, ◌∙◌, ap, subst, inl, inr, arith}
-use Rattle.std.proofs.lemmas.Bool.{cases_Bool, cond-false, cond-true}
+use Rattle.std.proofs.lemmas.Bool.{cases_Bool, cond-false, cond-true, true≢false}
 use Rattle.std.proofs.lemmas.Cmp.{nat_eq_equiv}
 use Rattle.std.proofs.lemmas.Map.Keys.{IsDistinct-push}
 use Rattle.std.proofs.lemmas.Option.{slice_get-get_or}
@@ -9,7 +9,7 @@ use Rattle.def_entry.specs.Tables.{Table, is_present}
 use Rattle.name_walk.specs.Closed.{IsSettled}
 use Rattle.name_walk.specs.Faults.{on}
 use Rattle.name_walk.specs.Lists.{In}
-use Rattle.name_walk.proofs.Lists.{In-last, In-push, on-In}
+use Rattle.name_walk.proofs.Lists.{In-last, In-on, In-push, on-In}
 use Rattle.live_table.specs.declared.dead_end.DeadEnd.{DeadEnd}
 use Rattle.live_table.specs.Exploring.{AreAdded, AreListed}
 use Rattle.live_table.specs.Sound.{AreNodes}
@@ -27,6 +27,10 @@ unsettled t l nodes n b h e f s =
     let size : length l.settled ≡ length l.keys = sizes t l nodes in
     let z : Some true ≡ Some false = sym s ∙ (slice_get-get_or l.settled n b (omega arith) ∙ ap Some (sym e ∙ f)) in cc
 
+-- a number that is not found in a list is not there
+pub not_on : (ns : List ℕ) (n : ℕ) → on ns n ≡ false → In n ns → ⊥
+not_on ns n e i = true≢false (sym (In-on ns n i) ∙ e)
+
 -- a number that is put is in the list
 pub put_there : (list there : List ℕ) (n : ℕ) → there ≡ cond (on list n) list (list ++ n ∷ []) → In n there
 put_there list there n e = elim (cases_Bool (on list n)) [
@@ -35,10 +39,11 @@ put_there list there n e = elim (cases_Bool (on list n)) [
 ]
 
 -- a list with one more number is one of such numbers
-pub listed_push : (t : Table) (l : Listed) (list : List ℕ) (n : ℕ) → AreListed t l list → n < length l.keys
-    → is_present t (key_at l.keys n) ≡ true
-    → (IsSettled l.settled n → ⊥) → on list n ≡ false → AreListed t l (list ++ n ∷ [])
-listed_push t l list n right h present fresh new = record {
+pub listed_push : (t : Table) (l : Listed) (before list : List ℕ) (n : ℕ) → AreListed t l before list
+    → n < length l.keys → is_present t (key_at l.keys n) ≡ true
+    → (IsSettled l.settled n → ⊥) → (In n before → ⊥) → on list n ≡ false → AreListed t l before (list ++ n ∷ [])
+listed_push t l before list n right h present fresh new other = record {
+  gone = right.gone;
   within = λ m i. elim (In-push list n m i) [
     | inl j ↦ right.within m j
     | inr e ↦ subst (λ (x : ℕ). x < length l.keys)
@@ -46,25 +51,27 @@ listed_push t l list n right h present fresh new = record {
   ];
   fresh = λ m i. elim (In-push list n m i)
       [ inl j ↦ right.fresh m j | inr e ↦ subst (λ (x : ℕ). IsSettled l.settled x → ⊥) (sym e) fresh ];
+  new = λ m i. elim (In-push list n m i)
+      [ inl j ↦ right.new m j | inr e ↦ subst (λ (x : ℕ). In x before → ⊥) (sym e) new ];
   present = λ m i. elim (In-push list n m i)
       [ inl j ↦ right.present m j | inr e ↦ subst (λ (x : ℕ). is_present t (key_at l.keys x) ≡ true) (sym e) present ];
-  once = IsDistinct-push nat_eq_equiv list n right.once new;
+  once = IsDistinct-push nat_eq_equiv list n right.once other;
 }
 
 -- so a number is added
-pub put_added : (t : Table) (l m : Listed) (list there : List ℕ) (ends : List DeadEnd) (n : ℕ)
-    → AreAdded t l m list list ends ends → n < length m.keys
-    → is_present t (key_at m.keys n) ≡ true → (IsSettled m.settled n → ⊥)
-    → there ≡ cond (on list n) list (list ++ n ∷ []) → AreAdded t l m list there ends ends
-put_added t l m list there ends n a h present fresh e = elim (cases_Bool (on list n)) [
-  | inl q ↦ subst (λ (ns : List ℕ). AreAdded t l m list ns ends ends)
+pub put_added : (t : Table) (l m : Listed) (before list there : List ℕ) (ends : List DeadEnd) (n : ℕ)
+    → AreAdded t l m before list list ends ends → n < length m.keys
+    → is_present t (key_at m.keys n) ≡ true → (IsSettled m.settled n → ⊥) → (In n before → ⊥)
+    → there ≡ cond (on list n) list (list ++ n ∷ []) → AreAdded t l m before list there ends ends
+put_added t l m before list there ends n a h present fresh new e = elim (cases_Bool (on list n)) [
+  | inl q ↦ subst (λ (ns : List ℕ). AreAdded t l m before list ns ends ends)
       (sym (e ∙ cond-true (on list n) list (list ++ n ∷ []) q)) a
-  | inr q ↦ subst (λ (ns : List ℕ). AreAdded t l m list ns ends ends)
+  | inr q ↦ subst (λ (ns : List ℕ). AreAdded t l m before list ns ends ends)
       (sym (e ∙ cond-false (on list n) list (list ++ n ∷ []) q)) (record {
         grown = record {
           nodes = a.grown.nodes;
           kept = a.grown.kept;
-          listed = listed_push t m list n a.grown.listed h present fresh q;
+          listed = listed_push t m before list n a.grown.listed h present fresh new q;
           keys_more = a.grown.keys_more;
           settled_still = a.grown.settled_still;
           list_more = push_more list (n ∷ []);

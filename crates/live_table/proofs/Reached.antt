@@ -1,21 +1,20 @@
 -- The names below a query get their steps, one name after another.
 use Rattle.smallvec.specs.SmallVec.{SmallVec}
-use Rattle.std.proofs.Common.{◌≡◌, ◌+◌, ◌<◌, ◌≤◌, ◌||◌, ℕ, zero, suc, Bool, true, false, List, [], ◌∷◌, ◌++◌, set}
-use Rattle.std.proofs.Common.{take, length, Vec, Option, Some, None, nat_eq, refl, sym, ◌∙◌, ap, subst, inl, inr, arith}
+use Rattle.std.proofs.Common.{◌≡◌, ◌+◌, ◌<◌, ◌≤◌, ℕ, zero, suc, true, false, List, [], ◌∷◌, ◌++◌, set}
+use Rattle.std.proofs.Common.{take, length, Vec, Some, None, nat_eq, refl, sym, ◌∙◌, ap, subst, inl, inr, arith}
 use Rattle.std.specs.declared.alloc.Global.{Global}
 use Rattle.std.specs.List.{IsDistinct, slice_get}
-use Rattle.std.proofs.lemmas.Bool.{cases_eq, cases_lt, eq-eqb, or_cases}
+use Rattle.std.proofs.lemmas.Bool.{cases_eq, cases_lt, eq-eqb}
 use Rattle.std.proofs.lemmas.List.{length-set, take_all}
 use Rattle.def_entry.specs.declared.key.Key.{Key}
 use Rattle.def_entry.specs.Entries.{Entry}
-use Rattle.def_entry.specs.Tables.{Table, entry_at}
+use Rattle.def_entry.specs.Tables.{Table, entry_at, is_present}
 use Rattle.name_walk.specs.declared.step.Step.{Step}
 use Rattle.name_walk.specs.declared.step.Step.TheVariants.{To}
 use Rattle.name_walk.specs.Closed.{IsSettled}
-use Rattle.name_walk.specs.Faults.{on}
 use Rattle.name_walk.specs.Lists.{In}
 use Rattle.name_walk.specs.Steps.{Graph, items_of, steps}
-use Rattle.name_walk.proofs.Lists.{In-on, In-push, all_at, get_In, on-In, take_at}
+use Rattle.name_walk.proofs.Lists.{In-push, all_at, get_In, take_at}
 use Rattle.name_walk.proofs.Marks.{get_set_other, get_set_same}
 use Rattle.name_walk.proofs.Settled.{settled_law_holds}
 use Rattle.table_names.specs.Words.{key_words}
@@ -23,14 +22,13 @@ use Rattle.name_numbers.specs.Numbered.{AreWords}
 use Rattle.live_table.specs.declared.callee.Callee.{Callee}
 use Rattle.live_table.specs.declared.dead_end.DeadEnd.{DeadEnd}
 use Rattle.live_table.specs.Callees.{HasStarts}
-use Rattle.live_table.specs.Explored.{AreExplored, fault_at}
-use Rattle.live_table.specs.Exploring.{AreAdded, AreGrown, AreListed, AreSame, AreWritten, IsKnown, IsWritten, is_known}
-use Rattle.live_table.specs.Exploring.{is_marked, with_steps}
+use Rattle.live_table.specs.Exploring.{AreAdded, AreAllExplored, AreGrown, AreListed, AreSame, AreWritten}
+use Rattle.live_table.specs.Exploring.{IsWritten, WereExplored, with_steps}
 use Rattle.live_table.specs.Looks.{AllLead, AreLooks}
 use Rattle.live_table.specs.Sound.{AreNodes, HasLooksOf}
 use Rattle.live_table.specs.Stored.{Listed, Looks, key_at, looks_of, numbers_in}
-use Rattle.live_table.proofs.Growing.{grown_both, grown_none, in_more, key_same, known_within, more_length, take_more}
-use Rattle.live_table.proofs.Growing.{written_more}
+use Rattle.live_table.proofs.Growing.{grown_alone, grown_both, grown_none, in_more, key_same, known_within, more_length}
+use Rattle.live_table.proofs.Growing.{none_listed, take_more, written_more}
 use Rattle.live_table.proofs.Looking.{looks_more}
 use Rattle.live_table.proofs.Places.{get_lt, some_same}
 
@@ -124,10 +122,10 @@ module _ (t : Table) (l : Listed) (n : ℕ) (c : Callee) (v : SmallVec Step) (w 
   }
 
 -- a name on the list gets its steps, behind what was added for its words
-module _ (t : Table) (l m : Listed) (here there : List ℕ) (ends more : List DeadEnd) (n : ℕ) (c : Callee)
+module _ (t : Table) (l m : Listed) (before here there : List ℕ) (ends more : List DeadEnd) (n : ℕ) (c : Callee)
     (v : SmallVec Step) (w : Vec ℕ Global)
-    (added : AreAdded t l m here there ends more) (right : AreListed t l here) (is_listed : In n here)
-    (written : AreWritten t m there more (key_words t (key_at l.keys n)) v.items) where
+    (added : AreAdded t l m before here there ends more) (right : AreListed t l before here) (is_listed : In n here)
+    (written : AreWritten t m before there more (key_words t (key_at l.keys n)) v.items) where
   in_there : In n there
   in_there = in_more here there n added.grown.list_more is_listed
 
@@ -135,18 +133,20 @@ module _ (t : Table) (l m : Listed) (here there : List ℕ) (ends more : List De
   in_keys = right.within n is_listed
 
   inside : (q : ℕ) → In (To q) v.items → q < length m.keys
-  inside q i = known_within t m there added.grown.nodes added.grown.listed q (written.targets q i)
+  inside q i = known_within t m before there added.grown.nodes added.grown.listed q (written.targets q i)
 
   longer : length l.keys ≤ length m.keys
   longer = more_length l.keys m.keys added.grown.keys_more
 
-  pub stepped_grown : AreGrown t l (with_steps n c v w m) here there ends more
+  pub stepped_grown : AreGrown t l (with_steps n c v w m) before here there ends more
   stepped_grown = record {
     nodes = stepped_nodes t m n c v w added.grown.nodes (added.grown.listed.fresh n in_there) inside;
     kept = added.grown.kept;
     listed = record {
+      gone = added.grown.listed.gone;
       within = added.grown.listed.within;
       fresh = added.grown.listed.fresh;
+      new = added.grown.listed.new;
       present = added.grown.listed.present;
       once = added.grown.listed.once;
     };
@@ -181,9 +181,9 @@ module _ (t : Table) (l m : Listed) (here there : List ℕ) (ends more : List De
   pub stepped_written : ((e : Entry) → entry_at t (key_at l.keys n) ≡ Some e → HasStarts e.what c)
       → (AllLead v.items → AreLooks t m.keys (key_words t (key_at l.keys n)) v.items w.items)
       → IsDistinct nat_eq w.items
-      → IsWritten t (with_steps n c v w m) there more n
+      → IsWritten t (with_steps n c v w m) before there more n
   stepped_written starts looks once = record {
-    steps = subst (λ (p : Key × List Step). AreWritten t (with_steps n c v w m) there more (key_words t p.0) p.1)
+    steps = subst (λ (p : Key × List Step). AreWritten t (with_steps n c v w m) before there more (key_words t p.0) p.1)
         (λ i. (sym same_key i, sym (steps_same m.graph n v in_graph) i))
         (record { words = written.words; targets = written.targets; nowhere = written.nowhere });
     starts = λ e callee at is. subst (HasStarts e.what) (own callee is)
@@ -199,18 +199,69 @@ module _ (t : Table) (l m : Listed) (here there : List ℕ) (ends more : List De
       own : (callee : Callee) → slice_get (set m.callees n c) n ≡ Some callee → c ≡ callee
       own callee is = some_same c callee (sym (get_set_same m.callees n c in_callees) ∙ is)
 
+-- ---- what was written of a name stays written
+module _ (t : Table) (l m : Listed) (before here there : List ℕ) (ends more : List DeadEnd) (x : ℕ)
+    (nodes : AreNodes t l) (right : AreListed t l before here) (grown : AreGrown t l m before here there ends more)
+    (is_within : x < length l.keys) (same_steps : steps m.graph x ≡ steps l.graph x)
+    (same_callee : slice_get m.callees x ≡ slice_get l.callees x)
+    (same_looks : looks_of m.looks x ≡ looks_of l.looks x) (written : IsWritten t l before here ends x) where
+  key_still : key_at m.keys x ≡ key_at l.keys x
+  key_still = key_same l.keys m.keys x grown.keys_more is_within
+
+  still_looked : HasLooksOf t l x → HasLooksOf t m x
+  still_looked own = record {
+    looks = subst (λ (p : Key × (List Step × List ℕ)). AreLooks t m.keys (key_words t p.0) p.1.0 p.1.1)
+        (λ j. (sym key_still j, (sym same_steps j, sym same_looks j)))
+        (looks_more t l.keys m.keys (key_words t (key_at l.keys x)) (steps l.graph x) (looks_of l.looks x)
+        grown.keys_more
+        (λ q j. known_within t l before here nodes right q (written.steps.targets q j)) own.looks);
+    once = subst (IsDistinct nat_eq) (sym same_looks) own.once;
+  }
+
+  pub still_written : IsWritten t m before there more x
+  still_written = record {
+    steps = subst (λ (p : Key × List Step). AreWritten t m before there more (key_words t p.0) p.1)
+        (λ j. (sym key_still j, sym same_steps j))
+        (written_more t l m before here there ends more nodes right grown
+        (key_words t (key_at l.keys x)) (steps l.graph x) written.steps);
+    starts = λ e callee at is. written.starts e callee (ap (entry_at t) (sym key_still) ∙ at) (sym same_callee ∙ is);
+    looks = λ all. still_looked (written.looks (subst AllLead same_steps all));
+  }
+
+-- so what was explored before stays explored, where a name that was not gets its steps
+module _ (t : Table) (l m : Listed) (before here there : List ℕ) (ends more : List DeadEnd) (n : ℕ)
+    (nodes : AreNodes t l) (grown : AreGrown t l m before here there ends more)
+    (same : AreSame (λ q. q ≡ n → ⊥) l m) (other : In n before → ⊥) (explored : WereExplored t l before ends) where
+  apart : (x : ℕ) → In x before → x ≡ n → ⊥
+  apart x i e = other (subst (λ (y : ℕ). In y before) e i)
+
+  pub still_explored : WereExplored t m before more
+  still_explored = record {
+    within = grown.listed.gone;
+    present = λ x i. subst (λ (k : Key). is_present t k ≡ true)
+        (sym (key_same l.keys m.keys x grown.keys_more (explored.within x i))) (explored.present x i);
+    written = λ x i.
+        still_written t l m before [] [] ends more x nodes (none_listed t l before [] explored.within refl)
+        (grown_alone t l m before here there ends more grown) (explored.within x i)
+        (same.steps x (explored.within x i) (apart x i)) (same.callees x (explored.within x i) (apart x i))
+        (same.looks x (explored.within x i) (apart x i)) (explored.written x i);
+  }
+
 -- ---- where the loop stands
-pub record IsExploring (t : Table) (old now : Listed) (here list : List ℕ) (ends more : List DeadEnd) (place : ℕ) : Type
-    0 where
-  pub grown : AreGrown t old now here list ends more
-  pub gone : (n : ℕ) → In n (take place list) → IsWritten t now list more n
+pub record IsExploring (t : Table) (old now : Listed) (before here list : List ℕ) (ends more : List DeadEnd)
+    (place : ℕ) : Type 0 where
+  pub grown : AreGrown t old now before here list ends more
+  pub explored : WereExplored t now before more
+  pub gone : (n : ℕ) → In n (take place list) → IsWritten t now before list more n
   pub within : place ≤ length list
 
--- at the start no number is explored
-pub exploring_start : (t : Table) (l : Listed) (list : List ℕ) (ends : List DeadEnd) → AreNodes t l → AreListed t l list
-    → IsExploring t l l list list ends ends 0
-exploring_start t l list ends nodes right = record {
-  grown = grown_none t l list ends ends nodes right (λ i x e. e);
+-- at the start no listed number is explored
+pub exploring_start : (t : Table) (l : Listed) (before list : List ℕ) (ends : List DeadEnd) → AreNodes t l
+    → AreListed t l before list → WereExplored t l before ends
+    → IsExploring t l l before list list ends ends 0
+exploring_start t l before list ends nodes right explored = record {
+  grown = grown_none t l before list ends ends nodes right (λ i x e. e);
+  explored = explored;
   gone = λ n i. absurd i;
   within = omega arith;
 }
@@ -233,43 +284,23 @@ distinct_at (x ∷ ns) (suc i) n d e (inl q) =
     let t : nat_eq x n ≡ true = eq-eqb x n (sym q) in
     absurd (let z : true ≡ false = sym t ∙ f in cc)
 
-module _ (t : Table) (old now m : Listed) (here list there : List ℕ) (ends more most : List DeadEnd) (place n : ℕ)
-    (is : slice_get list place ≡ Some n) (s : IsExploring t old now here list ends more place)
-    (grown : AreGrown t now m list there more most) (same : AreSame (λ q. q ≡ n → ⊥) now m)
-    (written : IsWritten t m there most n) where
+module _ (t : Table) (old now m : Listed) (before here list there : List ℕ) (ends more most : List DeadEnd)
+    (place n : ℕ) (is : slice_get list place ≡ Some n) (s : IsExploring t old now before here list ends more place)
+    (grown : AreGrown t now m before list there more most) (same : AreSame (λ q. q ≡ n → ⊥) now m) where
   pub listed_now : In n list
   listed_now = get_In list place n is
 
-  looks_still : (x : ℕ) → In x (take place list) → x < length now.keys → (x ≡ n → ⊥) → HasLooksOf t now x
-      → HasLooksOf t m x
-  looks_still x i h ne own = record {
-    looks = subst (λ (p : Key × (List Step × List ℕ)). AreLooks t m.keys (key_words t p.0) p.1.0 p.1.1)
-        (λ j. (
-          sym (key_same now.keys m.keys x grown.keys_more h)
-              j,
-          (sym (same.steps x h ne) j, sym (same.looks x h ne) j),
-        ))
-        (looks_more t now.keys m.keys (key_words t (key_at now.keys x)) (steps now.graph x) (looks_of now.looks x)
-        grown.keys_more
-        (λ q j. known_within t now list s.grown.nodes s.grown.listed q ((s.gone x i).steps.targets q j)) own.looks);
-    once = subst (IsDistinct nat_eq) (sym (same.looks x h ne)) own.once;
-  }
+  pub explored_next : WereExplored t m before most
+  explored_next = still_explored t now m before list there more most n s.grown.nodes grown same
+      (s.grown.listed.new n listed_now) s.explored
 
-  gone_old : (x : ℕ) → In x (take place list) → IsWritten t m there most x
+  gone_old : (x : ℕ) → In x (take place list) → IsWritten t m before there most x
   gone_old x i =
       let ne : x ≡ n → ⊥ = (λ q. distinct_at list place n s.grown.listed.once is
       (subst (λ (y : ℕ). In y (take place list)) q i)) in
       let h : x < length now.keys = s.grown.listed.within x (in_take place list x i) in
-      record {
-        steps = subst (λ (p : Key × List Step). AreWritten t m there most (key_words t p.0) p.1)
-            (λ j. (sym (key_same now.keys m.keys x grown.keys_more h) j, sym (same.steps x h ne) j))
-            (written_more t now m list there more most s.grown.nodes s.grown.listed grown
-            (key_words t (key_at now.keys x)) (steps now.graph x) (s.gone x i).steps);
-        starts = λ e callee at is.
-            (s.gone x i).starts e callee (ap (entry_at t) (sym (key_same now.keys m.keys x grown.keys_more h)) ∙ at)
-            (sym (same.callees x h ne) ∙ is);
-        looks = λ all. looks_still x i h ne ((s.gone x i).looks (subst AllLead (same.steps x h ne) all));
-      }
+      still_written t now m before list there more most x s.grown.nodes s.grown.listed grown h
+      (same.steps x h ne) (same.callees x h ne) (same.looks x h ne) (s.gone x i)
 
   enough : place < length list
   enough = get_lt list place n is
@@ -280,76 +311,17 @@ module _ (t : Table) (old now m : Listed) (here list there : List ℕ) (ends mor
       ∙ ap (λ (xs : List ℕ). xs ++ n ∷ [])
       (take_more list there place grown.list_more (let e : place < length list = enough in omega arith))
 
-  pub exploring_next : IsExploring t old m here there ends most (place + 1)
-  exploring_next = record {
-    grown = grown_both t old now m here list there ends more most s.grown grown;
+  pub exploring_next : IsWritten t m before there most n → IsExploring t old m before here there ends most (place + 1)
+  exploring_next written = record {
+    grown = grown_both t old now m before here list there ends more most s.grown grown;
+    explored = explored_next;
     gone = λ x i. elim (In-push (take place list) n x (subst (λ (xs : List ℕ). In x xs) taken i)) [
       | inl j ↦ gone_old x j
-      | inr e ↦ subst (λ (y : ℕ). IsWritten t m there most y) (sym e) written
+      | inr e ↦ subst (λ (y : ℕ). IsWritten t m before there most y) (sym e) written
     ];
     within =
         let h : length list ≤ length there = more_length list there grown.list_more in
         let e : place < length list = enough in omega arith;
-  }
-
--- ---- at the end all is explored
-is_flag : (o : Option Bool) → is_marked o ≡ true → o ≡ Some true
-is_flag None e = cc
-is_flag (Some b) e = ap Some e
-
--- one of two tests holds where the first does
-or_left : (a b : Bool) → a ≡ true → (a || b) ≡ true
-or_left true b e = refl
-or_left false b e = cc
-
--- and where the second does
-or_right : (a b : Bool) → b ≡ true → (a || b) ≡ true
-or_right true b e = refl
-or_right false b e = e
-
--- a number that is found to be known is
-pub from_known : (l : Listed) (list : List ℕ) (n : ℕ) → is_known l.settled list n ≡ true → IsKnown l list n
-from_known l list n k = elim (or_cases (is_marked (slice_get l.settled n)) (on list n) k) [
-  | inl e ↦ inl (is_flag (slice_get l.settled n) e)
-  | inr e ↦ inr (on-In list n e)
-]
-
--- and the other way round
-pub to_known : (l : Listed) (list : List ℕ) (n : ℕ) → IsKnown l list n → is_known l.settled list n ≡ true
-to_known l list n (inl e) = or_left (is_marked (slice_get l.settled n)) (on list n) (ap is_marked e)
-to_known l list n (inr i) = or_right (is_marked (slice_get l.settled n)) (on list n) (In-on list n i)
-
-module _ (t : Table) (old now : Listed) (here list : List ℕ) (ends more : List DeadEnd) (place : ℕ)
-    (s : IsExploring t old now here list ends more place) (all : length list ≤ place) where
-  abbrev known : ℕ → Bool
-  known = is_known now.settled list
-
-  is_gone : (n : ℕ) → In n list → IsWritten t now list more n
-  is_gone n i = s.gone n (subst (λ (xs : List ℕ). In n xs) (sym (take_all place list all)) i)
-
-  is_within : (n : ℕ) → known n ≡ true → n < length now.keys
-  is_within n k = known_within t now list s.grown.nodes s.grown.listed n (from_known now list n k)
-
-  pub explored_all : AreExplored t now more known
-  explored_all = record {
-    numbered = record {
-      within = λ n k. let h : n < length now.keys = is_within n k in
-          let c : length now.graph ≡ length now.keys = s.grown.nodes.step_count in omega arith;
-      below = λ n q k i. elim (from_known now list n k) [
-        | inl e ↦ to_known now list q (inl ((s.grown.nodes.net.settled n e).1 q i))
-        | inr j ↦ to_known now list q ((is_gone n j).steps.targets q i)
-      ];
-      apart = λ n q k j e. s.grown.nodes.apart n q (is_within n k) (is_within q j) e;
-      present = λ n k. elim (from_known now list n k)
-          [ inl e ↦ s.grown.nodes.present n e | inr j ↦ s.grown.listed.present n j ];
-      faithful = λ n k. elim (from_known now list n k) [
-        | inl e ↦ s.grown.nodes.faithful n e (fault_at more)
-        | inr j ↦ (is_gone n j).steps.words
-      ];
-    };
-    starts = λ n k. elim (from_known now list n k) [ inl e ↦ s.grown.nodes.starts n e | inr j ↦ (is_gone n j).starts ];
-    looks = λ n k all. elim (from_known now list n k)
-        [ inl e ↦ s.grown.nodes.looked n e | inr j ↦ (is_gone n j).looks all ];
   }
 
 -- after the last place there is nothing
@@ -357,3 +329,13 @@ pub at_end : (list : List ℕ) (place : ℕ) → slice_get list place ≡ None �
 at_end [] place e = omega arith
 at_end (x ∷ list) zero e = cc
 at_end (x ∷ list) (suc place) e = let h : length list ≤ place = at_end list place e in omega arith
+
+-- ---- at the end all is explored
+pub exploring_end : (t : Table) (old now : Listed) (before here list : List ℕ) (ends more : List DeadEnd) (place : ℕ)
+    → IsExploring t old now before here list ends more place → length list ≤ place
+    → AreAllExplored t now before list more
+exploring_end t old now before here list ends more place s all = record {
+  listed = s.grown.listed;
+  explored = s.explored;
+  written = λ n i. s.gone n (subst (λ (xs : List ℕ). In n xs) (sym (take_all place list all)) i);
+}

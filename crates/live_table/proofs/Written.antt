@@ -35,56 +35,58 @@ words_behind t key ends (u ∷ us) vs (x ∷ []) ys w v = absurd w
 words_behind t key ends (u ∷ us) vs (x ∷ y ∷ xs) ys w v = (w.0, words_behind t key ends us vs xs ys w.1 v)
 
 -- steps of words behind those of others are those of all
-pub written_behind : (t : Table) (l : Listed) (list : List ℕ) (ends : List DeadEnd) (us vs : List WordUse)
+pub written_behind : (t : Table) (l : Listed) (before list : List ℕ) (ends : List DeadEnd) (us vs : List WordUse)
     (xs ys : List Step)
-    → AreWritten t l list ends us xs → AreWritten t l list ends vs ys → AreWritten t l list ends (us ++ vs) (xs ++ ys)
-written_behind t l list ends us vs xs ys a b = record {
+    → AreWritten t l before list ends us xs → AreWritten t l before list ends vs ys → AreWritten t l before list ends
+    (us ++ vs) (xs ++ ys)
+written_behind t l before list ends us vs xs ys a b = record {
   words = words_behind t (key_at l.keys) (fault_at ends) us vs xs ys a.words b.words;
   targets = λ n i. elim (in_both xs ys (To n) i) [ inl j ↦ a.targets n j | inr j ↦ b.targets n j ];
   nowhere = λ n i. elim (in_both xs ys (Nowhere n) i) [ inl j ↦ a.nowhere n j | inr j ↦ b.nowhere n j ];
 }
 
 -- no words have no steps
-pub written_none : (t : Table) (l : Listed) (list : List ℕ) (ends : List DeadEnd) (xs : List Step) → xs ≡ []
-    → AreWritten t l list ends [] xs
-written_none t l list ends xs e =
-    subst (AreWritten t l list ends []) (sym e)
+pub written_none : (t : Table) (l : Listed) (before list : List ℕ) (ends : List DeadEnd) (xs : List Step) → xs ≡ []
+    → AreWritten t l before list ends [] xs
+written_none t l before list ends xs e =
+    subst (AreWritten t l before list ends []) (sym e)
     (record { words = tt; targets = λ n i. absurd i; nowhere = λ n i. absurd i })
 
 -- ---- where the loop over words stands
-pub record IsPutting (t : Table) (old now : Listed) (here list : List ℕ) (ends more : List DeadEnd) (gathered : List ℕ)
-    (us : List WordUse) (xs : List Step) (i : ℕ) : Type 0 where
-  pub added : AreAdded t old now here list ends more
-  pub written : AreWritten t now list more (take i us) xs
+pub record IsPutting (t : Table) (old now : Listed) (before here list : List ℕ) (ends more : List DeadEnd)
+    (gathered : List ℕ) (us : List WordUse) (xs : List Step) (i : ℕ) : Type 0 where
+  pub added : AreAdded t old now before here list ends more
+  pub written : AreWritten t now before list more (take i us) xs
   pub looks : AllLead xs → AreLooks t now.keys (take i us) xs gathered
 
 -- the steps of the next word go behind those before it
-pub putting_next : (t : Table) (old now m : Listed) (here list there : List ℕ) (ends more most : List DeadEnd)
-    (before after : List ℕ) (us : List WordUse) (xs ys : List Step) (i : ℕ) (u : WordUse)
-    → slice_get us i ≡ Some u → IsPutting t old now here list ends more before us xs i
-    → AreAdded t now m list there more most
-    → AreWrittenBehind t m there most before after u xs ys → IsPutting t old m here there ends most after us ys (i + 1)
-putting_next t old now m here list there ends more most before after us xs ys i u at s a w = record {
-  added = added_both t old now m here list there ends more most s.added a;
-  written = subst (λ (p : List WordUse × List Step). AreWritten t m there most p.0 p.1)
+pub putting_next : (t : Table) (old now m : Listed) (before here list there : List ℕ) (ends more most : List DeadEnd)
+    (first next : List ℕ) (us : List WordUse) (xs ys : List Step) (i : ℕ) (u : WordUse)
+    → slice_get us i ≡ Some u → IsPutting t old now before here list ends more first us xs i
+    → AreAdded t now m before list there more most
+    → AreWrittenBehind t m before there most first next u xs ys
+    → IsPutting t old m before here there ends most next us ys (i + 1)
+putting_next t old now m before here list there ends more most first next us xs ys i u at s a w = record {
+  added = added_both t old now m before here list there ends more most s.added a;
+  written = subst (λ (p : List WordUse × List Step). AreWritten t m before there most p.0 p.1)
       (λ j. (sym (take_at us i u at) j, sym w.behind j))
-      (written_behind t m there most (take i us) (u ∷ []) xs w.own
-      (written_more t now m list there more most s.added.grown.nodes s.added.grown.listed a.grown
+      (written_behind t m before there most (take i us) (u ∷ []) xs w.own
+      (written_more t now m before list there more most s.added.grown.nodes s.added.grown.listed a.grown
       (take i us) xs s.written) w.written);
   looks = λ all.
       let led : AllLead (xs ++ w.own) = subst AllLead w.behind all in
-      subst (λ (p : List WordUse × List Step). AreLooks t m.keys p.0 p.1 after)
+      subst (λ (p : List WordUse × List Step). AreLooks t m.keys p.0 p.1 next)
       (λ j. (sym (take_at us i u at) j, sym w.behind j))
-      (looks_behind t m.keys (take i us) u xs w.own before after
-      (looks_more t now.keys m.keys (take i us) xs before a.grown.keys_more inside (s.looks (lead_left xs w.own led)))
+      (looks_behind t m.keys (take i us) u xs w.own first next
+      (looks_more t now.keys m.keys (take i us) xs first a.grown.keys_more inside (s.looks (lead_left xs w.own led)))
       (w.looks (lead_right xs w.own led)));
 }
   where
     inside : (q : ℕ) → In (To q) xs → q < length now.keys
-    inside q j = known_within t now list s.added.grown.nodes s.added.grown.listed q (s.written.targets q j)
+    inside q j = known_within t now before list s.added.grown.nodes s.added.grown.listed q (s.written.targets q j)
 
 -- ---- the steps of one word
-module _ (t : Table) (l : Listed) (list : List ℕ) (u : WordUse) where
+module _ (t : Table) (l : Listed) (before list : List ℕ) (u : WordUse) where
   last_end : (ends : List DeadEnd) (b : DeadEnd) (holder : Option Key)
       → fault_at (ends ++ b ∷ []) (length ends) holder ≡ fault_of (Some b) holder
   last_end [] b holder = refl
@@ -105,7 +107,7 @@ module _ (t : Table) (l : Listed) (list : List ℕ) (u : WordUse) where
 
   dead_written : (ends : List DeadEnd) (b : DeadEnd) → IsWord t (key_at l.keys) (fault_at (ends ++ b ∷ [])) u
       (Nowhere (length ends)) (Nowhere (length ends))
-      → AreWritten t l list (ends ++ b ∷ []) (u ∷ []) (Nowhere (length ends) ∷ Nowhere (length ends) ∷ [])
+      → AreWritten t l before list (ends ++ b ∷ []) (u ∷ []) (Nowhere (length ends) ∷ Nowhere (length ends) ∷ [])
   dead_written ends b s = record {
     words = (s, tt);
     targets = λ n i. absurd (not_to (length ends) n i);
@@ -116,16 +118,16 @@ module _ (t : Table) (l : Listed) (list : List ℕ) (u : WordUse) where
 
   moved : (ends more : List DeadEnd) (b : DeadEnd) (x y : Step) → more ≡ ends ++ b ∷ [] → x ≡ Nowhere (length ends)
       → y ≡ Nowhere (length ends)
-      → AreWritten t l list (ends ++ b ∷ []) (u ∷ []) (Nowhere (length ends) ∷ Nowhere (length ends) ∷ [])
-      → AreWritten t l list more (u ∷ []) (x ∷ y ∷ [])
+      → AreWritten t l before list (ends ++ b ∷ []) (u ∷ []) (Nowhere (length ends) ∷ Nowhere (length ends) ∷ [])
+      → AreWritten t l before list more (u ∷ []) (x ∷ y ∷ [])
   moved ends more b x y e p q w =
-      subst (λ (s : List DeadEnd × List Step). AreWritten t l list s.0 (u ∷ []) s.1)
+      subst (λ (s : List DeadEnd × List Step). AreWritten t l before list s.0 (u ∷ []) s.1)
       (λ i. (sym e i, sym p i ∷ sym q i ∷ [])) w
 
   pub refused_written : (ends more : List DeadEnd) (x y : Step) → is_refused u.text ≡ true
       → more ≡ ends ++ record { text = u.text; is_refused = true } ∷ [] → x ≡ Nowhere (length ends)
       → y ≡ Nowhere (length ends)
-      → AreWritten t l list more (u ∷ []) (x ∷ y ∷ [])
+      → AreWritten t l before list more (u ∷ []) (x ∷ y ∷ [])
   refused_written ends more x y is e p q =
       let b : DeadEnd = record { text = u.text; is_refused = true } in
       moved ends more b x y e p q (dead_written ends b (ForRefused (length ends) is (λ holder. last_end ends b holder)))
@@ -133,7 +135,7 @@ module _ (t : Table) (l : Listed) (list : List ℕ) (u : WordUse) where
   pub unknown_written : (ends more : List DeadEnd) (x y : Step) → is_refused u.text ≡ false → targets t u ≡ []
       → more ≡ ends ++ record { text = u.text; is_refused = false } ∷ [] → x ≡ Nowhere (length ends)
       → y ≡ Nowhere (length ends)
-      → AreWritten t l list more (u ∷ []) (x ∷ y ∷ [])
+      → AreWritten t l before list more (u ∷ []) (x ∷ y ∷ [])
   unknown_written ends more x y fine none e p q =
       let b : DeadEnd = record { text = u.text; is_refused = false } in
       moved ends more b x y e p q
@@ -142,10 +144,10 @@ module _ (t : Table) (l : Listed) (list : List ℕ) (u : WordUse) where
   same_number : (n m : ℕ) → To n ≡ To m → n ≡ m
   same_number n m q = cc
 
-  targets_known : (n m : ℕ) → IsKnown l list n → IsKnown l list m → (r : ℕ) → In (To r) (To n ∷ To m ∷ [])
-      → IsKnown l list r
-  targets_known n m a b r (inl e) = subst (IsKnown l list) (sym (same_number r n e)) a
-  targets_known n m a b r (inr (inl e)) = subst (IsKnown l list) (sym (same_number r m e)) b
+  targets_known : (n m : ℕ) → IsKnown l before list n → IsKnown l before list m → (r : ℕ) → In (To r) (To n ∷ To m ∷ [])
+      → IsKnown l before list r
+  targets_known n m a b r (inl e) = subst (IsKnown l before list) (sym (same_number r n e)) a
+  targets_known n m a b r (inr (inl e)) = subst (IsKnown l before list) (sym (same_number r m e)) b
   targets_known n m a b r (inr (inr i)) = absurd i
 
   no_end : (n m b : ℕ) → In (Nowhere b) (To n ∷ To m ∷ []) → ⊥
@@ -154,7 +156,7 @@ module _ (t : Table) (l : Listed) (list : List ℕ) (u : WordUse) where
   no_end n m b (inr (inr i)) = i
 
   pub two_written : (ends : List DeadEnd) (n m : ℕ) → IsWord t (key_at l.keys) (fault_at ends) u (To n) (To m)
-      → IsKnown l list n → IsKnown l list m → AreWritten t l list ends (u ∷ []) (To n ∷ To m ∷ [])
+      → IsKnown l before list n → IsKnown l before list m → AreWritten t l before list ends (u ∷ []) (To n ∷ To m ∷ [])
   two_written ends n m w a b = record {
     words = (w, tt);
     targets = targets_known n m a b;

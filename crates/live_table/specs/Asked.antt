@@ -1,6 +1,6 @@
 -- What asking for names does to a live table.
 use Rattle.std.specs.Prelude.{◌≡◌, ◌⊎◌, ◌+◌, ◌^◌, ◌-◌, ◌≤◌, ℕ, min, List, [], ◌∷◌, map, take, length, Option, Some}
-use Rattle.std.specs.Prelude.{None, MatchOption, Result, Ok, Err}
+use Rattle.std.specs.Prelude.{None, MatchOption, Result, Ok, Err, option_map}
 use Rattle.std.specs.declared.alloc.AllocError.{AllocError}
 use Rattle.def_entry.specs.declared.key.Key.{Key}
 use Rattle.deck.specs.Tables.{table}
@@ -79,6 +79,10 @@ pub record IsFaulty (table : Table) (l : Listed) (ends : List DeadEnd) (query : 
 abbrev pub IsWalkedByName : Table → Listed → List DeadEnd → List Step → List ℕ → Option NameFault → Type 0
 IsWalkedByName table l ends query order fault =
     MatchOption fault (IsClosing l query order) (IsFaulty table l ends query)
+
+-- the first fault of a query, by name
+abbrev pub fault_in : Table → Listed → List DeadEnd → List Step → Option NameFault
+fault_in table l ends query = option_map (named table (key_at l.keys) (fault_at ends)) (walk.fault l.graph [] query)
 
 -- nothing changes
 pub record IsStill (before now : Shown) (old new : ℕ) : Type 0 where

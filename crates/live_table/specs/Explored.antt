@@ -2,11 +2,9 @@
 use Rattle.std.specs.Prelude.{◌≡◌, ℕ, true, Bool, if◌then◌else◌, List, Option, Some, None, [], slice_get}
 use Rattle.def_entry.specs.declared.key.Key.{Key}
 use Rattle.def_entry.specs.Tables.{Table}
-use Rattle.expr_tree.specs.declared.word_list.WordUse.{WordUse}
-use Rattle.name_walk.specs.declared.step.Step.{Step}
 use Rattle.table_names.specs.declared.fault.NameFault.{NameFault}
 use Rattle.table_names.specs.declared.fault.NameFault.TheVariants.{Refused, Unknown}
-use Rattle.name_numbers.specs.Numbered.{AreNumbered, AreWords, LeadToKnown}
+use Rattle.name_numbers.specs.Numbered.{AreNumbered}
 use Rattle.live_table.specs.declared.dead_end.DeadEnd.{DeadEnd}
 use Rattle.live_table.specs.Sound.{HasLooksIfLed, HasStartsOf}
 use Rattle.live_table.specs.Stored.{Listed, key_at}
@@ -24,11 +22,3 @@ pub record AreExplored (table : Table) (l : Listed) (dead_ends : List DeadEnd) (
   pub numbered : AreNumbered table (key_at l.keys) (fault_at dead_ends) l.graph known
   pub starts : (n : ℕ) → known n ≡ true → HasStartsOf table l n
   pub looks : (n : ℕ) → known n ≡ true → HasLooksIfLed table l n
-
--- the words of a query are explored
-pub record IsQuery (table : Table) (l : Listed) (dead_ends : List DeadEnd) (us : List WordUse)
-    (query : List Step) : Type 0 where
-  pub known : ℕ → Bool
-  pub explored : AreExplored table l dead_ends known
-  pub words : AreWords table (key_at l.keys) (fault_at dead_ends) us query
-  pub targets : LeadToKnown known query

@@ -1,4 +1,5 @@
--- Where an exploring of names stands: names that are still to be gone through are on an agenda.
+-- Where an exploring of names stands: names that are still to be gone through are on an agenda. Those that were
+-- explored before, and of which nothing has changed since, are not gone through again.
 use Rattle.std.specs.Prelude.{◌≡◌, ◌⊎◌, ◌||◌, ◌++◌, ◌∷◌, [], ◌<◌, ℕ, Bool, true, false, List, length, Option, Some}
 use Rattle.std.specs.Prelude.{None, Vec, nat_eq, slice_get, slice_set}
 use Rattle.std.specs.declared.alloc.Global.{Global}
@@ -22,10 +23,12 @@ use Rattle.live_table.specs.Looks.{AllLead, AreLooksPut}
 use Rattle.live_table.specs.Sound.{AreNodes, HasLooksIfLed, HasStartsOf}
 use Rattle.live_table.specs.Stored.{Listed, kept_of, key_at, looks_of}
 
--- numbers of names that have an entry and are not settled, each once
-pub record AreListed (table : Table) (l : Listed) (list : List ℕ) : Type 0 where
+-- numbers of names that have an entry, are not settled and were not explored before, each once
+pub record AreListed (table : Table) (l : Listed) (before list : List ℕ) : Type 0 where
+  pub gone : (n : ℕ) → In n before → n < length l.keys
   pub within : (n : ℕ) → In n list → n < length l.keys
   pub fresh : (n : ℕ) → In n list → IsSettled l.settled n → ⊥
+  pub new : (n : ℕ) → In n list → In n before → ⊥
   pub present : (n : ℕ) → In n list → is_present table (key_at l.keys n) ≡ true
   pub once : IsDistinct nat_eq list
 
@@ -34,14 +37,15 @@ abbrev pub IsMore : {A : Type 0} → List A → List A → Type 0
 IsMore {A} xs ys = (i : ℕ) (x : A) → slice_get xs i ≡ Some x → slice_get ys i ≡ Some x
 
 -- names, listed numbers and dead ends are added, and of the settled names the same is kept
-pub record AreGrown (table : Table) (l m : Listed) (here there : List ℕ) (ends more : List DeadEnd) : Type 0 where
-  pub nodes : AreNodes table m
-  pub kept : kept_of m.keys m.outcomes ≡ kept_of l.keys l.outcomes
-  pub listed : AreListed table m there
-  pub keys_more : IsMore l.keys m.keys
-  pub settled_still : (n : ℕ) → IsSettled l.settled n → IsSettled m.settled n
-  pub list_more : IsMore here there
-  pub ends_more : IsMore ends more
+pub record AreGrown (table : Table) (l m : Listed) (before here there : List ℕ) (ends more : List DeadEnd) : Type 0
+  where
+    pub nodes : AreNodes table m
+    pub kept : kept_of m.keys m.outcomes ≡ kept_of l.keys l.outcomes
+    pub listed : AreListed table m before there
+    pub keys_more : IsMore l.keys m.keys
+    pub settled_still : (n : ℕ) → IsSettled l.settled n → IsSettled m.settled n
+    pub list_more : IsMore here there
+    pub ends_more : IsMore ends more
 
 -- the names before have the same steps and looks, but perhaps one
 pub record AreSame (Other : ℕ → Type 0) (l m : Listed) : Type 0 where
@@ -50,42 +54,61 @@ pub record AreSame (Other : ℕ → Type 0) (l m : Listed) : Type 0 where
   pub looks : (n : ℕ) → n < length l.keys → Other n → looks_of m.looks n ≡ looks_of l.looks n
 
 -- they are added, and nothing else changes
-pub record AreAdded (table : Table) (l m : Listed) (here there : List ℕ) (ends more : List DeadEnd) : Type 0 where
-  pub grown : AreGrown table l m here there ends more
-  pub same : AreSame (λ _. Unit {0}) l m
+pub record AreAdded (table : Table) (l m : Listed) (before here there : List ℕ) (ends more : List DeadEnd) : Type 0
+  where
+    pub grown : AreGrown table l m before here there ends more
+    pub same : AreSame (λ _. Unit {0}) l m
 
--- settled, or listed
-abbrev pub IsKnown : Listed → List ℕ → ℕ → Type 0
-IsKnown l list n = IsSettled l.settled n ⊎ In n list
+-- settled, or explored before, or listed
+abbrev pub IsKnown : Listed → (before list : List ℕ) → ℕ → Type 0
+IsKnown l before list n = IsSettled l.settled n ⊎ (In n before ⊎ In n list)
 
 -- the same, computed
 abbrev pub is_marked : Option Bool → Bool
 is_marked None = false
 is_marked (Some b) = b
 
-abbrev pub is_known : List Bool → List ℕ → ℕ → Bool
-is_known settled list n = is_marked (slice_get settled n) || on list n
+abbrev pub is_known : List Bool → (before list : List ℕ) → ℕ → Bool
+is_known settled before list n = is_marked (slice_get settled n) || (on before n || on list n)
 
--- these are the steps of the words, each to a name that is settled or listed
-pub record AreWritten (table : Table) (l : Listed) (list : List ℕ) (ends : List DeadEnd) (us : List WordUse)
+-- these are the steps of the words, each to a name that is known
+pub record AreWritten (table : Table) (l : Listed) (before list : List ℕ) (ends : List DeadEnd) (us : List WordUse)
     (xs : List Step) : Type 0 where
   pub words : AreWords table (key_at l.keys) (fault_at ends) us xs
-  pub targets : (n : ℕ) → In (To n) xs → IsKnown l list n
+  pub targets : (n : ℕ) → In (To n) xs → IsKnown l before list n
   pub nowhere : (t : ℕ) → In (Nowhere t) xs → t < length ends
 
 -- behind other steps those of one more word, whose looks are put in
-pub record AreWrittenBehind (table : Table) (l : Listed) (list : List ℕ) (ends : List DeadEnd) (old new : List ℕ)
-    (u : WordUse) (xs ys : List Step) : Type 0 where
+pub record AreWrittenBehind (table : Table) (l : Listed) (before list : List ℕ) (ends : List DeadEnd)
+    (old new : List ℕ) (u : WordUse) (xs ys : List Step) : Type 0 where
   pub own : List Step
   pub behind : ys ≡ xs ++ own
-  pub written : AreWritten table l list ends (u ∷ []) own
+  pub written : AreWritten table l before list ends (u ∷ []) own
   pub looks : AllLead own → AreLooksPut table l.keys u own old new
 
 -- the steps of a number are those of its words, and where all lead somewhere so are the keys at which they look
-pub record IsWritten (table : Table) (l : Listed) (list : List ℕ) (ends : List DeadEnd) (n : ℕ) : Type 0 where
-  pub steps : AreWritten table l list ends (key_words table (key_at l.keys n)) (steps l.graph n)
+pub record IsWritten (table : Table) (l : Listed) (before list : List ℕ) (ends : List DeadEnd) (n : ℕ) : Type 0 where
+  pub steps : AreWritten table l before list ends (key_words table (key_at l.keys n)) (steps l.graph n)
   pub starts : HasStartsOf table l n
   pub looks : HasLooksIfLed table l n
+
+-- names that were explored before: they have an entry and their steps, and what these lead to is settled or explored
+-- too
+pub record WereExplored (table : Table) (l : Listed) (before : List ℕ) (ends : List DeadEnd) : Type 0 where
+  pub within : (n : ℕ) → In n before → n < length l.keys
+  pub present : (n : ℕ) → In n before → is_present table (key_at l.keys n) ≡ true
+  pub written : (n : ℕ) → In n before → IsWritten table l before [] ends n
+
+-- names that were explored before are so still
+abbrev pub StayExplored : Table → Listed → Listed → Type 0
+StayExplored table l m =
+    (before : List ℕ) (ends : List DeadEnd) → WereExplored table l before ends → WereExplored table m before ends
+
+-- all below a query is explored: what was before, and what is on the agenda
+pub record AreAllExplored (table : Table) (l : Listed) (before list : List ℕ) (ends : List DeadEnd) : Type 0 where
+  pub listed : AreListed table l before list
+  pub explored : WereExplored table l before ends
+  pub written : (n : ℕ) → In n list → IsWritten table l before list ends n
 
 -- one more name, with no steps yet
 abbrev pub with_name : Key → Bool → Callee → SmallVec Step → Vec ℕ Global → Listed → Listed

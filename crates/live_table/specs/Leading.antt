@@ -1,13 +1,16 @@
 -- What a word leads to, and the keys at which it looks, by number.
-use Rattle.std.specs.Prelude.{◌≡◌, ◌⊎◌, ◌↔◌, ◌<◌, ℕ, true, false, List, [], ◌∷◌, length, map, Contains}
+use Rattle.std.specs.Prelude.{◌≡◌, ◌⊎◌, ◌↔◌, ◌<◌, ℕ, true, false, List, [], ◌∷◌, length, map, Contains, Option, Some}
+use Rattle.std.specs.Prelude.{Bool, None}
 use Rattle.expr_tree.specs.declared.word_list.WordUse.{WordUse}
 use Rattle.expr_tree.specs.Names.{is_refused}
 use Rattle.def_entry.specs.declared.key.Key.{Key}
 use Rattle.def_entry.specs.Tables.{Table}
+use Rattle.name_walk.specs.declared.step.Step.TheVariants.{To}
 use Rattle.name_walk.specs.Lists.{In}
 use Rattle.table_names.specs.Leads.{looked_keys, targets}
 use Rattle.live_table.specs.declared.leading.Lead.{Lead}
 use Rattle.live_table.specs.declared.leading.Lead.TheVariants.{Refused, Nowhere, One, Two}
+use Rattle.live_table.specs.declared.stepping.WordSteps.{WordSteps}
 use Rattle.live_table.specs.Stored.{key_at}
 
 -- the numbers of the targets
@@ -16,6 +19,17 @@ numbers Refused = []
 numbers Nowhere = []
 numbers (One n) = n ∷ []
 numbers (Two n m) = n ∷ m ∷ []
+
+-- it is a refused name
+abbrev pub is_refused_lead : Lead → Bool
+is_refused_lead Refused = true
+is_refused_lead lead = false
+
+-- the steps to the targets: to the one and there again, or to the prefix and to the unit
+abbrev pub steps_to : Lead → Option WordSteps
+steps_to (One n) = Some (record { first = To n; second = To n })
+steps_to (Two n m) = Some (record { first = To n; second = To m })
+steps_to lead = None
 
 -- it leads to the targets of these numbers
 abbrev pub LeadsTo : List ℕ → Lead → Type 0
@@ -31,7 +45,14 @@ pub record AreTargets (table : Table) (keys : List Key) (u : WordUse) (ns old ne
   pub within : (m : ℕ) → In m own → m < length keys
   pub exactly : (k : Key) → Contains (looked_keys table u) k ↔ ((m : ℕ) × (In m ns ⊎ In m own) × (k ≡ key_at keys m))
 
--- it is a refused name, or leads to its targets
+-- a word of a query is a refused name, or these are the numbers of its targets
+abbrev pub IsQueryLead : Table → List Key → WordUse → Lead → Type 0
+IsQueryLead table keys u Refused = is_refused u.text ≡ true
+IsQueryLead table keys u lead =
+    (is_refused u.text ≡ false) × (targets table u ≡ map (key_at keys) (numbers lead))
+    × ((m : ℕ) → In m (numbers lead) → m < length keys)
+
+-- it is a refused name, or leads to its targets, and the other keys at which it looks are put in
 abbrev pub IsLead : Table → List Key → WordUse → List ℕ → List ℕ → Lead → Type 0
 IsLead table keys u old new Refused = is_refused u.text ≡ true
 IsLead table keys u old new lead = (is_refused u.text ≡ false) × AreTargets table keys u (numbers lead) old new

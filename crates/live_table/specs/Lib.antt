@@ -16,6 +16,7 @@ pub mod Leading
 pub mod Looks
 pub mod New
 pub mod Numbering
+pub mod QueryWords
 pub mod Ranks
 pub mod Right
 pub mod Runs
@@ -25,3 +26,4 @@ pub mod Sound
 pub mod States
 pub mod Stored
 pub mod Surrounded
+pub mod TriedKeys

@@ -26,6 +26,6 @@ pub record CanLook (keys : List Key) (nodes : Nodes) : Type 0 where
 -- over a table of these keys nothing but new names is added
 pub record IsExtension (keys : List Key) (start now : Nodes) : Type 0 where
   pub added : (table : Table) → keys_of table ≡ keys → AreNodes table (listed start)
-      → (list : List ℕ) (ends : List DeadEnd)
-      → AreListed table (listed start) list → AreAdded table (listed start) (listed now) list list ends ends
+      → (before list : List ℕ) (ends : List DeadEnd) → AreListed table (listed start) before list
+      → AreAdded table (listed start) (listed now) before list list ends ends
   pub gathered : now.gathered ≡ start.gathered

@@ -48,6 +48,13 @@ impl Agenda {
         self.numbers.get(place).copied()
     }
 
+    /// Whether a number is there.
+    pub(crate) fn has(&self, n: usize) -> bool
+        ensures { result ≡ on self.now n }
+    {
+        self.marks.get(n).copied().unwrap_or(false)
+    }
+
     /// Puts a number, which is below `end`, behind the others, if it is not there. A refusal changes nothing.
     pub(crate) fn put(&mut self, n: usize, end: usize) -> Result<(), AllocError>
         requires { n < end }

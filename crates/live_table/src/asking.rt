@@ -1,6 +1,6 @@
 //! Asking for names.
 
-ghost use Rattle.std.specs.Prelude.{◌≡◌, ℕ, Bool, true, IfOk, OnOk};
+ghost use Rattle.std.specs.Prelude.{◌≡◌, Bool, ℕ, true, IfOk, OnOk, Some};
 ghost use Rattle.def_entry.specs.Keys as key_spec;
 ghost use Rattle.def_entry.specs.Tables.{Table, is_present};
 ghost use Rattle.name_walk.specs.Nets.{IsNet};
@@ -8,22 +8,25 @@ ghost use Rattle.name_walk.specs.Steps.{AreKnown};
 ghost use Rattle.deck.specs.Tables.{table};
 ghost use Rattle.table_names.specs.Faults.{name_fault};
 ghost use Rattle.name_numbers.specs.Numbered.{LeadToKnown};
-ghost use Rattle.live_table.specs.Asked.{IsAnswered, IsAsked, IsKeyAsked, IsWalkedByName};
+ghost use Rattle.live_table.specs.Asked.{IsAnswered, IsAsked, IsKeyAsked, IsWalkedByName, fault_in};
 ghost use Rattle.live_table.specs.Edged.{IsLive};
-ghost use Rattle.live_table.specs.Explored.{AreExplored};
+ghost use Rattle.live_table.specs.Exploring.{AreAllExplored, WereExplored, is_known};
+ghost use Rattle.live_table.specs.QueryWords.{fault_before};
+ghost use Rattle.live_table.specs.Sound.{AreNodes};
 ghost use Rattle.live_table.specs.States.{AsksWords};
 ghost use Rattle.live_table.specs.Stored.{listed, shown};
 ghost use Rattle.live_table.specs.Surrounded.{AreSettledWords};
 
-use crate::agenda::Agenda;
 use crate::dead_end::DeadEnd;
+use crate::explored::Explored;
 use crate::exploring::explore;
 use crate::fault::QueryFault;
 use crate::naming::named_fault;
 use crate::nodes::Nodes;
 use crate::numbering::put_key;
+use crate::query_words::query_steps;
+use crate::scratch::Scratch;
 use crate::settling::settle;
-use crate::stepping::put_words;
 use deck::Deck;
 use def_entry::Kind;
 use expr_tree::Words;
@@ -42,14 +45,18 @@ pub(crate) fn ask_words<L: Ledger>(
     deck: &Deck,
     nodes: &mut Nodes,
     edges: &mut NameEdges,
-    agenda: &mut Agenda,
-    walker: &mut Walker,
+    explored: &mut Explored,
+    scratch: &mut Scratch,
     reductions: &mut u64,
     words: &Words<'_>,
     steps: &mut Steps<L>,
 ) -> Result<StepList, QueryFault>
     requires live { IsLive deck.now (listed nodes.old) edges.old reductions.old }
+    requires explored { WereExplored (table deck.now) (listed nodes.old) explored.old.names
+        explored.old.dead_ends.items }
     ensures live { IsLive deck.now (listed nodes.new) edges.new reductions.new }
+    ensures explored { WereExplored (table deck.now) (listed nodes.new) explored.new.names
+        explored.new.dead_ends.items }
     ensures asked { IsAsked (AsksWords words.now) (name_fault (table deck.now) words.now)
         (λ query. AreSettledWords (table deck.now) (listed nodes.new) words.now query.items) result
         (shown deck.now (listed nodes.old) reductions.old) (shown deck.now (listed nodes.new) reductions.new)
@@ -57,23 +64,21 @@ pub(crate) fn ask_words<L: Ledger>(
 {
     numbered_fault_law();
     settling_law();
+    let names = &explored.names;
+    let agenda = &mut scratch.agenda;
+    let tried = &mut scratch.tried;
     agenda.clear();
-    let mut dead_ends = Vec::new(alloc);
-    let query = put_words(alloc, deck, nodes, agenda, &mut dead_ends, words)?;
-    explore(alloc, deck, nodes, agenda, &mut dead_ends)?;
+    let query = query_steps(alloc, deck, nodes, names, agenda, tried, words)?;
+    explore(alloc, deck, nodes, names, agenda, &mut explored.dead_ends)?;
+    let targets = query.steps.as_slice();
+    if let Some(end) = &query.end {
+        let fault = cut_fault(alloc, deck, nodes, explored, scratch, targets, end)?;
+        return Err(QueryFault::Name(fault));
+    }
     settle_query(
-        alloc,
-        deck,
-        nodes,
-        edges,
-        agenda,
-        walker,
-        reductions,
-        &dead_ends,
-        query.as_slice(),
-        steps,
+        alloc, deck, nodes, edges, explored, scratch, reductions, targets, steps,
     )?;
-    Ok(query)
+    Ok(query.steps)
 }
 
 /// Asks for a key that has an entry, in the same way, and gives its number.
@@ -82,78 +87,108 @@ pub(crate) fn ask_key<L: Ledger>(
     deck: &Deck,
     nodes: &mut Nodes,
     edges: &mut NameEdges,
-    agenda: &mut Agenda,
-    walker: &mut Walker,
+    explored: &mut Explored,
+    scratch: &mut Scratch,
     reductions: &mut u64,
     kind: Kind,
     name: &[u8],
     steps: &mut Steps<L>,
 ) -> Result<usize, QueryFault>
     requires live { IsLive deck.now (listed nodes.old) edges.old reductions.old }
+    requires explored { WereExplored (table deck.now) (listed nodes.old) explored.old.names
+        explored.old.dead_ends.items }
     requires present { is_present (table deck.now) (key_spec.key kind name.now) ≡ true }
     ensures live { IsLive deck.now (listed nodes.new) edges.new reductions.new }
+    ensures explored { WereExplored (table deck.now) (listed nodes.new) explored.new.names
+        explored.new.dead_ends.items }
     ensures asked { IsKeyAsked (key_spec.key kind name.now) (listed nodes.new) result
         (shown deck.now (listed nodes.old) reductions.old) (shown deck.now (listed nodes.new) reductions.new)
         steps.old steps.new }
 {
     numbered_fault_law();
     settling_law();
+    let names = &explored.names;
+    let agenda = &mut scratch.agenda;
     agenda.clear();
-    let n = put_key(alloc, deck, nodes, agenda, kind, name)?;
-    let mut dead_ends = Vec::new(alloc);
-    explore(alloc, deck, nodes, agenda, &mut dead_ends)?;
+    let n = put_key(alloc, deck, nodes, names, agenda, kind, name)?;
+    explore(alloc, deck, nodes, names, agenda, &mut explored.dead_ends)?;
+    let query = [Step::To(n)];
     settle_query(
-        alloc,
-        deck,
-        nodes,
-        edges,
-        agenda,
-        walker,
-        reductions,
-        &dead_ends,
-        &[Step::To(n)],
-        steps,
+        alloc, deck, nodes, edges, explored, scratch, reductions, &query, steps,
     )?;
     Ok(n)
 }
 
-// Settles what a query newly closes, unless it has a name fault. All names below it are explored.
+// Settles what a query newly closes, unless it has a name fault: then it is remembered what was explored. All names
+// below it are explored.
 fn settle_query<L: Ledger>(
     alloc: Global,
     deck: &Deck,
     nodes: &mut Nodes,
     edges: &mut NameEdges,
-    agenda: &mut Agenda,
-    walker: &mut Walker,
+    explored: &mut Explored,
+    scratch: &mut Scratch,
     reductions: &mut u64,
-    dead_ends: &[DeadEnd],
     query: &[Step],
     steps: &mut Steps<L>,
 ) -> Result<(), QueryFault>
     requires live { IsLive deck.now (listed nodes.old) edges.old reductions.old }
-    requires explored { (known : ℕ → Bool) × AreExplored (table deck.now) (listed nodes.old) dead_ends.now known
-        × LeadToKnown known query.now }
+    requires all { AreAllExplored (table deck.now) (listed nodes.old) explored.old.names scratch.old.agenda
+        explored.old.dead_ends.items }
+    requires known { LeadToKnown (is_known nodes.old.settled.items explored.old.names scratch.old.agenda) query.now }
     ensures live { IsLive deck.now (listed nodes.new) edges.new reductions.new }
+    ensures explored { WereExplored (table deck.now) (listed nodes.new) explored.new.names
+        explored.new.dead_ends.items }
     ensures keys { OnOk result (nodes.new.keys ≡ nodes.old.keys) }
-    ensures answered { IsAnswered (table deck.now) (listed nodes.old) dead_ends.now query.now result
+    ensures answered { IsAnswered (table deck.now) (listed nodes.old) explored.old.dead_ends.items query.now result
         (shown deck.now (listed nodes.old) reductions.old) (shown deck.now (listed nodes.new) reductions.new)
         steps.old steps.new }
 {
     numbered_fault_law();
-    if let Some(fault) = first_fault(alloc, nodes, walker, dead_ends, query)? {
+    let walker = &mut scratch.walker;
+    let fault = first_fault(alloc, nodes, walker, &explored.dead_ends, query)?;
+    if let Some(fault) = fault {
+        explored.put_all(&scratch.agenda, nodes.keys.len())?;
         return Err(QueryFault::Name(fault));
     }
-    settle(
-        alloc,
-        deck,
-        nodes,
-        edges,
-        agenda,
-        reductions,
-        walker.order(),
-        steps,
-    )?;
+    let agenda = &mut scratch.agenda;
+    let order = walker.order();
+    settle(alloc, deck, nodes, edges, agenda, reductions, order, steps)?;
     Ok(())
+}
+
+// The name fault of a query that is cut before a word which leads nowhere: the first of the words before it, or else
+// its own. What was explored is remembered.
+fn cut_fault(
+    alloc: Global,
+    deck: &Deck,
+    nodes: &Nodes,
+    explored: &mut Explored,
+    scratch: &mut Scratch,
+    query: &[Step],
+    end: &DeadEnd,
+) -> Result<NameFault, AllocError>
+    requires all { AreAllExplored (table deck.now) (listed nodes.now) explored.old.names scratch.old.agenda
+        explored.old.dead_ends.items }
+    requires nodes { AreNodes (table deck.now) (listed nodes.now) }
+    requires known { LeadToKnown (is_known nodes.now.settled.items explored.old.names scratch.old.agenda) query.now }
+    ensures explored { WereExplored (table deck.now) (listed nodes.now) explored.new.names
+        explored.new.dead_ends.items }
+    ensures fault { IfOk result (λ fault. fault_before
+        (fault_in (table deck.now) (listed nodes.now) explored.old.dead_ends.items query.now) end.now ≡ Some fault) }
+{
+    let fault = first_fault(
+        alloc,
+        nodes,
+        &mut scratch.walker,
+        &explored.dead_ends,
+        query,
+    )?;
+    explored.put_all(&scratch.agenda, nodes.keys.len())?;
+    match fault {
+        Some(fault) => Ok(fault),
+        None => end.fault(alloc, None),
+    }
 }
 
 // The first name fault of a query, or none, and then the walker has the order of the names that it newly closes.

@@ -1,10 +1,13 @@
 //! Words that lead nowhere.
 
 ghost use Rattle.std.specs.Prelude.{◌≡◌, IfOk};
+ghost use Rattle.live_table.specs.Leading.{is_refused_lead};
 ghost use Rattle.live_table.specs.Explored.{fault_of};
 ghost use Rattle.std.specs.Option.{option_copied};
 
+use crate::leading::Lead;
 use def_entry::Key;
+use expr_tree::WordUse;
 use std::alloc::{AllocError, Global};
 use table_names::NameFault;
 use units_io::Text;
@@ -17,6 +20,15 @@ pub(crate) struct DeadEnd {
 }
 
 impl DeadEnd {
+    /// A word that leads nowhere by its lead. The only error is want of memory.
+    pub(crate) fn new(alloc: Global, u: &WordUse<'_>, lead: Lead) -> Result<DeadEnd, AllocError>
+        ensures { IfOk result (λ end. end ≡ record { text = u.now.text; is_refused = is_refused_lead lead }) }
+    {
+        let text = Text::from_bytes(alloc, u.text())?;
+        let is_refused = matches!(lead, Lead::Refused);
+        Ok(DeadEnd { text, is_refused })
+    }
+
     /// The fault of the word in the entry of a key, or in the expression that is asked for.
     pub(crate) fn fault(&self, alloc: Global, holder: Option<Key>) -> Result<NameFault, AllocError>
         ensures { IfOk result (λ fault. fault ≡ fault_of (Some self.now) holder) }

@@ -75,7 +75,7 @@ fn answered(worth: Result<Quantity, EvalFault>) -> Result<Quantity, QueryFault>
 {
     match worth {
         Ok(q) => Ok(q),
-        Err(EvalFault::Value(fault)) => Err(QueryFault::Value(fault)),
+        Err(EvalFault::Value(fault)) => Err(QueryFault::Value(fault.into_fault())),
         Err(EvalFault::OutOfMemory) => Err(QueryFault::OutOfMemory),
     }
 }

@@ -5,8 +5,7 @@ ghost use Rattle.def_entry.specs.Tables.{is_present};
 ghost use Rattle.deck.specs.Tables.{table};
 ghost use Rattle.name_walk.specs.Lists.{In};
 ghost use Rattle.live_table.specs.Callees.{AreKeyWords};
-ghost use Rattle.live_table.specs.Explored.{AreExplored};
-ghost use Rattle.live_table.specs.Exploring.{AreGrown, AreListed, AreSame, IsWritten, is_known};
+ghost use Rattle.live_table.specs.Exploring.{AreAllExplored, AreGrown, AreListed, AreSame, IsWritten, WereExplored};
 ghost use Rattle.live_table.specs.Sound.{AreNodes};
 ghost use Rattle.live_table.specs.Stored.{key_at, listed};
 
@@ -19,25 +18,28 @@ use crate::stepping::put_words;
 use deck::Deck;
 use std::alloc::{AllocError, Global};
 
-/// Numbers all names that those on the agenda reach and that are not settled, and gives them their steps in
-/// the present table. Then all of them are on the agenda. The only error is want of memory.
+/// Numbers all names that those on the agenda reach, but for those that are settled or were explored, and gives them
+/// their steps in the present table. Then all of them are on the agenda. The only error is want of memory.
 pub(crate) fn explore(
     alloc: Global,
     deck: &Deck,
     nodes: &mut Nodes,
+    explored: &Agenda,
     agenda: &mut Agenda,
     dead_ends: &mut Vec<DeadEnd>,
 ) -> Result<(), AllocError>
     requires nodes { AreNodes (table deck.now) (listed nodes.old) }
-    requires listed { AreListed (table deck.now) (listed nodes.old) agenda.old }
-    ensures grown { AreGrown (table deck.now) (listed nodes.old) (listed nodes.new) agenda.old agenda.new
-        dead_ends.old.items dead_ends.new.items }
-    ensures explored { IfOk result (λ _. AreExplored (table deck.now) (listed nodes.new) dead_ends.new.items
-        (is_known nodes.new.settled.items agenda.new)) }
+    requires listed { AreListed (table deck.now) (listed nodes.old) explored.now agenda.old }
+    requires before { WereExplored (table deck.now) (listed nodes.old) explored.now dead_ends.old.items }
+    ensures grown { AreGrown (table deck.now) (listed nodes.old) (listed nodes.new) explored.now
+        agenda.old agenda.new dead_ends.old.items dead_ends.new.items }
+    ensures before { WereExplored (table deck.now) (listed nodes.new) explored.now dead_ends.new.items }
+    ensures all { IfOk result (λ _. AreAllExplored (table deck.now) (listed nodes.new) explored.now agenda.new
+        dead_ends.new.items) }
 {
     let mut place = 0;
     while let Some(n) = agenda.get(place) {
-        explore_name(alloc, deck, nodes, agenda, dead_ends, n)?;
+        explore_name(alloc, deck, nodes, explored, agenda, dead_ends, n)?;
         place += 1;
     }
     Ok(())
@@ -48,21 +50,30 @@ fn explore_name(
     alloc: Global,
     deck: &Deck,
     nodes: &mut Nodes,
+    explored: &Agenda,
     agenda: &mut Agenda,
     dead_ends: &mut Vec<DeadEnd>,
     n: usize,
 ) -> Result<(), AllocError>
     requires nodes { AreNodes (table deck.now) (listed nodes.old) }
-    requires listed { AreListed (table deck.now) (listed nodes.old) agenda.old }
+    requires listed { AreListed (table deck.now) (listed nodes.old) explored.now agenda.old }
     requires name { In n agenda.old }
-    ensures grown { AreGrown (table deck.now) (listed nodes.old) (listed nodes.new) agenda.old agenda.new
-        dead_ends.old.items dead_ends.new.items }
+    ensures grown { AreGrown (table deck.now) (listed nodes.old) (listed nodes.new) explored.now
+        agenda.old agenda.new dead_ends.old.items dead_ends.new.items }
     ensures same { AreSame (λ m. m ≡ n → ⊥) (listed nodes.old) (listed nodes.new) }
-    ensures written { IfOk result (λ _. IsWritten (table deck.now) (listed nodes.new) agenda.new
+    ensures written { IfOk result (λ _. IsWritten (table deck.now) (listed nodes.new) explored.now agenda.new
         dead_ends.new.items n) }
 {
     let entry = words_of_key(alloc, deck, &nodes.keys, &mut nodes.places, n)?;
-    let steps = put_words(alloc, deck, nodes, agenda, dead_ends, &entry.words)?;
+    let steps = put_words(
+        alloc,
+        deck,
+        nodes,
+        explored,
+        agenda,
+        dead_ends,
+        &entry.words,
+    )?;
     let looks = nodes.gathered.to_vec(alloc)?;
     nodes.callees[n].starts = entry.starts;
     nodes.steps[n] = steps;

@@ -10,6 +10,7 @@ ghost use Rattle.live_table.specs.Keeping.{IsLeft};
 ghost use Rattle.live_table.specs.Stored.{listed};
 
 use crate::deck_table::DeckTable;
+use crate::explored::Explored;
 use crate::keeping::Kept;
 use crate::nodes::Nodes;
 use deck::Deck;
@@ -19,18 +20,23 @@ use name_lookup::Present;
 use std::alloc::Global;
 use std::mem;
 
-/// Forgets the settled names that a change of keys affects, and finds anew whether each of these has an entry.
-/// It takes no memory.
+/// Forgets the settled names that a change of keys affects, and all that was explored without being settled, and finds
+/// anew whether each of these keys has an entry. It takes no memory.
 pub(crate) fn forget(
     alloc: Global,
     deck: &Deck,
     nodes: &mut Nodes,
     edges: &mut NameEdges,
+    explored: &mut Explored,
     keys: &[Key],
 )
     requires { CanForget (listed nodes.old) edges.old }
-    ensures { AreForgotten (table deck.now) keys.now (listed nodes.old) (listed nodes.new) edges.old edges.new }
+    ensures forgotten { AreForgotten (table deck.now) keys.now (listed nodes.old) (listed nodes.new)
+        edges.old edges.new }
+    ensures names { explored.new.names ≡ [] }
+    ensures dead_ends { explored.new.dead_ends.items ≡ [] }
 {
+    explored.clear();
     for key in keys {
         forget_key(alloc, deck, nodes, edges, key);
     }

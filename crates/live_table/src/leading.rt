@@ -38,8 +38,9 @@ pub(crate) fn lead_of(
     u: &WordUse<'_>,
 ) -> Result<Lead, AllocError>
     requires { AreNodes (table deck.now) (listed nodes.old) }
-    ensures added { (list : List ℕ) (ends : List DeadEnd) → AreListed (table deck.now) (listed nodes.old) list
-        → AreAdded (table deck.now) (listed nodes.old) (listed nodes.new) list list ends ends }
+    ensures added { (before list : List ℕ) (ends : List DeadEnd)
+        → AreListed (table deck.now) (listed nodes.old) before list
+        → AreAdded (table deck.now) (listed nodes.old) (listed nodes.new) before list list ends ends }
     ensures lead { IfOk result (λ lead. IsLead (table deck.now) nodes.new.keys u.now
         nodes.old.gathered nodes.new.gathered lead) }
 {

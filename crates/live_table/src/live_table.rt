@@ -16,17 +16,17 @@ ghost use Rattle.live_table.specs.States.{AsksKey, AsksWords};
 
 mod editing;
 
-use crate::agenda::Agenda;
 use crate::asking::{ask_key, ask_words};
 use crate::counts::Counts;
 use crate::evaluating::{inverse_worth, worth};
+use crate::explored::Explored;
 use crate::fault::QueryFault;
 use crate::nodes::Nodes;
+use crate::scratch::Scratch;
 use deck::{Deck, key_lists_are_one, table_keys_are_whole, tables_are_of_lines};
 use def_entry::{Key, Kind};
 use expr_tree::{Tree, words};
 use name_edges::NameEdges;
-use name_walk::Walker;
 use quantity::Quantity;
 use std::alloc::{AllocError, Global};
 use std::marker::Model;
@@ -39,9 +39,8 @@ pub struct LiveTable {
     deck: Deck,
     nodes: Nodes,
     edges: NameEdges,
-    // what queries use again
-    agenda: Agenda,
-    walker: Walker,
+    explored: Explored,
+    scratch: Scratch,
     reductions: u64,
 }
 
@@ -52,8 +51,8 @@ impl Drop for LiveTable {
             deck: _,
             nodes: _,
             edges: _,
-            agenda: _,
-            walker: _,
+            explored: _,
+            scratch: _,
             reductions: _,
         } = self;
     }
@@ -61,7 +60,9 @@ impl Drop for LiveTable {
 
 impl Model for LiveTable {
     ghost use Rattle.live_table.specs.Shown.{Shown, shown_code};
+    ghost use Rattle.deck.specs.Tables.{table};
     ghost use Rattle.live_table.specs.Edged.{IsLive};
+    ghost use Rattle.live_table.specs.Exploring.{WereExplored};
     ghost use Rattle.live_table.specs.Stored.{listed, shown};
 
     ghost Value = { Shown };
@@ -70,7 +71,8 @@ impl Model for LiveTable {
 
     ghost view = { λ t. shown t.deck (listed t.nodes) t.reductions };
 
-    ghost invariant = { λ t. IsLive t.deck (listed t.nodes) t.edges t.reductions };
+    ghost invariant = { λ t. IsLive t.deck (listed t.nodes) t.edges t.reductions
+        × WereExplored (table t.deck) (listed t.nodes) t.explored.names t.explored.dead_ends.items };
 }
 
 impl LiveTable {
@@ -82,8 +84,8 @@ impl LiveTable {
             deck,
             nodes: Nodes::new(alloc),
             edges: NameEdges::new(alloc),
-            agenda: Agenda::new(alloc),
-            walker: Walker::new(alloc),
+            explored: Explored::new(alloc),
+            scratch: Scratch::new(alloc),
             reductions: 0,
         }
     }
@@ -124,8 +126,8 @@ impl LiveTable {
             deck,
             &mut self.nodes,
             &mut self.edges,
-            &mut self.agenda,
-            &mut self.walker,
+            &mut self.explored,
+            &mut self.scratch,
             &mut self.reductions,
             &words,
             steps,
@@ -152,8 +154,8 @@ impl LiveTable {
             &self.deck,
             &mut self.nodes,
             &mut self.edges,
-            &mut self.agenda,
-            &mut self.walker,
+            &mut self.explored,
+            &mut self.scratch,
             &mut self.reductions,
             Kind::Func,
             name,
@@ -215,8 +217,8 @@ impl LiveTable {
             &self.deck,
             &mut self.nodes,
             &mut self.edges,
-            &mut self.agenda,
-            &mut self.walker,
+            &mut self.explored,
+            &mut self.scratch,
             &mut self.reductions,
             key.kind,
             key.name.as_bytes(),

@@ -41,48 +41,57 @@ impl Looking for Nodes {
     }
 }
 
-/// The number of a key that has an entry, a new one where it has none. Where it is not settled, it is put
-/// on the agenda. The only error is want of memory.
+/// The number of a key that has an entry, a new one where it has none. Where it is not settled and was not explored, it
+/// is put on the agenda. The only error is want of memory.
 pub(crate) fn put_key(
     alloc: Global,
     deck: &Deck,
     nodes: &mut Nodes,
+    explored: &Agenda,
     agenda: &mut Agenda,
     kind: Kind,
     name: &[u8],
 ) -> Result<usize, AllocError>
     requires nodes { AreNodes (table deck.now) (listed nodes.old) }
-    requires listed { AreListed (table deck.now) (listed nodes.old) agenda.old }
+    requires listed { AreListed (table deck.now) (listed nodes.old) explored.now agenda.old }
     requires present { is_present (table deck.now) (keys.key kind name.now) ≡ true }
     ensures added { (ends : List DeadEnd)
-        → AreAdded (table deck.now) (listed nodes.old) (listed nodes.new) agenda.old agenda.new ends ends }
+        → AreAdded (table deck.now) (listed nodes.old) (listed nodes.new) explored.now agenda.old agenda.new
+        ends ends }
     ensures target { IfOk result (λ n. (keys.key kind name.now ≡ key_at nodes.new.keys n)
-        × IsKnown (listed nodes.new) agenda.new n) }
+        × IsKnown (listed nodes.new) explored.now agenda.new n) }
 {
     let n = number(alloc, &DeckTable(deck), nodes, kind, name)?;
-    put_target(nodes, agenda, n)?;
+    put_target(nodes, explored, agenda, n)?;
     Ok(n)
 }
 
-/// Puts the number of a key that has an entry on the agenda, where it is not settled. The only error is want of
-/// memory.
-pub(crate) fn put_target(nodes: &Nodes, agenda: &mut Agenda, n: usize) -> Result<(), AllocError>
+/// Puts the number of a key that has an entry on the agenda, where it is not settled and was not explored. The only
+/// error is want of memory.
+pub(crate) fn put_target(
+    nodes: &Nodes,
+    explored: &Agenda,
+    agenda: &mut Agenda,
+    n: usize,
+) -> Result<(), AllocError>
     requires nodes { (table : Table) × AreNodes table (listed nodes.now) }
     requires within { n < length nodes.now.keys }
     ensures added { (table : Table) (ends : List DeadEnd) → AreNodes table (listed nodes.now)
-        → AreListed table (listed nodes.now) agenda.old → is_present table (key_at nodes.now.keys n) ≡ true
-        → AreAdded table (listed nodes.now) (listed nodes.now) agenda.old agenda.new ends ends }
-    ensures known { IfOk result (λ _. IsKnown (listed nodes.now) agenda.new n) }
+        → AreListed table (listed nodes.now) explored.now agenda.old
+        → is_present table (key_at nodes.now.keys n) ≡ true
+        → AreAdded table (listed nodes.now) (listed nodes.now) explored.now agenda.old agenda.new ends ends }
+    ensures more { IsMore agenda.old agenda.new }
+    ensures known { IfOk result (λ _. IsKnown (listed nodes.now) explored.now agenda.new n) }
 {
-    if nodes.settled[n] {
+    if nodes.settled[n] || explored.has(n) {
         return Ok(());
     }
     agenda.put(n, nodes.keys.len())?;
     Ok(())
 }
 
-// The number of a key, a new one where it has none. Only for a new one the table is asked whether it is there.
-fn number<P: Present>(
+/// The number of a key, a new one where it has none. Only for a new one the table is asked whether it is there.
+pub(crate) fn number<P: Present>(
     alloc: Global,
     table: &P,
     nodes: &mut Nodes,

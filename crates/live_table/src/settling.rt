@@ -9,6 +9,7 @@ ghost use Rattle.table_names.specs.Meanings as names;
 ghost use Rattle.live_table.specs.Asked.{AreSettledBy, put_in};
 ghost use Rattle.live_table.specs.Due.{AreDue, IsDue, with_outcome};
 ghost use Rattle.live_table.specs.Edged.{HasEdges};
+ghost use Rattle.live_table.specs.Exploring.{StayExplored};
 ghost use Rattle.live_table.specs.Ranks as ranks;
 ghost use Rattle.live_table.specs.Sound.{IsSound};
 ghost use Rattle.live_table.specs.Stored.{key_at, listed, shown};
@@ -42,6 +43,7 @@ pub(crate) fn settle<L: Ledger>(
     requires order { AreDue (table deck.now) (listed nodes.old) order.now }
     ensures sound { IsSound deck.now (listed nodes.new) reductions.new }
     ensures edges { HasEdges deck.now (listed nodes.new) edges.new }
+    ensures explored { StayExplored (table deck.now) (listed nodes.old) (listed nodes.new) }
     ensures settled { AreSettledBy (map (key_at nodes.old.keys) order.now) result
         (shown deck.now (listed nodes.old) reductions.old) (shown deck.now (listed nodes.new) reductions.new)
         steps.old steps.new }
@@ -69,6 +71,7 @@ fn settle_one<L: Ledger>(
     requires due { IsDue (table deck.now) (listed nodes.old) n }
     ensures sound { IsSound deck.now (listed nodes.new) reductions.new }
     ensures edges { HasEdges deck.now (listed nodes.new) edges.new }
+    ensures explored { StayExplored (table deck.now) (listed nodes.old) (listed nodes.new) }
     ensures nodes { OnOk result
         ((o : Outcome) × (c : Callee) × (listed nodes.new ≡ with_outcome n o c (listed nodes.old))) }
     ensures ok { OnOk result (shown deck.now (listed nodes.new) reductions.new

@@ -1,11 +1,15 @@
 //! Steps for words.
 
-ghost use Rattle.std.specs.Prelude.{◌≡◌, ◌++◌, ◌∷◌, [], IfOk, length};
+ghost use Rattle.std.specs.Prelude.{◌≡◌, ◌<◌, ◌++◌, ◌∷◌, [], ℕ, List, true, IfOk, length};
+ghost use Rattle.def_entry.specs.Tables.{Table, is_present};
 ghost use Rattle.deck.specs.Tables.{table};
-ghost use Rattle.live_table.specs.Exploring.{AreAdded, AreListed, AreWritten, AreWrittenBehind, IsMore};
+ghost use Rattle.name_walk.specs.Lists.{In};
+ghost use Rattle.live_table.specs.declared.dead_end.DeadEnd as dead_end_spec;
+ghost use Rattle.live_table.specs.Exploring.{AreAdded, AreListed, AreWritten, AreWrittenBehind, IsKnown, IsMore};
+ghost use Rattle.live_table.specs.Leading.{is_refused_lead, numbers, steps_to};
 ghost use Rattle.live_table.specs.Looks.{AllLead, AreLooks, AreLooksPut};
 ghost use Rattle.live_table.specs.Sound.{AreNodes};
-ghost use Rattle.live_table.specs.Stored.{listed};
+ghost use Rattle.live_table.specs.Stored.{key_at, listed};
 
 use crate::agenda::Agenda;
 use crate::dead_end::DeadEnd;
@@ -16,7 +20,6 @@ use deck::Deck;
 use expr_tree::{WordUse, Words};
 use name_walk::{Step, StepList};
 use std::alloc::{AllocError, Global};
-use units_io::Text;
 
 /// The steps of words, two for each. A key that is looked at for the first time gets a number, and a target that is
 /// not settled is put on the agenda. The other looked-at keys are gathered. The only error is want of memory.
@@ -24,15 +27,16 @@ pub(crate) fn put_words(
     alloc: Global,
     deck: &Deck,
     nodes: &mut Nodes,
+    explored: &Agenda,
     agenda: &mut Agenda,
     dead_ends: &mut Vec<DeadEnd>,
     words: &Words<'_>,
 ) -> Result<StepList, AllocError>
     requires nodes { AreNodes (table deck.now) (listed nodes.old) }
-    requires listed { AreListed (table deck.now) (listed nodes.old) agenda.old }
+    requires listed { AreListed (table deck.now) (listed nodes.old) explored.now agenda.old }
     ensures added { AreAdded (table deck.now) (listed nodes.old) (listed nodes.new)
-        agenda.old agenda.new dead_ends.old.items dead_ends.new.items }
-    ensures written { IfOk result (λ steps. AreWritten (table deck.now) (listed nodes.new) agenda.new
+        explored.now agenda.old agenda.new dead_ends.old.items dead_ends.new.items }
+    ensures written { IfOk result (λ steps. AreWritten (table deck.now) (listed nodes.new) explored.now agenda.new
         dead_ends.new.items words.now steps.items) }
     ensures looks { IfOk result (λ steps. AllLead steps.items
         → AreLooks (table deck.now) nodes.new.keys words.now steps.items nodes.new.gathered) }
@@ -40,7 +44,9 @@ pub(crate) fn put_words(
     nodes.gathered.clear();
     let mut steps = StepList::new(alloc);
     for u in words.as_slice() {
-        put_word(alloc, deck, nodes, agenda, dead_ends, u, &mut steps)?;
+        put_word(
+            alloc, deck, nodes, explored, agenda, dead_ends, u, &mut steps,
+        )?;
     }
     Ok(steps)
 }
@@ -50,29 +56,30 @@ fn put_word(
     alloc: Global,
     deck: &Deck,
     nodes: &mut Nodes,
+    explored: &Agenda,
     agenda: &mut Agenda,
     dead_ends: &mut Vec<DeadEnd>,
     u: &WordUse<'_>,
     steps: &mut StepList,
 ) -> Result<(), AllocError>
     requires nodes { AreNodes (table deck.now) (listed nodes.old) }
-    requires listed { AreListed (table deck.now) (listed nodes.old) agenda.old }
+    requires listed { AreListed (table deck.now) (listed nodes.old) explored.now agenda.old }
     ensures added { AreAdded (table deck.now) (listed nodes.old) (listed nodes.new)
-        agenda.old agenda.new dead_ends.old.items dead_ends.new.items }
-    ensures written { IfOk result (λ _. AreWrittenBehind (table deck.now) (listed nodes.new) agenda.new
-        dead_ends.new.items nodes.old.gathered nodes.new.gathered u.now steps.old.items steps.new.items) }
+        explored.now agenda.old agenda.new dead_ends.old.items dead_ends.new.items }
+    ensures written { IfOk result (λ _. AreWrittenBehind (table deck.now) (listed nodes.new) explored.now
+        agenda.new dead_ends.new.items nodes.old.gathered nodes.new.gathered u.now steps.old.items steps.new.items) }
 {
-    let word = word_steps(alloc, deck, nodes, agenda, dead_ends, u)?;
+    let word = word_steps(alloc, deck, nodes, explored, agenda, dead_ends, u)?;
     steps.push(word.first)?;
     steps.push(word.second)?;
     Ok(())
 }
 
-// The two steps of a word.
+/// The two steps of a word.
 #[derive(Clone, Copy, Drop)]
-struct WordSteps {
-    first: Step,
-    second: Step,
+pub(crate) struct WordSteps {
+    pub(crate) first: Step,
+    pub(crate) second: Step,
 }
 
 // The steps of one word.
@@ -80,37 +87,62 @@ fn word_steps(
     alloc: Global,
     deck: &Deck,
     nodes: &mut Nodes,
+    explored: &Agenda,
     agenda: &mut Agenda,
     dead_ends: &mut Vec<DeadEnd>,
     u: &WordUse<'_>,
 ) -> Result<WordSteps, AllocError>
     requires nodes { AreNodes (table deck.now) (listed nodes.old) }
-    requires listed { AreListed (table deck.now) (listed nodes.old) agenda.old }
+    requires listed { AreListed (table deck.now) (listed nodes.old) explored.now agenda.old }
     ensures added { AreAdded (table deck.now) (listed nodes.old) (listed nodes.new)
-        agenda.old agenda.new dead_ends.old.items dead_ends.new.items }
-    ensures written { IfOk result (λ steps. AreWritten (table deck.now) (listed nodes.new) agenda.new
+        explored.now agenda.old agenda.new dead_ends.old.items dead_ends.new.items }
+    ensures written { IfOk result (λ steps. AreWritten (table deck.now) (listed nodes.new) explored.now agenda.new
         dead_ends.new.items (u.now ∷ []) (steps.first ∷ steps.second ∷ [])) }
     ensures looks { IfOk result (λ steps. AllLead (steps.first ∷ steps.second ∷ [])
         → AreLooksPut (table deck.now) nodes.new.keys u.now (steps.first ∷ steps.second ∷ [])
         nodes.old.gathered nodes.new.gathered) }
 {
-    match lead_of(alloc, deck, nodes, u)? {
-        Lead::Refused => put_dead_end(alloc, u, true, dead_ends),
-        Lead::Nowhere => put_dead_end(alloc, u, false, dead_ends),
+    let lead = lead_of(alloc, deck, nodes, u)?;
+    match target_steps(nodes, explored, agenda, lead)? {
+        Some(steps) => Ok(steps),
+        None => put_dead_end(alloc, u, lead, dead_ends),
+    }
+}
+
+/// The steps to the targets of a word, which are put on the agenda where they are not known, or none where it has no
+/// target. The only error is want of memory.
+pub(crate) fn target_steps(
+    nodes: &Nodes,
+    explored: &Agenda,
+    agenda: &mut Agenda,
+    lead: Lead,
+) -> Result<Option<WordSteps>, AllocError>
+    requires nodes { (table : Table) × AreNodes table (listed nodes.now) }
+    requires within { (m : ℕ) → In m (numbers lead) → m < length nodes.now.keys }
+    ensures added { (table : Table) (ends : List dead_end_spec.DeadEnd) → AreNodes table (listed nodes.now)
+        → AreListed table (listed nodes.now) explored.now agenda.old
+        → ((m : ℕ) → In m (numbers lead) → is_present table (key_at nodes.now.keys m) ≡ true)
+        → AreAdded table (listed nodes.now) (listed nodes.now) explored.now agenda.old agenda.new ends ends }
+    ensures known { IfOk result (λ _. (m : ℕ) → In m (numbers lead)
+        → IsKnown (listed nodes.now) explored.now agenda.new m) }
+    ensures steps { IfOk result (λ steps. steps ≡ steps_to lead) }
+{
+    match lead {
+        Lead::Refused | Lead::Nowhere => Ok(None),
         Lead::One(n) => {
-            put_target(nodes, agenda, n)?;
-            Ok(WordSteps {
+            put_target(nodes, explored, agenda, n)?;
+            Ok(Some(WordSteps {
                 first: Step::To(n),
                 second: Step::To(n),
-            })
+            }))
         }
         Lead::Two(n, m) => {
-            put_target(nodes, agenda, n)?;
-            put_target(nodes, agenda, m)?;
-            Ok(WordSteps {
+            put_target(nodes, explored, agenda, n)?;
+            put_target(nodes, explored, agenda, m)?;
+            Ok(Some(WordSteps {
                 first: Step::To(n),
                 second: Step::To(m),
-            })
+            }))
         }
     }
 }
@@ -119,18 +151,17 @@ fn word_steps(
 fn put_dead_end(
     alloc: Global,
     u: &WordUse<'_>,
-    is_refused: bool,
+    lead: Lead,
     dead_ends: &mut Vec<DeadEnd>,
 ) -> Result<WordSteps, AllocError>
     ensures more { IsMore dead_ends.old.items dead_ends.new.items }
     ensures put { IfOk result (λ _. dead_ends.new.items
-        ≡ dead_ends.old.items ++ record { text = u.now.text; is_refused = is_refused } ∷ []) }
+        ≡ dead_ends.old.items ++ record { text = u.now.text; is_refused = is_refused_lead lead } ∷ []) }
     ensures first { IfOk result (λ steps. steps.first ≡ Step.Nowhere (length dead_ends.old.items)) }
     ensures second { IfOk result (λ steps. steps.second ≡ Step.Nowhere (length dead_ends.old.items)) }
 {
-    let text = Text::from_bytes(alloc, u.text())?;
     let step = Step::Nowhere(dead_ends.len());
-    dead_ends.push(DeadEnd { text, is_refused })?;
+    dead_ends.push(DeadEnd::new(alloc, u, lead)?)?;
     Ok(WordSteps {
         first: step,
         second: step,

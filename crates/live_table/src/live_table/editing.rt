@@ -41,6 +41,7 @@ impl LiveTable {
             &self.deck,
             &mut self.nodes,
             &mut self.edges,
+            &mut self.explored,
             keys.as_slice(),
         );
         Ok(covered)
@@ -59,6 +60,7 @@ impl LiveTable {
             &self.deck,
             &mut self.nodes,
             &mut self.edges,
+            &mut self.explored,
             keys.as_slice(),
         );
         Ok(text)
@@ -76,6 +78,7 @@ impl LiveTable {
             &self.deck,
             &mut self.nodes,
             &mut self.edges,
+            &mut self.explored,
             keys.as_slice(),
         );
         Ok(())
@@ -93,6 +96,7 @@ impl LiveTable {
             &self.deck,
             &mut self.nodes,
             &mut self.edges,
+            &mut self.explored,
             keys.as_slice(),
         );
         Ok(())
@@ -127,6 +131,7 @@ impl LiveTable {
             &self.deck,
             &mut self.nodes,
             &mut self.edges,
+            &mut self.explored,
             keys.as_slice(),
         );
         Ok(())
@@ -146,6 +151,7 @@ impl LiveTable {
             &self.deck,
             &mut self.nodes,
             &mut self.edges,
+            &mut self.explored,
             keys.as_slice(),
         );
         Ok(undo)

@@ -6,8 +6,8 @@ use Rattle.live_table.proofs.exploring.explore.Given as goal
 
 abbrev pub invariant-loop-n : goal.invariant-loop-n
 invariant-loop-n l =
-    IsExploring (table l.deck) (listed l.fn.nodes) (listed l.nodes) l.fn.agenda l.agenda l.fn.dead_ends.items
-    l.dead_ends.items l.place
+    IsExploring (table l.deck) (listed l.fn.nodes) (listed l.nodes) l.explored l.fn.agenda l.agenda
+    l.fn.dead_ends.items l.dead_ends.items l.place
 
 abbrev pub decreases-loop-n : goal.decreases-loop-n
 decreases-loop-n l = 2 ^ 64 - l.place

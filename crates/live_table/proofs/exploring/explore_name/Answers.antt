@@ -38,32 +38,32 @@ index_mut-requires-3 c =
 
 pub returns-clause-grown : goal.returns-clause-grown
 returns-clause-grown c =
-    stepped_grown (table c.args.deck.now) (listed c.args.nodes.now) (listed c.put_words.new.nodes) c.args.agenda.now
-    c.put_words.new.agenda c.args.dead_ends.now.items c.put_words.new.dead_ends.items
+    stepped_grown (table c.args.deck.now) (listed c.args.nodes.now) (listed c.put_words.new.nodes) c.args.explored.now
+    c.args.agenda.now c.put_words.new.agenda c.args.dead_ends.now.items c.put_words.new.dead_ends.items
     c.args.n (record { rank = c.index_mut.result.now.rank; starts = c.in_ok-entry.entry.starts }) c.in_ok-steps.steps
     c.in_ok-looks.looks c.put_words.ensures.added c.requires.listed c.requires.name
     (subst (λ (us : List WordUse). AreWritten (table c.args.deck.now) (listed c.put_words.new.nodes)
-    c.put_words.new.agenda c.put_words.new.dead_ends.items us c.in_ok-steps.steps.items)
+    c.args.explored.now c.put_words.new.agenda c.put_words.new.dead_ends.items us c.in_ok-steps.steps.items)
     c.in_ok-entry.ensures.words c.in_ok-steps.ensures.written)
 
 pub returns-clause-same : goal.returns-clause-same
 returns-clause-same c =
-    stepped_same (table c.args.deck.now) (listed c.args.nodes.now) (listed c.put_words.new.nodes) c.args.agenda.now
-    c.put_words.new.agenda c.args.dead_ends.now.items c.put_words.new.dead_ends.items
+    stepped_same (table c.args.deck.now) (listed c.args.nodes.now) (listed c.put_words.new.nodes) c.args.explored.now
+    c.args.agenda.now c.put_words.new.agenda c.args.dead_ends.now.items c.put_words.new.dead_ends.items
     c.args.n (record { rank = c.index_mut.result.now.rank; starts = c.in_ok-entry.entry.starts }) c.in_ok-steps.steps
     c.in_ok-looks.looks c.put_words.ensures.added c.requires.listed c.requires.name
     (subst (λ (us : List WordUse). AreWritten (table c.args.deck.now) (listed c.put_words.new.nodes)
-    c.put_words.new.agenda c.put_words.new.dead_ends.items us c.in_ok-steps.steps.items)
+    c.args.explored.now c.put_words.new.agenda c.put_words.new.dead_ends.items us c.in_ok-steps.steps.items)
     c.in_ok-entry.ensures.words c.in_ok-steps.ensures.written)
 
 pub returns-clause-written : goal.returns-clause-written
 returns-clause-written c =
-    stepped_written (table c.args.deck.now) (listed c.args.nodes.now) (listed c.put_words.new.nodes) c.args.agenda.now
-    c.put_words.new.agenda c.args.dead_ends.now.items c.put_words.new.dead_ends.items
+    stepped_written (table c.args.deck.now) (listed c.args.nodes.now) (listed c.put_words.new.nodes) c.args.explored.now
+    c.args.agenda.now c.put_words.new.agenda c.args.dead_ends.now.items c.put_words.new.dead_ends.items
     c.args.n (record { rank = c.index_mut.result.now.rank; starts = c.in_ok-entry.entry.starts }) c.in_ok-steps.steps
     c.in_ok-looks.looks c.put_words.ensures.added c.requires.listed c.requires.name
     (subst (λ (us : List WordUse). AreWritten (table c.args.deck.now) (listed c.put_words.new.nodes)
-    c.put_words.new.agenda c.put_words.new.dead_ends.items us c.in_ok-steps.steps.items)
+    c.args.explored.now c.put_words.new.agenda c.put_words.new.dead_ends.items us c.in_ok-steps.steps.items)
     c.in_ok-entry.ensures.words c.in_ok-steps.ensures.written)
     c.in_ok-entry.ensures.starts
     (subst (λ (p : List WordUse × List ℕ). AllLead c.in_ok-steps.steps.items

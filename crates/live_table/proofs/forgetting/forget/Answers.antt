@@ -33,8 +33,8 @@ loop-key-preserved c =
     (listed c.loop-key.nodes) (listed c.forget_key.new.nodes) c.args.edges.now c.loop-key.edges c.forget_key.new.edges
     c.loop-key.invariant c.forget_key.ensures)
 
-pub returns : goal.returns
-returns c =
+pub returns-clause-forgotten : goal.returns-clause-forgotten
+returns-clause-forgotten c =
     subst (λ (ks : List Key). AreForgotten (table c.args.deck.now) ks (listed c.args.nodes.now)
     (listed c.loop-key.nodes)
     c.args.edges.now c.loop-key.edges) (take_all c.loop-key.key-index c.args.keys.now c.loop-key-test.false)

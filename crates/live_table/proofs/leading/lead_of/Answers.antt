@@ -23,10 +23,10 @@ resolve-requires c = record {
 }
 
 pub returns-in_err-targets-clause-added : goal.returns-in_err-targets-clause-added
-returns-in_err-targets-clause-added c list ends right =
+returns-in_err-targets-clause-added c before list ends right =
     let t = table c.args.deck.now in
     let cleared : Nodes = record c.args.nodes.now { looked = c.clear.new.self } in
-    (c.resolve.ensures.kept cleared (kept_itself (keys_of t) cleared)).added t refl c.requires list ends right
+    (c.resolve.ensures.kept cleared (kept_itself (keys_of t) cleared)).added t refl c.requires before list ends right
 
 pub put_all-requires : goal.put_all-requires
 put_all-requires c m i =
@@ -40,16 +40,16 @@ put_all-requires c m i =
     omega arith
 
 pub returns-in_err-put_all-clause-added : goal.returns-in_err-put_all-clause-added
-returns-in_err-put_all-clause-added c list ends right =
+returns-in_err-put_all-clause-added c before list ends right =
     let t = table c.args.deck.now in
     let cleared : Nodes = record c.args.nodes.now { looked = c.clear.new.self } in
-    (c.resolve.ensures.kept cleared (kept_itself (keys_of t) cleared)).added t refl c.requires list ends right
+    (c.resolve.ensures.kept cleared (kept_itself (keys_of t) cleared)).added t refl c.requires before list ends right
 
 pub returns-clause-added : goal.returns-clause-added
-returns-clause-added c list ends right =
+returns-clause-added c before list ends right =
     let t = table c.args.deck.now in
     let cleared : Nodes = record c.args.nodes.now { looked = c.clear.new.self } in
-    (c.resolve.ensures.kept cleared (kept_itself (keys_of t) cleared)).added t refl c.requires list ends right
+    (c.resolve.ensures.kept cleared (kept_itself (keys_of t) cleared)).added t refl c.requires before list ends right
 
 pub returns-clause-lead : goal.returns-clause-lead
 returns-clause-lead c =

@@ -12,29 +12,33 @@ number-requires c = flagged_by (table c.args.deck.now) c.args.nodes.now c.requir
 
 pub returns-in_err-n-clause-added : goal.returns-in_err-n-clause-added
 returns-in_err-n-clause-added c ends =
-    c.number.ensures.kept.added (table c.args.deck.now) refl c.requires.nodes c.args.agenda.now ends c.requires.listed
+    c.number.ensures.kept.added (table c.args.deck.now) refl c.requires.nodes c.args.explored.now c.args.agenda.now ends
+    c.requires.listed
 
 pub put_target-requires-clause-nodes : goal.put_target-requires-clause-nodes
 put_target-requires-clause-nodes c = (
   table c.args.deck.now,
-  (c.number.ensures.kept.added (table c.args.deck.now) refl c.requires.nodes c.args.agenda.now []
+  (c.number.ensures.kept.added (table c.args.deck.now) refl c.requires.nodes c.args.explored.now
+      c.args.agenda.now []
       c.requires.listed).grown.nodes,
 )
 
 pub returns-in_err-put_target-clause-added : goal.returns-in_err-put_target-clause-added
 returns-in_err-put_target-clause-added c ends =
     let t = table c.args.deck.now in
-    let a = c.number.ensures.kept.added t refl c.requires.nodes c.args.agenda.now ends c.requires.listed in
+    let a = c.number.ensures.kept.added t refl c.requires.nodes c.args.explored.now c.args.agenda.now ends
+    c.requires.listed in
     added_both t (listed c.args.nodes.now) (listed c.number.new.nodes) (listed c.number.new.nodes)
-    c.args.agenda.now c.args.agenda.now c.put_target.new.agenda ends ends ends a
+    c.args.explored.now c.args.agenda.now c.args.agenda.now c.put_target.new.agenda ends ends ends a
     (c.put_target.ensures.added t ends a.grown.nodes a.grown.listed
     (subst (λ (k : Key). is_present t k ≡ true) c.in_ok-n.ensures.number.1 c.requires.present))
 
 pub returns-clause-added : goal.returns-clause-added
 returns-clause-added c ends =
     let t = table c.args.deck.now in
-    let a = c.number.ensures.kept.added t refl c.requires.nodes c.args.agenda.now ends c.requires.listed in
+    let a = c.number.ensures.kept.added t refl c.requires.nodes c.args.explored.now c.args.agenda.now ends
+    c.requires.listed in
     added_both t (listed c.args.nodes.now) (listed c.number.new.nodes) (listed c.number.new.nodes)
-    c.args.agenda.now c.args.agenda.now c.put_target.new.agenda ends ends ends a
+    c.args.explored.now c.args.agenda.now c.args.agenda.now c.put_target.new.agenda ends ends ends a
     (c.put_target.ensures.added t ends a.grown.nodes a.grown.listed
     (subst (λ (k : Key). is_present t k ≡ true) c.in_ok-n.ensures.number.1 c.requires.present))

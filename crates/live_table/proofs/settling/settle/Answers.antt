@@ -9,6 +9,7 @@ loop-n-init g c = (
   standing_start c.args.deck.now (listed c.args.nodes.now) c.args.reductions.now c.args.order.now c.args.steps.now
       c.requires.sound c.requires.order,
   c.requires.edges,
+  λ before ends were. were,
 )
 
 pub settle_one-requires-clause-due : goal.settle_one-requires-clause-due
@@ -29,6 +30,7 @@ loop-n-preserved g c =
           (listed c.settle_one.new.nodes) c.settle_one.new.reductions c.settle_one.new.steps h.0 h.1
           c.in_ok-settle_one.ensures.sound h.2 c.in_ok-settle_one.ensures.ok c.in_ok-settle_one.ensures.steps,
       c.settle_one.ensures.edges,
+      λ before ends were. c.settle_one.ensures.explored before ends (c.loop-n.invariant.2 before ends were),
     )
 
 pub settle_one-requires-clause-edges : goal.settle_one-requires-clause-edges

@@ -1,10 +1,12 @@
 use Rattle.std.proofs.Common.{◌≡◌, ◌<◌, length, arith}
 use Rattle.std.proofs.Common.{sym, subst}
+use Rattle.deck.specs.Tables.{table}
 use Rattle.live_table.specs.Edged.{HasEdges}
 use Rattle.live_table.specs.Stored.{Listed, listed}
 use Rattle.live_table.proofs.Flags.{count_room}
 use Rattle.live_table.proofs.Kept.{settled_count}
 use Rattle.live_table.proofs.SettleOne.{settled_nodes, settled_shown, settled_sound}
+use Rattle.live_table.proofs.StillExplored.{settled_explored}
 use Rattle.live_table.proofs.settling.settle_one.Goals as goal
 
 pub put-requires-clause-callees : goal.put-requires-clause-callees
@@ -66,3 +68,12 @@ returns-clause-edges g c =
     c.rank_of-rank.ensures
     c.saturating_add.result (omega (arith, c.saturating_add.ensures)) (listed c.put.new.nodes) c.put.ensures in
     subst (λ (x : Listed). HasEdges c.args.deck.now x c.link.new.edges) (sym s.2) (c.in_ok-link.ensures.ok s.0 s.1)
+
+pub returns-clause-explored : goal.returns-clause-explored
+returns-clause-explored g c =
+    settled_explored (table c.args.deck.now) (listed c.args.nodes.now) (listed c.put.new.nodes) c.args.n
+    c.in_ok-outcome.outcome c.rank_of-rank.result
+    (let a : c.args.n < length (listed c.args.nodes.now).keys = c.requires.due.within in
+    let b : length (listed c.args.nodes.now).callees ≡ length (listed c.args.nodes.now).keys =
+    c.requires.sound.numbers.callee_count in omega (arith, a, b))
+    c.put.ensures

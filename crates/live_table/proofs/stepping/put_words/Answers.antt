@@ -17,14 +17,14 @@ put_word-requires-clause-listed c = c.loop-u.invariant.added.grown.listed
 pub returns-in_err-put_word-clause-added : goal.returns-in_err-put_word-clause-added
 returns-in_err-put_word-clause-added c =
     added_both (table c.args.deck.now) (listed c.args.nodes.now) (listed c.loop-u.nodes) (listed c.put_word.new.nodes)
-    c.args.agenda.now c.loop-u.agenda c.put_word.new.agenda
+    c.args.explored.now c.args.agenda.now c.loop-u.agenda c.put_word.new.agenda
     c.args.dead_ends.now.items c.loop-u.dead_ends.items c.put_word.new.dead_ends.items c.loop-u.invariant.added
     c.put_word.ensures.added
 
 pub loop-u-preserved : goal.loop-u-preserved
 loop-u-preserved c =
     putting_next (table c.args.deck.now) (listed c.args.nodes.now) (listed c.loop-u.nodes) (listed c.put_word.new.nodes)
-    c.args.agenda.now c.loop-u.agenda c.put_word.new.agenda
+    c.args.explored.now c.args.agenda.now c.loop-u.agenda c.put_word.new.agenda
     c.args.dead_ends.now.items c.loop-u.dead_ends.items c.put_word.new.dead_ends.items c.loop-u.nodes.gathered
     c.put_word.new.nodes.gathered c.args.words.now c.loop-u.steps.items c.put_word.new.steps.items c.loop-u.u-index
     c.u-item.result

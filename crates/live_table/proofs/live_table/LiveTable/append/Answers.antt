@@ -9,13 +9,14 @@ use Rattle.live_table.proofs.live_table.LiveTable.append.Goals as goal
 pub forget-requires : goal.forget-requires
 forget-requires g c =
     live_can c.self.inside.deck (listed c.self.inside.nodes) c.self.inside.edges c.self.inside.reductions
-    c.self.invariant
+    c.self.invariant.0
 
 pub invariant_of-self-2 : goal.invariant_of-self-2
 invariant_of-self-2 g c =
     live_edited c.changes_are_computed.ensures c.self.inside.deck c.append.new.self (listed c.self.inside.nodes)
     (listed c.forget.new.nodes) c.self.inside.edges c.forget.new.edges c.self.inside.reductions c.in_ok-keys.keys
-    c.as_slice.result.now c.as_slice.ensures c.self.invariant c.in_ok-keys.ensures.changed c.forget.ensures
+    c.as_slice.result.now c.as_slice.ensures c.self.invariant.0 c.in_ok-keys.ensures.changed c.forget.ensures.forgotten
+    c.forget.new.explored.names c.forget.new.explored.dead_ends.items c.forget.ensures.names
 
 pub returns-clause-told : goal.returns-clause-told
 returns-clause-told g c m e =
@@ -27,7 +28,7 @@ pub returns-clause-ok : goal.returns-clause-ok
 returns-clause-ok g c =
     edit_done c.changes_are_computed.ensures c.self.inside.deck c.append.new.self (listed c.self.inside.nodes)
     (listed c.forget.new.nodes) c.self.inside.edges c.forget.new.edges c.self.inside.reductions c.in_ok-keys.keys
-    c.as_slice.result.now c.as_slice.ensures c.self.invariant c.in_ok-keys.ensures.changed c.forget.ensures
+    c.as_slice.result.now c.as_slice.ensures c.self.invariant.0 c.in_ok-keys.ensures.changed c.forget.ensures.forgotten
     c.args.self.now c.self.view_is
 
 pub returns-clause-ends : goal.returns-clause-ends

@@ -35,8 +35,8 @@ overflow_add-result-2 c =
 
 pub returns-clause-settled : goal.returns-clause-settled
 returns-clause-settled c =
-    c.self.invariant.sound.numbers.counted
-    ∙ (kept_counted (table c.self.inside.deck) (listed c.self.inside.nodes) c.self.invariant.sound.numbers
+    c.self.invariant.0.sound.numbers.counted
+    ∙ (kept_counted (table c.self.inside.deck) (listed c.self.inside.nodes) c.self.invariant.0.sound.numbers
     ∙ ap (λ (s : Shown). map_of.len s.kept) c.self.view_is)
 
 pub returns-clause-names : goal.returns-clause-names

@@ -6,13 +6,14 @@ use Rattle.live_table.proofs.live_table.LiveTable.drop_last.Goals as goal
 pub forget-requires : goal.forget-requires
 forget-requires c =
     live_can c.self.inside.deck (listed c.self.inside.nodes) c.self.inside.edges c.self.inside.reductions
-    c.self.invariant
+    c.self.invariant.0
 
 pub invariant_of-self-2 : goal.invariant_of-self-2
 invariant_of-self-2 c =
     live_edited c.changes_are_computed.ensures c.self.inside.deck c.drop_last.new.self (listed c.self.inside.nodes)
     (listed c.forget.new.nodes) c.self.inside.edges c.forget.new.edges c.self.inside.reductions c.in_ok-keys.keys
-    c.as_slice.result.now c.as_slice.ensures c.self.invariant c.in_ok-keys.ensures.1 c.forget.ensures
+    c.as_slice.result.now c.as_slice.ensures c.self.invariant.0 c.in_ok-keys.ensures.1 c.forget.ensures.forgotten
+    c.forget.new.explored.names c.forget.new.explored.dead_ends.items c.forget.ensures.names
 
 pub returns : goal.returns
 returns c = (
@@ -21,6 +22,6 @@ returns c = (
       c.self.inside.reductions c.args.self.now c.self.view_is c.in_ok-keys.ensures.0,
   edit_done c.changes_are_computed.ensures c.self.inside.deck c.drop_last.new.self (listed c.self.inside.nodes)
       (listed c.forget.new.nodes) c.self.inside.edges c.forget.new.edges c.self.inside.reductions c.in_ok-keys.keys
-      c.as_slice.result.now c.as_slice.ensures c.self.invariant c.in_ok-keys.ensures.1 c.forget.ensures
+      c.as_slice.result.now c.as_slice.ensures c.self.invariant.0 c.in_ok-keys.ensures.1 c.forget.ensures.forgotten
       c.args.self.now c.self.view_is,
 )

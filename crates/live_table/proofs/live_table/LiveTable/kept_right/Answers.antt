@@ -3,4 +3,4 @@ use Rattle.live_table.specs.Shown.{IsRightTable}
 use Rattle.live_table.proofs.live_table.LiveTable.kept_right.Goals as goal
 
 pub returns : goal.returns
-returns c = subst IsRightTable c.self.view_is c.self.invariant.sound.right
+returns c = subst IsRightTable c.self.view_is c.self.invariant.0.sound.right

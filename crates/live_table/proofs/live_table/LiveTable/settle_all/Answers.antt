@@ -14,4 +14,4 @@ returns-in_err-keys-clause-after g c =
     subst (λ (r : Result (Unit {0}) AllocError). AreQueries (all_names (table c.args.self.now.deck)) r c.args.self.now
     c.args.self.now c.args.steps.now c.args.steps.now) (sym p.1)
     (cut_at_once (all_names (table c.args.self.now.deck)) c.args.self.now c.args.steps.now
-    (subst IsRightTable c.self.view_is c.self.invariant.sound.right))
+    (subst IsRightTable c.self.view_is c.self.invariant.0.sound.right))

@@ -18,8 +18,8 @@ use Rattle.live_table.specs.States.{AsksWords}
 use Rattle.live_table.specs.Stored.{listed, shown}
 use Rattle.live_table.specs.Surrounded.{AreSettledWords}
 use Rattle.live_table.proofs.Answering.{fault_answer, fault_query, worth_answer}
-use Rattle.live_table.proofs.AskedFor.{words_query}
 use Rattle.live_table.proofs.Following.{query_answer}
+use Rattle.live_table.proofs.GrownLive.{words_query}
 use Rattle.live_table.proofs.Queries.{cut_off}
 use Rattle.live_table.proofs.live_table.LiveTable.value.Goals as goal
 
@@ -31,7 +31,7 @@ returns-in_err-words-clause-after g c =
     subst (λ r. IsQuery (AsksWords us) r c.args.self.now c.args.self.now c.args.steps.now c.args.steps.now)
     (sym (p.1 ∙ ap Err p.2))
     (cut_off (AsksWords us) (name_fault t us) (reach t us) c.args.self.now c.args.steps.now
-    (subst IsRightTable c.self.view_is c.self.invariant.sound.right) (words_query t us))
+    (subst IsRightTable c.self.view_is c.self.invariant.0.sound.right) (words_query t us))
 
 pub returns-in_err-query-clause-answer : goal.returns-in_err-query-clause-answer
 returns-in_err-query-clause-answer g c =

@@ -1,0 +1,110 @@
+-- All below a query is explored: each name that is known has a number, its steps and its looks.
+use Rattle.std.proofs.Common.{◌≡◌, ◌<◌, ◌||◌, ℕ, Bool, true, false, List, [], length, Option, Some, None, refl, ap}
+use Rattle.std.proofs.Common.{inl, inr, arith}
+use Rattle.std.specs.List.{slice_get}
+use Rattle.std.proofs.lemmas.Bool.{or_cases}
+use Rattle.def_entry.specs.Tables.{Table, is_present}
+use Rattle.name_walk.specs.declared.step.Step.TheVariants.{To}
+use Rattle.name_walk.specs.Faults.{on}
+use Rattle.name_walk.specs.Lists.{In}
+use Rattle.name_walk.specs.Steps.{steps}
+use Rattle.name_walk.proofs.Lists.{In-on, on-In}
+use Rattle.table_names.specs.Words.{key_words}
+use Rattle.name_numbers.specs.Numbered.{AreWords}
+use Rattle.live_table.specs.declared.dead_end.DeadEnd.{DeadEnd}
+use Rattle.live_table.specs.Explored.{AreExplored, fault_at}
+use Rattle.live_table.specs.Exploring.{AreAllExplored, IsKnown, is_known, is_marked}
+use Rattle.live_table.specs.Sound.{AreNodes, HasLooksIfLed, HasStartsOf}
+use Rattle.live_table.specs.Stored.{Listed, key_at}
+use Rattle.live_table.proofs.Growing.{known_within}
+
+-- a mark that is up is there
+is_flag : (o : Option Bool) → is_marked o ≡ true → o ≡ Some true
+is_flag None e = cc
+is_flag (Some b) e = ap Some e
+
+-- one of two tests holds where the first does
+or_left : (a b : Bool) → a ≡ true → (a || b) ≡ true
+or_left true b e = refl
+or_left false b e = cc
+
+-- and where the second does
+or_right : (a b : Bool) → b ≡ true → (a || b) ≡ true
+or_right true b e = refl
+or_right false b e = e
+
+-- a number that is found to be known is
+pub from_known : (l : Listed) (before list : List ℕ) (n : ℕ) → is_known l.settled before list n ≡ true
+    → IsKnown l before list n
+from_known l before list n k =
+    elim (or_cases (is_marked (slice_get l.settled n)) (on before n || on list n) k) [
+      | inl e ↦ inl (is_flag (slice_get l.settled n) e)
+      | inr f ↦ elim (or_cases (on before n) (on list n) f)
+          [ inl e ↦ inr (inl (on-In before n e)) | inr e ↦ inr (inr (on-In list n e)) ]
+    ]
+
+-- and the other way round
+pub to_known : (l : Listed) (before list : List ℕ) (n : ℕ) → IsKnown l before list n
+    → is_known l.settled before list n ≡ true
+to_known l before list n (inl e) =
+    or_left (is_marked (slice_get l.settled n)) (on before n || on list n) (ap is_marked e)
+to_known l before list n (inr (inl i)) =
+    or_right (is_marked (slice_get l.settled n)) (on before n || on list n)
+    (or_left (on before n) (on list n) (In-on before n i))
+to_known l before list n (inr (inr i)) =
+    or_right (is_marked (slice_get l.settled n)) (on before n || on list n)
+    (or_right (on before n) (on list n) (In-on list n i))
+
+module _ (t : Table) (l : Listed) (before list : List ℕ) (ends : List DeadEnd) (nodes : AreNodes t l)
+    (s : AreAllExplored t l before list ends) where
+  abbrev known : ℕ → Bool
+  known = is_known l.settled before list
+
+  is_within : (n : ℕ) → known n ≡ true → n < length l.keys
+  is_within n k = known_within t l before list nodes s.listed n (from_known l before list n k)
+
+  -- what was explored before leads to what is known with no list, and so to what is known
+  without_list : (n : ℕ) → IsKnown l before [] n → IsKnown l before list n
+  without_list n (inl e) = inl e
+  without_list n (inr (inl i)) = inr (inl i)
+  without_list n (inr (inr i)) = absurd i
+
+  all_below : (n q : ℕ) → IsKnown l before list n → In (To q) (steps l.graph n) → IsKnown l before list q
+  all_below n q (inl e) i = inl ((nodes.net.settled n e).1 q i)
+  all_below n q (inr (inl j)) i = without_list q ((s.explored.written n j).steps.targets q i)
+  all_below n q (inr (inr j)) i = (s.written n j).steps.targets q i
+
+  all_present : (n : ℕ) → IsKnown l before list n → is_present t (key_at l.keys n) ≡ true
+  all_present n (inl e) = nodes.present n e
+  all_present n (inr (inl j)) = s.explored.present n j
+  all_present n (inr (inr j)) = s.listed.present n j
+
+  all_faithful : (n : ℕ) → IsKnown l before list n
+      → AreWords t (key_at l.keys) (fault_at ends) (key_words t (key_at l.keys n)) (steps l.graph n)
+  all_faithful n (inl e) = nodes.faithful n e (fault_at ends)
+  all_faithful n (inr (inl j)) = (s.explored.written n j).steps.words
+  all_faithful n (inr (inr j)) = (s.written n j).steps.words
+
+  all_starts : (n : ℕ) → IsKnown l before list n → HasStartsOf t l n
+  all_starts n (inl e) = nodes.starts n e
+  all_starts n (inr (inl j)) = (s.explored.written n j).starts
+  all_starts n (inr (inr j)) = (s.written n j).starts
+
+  all_looks : (n : ℕ) → IsKnown l before list n → HasLooksIfLed t l n
+  all_looks n (inl e) all = nodes.looked n e
+  all_looks n (inr (inl j)) all = (s.explored.written n j).looks all
+  all_looks n (inr (inr j)) all = (s.written n j).looks all
+
+  pub explored_all : AreExplored t l ends known
+  explored_all = record {
+    numbered = record {
+      within = λ n k. let h : n < length l.keys = is_within n k in
+          let c : length l.graph ≡ length l.keys = nodes.step_count in omega arith;
+      below = λ n q k i. to_known l before list q (all_below n q (from_known l before list n k) i);
+      apart = λ n q k j e. nodes.apart n q (is_within n k) (is_within q j) e;
+      present = λ n k. all_present n (from_known l before list n k);
+      faithful = λ n k. all_faithful n (from_known l before list n k);
+    };
+    starts = λ n k. all_starts n (from_known l before list n k);
+    looks = λ n k. all_looks n (from_known l before list n k);
+  }

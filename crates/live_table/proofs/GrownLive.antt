@@ -1,0 +1,66 @@
+-- Exploring changes nothing that is shown.
+use Rattle.std.proofs.Common.{◌≡◌, ◌∷◌, [], ℕ, List, Option, is_none, sym, ap, subst}
+use Rattle.expr_tree.specs.declared.word_list.WordUse.{WordUse}
+use Rattle.def_entry.specs.declared.key.Key.{Key}
+use Rattle.def_entry.specs.Tables.{Table}
+use Rattle.table_names.specs.declared.fault.NameFault.{NameFault}
+use Rattle.table_names.specs.Faults.{key_fault, name_fault}
+use Rattle.table_names.specs.Reach.{key_reach, reach}
+use Rattle.deck.specs.Decks.{Contents}
+use Rattle.deck.specs.Tables.{table}
+use Rattle.name_edges.specs.NameGraphs.{NameGraph}
+use Rattle.live_table.specs.declared.dead_end.DeadEnd.{DeadEnd}
+use Rattle.live_table.specs.Edged.{IsLive}
+use Rattle.live_table.specs.Exploring.{AreGrown}
+use Rattle.live_table.specs.Shown.{IsCutOff, IsRightTable, Shown}
+use Rattle.live_table.specs.Sound.{IsSound}
+use Rattle.live_table.specs.States.{AsksKey, AsksWords, Event, after_query}
+use Rattle.live_table.specs.Stored.{Listed, shown}
+use Rattle.live_table.proofs.LinkedNames.{grown_edges}
+use Rattle.live_table.proofs.Queries.{IsQueryOf, cut_off}
+
+-- the same is shown of a table that has grown
+pub same_shown : (deck : Contents) (l m : Listed) (before here there : List ℕ) (ends more : List DeadEnd)
+    (r : ℕ) → AreGrown (table deck) l m before here there ends more
+    → shown deck m r ≡ shown deck l r
+same_shown deck l m before here there ends more r g = λ i. record { deck = deck; kept = g.kept i; reductions = r }
+
+-- it is sound
+pub grown_sound : (deck : Contents) (l m : Listed) (before here there : List ℕ) (ends more : List DeadEnd) (r : ℕ)
+    → AreGrown (table deck) l m before here there ends more
+    → IsSound deck l r → IsSound deck m r
+grown_sound deck l m before here there ends more r g s = record {
+  numbers = g.nodes;
+  right = subst IsRightTable (sym (same_shown deck l m before here there ends more r g)) s.right;
+  few = s.few;
+}
+
+-- and has its edges
+pub grown_live : (deck : Contents) (l m : Listed) (before here there : List ℕ) (ends more : List DeadEnd) (r : ℕ)
+    → AreGrown (table deck) l m before here there ends more → (g : NameGraph)
+    → IsLive deck l g r → IsLive deck m g r
+grown_live deck l m before here there ends more r grown g live = record {
+  sound = grown_sound deck l m before here there ends more r grown live.sound;
+  edges = grown_edges deck l m before here there ends more r grown live.sound g live.edges;
+}
+
+-- ---- a query of words, and of a key
+pub words_query : (t : Table) (us : List WordUse) → IsQueryOf (AsksWords us) t (name_fault t us) (reach t us)
+words_query t us =
+    record { after = λ s e. ap (λ (x : Table). after_query (is_none (name_fault x us)) (reach x us) s) e }
+
+-- what a query of a key asks for
+pub key_query : (t : Table) (k : Key) → IsQueryOf (AsksKey k) t (key_fault t k) (k ∷ key_reach t k)
+key_query t k =
+    record { after = λ s e. ap (λ (x : Table). after_query (is_none (key_fault x k)) (k ∷ key_reach x k) s) e }
+
+-- ---- want of memory before the walk
+pub cut_short : (event : Event) (fault : Option NameFault) (reached : List Key) (deck : Contents) (l m : Listed)
+    (before here there : List ℕ) (ends more : List DeadEnd) (r old : ℕ)
+    → AreGrown (table deck) l m before here there ends more → IsSound deck l r
+    → IsQueryOf event (table deck) fault reached
+    → IsCutOff (event ∷ []) (shown deck l r) (shown deck m r) old old
+cut_short event fault reached deck l m before here there ends more r old g s is =
+    subst (λ (now : Shown). IsCutOff (event ∷ []) (shown deck l r) now old old)
+    (sym (same_shown deck l m before here there ends more r g))
+    (cut_off event fault reached (shown deck l r) old s.right is)

@@ -1,0 +1,99 @@
+-- The steps of a word, by what it leads to.
+use Rattle.std.proofs.Common.{◌≡◌, ◌<◌, ◌++◌, ℕ, true, List, [], ◌∷◌, length, Some, None, refl, sym, subst, inl, inr}
+use Rattle.expr_tree.specs.declared.word_list.WordUse.{WordUse}
+use Rattle.def_entry.specs.declared.key.Key.{Key}
+use Rattle.def_entry.specs.Tables.{Table, is_present}
+use Rattle.name_walk.specs.declared.step.Step.{Step}
+use Rattle.name_walk.specs.declared.step.Step.TheVariants as step
+use Rattle.name_walk.specs.Lists.{In}
+use Rattle.name_numbers.specs.Numbered.{ForOne, ForTwo}
+use Rattle.live_table.specs.declared.dead_end.DeadEnd.{DeadEnd}
+use Rattle.live_table.specs.declared.leading.Lead.{Lead}
+use Rattle.live_table.specs.declared.leading.Lead.TheVariants.{Refused, Nowhere, One, Two}
+use Rattle.live_table.specs.declared.stepping.WordSteps.{WordSteps}
+use Rattle.live_table.specs.Exploring.{AreWritten, IsKnown}
+use Rattle.live_table.specs.Leading.{IsLead, IsQueryLead, is_refused_lead, numbers, steps_to}
+use Rattle.live_table.specs.Looks.{AreLooksPut}
+use Rattle.live_table.specs.Stored.{Listed, key_at}
+use Rattle.live_table.proofs.Looking.{looks_put, one_step, two_steps}
+use Rattle.live_table.proofs.Places.{some_same}
+use Rattle.live_table.proofs.Written.{first_present, one_present, refused_written, second_present, two_written}
+use Rattle.live_table.proofs.Written.{unknown_written}
+
+-- ---- targets
+-- a lead says more than that of a query
+pub query_lead : (t : Table) (keys : List Key) (u : WordUse) (old new : List ℕ) (lead : Lead)
+    → IsLead t keys u old new lead → IsQueryLead t keys u lead
+query_lead t keys u old new Refused h = h
+query_lead t keys u old new Nowhere h = (h.0, h.1.targets, h.1.inside)
+query_lead t keys u old new (One n) h = (h.0, h.1.targets, h.1.inside)
+query_lead t keys u old new (Two n m) h = (h.0, h.1.targets, h.1.inside)
+
+module _ (t : Table) (keys : List Key) (u : WordUse) where
+  -- targets have numbers
+  pub lead_within : (lead : Lead) → IsQueryLead t keys u lead → (m : ℕ) → In m (numbers lead) → m < length keys
+  lead_within Refused h m i = absurd i
+  lead_within Nowhere h m i = absurd i
+  lead_within (One n) h m i = h.2 m i
+  lead_within (Two n p) h m i = h.2 m i
+
+  is_there : (m n : ℕ) → m ≡ n → is_present t (key_at keys n) ≡ true → is_present t (key_at keys m) ≡ true
+  is_there m n e p = subst (λ (x : ℕ). is_present t (key_at keys x) ≡ true) (sym e) p
+
+  -- and entries
+  pub lead_present : (lead : Lead) → IsQueryLead t keys u lead → (m : ℕ) → In m (numbers lead)
+      → is_present t (key_at keys m) ≡ true
+  lead_present Refused h m i = absurd i
+  lead_present Nowhere h m i = absurd i
+  lead_present (One n) h m (inl e) = is_there m n e (one_present t u (key_at keys n) h.1)
+  lead_present (One n) h m (inr i) = absurd i
+  lead_present (Two n p) h m (inl e) = is_there m n e (first_present t u (key_at keys n) (key_at keys p) h.1)
+  lead_present (Two n p) h m (inr (inl e)) =
+      is_there m p e (second_present t u (key_at keys n) (key_at keys p) h.1)
+  lead_present (Two n p) h m (inr (inr i)) = absurd i
+
+  -- ---- the keys at which a word looks, where it has targets
+  abbrev Put : (old new : List ℕ) → WordSteps → Type 0
+  Put old new s = AreLooksPut t keys u (s.first ∷ s.second ∷ []) old new
+
+  pub steps_looked : (old new : List ℕ) (lead : Lead) (s : WordSteps) → IsLead t keys u old new lead
+      → Some s ≡ steps_to lead
+      → AreLooksPut t keys u (s.first ∷ s.second ∷ []) old new
+  steps_looked old new Refused s h e = cc
+  steps_looked old new Nowhere s h e = cc
+  steps_looked old new (One n) s h e =
+      let w : WordSteps = record { first = step.To n; second = step.To n } in
+      subst (Put old new) (sym (some_same s w e)) (looks_put t keys u (n ∷ []) old new _ h.1 (one_step n))
+  steps_looked old new (Two n m) s h e =
+      let w : WordSteps = record { first = step.To n; second = step.To m } in
+      subst (Put old new) (sym (some_same s w e)) (looks_put t keys u (n ∷ m ∷ []) old new _ h.1 (two_steps n m))
+
+-- ---- the steps of a word
+module _ (t : Table) (l : Listed) (before list : List ℕ) (ends : List DeadEnd) (u : WordUse) where
+  abbrev Written : WordSteps → Type 0
+  Written s = AreWritten t l before list ends (u ∷ []) (s.first ∷ s.second ∷ [])
+
+  pub steps_written : (lead : Lead) (s : WordSteps) → IsQueryLead t l.keys u lead
+      → ((m : ℕ) → In m (numbers lead) → IsKnown l before list m) → Some s ≡ steps_to lead
+      → AreWritten t l before list ends (u ∷ []) (s.first ∷ s.second ∷ [])
+  steps_written Refused s h known e = cc
+  steps_written Nowhere s h known e = cc
+  steps_written (One n) s h known e =
+      let w : WordSteps = record { first = step.To n; second = step.To n } in
+      subst Written (sym (some_same s w e))
+      (two_written t l before list u ends n n (ForOne n h.0 h.1) (known n (inl refl)) (known n (inl refl)))
+  steps_written (Two n m) s h known e =
+      let w : WordSteps = record { first = step.To n; second = step.To m } in
+      subst Written (sym (some_same s w e))
+      (two_written t l before list u ends n m (ForTwo n m h.0 h.1) (known n (inl refl)) (known m (inr (inl refl))))
+
+  -- of one that leads nowhere
+  pub nowhere_written : (more : List DeadEnd) (lead : Lead) (x y : Step) → IsQueryLead t l.keys u lead
+      → None ≡ steps_to lead
+      → more ≡ ends ++ record { text = u.text; is_refused = is_refused_lead lead } ∷ []
+      → x ≡ step.Nowhere (length ends) → y ≡ step.Nowhere (length ends)
+      → AreWritten t l before list more (u ∷ []) (x ∷ y ∷ [])
+  nowhere_written more Refused x y h none e p q = refused_written t l before list u ends more x y h e p q
+  nowhere_written more Nowhere x y h none e p q = unknown_written t l before list u ends more x y h.0 h.1 e p q
+  nowhere_written more (One n) x y h none e p q = cc
+  nowhere_written more (Two n m) x y h none e p q = cc

@@ -1,0 +1,110 @@
+-- The steps of the words of a query, one word behind another.
+use Rattle.std.proofs.Common.{◌≡◌, ◌+◌, ◌++◌, ◌∷◌, [], ℕ, zero, suc, false, List, take, drop, Some}
+use Rattle.std.proofs.Common.{None, sym, ◌∙◌, ap, subst}
+use Rattle.std.specs.List.{slice_get}
+use Rattle.std.proofs.lemmas.Bool.{true≢false}
+use Rattle.std.proofs.lemmas.List.{append_assoc}
+use Rattle.expr_tree.specs.declared.word_list.WordUse.{WordUse}
+use Rattle.def_entry.specs.Tables.{Table}
+use Rattle.name_walk.specs.declared.step.Step.{Step}
+use Rattle.name_walk.specs.Lists.{In}
+use Rattle.name_walk.proofs.Lists.{take_at}
+use Rattle.live_table.specs.declared.dead_end.DeadEnd.{DeadEnd}
+use Rattle.live_table.specs.declared.leading.Lead.{Lead}
+use Rattle.live_table.specs.declared.leading.Lead.TheVariants.{Refused, Nowhere, One, Two}
+use Rattle.live_table.specs.declared.stepping.WordSteps.{WordSteps}
+use Rattle.live_table.specs.Exploring.{AreAdded, AreListed, AreWritten, IsKnown}
+use Rattle.live_table.specs.Leading.{IsQueryLead, is_refused_lead, numbers, steps_to}
+use Rattle.live_table.specs.QueryWords.{AreCutAt, IsDeadEnd}
+use Rattle.live_table.specs.Sound.{AreNodes}
+use Rattle.live_table.specs.Stored.{Listed}
+use Rattle.live_table.proofs.Growing.{added_both, added_none, grown_none, written_more}
+use Rattle.live_table.proofs.LeadSteps.{steps_written}
+use Rattle.live_table.proofs.Written.{written_behind, written_none}
+
+-- ---- where the loop over words stands
+pub record IsStepping (t : Table) (old now : Listed) (before here list : List ℕ) (us : List WordUse) (xs : List Step)
+    (i : ℕ) : Type 0 where
+  pub added : (ends : List DeadEnd) → AreAdded t old now before here list ends ends
+  pub written : AreWritten t now before list [] (take i us) xs
+
+-- at first there are no steps
+pub stepping_start : (t : Table) (l : Listed) (before list : List ℕ) (us : List WordUse) (xs : List Step) → AreNodes t l
+    → AreListed t l before list → xs ≡ [] → IsStepping t l l before list list us xs 0
+stepping_start t l before list us xs nodes right e = record {
+  added = λ ends. added_none t l before list ends ends nodes right (λ i x q. q);
+  written = written_none t l before list [] xs e;
+}
+
+-- one more word was looked up, and its targets were put on the agenda
+module _ (t : Table) (old now m : Listed) (before here list there : List ℕ) (us : List WordUse) (xs : List Step)
+    (i : ℕ) (u : WordUse)
+    (at : slice_get us i ≡ Some u) (s : IsStepping t old now before here list us xs i)
+    (led : (ends : List DeadEnd) → AreAdded t now m before list list ends ends)
+    (put : (ends : List DeadEnd) → AreAdded t m m before list there ends ends) where
+  then : (ends : List DeadEnd) → AreAdded t now m before list there ends ends
+  then ends = added_both t now m m before list list there ends ends ends (led ends) (put ends)
+
+  pub stepped_added : (ends : List DeadEnd) → AreAdded t old m before here there ends ends
+  stepped_added ends = added_both t old now m before here list there ends ends ends (s.added ends) (then ends)
+
+  front : AreWritten t m before there [] (take i us) xs
+  front = written_more t now m before list there [] [] (s.added []).grown.nodes (s.added []).grown.listed
+      (then []).grown (take i us) xs s.written
+
+  module _ (lead : Lead) (is : IsQueryLead t m.keys u lead) where
+    -- its steps go behind those before it
+    pub stepping_next : ((n : ℕ) → In n (numbers lead) → IsKnown m before there n) → (w : WordSteps)
+        → Some w ≡ steps_to lead → (ys zs : List Step) → ys ≡ xs ++ w.first ∷ [] → zs ≡ ys ++ w.second ∷ []
+        → IsStepping t old m before here there us zs (i + 1)
+    stepping_next known w e ys zs a b = record {
+      added = stepped_added;
+      written = subst (λ (p : List WordUse × List Step). AreWritten t m before there [] p.0 p.1)
+          (λ j. (sym (take_at us i u at) j, sym all j))
+          (written_behind t m before there [] (take i us) (u ∷ []) xs (w.first ∷ w.second ∷ []) front
+          (steps_written t m before there [] u lead w is known e));
+    }
+      where
+        all : zs ≡ xs ++ w.first ∷ w.second ∷ []
+        all = b ∙ (ap (λ (qs : List Step). qs ++ w.second ∷ []) a ∙ append_assoc xs (w.first ∷ []) (w.second ∷ []))
+
+    -- or it leads nowhere
+    pub stepping_cut : None ≡ steps_to lead → (end : DeadEnd)
+        → end ≡ record { text = u.text; is_refused = is_refused_lead lead } → AreCutAt t m before there us xs end
+    stepping_cut none end e = record {
+      front = take i us;
+      word = u;
+      rest = drop (suc i) us;
+      words = parts us i at;
+      written = front;
+      ends = dead lead is none e;
+    }
+      where
+        parts : (vs : List WordUse) (j : ℕ) → slice_get vs j ≡ Some u → vs ≡ take j vs ++ u ∷ drop (suc j) vs
+        parts [] j q = cc
+        parts (v ∷ vs) zero q = let f : v ≡ u = cc in ap (λ (x : WordUse). x ∷ vs) f
+        parts (v ∷ vs) (suc j) q = ap (λ (ws : List WordUse). v ∷ ws) (parts vs j q)
+
+        dead : (x : Lead) → IsQueryLead t m.keys u x → None ≡ steps_to x
+            → end ≡ record { text = u.text; is_refused = is_refused_lead x } → IsDeadEnd t u end
+        dead Refused h n q = record {
+          text = ap (λ (d : DeadEnd). d.text) q;
+          refused = ap (λ (d : DeadEnd). d.is_refused) q ∙ sym h;
+          nowhere = λ f. absurd (true≢false (sym h ∙ f));
+        }
+        dead Nowhere h n q = record {
+          text = ap (λ (d : DeadEnd). d.text) q;
+          refused = ap (λ (d : DeadEnd). d.is_refused) q ∙ sym h.0;
+          nowhere = λ f. h.1;
+        }
+        dead (One p) h n q = cc
+        dead (Two p r) h n q = cc
+
+-- ---- steps that all lead somewhere say the same whatever the dead ends are
+pub written_led : (t : Table) (l : Listed) (before list : List ℕ) (ends : List DeadEnd) (us : List WordUse)
+    (xs : List Step)
+    → AreNodes t l → AreListed t l before list → AreWritten t l before list [] us xs
+    → AreWritten t l before list ends us xs
+written_led t l before list ends us xs nodes right w =
+    written_more t l l before list list [] ends nodes right
+    (grown_none t l before list [] ends nodes right (λ i x e. cc)) us xs w

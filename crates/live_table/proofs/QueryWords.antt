@@ -1,0 +1,68 @@
+-- The name fault of a query that is cut before a word which leads nowhere.
+use Rattle.std.proofs.Common.{◌≡◌, ◌-◌, ◌++◌, ◌∷◌, [], ℕ, Bool, true, false, cond, List, length, Option, Some, None}
+use Rattle.std.proofs.Common.{option_map, refl, sym, ◌∙◌, ap}
+use Rattle.std.specs.Option.{option_or}
+use Rattle.expr_tree.specs.declared.word_list.WordUse.{WordUse}
+use Rattle.expr_tree.specs.Names.{is_refused}
+use Rattle.def_entry.specs.declared.key.Key.{Key}
+use Rattle.def_entry.specs.Tables.{Table}
+use Rattle.name_walk.specs.declared.step.Step.{Step}
+use Rattle.name_numbers.specs.Numbered.{named}
+use Rattle.table_names.specs.declared.fault.NameFault.{NameFault}
+use Rattle.table_names.specs.declared.fault.NameFault.TheVariants.{Refused, Unknown}
+use Rattle.table_names.specs.Faults.{Deeper, fault_within, first, name_fault, targets_fault, word_fault}
+use Rattle.table_names.specs.Leads.{targets}
+use Rattle.live_table.specs.declared.dead_end.DeadEnd.{DeadEnd}
+use Rattle.live_table.specs.Asked.{IsClosing, IsFaulty, fault_in}
+use Rattle.live_table.specs.Explored.{fault_at, fault_of}
+use Rattle.live_table.specs.QueryWords.{IsDeadEnd, fault_before}
+use Rattle.live_table.specs.Stored.{Listed, key_at}
+
+-- ---- the first of two lists
+or_assoc : {A : Type 0} (a b c : Option A) → option_or (option_or a b) c ≡ option_or a (option_or b c)
+or_assoc None b c = refl
+or_assoc (Some x) b c = refl
+
+first_of_both : {A B : Type 0} (f : A → Option B) (xs ys : List A)
+    → first f (xs ++ ys) ≡ option_or (first f xs) (first f ys)
+first_of_both f [] ys = refl
+first_of_both f (x ∷ xs) ys =
+    ap (option_or (f x)) (first_of_both f xs ys) ∙ sym (or_assoc (f x) (first f xs) (first f ys))
+
+-- ---- a word that leads nowhere has its own fault
+module _ (t : Table) (deeper : Deeper) (u : WordUse) where
+  by_flag : (refused : Bool) (ns : List Key) → (refused ≡ false → ns ≡ [])
+      → cond refused (Some (Refused u.text None)) (targets_fault t deeper [] u ns)
+      ≡ Some (cond refused (Refused u.text None) (Unknown u.text None))
+  by_flag true ns h = refl
+  by_flag false ns h = ap (targets_fault t deeper [] u) (h refl)
+
+  its_fault : (end : DeadEnd) → IsDeadEnd t u end → word_fault t deeper [] u ≡ Some (fault_of (Some end) None)
+  its_fault end d =
+      by_flag (is_refused u.text) (targets t u) d.nowhere
+      ∙ (λ i. Some (cond (sym d.refused i) (Refused (sym d.text i) None) (Unknown (sym d.text i) None)))
+
+-- the words behind it do not count
+pub cut_words : (t : Table) (front rest : List WordUse) (u : WordUse) (end : DeadEnd) → IsDeadEnd t u end
+    → fault_before (name_fault t front) end ≡ name_fault t (front ++ u ∷ rest)
+cut_words t front rest u end d = sym (first_of_both f front (u ∷ rest) ∙ ap (option_or (first f front)) own)
+  where
+    f : WordUse → Option NameFault
+    f = word_fault t (fault_within t (length t - 0)) []
+
+    own : first f (u ∷ rest) ≡ Some (fault_of (Some end) None)
+    own = ap (λ (o : Option NameFault). option_or o (first f rest))
+        (its_fault t (fault_within t (length t - 0)) u end d)
+
+-- ---- what a walk of the words before it found
+module _ (t : Table) (l : Listed) (ends : List DeadEnd) (query : List Step) (end : DeadEnd) where
+  pub faulty_before : (f : NameFault) → IsFaulty t l ends query f → fault_before (fault_in t l ends query) end ≡ Some f
+  faulty_before f w =
+      ap (λ (o : Option NameFault). fault_before o end)
+      (ap (option_map (named t (key_at l.keys) (fault_at ends))) w.some ∙ ap Some (sym w.by_name))
+
+  pub closing_before : (f : NameFault) (order : List ℕ) → IsClosing l query order → f ≡ fault_of (Some end) None
+      → fault_before (fault_in t l ends query) end ≡ Some f
+  closing_before f order w e =
+      ap (λ (o : Option NameFault). fault_before o end)
+      (ap (option_map (named t (key_at l.keys) (fault_at ends))) w.none) ∙ ap Some (sym e)

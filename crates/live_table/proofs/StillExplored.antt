@@ -1,0 +1,135 @@
+-- What was explored stays explored, until an edit.
+use Rattle.std.proofs.Common.{◌≡◌, ◌⊎◌, ◌↔◌, ◌<◌, ℕ, true, List, [], set, length, Some, refl, sym, ◌∙◌, ap, subst}
+use Rattle.std.proofs.Common.{inl, inr}
+use Rattle.std.specs.List.{slice_get}
+use Rattle.std.proofs.lemmas.Bool.{cases_eq}
+use Rattle.def_entry.specs.declared.key.Key.{Key}
+use Rattle.def_entry.specs.Tables.{Table, is_present}
+use Rattle.name_walk.specs.Closed.{IsSettled}
+use Rattle.name_walk.specs.Lists.{In}
+use Rattle.name_walk.proofs.Marks.{get_set_other, get_set_same}
+use Rattle.tree_eval.specs.declared.outcome.Outcome.{Outcome}
+use Rattle.live_table.specs.declared.callee.Callee.{Callee}
+use Rattle.live_table.specs.declared.dead_end.DeadEnd.{DeadEnd}
+use Rattle.live_table.specs.Callees.{HasStarts}
+use Rattle.live_table.specs.Due.{with_outcome}
+use Rattle.live_table.specs.Exploring.{AreAdded, AreAllExplored, IsKnown, IsWritten, WereExplored}
+use Rattle.live_table.specs.Ranks.{ranked}
+use Rattle.live_table.specs.Sound.{AreNodes, HasStartsOf}
+use Rattle.live_table.specs.Stored.{Listed}
+use Rattle.live_table.proofs.Growing.{grown_alone, key_same, none_listed}
+use Rattle.live_table.proofs.Places.{element, get_lt, some_same}
+use Rattle.live_table.proofs.Reached.{still_written}
+
+-- of no names nothing is claimed
+pub none_explored : (t : Table) (l : Listed) (names : List ℕ) (ends : List DeadEnd) → names ≡ []
+    → WereExplored t l names ends
+none_explored t l names ends e =
+    subst (λ (ns : List ℕ). WereExplored t l ns ends) (sym e)
+    (record { within = λ n i. absurd i; present = λ n i. absurd i; written = λ n i. absurd i })
+
+-- what is written stays so where more is known
+pub written_wider : (t : Table) (l : Listed) (before list names more : List ℕ) (ends : List DeadEnd) (n : ℕ)
+    → ((m : ℕ) → IsKnown l before list m → IsKnown l names more m) → IsWritten t l before list ends n
+    → IsWritten t l names more ends n
+written_wider t l before list names more ends n wider w = record {
+  steps = record {
+    words = w.steps.words;
+    targets = λ m i. wider m (w.steps.targets m i);
+    nowhere = w.steps.nowhere;
+  };
+  starts = w.starts;
+  looks = w.looks;
+}
+
+-- where names are added
+pub added_explored : (t : Table) (l m : Listed) (before here there : List ℕ) (ends more : List DeadEnd) → AreNodes t l
+    → AreAdded t l m before here there ends more → WereExplored t l before ends → WereExplored t m before more
+added_explored t l m before here there ends more nodes added were = record {
+  within = added.grown.listed.gone;
+  present = λ n i. subst (λ (k : Key). is_present t k ≡ true)
+      (sym (key_same l.keys m.keys n added.grown.keys_more (were.within n i))) (were.present n i);
+  written = λ n i.
+      still_written t l m before [] [] ends more n nodes (none_listed t l before [] were.within refl)
+      (grown_alone t l m before here there ends more added.grown) (were.within n i)
+      (added.same.steps n (were.within n i) tt) (added.same.callees n (were.within n i) tt)
+      (added.same.looks n (were.within n i) tt) (were.written n i);
+}
+
+-- ---- where a name is settled
+module _ (t : Table) (l : Listed) (n : ℕ) (o : Outcome) (rank : ℕ) (c : Callee) (at : slice_get l.callees n ≡ Some c)
+    (before : List ℕ) (ends : List DeadEnd) (were : WereExplored t l before ends) where
+  abbrev after : Listed
+  after = with_outcome n o (ranked rank c) l
+
+  settled_still : (m : ℕ) → IsSettled l.settled m → IsSettled (set l.settled n true) m
+  settled_still m e = elim (cases_eq m n) [
+    | inl q ↦
+        ap (slice_get (set l.settled n true)) q
+        ∙ get_set_same l.settled n true (get_lt l.settled n true (ap (slice_get l.settled) (sym q) ∙ e))
+    | inr ne ↦ get_set_other l.settled n m true ne ∙ e
+  ]
+
+  known_after : (m : ℕ) → IsKnown l before [] m → IsKnown after before [] m
+  known_after m (inl e) = inl (settled_still m e)
+  known_after m (inr i) = inr i
+
+  starts_after : (m : ℕ) → HasStartsOf t l m → HasStartsOf t after m
+  starts_after m h e callee entry is = elim (cases_eq m n) [
+    | inl q ↦
+        subst (HasStarts e.what)
+        (some_same (ranked rank c) callee
+        (sym (ap (slice_get (set l.callees n (ranked rank c))) q
+        ∙ get_set_same l.callees n (ranked rank c) (get_lt l.callees n c at)) ∙ is))
+        (h e c entry (ap (slice_get l.callees) q ∙ at))
+    | inr ne ↦ h e callee entry (sym (get_set_other l.callees n m (ranked rank c) ne) ∙ is)
+  ]
+
+  written_after : (m : ℕ) → IsWritten t l before [] ends m → IsWritten t after before [] ends m
+  written_after m w = record {
+    steps = record {
+      words = w.steps.words;
+      targets = λ q i. known_after q (w.steps.targets q i);
+      nowhere = w.steps.nowhere;
+    };
+    starts = starts_after m w.starts;
+    looks = λ all. let own = w.looks all in record { looks = own.looks; once = own.once };
+  }
+
+  explored_after : WereExplored t (with_outcome n o (ranked rank c) l) before ends
+  explored_after = record {
+    within = were.within;
+    present = were.present;
+    written = λ m i. written_after m (were.written m i);
+  }
+
+-- with what is kept of a function there, whatever it is
+pub settled_explored : (t : Table) (l later : Listed) (n : ℕ) (o : Outcome) (rank : ℕ) → n < length l.callees
+    → ((c : Callee) → slice_get l.callees n ≡ Some c → later ≡ with_outcome n o (ranked rank c) l)
+    → (before : List ℕ) (ends : List DeadEnd) → WereExplored t l before ends → WereExplored t later before ends
+settled_explored t l later n o rank h put before ends were =
+    let found : (c : Callee) × (slice_get l.callees n ≡ Some c) = element l.callees n h in
+    subst (λ (x : Listed). WereExplored t x before ends) (sym (put found.0 found.1))
+    (explored_after t l n o rank found.0 found.1 before ends were)
+
+-- ---- what was explored below a query is put to it
+module _ (t : Table) (l : Listed) (before list names : List ℕ) (ends : List DeadEnd)
+    (all : AreAllExplored t l before list ends) (same : (m : ℕ) → In m names ↔ (In m before ⊎ In m list)) where
+  known_before : (m : ℕ) → IsKnown l before [] m → IsKnown l names [] m
+  known_before m (inl e) = inl e
+  known_before m (inr (inl i)) = inr (inl ((same m).1 (inl i)))
+  known_before m (inr (inr i)) = absurd i
+
+  known_there : (m : ℕ) → IsKnown l before list m → IsKnown l names [] m
+  known_there m (inl e) = inl e
+  known_there m (inr i) = inr (inl ((same m).1 i))
+
+  pub put_explored : WereExplored t l names ends
+  put_explored = record {
+    within = λ n i. elim ((same n).0 i) [ inl j ↦ all.listed.gone n j | inr j ↦ all.listed.within n j ];
+    present = λ n i. elim ((same n).0 i) [ inl j ↦ all.explored.present n j | inr j ↦ all.listed.present n j ];
+    written = λ n i. elim ((same n).0 i) [
+      | inl j ↦ written_wider t l before [] names [] ends n known_before (all.explored.written n j)
+      | inr j ↦ written_wider t l before list names [] ends n known_there (all.written n j)
+    ];
+  }

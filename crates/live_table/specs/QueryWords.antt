@@ -1,0 +1,39 @@
+-- The words of a query, up to the first that leads nowhere.
+use Rattle.std.specs.Prelude.{◌≡◌, ◌++◌, ◌∷◌, [], ℕ, false, List, Option, Some, None}
+use Rattle.std.specs.Option.{option_or}
+use Rattle.expr_tree.specs.declared.word_list.WordUse.{WordUse}
+use Rattle.expr_tree.specs.Names.{is_refused}
+use Rattle.def_entry.specs.Tables.{Table}
+use Rattle.name_walk.specs.declared.step.Step.{Step}
+use Rattle.table_names.specs.Leads.{targets}
+use Rattle.table_names.specs.declared.fault.NameFault.{NameFault}
+use Rattle.live_table.specs.declared.dead_end.DeadEnd.{DeadEnd}
+use Rattle.live_table.specs.Explored.{fault_of}
+use Rattle.live_table.specs.Exploring.{AreWritten}
+use Rattle.live_table.specs.Stored.{Listed}
+
+-- a word that leads nowhere: a name that is refused, or one that has no targets
+pub record IsDeadEnd (table : Table) (u : WordUse) (end : DeadEnd) : Type 0 where
+  pub text : end.text ≡ u.text
+  pub refused : end.is_refused ≡ is_refused u.text
+  pub nowhere : is_refused u.text ≡ false → targets table u ≡ []
+
+-- these are the steps of the words before one that leads nowhere
+pub record AreCutAt (table : Table) (l : Listed) (before list : List ℕ) (us : List WordUse) (xs : List Step)
+    (end : DeadEnd) : Type 0 where
+  pub front : List WordUse
+  pub word : WordUse
+  pub rest : List WordUse
+  pub words : us ≡ front ++ word ∷ rest
+  pub written : AreWritten table l before list [] front xs
+  pub ends : IsDeadEnd table word end
+
+-- these are the steps of the words of a query before the first that leads nowhere, or of all
+abbrev pub AreQuerySteps : Table → Listed → (before list : List ℕ) → List WordUse → List Step → Option DeadEnd
+    → Type 0
+AreQuerySteps table l before list us xs None = AreWritten table l before list [] us xs
+AreQuerySteps table l before list us xs (Some end) = AreCutAt table l before list us xs end
+
+-- the first fault of the words before one that leads nowhere, or else its own
+abbrev pub fault_before : Option NameFault → DeadEnd → Option NameFault
+fault_before fault end = option_or fault (Some (fault_of (Some end) None))

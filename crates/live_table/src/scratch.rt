@@ -1,0 +1,25 @@
+//! What queries use again.
+
+use crate::agenda::Agenda;
+use crate::tried_keys::TriedKeys;
+use name_walk::Walker;
+use std::alloc::Global;
+
+/// Memory that a query uses and leaves to the next.
+#[derive(Drop)]
+pub(crate) struct Scratch {
+    pub(crate) agenda: Agenda,
+    pub(crate) tried: TriedKeys,
+    pub(crate) walker: Walker,
+}
+
+impl Scratch {
+    /// It takes no memory.
+    pub(crate) fn new(alloc: Global) -> Scratch {
+        Scratch {
+            agenda: Agenda::new(alloc),
+            tried: TriedKeys::new(alloc),
+            walker: Walker::new(alloc),
+        }
+    }
+}
