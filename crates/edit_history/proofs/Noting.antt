@@ -14,18 +14,17 @@ use Rattle.deck_lines.specs.declared.draft.LoadFault.{LoadFault}
 use Rattle.deck_lines.specs.declared.draft.LoadFault.TheVariants.{DeckFull, ReadFailed}
 use Rattle.deck_lines.specs.declared.line.DeckLine.{DeckLine}
 use Rattle.deck.specs.Decks.{Contents}
-use Rattle.deck.specs.Edits.{after_drop, after_switch, without, without_some}
+use Rattle.deck.specs.Edits.{after_drop, without, without_some}
 use Rattle.deck.specs.Loading.{MayComeTo, lines_alone, of_load}
 use Rattle.deck.specs.Splices.{InverseLaw, after_splice, lines_from}
 use Rattle.deck.specs.Tables.{last_place}
 use Rattle.deck.specs.declared.fault.DeckFault.{DeckFault}
-use Rattle.deck.specs.declared.settings.Settings.{Settings}
 use Rattle.deck.specs.declared.splice.Splice.{Splice}
 use Rattle.edit_history.specs.Histories.{Course, Follows, Lead}
 use Rattle.edit_history.specs.Steps.{CanStep, after_step}
 use Rattle.edit_history.specs.Versions.{version_of}
 use Rattle.edit_history.specs.declared.step.Step.{Step}
-use Rattle.edit_history.specs.declared.step.Step.TheVariants.{Exchange, Switch}
+use Rattle.edit_history.specs.declared.step.Step.TheVariants.{Exchange}
 use Rattle.edit_history.proofs.GoingBack.{version_by}
 use Rattle.edit_history.proofs.Placed.{last_within}
 use Rattle.edit_history.proofs.Stepping.{can_exchange, can_go_back, cut_last, lines_back, splice}
@@ -51,18 +50,6 @@ course_is s done undone rest e f = λ i. course (e i) (reverse (f i))
 pub record LeadsBack (s : Step) (before after : Contents) : Type 0 where
   pub can : CanStep s (version_of after)
   pub again : after_step s (version_of after) ≡ version_of before
-
--- other settings, and those before
-pub switched : (old : Settings) (settings : Settings) (before after : Contents) → after ≡ after_switch settings before
-    → old ≡ before.settings
-    → IsClosed before.lines → pass_limit before.lines ≡ false → LeadsBack (Switch old) before after
-switched old settings before after is same closed within = record {
-  can = record { splice = can_exchange 0 0 [] after.lines before.lines (omega arith) lines closed within; right = tt };
-  again = version_by after.lines before.lines old before.settings lines same;
-}
-  where
-    lines : after.lines ≡ before.lines
-    lines = ap (λ (d : Contents). d.lines) is
 
 same_deck : (d e : Contents) → ◌≡◌ {A = Result Contents DeckFault} (Ok d) (Ok e) → d ≡ e
 same_deck d e h = cc

@@ -3,5 +3,7 @@ pub mod Histories
 pub mod Laws
 pub mod Making
 pub mod Steps
+pub mod Switching
 pub mod Timelines
+pub mod VarsParts
 pub mod Versions

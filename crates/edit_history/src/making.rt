@@ -9,6 +9,8 @@ ghost use Rattle.edit_history.specs.Steps.{CanStep};
 ghost use Rattle.edit_history.specs.Versions.{version_of};
 ghost use Rattle.edit_history.specs.declared.step.Step.TheVariants as step;
 
+use crate::changing::{change_between, changed_settings};
+use crate::settings_change::SettingsChange;
 use crate::stack::{put, take};
 use crate::step::Step;
 use deck::{DeckFault, Settings, Splice, splices_are_undone};
@@ -58,7 +60,7 @@ fn make(alloc: Global, table: &mut LiveTable, step: Step) -> Result<Step, Step>
         Step::Define(text) => define(alloc, table, text),
         Step::Undefine(uncovered) => undefine(alloc, table, uncovered),
         Step::Exchange { at, cut, put } => exchange(alloc, table, at, cut, put),
-        Step::Switch(settings) => switch(alloc, table, settings),
+        Step::Switch(change) => switch(alloc, table, change),
     }
 }
 
@@ -132,50 +134,33 @@ fn exchange_in(splice: Splice) -> Step
 }
 
 // Puts other settings in force.
-fn switch(alloc: Global, table: &mut LiveTable, settings: Settings) -> Result<Step, Step>
-    requires { CanStep (step.Switch settings) (version_of table.old.deck) }
-    ensures { IsStepped (step.Switch settings) table.old table.new result }
+fn switch(alloc: Global, table: &mut LiveTable, change: SettingsChange) -> Result<Step, Step>
+    requires { CanStep (step.Switch change) (version_of table.old.deck) }
+    ensures { IsStepped (step.Switch change) table.old table.new result }
 {
     // The lines of each deck are closed and within the limits.
     let _ = table.deck().lines();
+    let Ok(settings) = changed_settings(alloc, table.deck().settings(), &change) else {
+        return Err(Step::Switch(change));
+    };
     match switch_settings(alloc, table, settings) {
-        Ok(old) => Ok(Step::Switch(old)),
-        Err(refused) => Err(Step::Switch(refused)),
+        Ok(back) => Ok(Step::Switch(back)),
+        Err(_) => Err(Step::Switch(change)),
     }
 }
 
-/// Puts other settings in force, and answers those before. A refusal, for want of memory, hands them back and changes
-/// nothing.
+/// Puts other settings in force, and answers the change that gives back those before. A refusal, for want of memory,
+/// changes nothing.
 pub fn switch_settings(
     alloc: Global,
     table: &mut LiveTable,
     settings: Settings,
-) -> Result<Settings, Settings>
+) -> Result<SettingsChange, AllocError>
     ensures { IsSwitch settings table.old table.new result }
 {
-    // The lines of each deck are closed and within the limits.
-    let _ = table.deck().lines();
-    let change = Splice {
-        at: 0,
-        cut: 0,
-        put: DeckLines::new(alloc),
-        settings,
-    };
-    match table.splice(alloc, change) {
-        Ok(undo) => Ok(settings_in(undo)),
-        Err((change, _)) => Err(settings_in(change)),
+    let back = change_between(alloc, &settings, table.deck().settings())?;
+    match table.switch(alloc, settings) {
+        Ok(()) => Ok(back),
+        Err(_) => Err(AllocError),
     }
-}
-
-// The settings of a splice.
-fn settings_in(splice: Splice) -> Settings
-    ensures { result ≡ splice.settings }
-{
-    let Splice {
-        at: _,
-        cut: _,
-        put: _,
-        settings,
-    } = splice;
-    settings
 }

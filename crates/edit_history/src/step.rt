@@ -1,6 +1,6 @@
 //! Steps from one version of a deck to another.
 
-use deck::Settings;
+use crate::settings_change::SettingsChange;
 use deck_lines::DeckLines;
 use units_io::Text;
 
@@ -19,5 +19,5 @@ pub enum Step {
         put: DeckLines,
     },
     /// Puts other settings in force.
-    Switch(Settings),
+    Switch(SettingsChange),
 }

@@ -89,10 +89,10 @@ impl History {
         self.done.reserve(1)?;
         // The lines of each deck are closed and within the limits.
         let _ = table.deck().lines();
-        let Ok(old) = switch_settings(alloc, table, settings) else {
+        let Ok(back) = switch_settings(alloc, table, settings) else {
             return Err(DeckFault::OutOfMemory);
         };
-        stack::put(&mut self.done, Step::Switch(old));
+        stack::put(&mut self.done, Step::Switch(back));
         self.undone.clear();
         Ok(())
     }

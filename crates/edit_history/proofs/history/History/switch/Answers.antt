@@ -5,14 +5,15 @@ use Rattle.deck_lines.specs.Limits.{pass_limit}
 use Rattle.deck.specs.Decks.{Contents}
 use Rattle.edit_history.specs.Histories.{Course}
 use Rattle.edit_history.specs.declared.step.Step.TheVariants.{Switch}
-use Rattle.edit_history.proofs.Noting.{course_is, follows_noted, switched}
+use Rattle.edit_history.proofs.Noting.{course_is, follows_noted}
+use Rattle.edit_history.proofs.Switched.{switched}
 use Rattle.edit_history.proofs.history.History.switch.Goals as goal
 
 pub returns-clause-follows : goal.returns-clause-follows
 returns-clause-follows c =
-    let s = Switch c.in-Ok.old in
-    let back = switched c.in-Ok.old c.args.settings c.args.table.now.deck c.switch_settings.new.table.deck
-    c.in-Ok.ensures.0 c.in-Ok.ensures.1
+    let s = Switch c.in-Ok.back in
+    let back = switched c.in-Ok.back c.args.settings c.args.table.now.deck c.switch_settings.new.table.deck
+    c.in-Ok.ensures.0 c.in-Ok.ensures.1 c.in-Ok.ensures.2
     (subst (λ (d : Contents). IsClosed d.lines) c.deck.ensures.deck c.lines.ensures.closed)
     (subst (λ (d : Contents). pass_limit d.lines ≡ false) c.deck.ensures.deck c.lines.ensures.within) in
     let is = course_is s (reverse c.put.new.steps.items) c.clear.new.self.items c.args.self.now.done
@@ -23,9 +24,9 @@ returns-clause-follows c =
 
 pub returns-clause-noted : goal.returns-clause-noted
 returns-clause-noted c =
-    let s = Switch c.in-Ok.old in
-    let back = switched c.in-Ok.old c.args.settings c.args.table.now.deck c.switch_settings.new.table.deck
-    c.in-Ok.ensures.0 c.in-Ok.ensures.1
+    let s = Switch c.in-Ok.back in
+    let back = switched c.in-Ok.back c.args.settings c.args.table.now.deck c.switch_settings.new.table.deck
+    c.in-Ok.ensures.0 c.in-Ok.ensures.1 c.in-Ok.ensures.2
     (subst (λ (d : Contents). IsClosed d.lines) c.deck.ensures.deck c.lines.ensures.closed)
     (subst (λ (d : Contents). pass_limit d.lines ≡ false) c.deck.ensures.deck c.lines.ensures.within) in
     let is = course_is s (reverse c.put.new.steps.items) c.clear.new.self.items c.args.self.now.done

@@ -1,0 +1,83 @@
+//! Parts of variables: those that are the same, and copies.
+
+ghost use Rattle.std.specs.Prelude.{◌≡◌, ◌≤◌, length, take, drop, OnOk};
+ghost use Rattle.std.specs.Bool.{OnTrue};
+ghost use Rattle.units_io.specs.Named.{HasDistinctNames};
+ghost use Rattle.edit_history.specs.VarsParts.{IsSamePair, pairs_between, with_pairs};
+
+use std::alloc::{AllocError, Global};
+use units_io::{Text, Vars};
+
+/// Where two lists of variables end without the pairs at their ends that are the same.
+#[derive(Drop)]
+pub struct Ends {
+    pub in_vars: usize,
+    pub in_others: usize,
+}
+
+/// How many pairs at the front are the same in both.
+pub fn same_front(vars: &Vars, others: &Vars) -> usize
+    ensures same { take result vars.now ≡ take result others.now }
+    ensures inside { result ≤ length others.now }
+{
+    for i in 0..vars.len() {
+        if !is_same_pair(vars, i, others, i) {
+            return i;
+        }
+    }
+    vars.len()
+}
+
+/// Where both end without the pairs at their ends that are the same and stand behind so many.
+pub fn differing_ends(vars: &Vars, others: &Vars, front: usize) -> Ends
+    requires { front ≤ length others.now }
+    ensures same { drop result.in_vars vars.now ≡ drop result.in_others others.now }
+    ensures behind { front ≤ result.in_others }
+    ensures distinct { HasDistinctNames others.now }
+{
+    let mut in_vars = vars.len();
+    let mut in_others = others.len();
+    while in_vars > front && in_others > front {
+        if !is_same_pair(vars, in_vars - 1, others, in_others - 1) {
+            break;
+        }
+        in_vars -= 1;
+        in_others -= 1;
+    }
+    Ends { in_vars, in_others }
+}
+
+/// Sets copies of the pairs from a place up to another, one after another: behind the pairs of a list that has none of
+/// these names. The only error is want of memory.
+pub fn copy_pairs(
+    alloc: Global,
+    copies: &mut Vars,
+    vars: &Vars,
+    first: usize,
+    end: usize,
+) -> Result<(), AllocError>
+    ensures { OnOk result (copies.new ≡ with_pairs copies.old (pairs_between first end vars.now)) }
+{
+    for i in first..end {
+        let Some((name, value)) = vars.get(i) else {
+            return Ok(());
+        };
+        let name = Text::from_bytes(alloc, name)?;
+        let value = value.copy(alloc)?;
+        copies.set(alloc, name, value)?;
+    }
+    Ok(())
+}
+
+// Whether the pair at a place is the one at a place of others.
+fn is_same_pair(vars: &Vars, i: usize, others: &Vars, j: usize) -> bool
+    ensures { OnTrue result (IsSamePair vars.now i others.now j) }
+{
+    let Some((name, value)) = vars.get(i) else {
+        return false;
+    };
+    let Some((other_name, other_value)) = others.get(j) else {
+        return false;
+    };
+    name == other_name && value.as_bytes() == other_value.as_bytes()
+}
