@@ -1,5 +1,6 @@
 -- The answer to a line, at a point of a talk.
-use Rattle.std.proofs.Common.{◌≡◌, ◌++◌, [], ℕ, List, Bool, Bor, true, false, cond, refl, sym, ap, subst, ◌∙◌, arith}
+use Rattle.std.proofs.Common.{◌≡◌, ◌++◌, ◌∷◌, [], ℕ, List, Bool, Bor, true, false, cond, refl, sym, ap, subst, ◌∙◌}
+use Rattle.std.proofs.Common.{arith}
 use Rattle.std.proofs.Common.{append_assoc, Some, None, Ok, Err, IfOk, OnOk}
 use Rattle.std.specs.Prelude.{Result}
 use Rattle.std.specs.declared.option.Option.{Option}
@@ -12,20 +13,23 @@ use Rattle.session.specs.Commands.{Command, is_save}
 use Rattle.session.specs.Commands as command
 use Rattle.session.specs.Editing.{notice_lines}
 use Rattle.session.specs.EditResults.{EditResult, Made, Refused, edit_result, edited_by}
-use Rattle.session.specs.Hearing.{is_last, is_last_read, readable}
+use Rattle.session.specs.Hearing.{is_last, is_last_read, readable, saved_by, saved_by_read}
+use Rattle.session.specs.Keeping.{LineKeeps}
 use Rattle.session.specs.Parts.{IsLine, IsSaid}
 use Rattle.session.specs.Seen.{seen_command}
 use Rattle.session.specs.Sessions.{Known, State, dated_in, prompt, state_of}
-use Rattle.session.specs.Standing.{Base, IsAt, Begins, IsBefore}
+use Rattle.session.specs.Standing.{Base, IsAt, Begins, IsBefore, IsBroken}
 use Rattle.session.specs.Steps.{answer, answer_read, answer_to, blank_answer, conformable_answer, expression_answer}
-use Rattle.session.specs.Talks.{Talk, with_answer, spoken}
+use Rattle.session.specs.Talks.{Talk, files_behind, with_answer, spoken}
 use Rattle.session.specs.Telling.{TellsIf, when_told}
 use Rattle.session.specs.Watching.{is_full}
 use Rattle.session.specs.declared.answer.LineReply.{LineReply}
 use Rattle.session.specs.declared.command.Command.{Command as Declared}
 use Rattle.session.specs.declared.command.Command.TheVariants as read
 use Rattle.session.specs.declared.fault.SessionFault.{SessionFault}
+use Rattle.session.specs.declared.fault.SessionFault.TheVariants.{WriteFailed}
 use Rattle.session.specs.declared.said.Said.{Said}
+use Rattle.session.proofs.Breaking.{all_answered, left_of_line}
 use Rattle.watch.specs.Watched.{subject}
 
 -- files that serve are as they were when nothing changes them
@@ -209,16 +213,39 @@ module _ (base : Base) (talk : Talk) (part : List ℕ) (said : Said) (session : 
     }
 
     -- or a front of it is said
-    pub replied_before : (said_now : Said) → Begins said_now.out.items (said.out.items ++ text)
+    replied_before : (said_now : Said) → Begins said_now.out.items (said.out.items ++ text)
         → Begins said_now.err.items (said.err.items ++ reply.err) → IsBefore base (with_answer talk asked part) said_now
     replied_before said_now o e = record {
       out = (o.0, out_now ∙ ap (λ t. base.out ++ t) o.1 ∙ sym (append_assoc base.out said_now.out.items o.0));
       err = (e.0, err_now ∙ ap (λ t. base.err ++ t) e.1 ∙ sym (append_assoc base.err said_now.err.items e.0));
     }
 
-  -- nothing is said of an answer that fails
-  pub unsaid : IsBefore base (with_answer talk asked part) said
-  unsaid = record {
-    out = (spoken asked part, ap (λ t. t ++ spoken asked part) at.out);
-    err = (asked.err, ap (λ t. t ++ asked.err) at.err);
+    -- which breaks off the talk
+    pub replied_broken : (fault : SessionFault) (said_now : Said)
+        → Begins said_now.out.items (said.out.items ++ text) → Begins said_now.err.items (said.err.items ++ reply.err)
+        → IsBroken fault base talk (part ∷ [])
+        (record { said = said_now; session = session_now; files = files_now; steps = steps_now })
+    replied_broken fault said_now o e = record {
+      before = replied_before said_now o e;
+      left = (
+        asked.after.files,
+        same.files ∙ ap (λ f. when_told f asked.after.files) at.files,
+        all_answered (fault ≡ WriteFailed) (files_behind talk) (part ∷ []),
+      );
+    }
+
+  -- nothing is said of a line that is not answered
+  pub unanswered : (A : Type 0) (line : Option (List ℕ)) → line ≡ readable part → (fault : SessionFault)
+      (session_now : Known) (files_now : Option FileMap) (steps_now : ℕ)
+      → LineKeeps {A = A} (saved_by_read line) (Err fault) files files_now
+      → IsBroken fault base talk (part ∷ [])
+      (record { said = said; session = session_now; files = files_now; steps = steps_now })
+  unanswered A line heard fault session_now files_now steps_now kept = record {
+    before = record {
+      out = (spoken asked part, ap (λ t. t ++ spoken asked part) at.out);
+      err = (asked.err, ap (λ t. t ++ asked.err) at.err);
+    };
+    left = left_of_line A talk part fault files_now
+        (subst (λ old. LineKeeps {A = A} (saved_by part) (Err fault) old files_now) at.files
+        (subst (λ l. LineKeeps {A = A} (saved_by_read l) (Err fault) files files_now) heard kept));
   }

@@ -10,19 +10,20 @@ use Rattle.units_io.specs.Faults.{Rose}
 use Rattle.units_io.specs.FileMap.{FileMap}
 use Rattle.session.specs.Hearing.{is_last, heard}
 use Rattle.session.specs.Input.{whole_lines, lines_of}
-use Rattle.session.specs.Talks.{Talk, talk_over, talk_on}
+use Rattle.session.specs.Talks.{Talk, files_behind, talk_over, talk_on}
 use Rattle.session.specs.Hearing.{readable}
 use Rattle.session.specs.Telling.{when_told}
 use Rattle.session.specs.Outside.{Outside, taken_of, IsReadToEnd, TookMoreThan}
-use Rattle.session.specs.Written.{IsAll, IsFront, IsCut, IsCutShort, output_of, session_course}
-use Rattle.session.specs.Standing.{Base, Now, IsAt, Begins, IsBefore, Stands, IsOver, Fed}
+use Rattle.session.specs.Written.{IsAll, IsFront, IsCut, IsCutShort, IsPart, IsPartBut, output_of, session_course}
+use Rattle.session.specs.Standing.{Base, Now, IsAt, Begins, IsBefore, IsBroken, Stands, IsOver, Fed}
 use Rattle.session.specs.Waiting.{Opens, Waits, TookAtLeast}
 use Rattle.session.specs.Sessions.{Known}
 use Rattle.session.specs.declared.fault.SessionFault.{SessionFault}
 use Rattle.session.specs.declared.said.Said.{Said}
 use Rattle.std.proofs.lemmas.Bool.Decides.{nat_tests}
 use Rattle.session.proofs.Cutting.{take-front}
-use Rattle.session.proofs.Talking.{talk_more, at_before, talk-out, talk-err}
+use Rattle.session.proofs.Breaking.{none_answered}
+use Rattle.session.proofs.Talking.{heard_more, talk_more, at_before, talk-out, talk-err}
 
 grown_twice : (o : Option (List ℕ)) (xs ys : List ℕ) → grown (grown o xs) ys ≡ grown o (xs ++ ys)
 grown_twice None xs ys = refl
@@ -85,6 +86,11 @@ pub loses : (old new : Option (List ℕ)) (left bytes : List ℕ) → old ≡ So
     → Loses (Some left) new bytes
 loses old new left bytes e h = rw e at h
 
+-- told files stay told
+pub stay_told : (old new : Option FileMap) (m files : FileMap) → old ≡ Some m → new ≡ Some files
+    → new ≡ when_told old files
+stay_told old new m files h e = e ∙ ap (λ f. when_told f files) (sym h)
+
 -- what was taken
 pub taken_is : (input taken rest : List ℕ) (left : Option (List ℕ)) → input ≡ taken ++ rest → left ≡ Some rest
     → taken_of input left ≡ taken
@@ -100,7 +106,7 @@ fed_before (Ok false) base first taken more held now s =
     at_before base (talk_over first (whole_lines taken)) (talk_on first (taken ++ more)) rest.0 now s.at rest.1
 fed_before (Ok true) base first taken more held now o = at_before base (talk_on first (taken ++ more))
     (talk_on first (taken ++ more)) [] now o.at refl
-fed_before (Err fault) base first taken more held now b = b
+fed_before (Err fault) base first taken more held now b = b.before
 
 -- once the opening is written, the session waits for its first line
 pub opens : (first : Talk) (held : Option (List ℕ)) (said : Said) (session : Known) (before opening now : Outside)
@@ -187,14 +193,23 @@ module _ (first : Talk) (taken : List ℕ) (held : Option (List ℕ)) (session :
   }
 
   -- a session that waits is cut behind the bytes taken
-  pub cut : (input rest : List ℕ) (after : Outside) → input ≡ taken ++ rest → after.left ≡ Some rest
-      → after.out ≡ now.out → after.err ≡ now.err → IsCutShort (session_course first input) before after
-  cut input rest after p q o e =
+  pub cut : (input rest : List ℕ) (after : Outside) (old : FileMap) → before.files ≡ Some old → input ≡ taken ++ rest
+      → after.left ≡ Some rest → after.out ≡ now.out → after.err ≡ now.err → after.files ≡ now.files
+      → after.steps ≡ now.steps → IsCutShort (session_course first input) before after
+  cut input rest after old h p q o e f n =
       subst (λ t. IsCut (output_of (talk_over first (whole_lines t))) t before after)
       (sym (taken_is input taken rest after.left p q))
-      (record { out = o ∙ w.out; err = e ∙ w.err; going = w.going })
+      (record {
+        all = record {
+          out = o ∙ w.out;
+          err = e ∙ w.err;
+          files = stay_told before.files after.files old told.state.files h (f ∙ w.files);
+          steps = n ∙ w.steps;
+        };
+        going = w.going;
+      })
 
-  pub cut_front : (input rest : List ℕ) (after : Outside) → input ≡ taken ++ rest → after.out ≡ now.out
+  cut_front : (input rest : List ℕ) (after : Outside) → input ≡ taken ++ rest → after.out ≡ now.out
       → after.err ≡ now.err → IsFront (output_of (talk_on first input)) before after
   cut_front input rest after p o e =
       let more = talk_more first taken w.going rest in
@@ -207,8 +222,28 @@ module _ (first : Talk) (taken : List ℕ) (held : Option (List ℕ)) (session :
             (front_all before.err after.err told.err (e ∙ w.err));
       })
 
+  -- and what is left of it is a part
+  pub cut_part : (input rest : List ℕ) (after : Outside) (old : FileMap) → before.files ≡ Some old
+      → input ≡ taken ++ rest → after.out ≡ now.out → after.err ≡ now.err → after.files ≡ now.files
+      → IsPart (session_course first input) before after
+  cut_part input rest after old h p o e f =
+      let more = heard_more first taken w.going rest in
+      record {
+        front = cut_front input rest after p o e;
+        files = (
+          told.state.files,
+          stay_told before.files after.files old told.state.files h (f ∙ w.files),
+          record {
+            answered = whole_lines taken;
+            rest = more.0;
+            front = ap (λ i. heard (lines_of i)) p ∙ more.1;
+            reached = refl;
+          },
+        );
+      }
+
 -- the opening alone is a front of the whole
-pub open_front : (first : Talk) (input : List ℕ) (said : Said) (session : Known) (before opening after : Outside)
+open_front : (first : Talk) (input : List ℕ) (said : Said) (session : Known) (before opening after : Outside)
     → Opens first said session before opening
     → GrowsByFront opening.out after.out said.out.items → GrowsByFront opening.err after.err said.err.items
     → IsFront (output_of (talk_on first input)) before after
@@ -219,6 +254,26 @@ open_front first input said session before opening after w o e = record {
   err = front_more before.err after.err said.err.items (talk_on first input).err
       (subst (λ t. Begins t (talk_on first input).err) w.at.err (talk-err first (heard (lines_of input))))
       (subst (λ p. GrowsByFront p after.err said.err.items) w.err e);
+}
+
+-- no line is answered yet, and the files are as they were
+pub opened_files : (first : Talk) (said : Said) (session : Known) (before opening : Outside)
+    → Opens first said session before opening → opening.files ≡ when_told before.files first.state.files
+opened_files first said session before opening w =
+    stay_told before.files opening.files first.state.files first.state.files (sym w.files ∙ w.at.files) w.at.files
+
+-- a part of the whole, where the opening is written in part
+pub open_part : (first : Talk) (input : List ℕ) (said : Said) (session : Known) (before opening after : Outside)
+    → Opens first said session before opening → GrowsByFront opening.out after.out said.out.items
+    → GrowsByFront opening.err after.err said.err.items → after.files ≡ opening.files
+    → IsPartBut (session_course first input) before after
+open_part first input said session before opening after w o e f = record {
+  front = open_front first input said session before opening after w o e;
+  files = (
+    first.state.files,
+    f ∙ opened_files first said session before opening w,
+    none_answered (Rose before.store_faults after.store_faults) (files_behind first) (heard (lines_of input)),
+  );
 }
 
 le_from : (a b : ℕ) → nat_le a b ≡ true → a ≤ b
@@ -272,11 +327,12 @@ heard_over base first taken input whole now left rest o p q =
 
 pub ended_before : {A : Type 0} (result : Result A SessionFault) (base : Base) (first : Talk) (input : List ℕ)
     (now : Now)
-    → MatchResult result (λ _. IsAt base (talk_on first input) now) (λ _. IsBefore base (talk_on first input) now.said)
+    → MatchResult result (λ _. IsAt base (talk_on first input) now)
+    (λ fault. IsBroken fault base first (heard (lines_of input)) now)
     → IsBefore base (talk_on first input) now.said
 ended_before (Ok done) base first input now at = at_before base (talk_on first input) (talk_on first input) [] now at
     refl
-ended_before (Err fault) base first input now b = b
+ended_before (Err fault) base first input now b = b.before
 
 pub rose_from : (first a b c : ℕ) → first ≤ a → a ≤ b → Rose b c → Rose first c
 rose_from first a b c e h r = omega (arith, e, h, r)

@@ -7,13 +7,13 @@ use Rattle.std.specs.Prelude.{MatchResult, Result}
 use Rattle.def_entry.specs.Cuts.{cut_at, lacks}
 use Rattle.def_entry.proofs.CutTexts.{cut-is, cut-none}
 use Rattle.def_lines.specs.Words.{is_empty}
-use Rattle.session.specs.Hearing.{is_last, readable}
-use Rattle.session.specs.Input.{whole_lines, unfinished}
-use Rattle.session.specs.Standing.{Base, Now, IsAt, IsBefore, Stands, IsOver}
-use Rattle.session.specs.Talks.{Talk, talk_over, talk_on}
+use Rattle.session.specs.Hearing.{heard, is_last, readable}
+use Rattle.session.specs.Input.{lines_of, whole_lines, unfinished}
+use Rattle.session.specs.Standing.{Base, Now, IsAt, IsBroken, Stands, IsOver}
+use Rattle.session.specs.Talks.{Talk, talk_over}
 use Rattle.session.specs.declared.fault.SessionFault.{SessionFault}
-use Rattle.session.specs.declared.said.Said.{Said}
-use Rattle.session.proofs.Talking.{next, fed_piece, fed_line, fed_last, failed_line, stands_before}
+use Rattle.session.proofs.Breaking.{broken_line, broken_rest}
+use Rattle.session.proofs.Talking.{next, fed_piece, fed_line, fed_last}
 
 -- what stands so far of a block: this much of it is answered, and the rest is to come
 module _ (base : Base) (first : Talk) (taken block ready rest : List ℕ) (held : Option (List ℕ)) (now : Now)
@@ -31,11 +31,12 @@ module _ (base : Base) (first : Talk) (taken block ready rest : List ℕ) (held 
       subst (λ t. Stands base first t held_now now) (whole rest refl)
       (fed_piece base first (taken ++ ready) held now s rest held_now (cut-none 10 rest cut) h)
 
-  pub rest_lost : (more : List ℕ) → IsBefore base (talk_on first ((taken ++ block) ++ more)) now.said
-  rest_lost more =
-      subst (λ t. IsBefore base (talk_on first t) now.said)
+  pub rest_lost : (fault : SessionFault) (more : List ℕ)
+      → IsBroken fault base first (heard (lines_of ((taken ++ block) ++ more))) now
+  rest_lost fault more =
+      subst (λ t. IsBroken fault base first (heard (lines_of t)) now)
       (sym (append_assoc (taken ++ ready) rest more) ∙ ap (λ t. t ++ more) (whole rest refl))
-      (stands_before base first (taken ++ ready) held now s (rest ++ more))
+      (broken_rest fault base first (taken ++ ready) held now s (rest ++ more))
 
   -- one stands there
   module _ (piece behind : List ℕ) (cut : cut_at 10 rest ≡ Some (piece, behind)) where
@@ -51,11 +52,12 @@ module _ (base : Base) (first : Talk) (taken block ready rest : List ℕ) (held 
         subst (λ t. IsOver base first t (t ++ more) after) (whole (piece ++ 10 ∷ behind) parts.0)
         (fed_last base first (taken ++ ready) held now s piece parts.1 behind more after d a)
 
-    pub line_lost : (more : List ℕ) (said : Said) → IsBefore base (next talk line) said
-        → IsBefore base (talk_on first ((taken ++ block) ++ more)) said
-    line_lost more said f =
-        subst (λ t. IsBefore base (talk_on first (t ++ more)) said) (whole (piece ++ 10 ∷ behind) parts.0)
-        (failed_line base first (taken ++ ready) held now s piece parts.1 behind more said f)
+    pub line_lost : (fault : SessionFault) (more : List ℕ) (after : Now) → IsBroken fault base talk (line ∷ []) after
+        → IsBroken fault base first (heard (lines_of ((taken ++ block) ++ more))) after
+    line_lost fault more after b =
+        subst (λ t. IsBroken fault base first (heard (lines_of (t ++ more))) after)
+        (whole (piece ++ 10 ∷ behind) parts.0)
+        (broken_line fault base first (taken ++ ready) held now s piece parts.1 behind more after b)
 
     pub line_fed : (held_now : Option (List ℕ)) (after : Now) → false ≡ is_last line → held_now ≡ Some []
         → IsAt base (next talk line) after
@@ -71,15 +73,15 @@ module _ (base : Base) (first : Talk) (taken block ready rest : List ℕ) (held 
 
 -- a line that is answered is so whatever it is called
 pub line_ended : (base : Base) (talk : Talk) (result : Result Bool SessionFault) (one same : List ℕ)
-    (held : Option (List ℕ)) (now : Now) (said : Said) → one ≡ same → held ≡ Some []
+    (held : Option (List ℕ)) (now : Now) → one ≡ same → held ≡ Some []
     → MatchResult result (λ done. (done ≡ is_last one) × IsAt base (next talk one) now)
-    (λ _. IsBefore base (next talk one) said)
+    (λ fault. IsBroken fault base talk (one ∷ []) now)
     → MatchResult result (λ done. (done ≡ is_last same) × (held ≡ Some []) × IsAt base (next talk same) now)
-    (λ _. IsBefore base (next talk same) said)
-line_ended base talk (Ok done) one same held now said e h told =
+    (λ fault. IsBroken fault base talk (same ∷ []) now)
+line_ended base talk (Ok done) one same held now e h told =
     (told.0 ∙ ap is_last e, h, subst (λ l. IsAt base (next talk l) now) e told.1)
-line_ended base talk (Err fault) one same held now said e h told =
-    subst (λ l. IsBefore base (next talk l) said) e told
+line_ended base talk (Err fault) one same held now e h told =
+    subst (λ l. IsBroken fault base talk (l ∷ []) now) e told
 
 -- a part of no byte
 pub no_part : (part piece : List ℕ) → is_empty part ≡ true → piece ≡ part ++ piece

@@ -1,5 +1,6 @@
 pub mod Cutting
 pub mod Talking
+pub mod Breaking
 pub mod Answering
 pub mod Joining
 pub mod Leaving

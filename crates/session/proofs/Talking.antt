@@ -25,7 +25,8 @@ heard-going (x ∷ xs) ys e = by (heard-going xs ys) (is_last x) e
     by ih true g = cc
     by ih false g = ap (λ t. x ∷ t) (ih g)
 
-talk-append : (talk : Talk) (xs ys : List (List ℕ)) → talk_over talk (xs ++ ys) ≡ talk_over (talk_over talk xs) ys
+-- lines are answered one behind another
+pub talk-append : (talk : Talk) (xs ys : List (List ℕ)) → talk_over talk (xs ++ ys) ≡ talk_over (talk_over talk xs) ys
 talk-append talk [] ys = refl
 talk-append talk (x ∷ xs) ys = talk-append (with_answer talk (answer talk.state x) x) xs ys
 
@@ -57,27 +58,31 @@ module _ (first : Talk) (taken : List ℕ) (going : list_any is_last (whole_line
   abbrev talked : Talk
   talked = talk_over first (whole_lines taken)
 
+  -- the whole lines are heard, and then more
+  pub heard_more : (more : List ℕ)
+      → (lines : List (List ℕ)) × (heard (lines_of (taken ++ more)) ≡ whole_lines taken ++ lines)
+  heard_more more =
+      let parts = lines_split taken more in
+      (heard parts.0, ap heard parts.1 ∙ heard-going (whole_lines taken) parts.0 going)
+
   -- a talk that goes on is the begin of the talk over more
   pub talk_more : (more : List ℕ) → (lines : List (List ℕ)) × (talk_on first (taken ++ more) ≡ talk_over talked lines)
   talk_more more =
-      let parts = lines_split taken more in (
-        heard parts.0,
-        ap (λ ls. talk_over first (heard ls)) parts.1
-            ∙ ap (talk_over first) (heard-going (whole_lines taken) parts.0 going)
-            ∙ talk-append first (whole_lines taken) (heard parts.0),
-      )
+      let parts = heard_more more in
+      (parts.0, ap (talk_over first) parts.1 ∙ talk-append first (whole_lines taken) parts.0)
 
   -- the last line, which no line feed ends
-  pub talk_end : (unfinished taken ≡ [] → ⊥) → talk_on first taken ≡ next talked (unfinished taken)
-  talk_end h =
-      ap (λ ls. talk_over first (heard ls)) (line_open taken h)
-      ∙ ap (talk_over first) (heard-going (whole_lines taken) (unfinished taken ∷ []) going)
-      ∙ talk-append first (whole_lines taken) (heard (unfinished taken ∷ []))
-      ∙ ap (talk_over (next talked (unfinished taken))) (same_cond (is_last (unfinished taken)))
+  pub heard_end : (unfinished taken ≡ [] → ⊥) → heard (lines_of taken) ≡ whole_lines taken ++ unfinished taken ∷ []
+  heard_end h =
+      ap heard (line_open taken h) ∙ heard-going (whole_lines taken) (unfinished taken ∷ []) going
+      ∙ ap (λ ls. whole_lines taken ++ unfinished taken ∷ ls) (same_cond (is_last (unfinished taken)))
     where
       same_cond : (d : Bool) → cond {A = List (List ℕ)} d [] [] ≡ []
       same_cond true = refl
       same_cond false = refl
+
+  talk_end : (unfinished taken ≡ [] → ⊥) → talk_on first taken ≡ next talked (unfinished taken)
+  talk_end h = ap (talk_over first) (heard_end h) ∙ talk-append first (whole_lines taken) (unfinished taken ∷ [])
 
   -- no line is open at the end
   pub talk_ended : unfinished taken ≡ [] → talk_on first taken ≡ talked
@@ -90,13 +95,19 @@ module _ (first : Talk) (taken : List ℕ) (going : list_any is_last (whole_line
     line = unfinished taken ++ piece
 
     -- what follows once a line feed has come
-    pub talk_feed : (more : List ℕ)
+    pub heard_feed : (more : List ℕ)
+        → heard (lines_of (taken ++ (piece ++ 10 ∷ more)))
+        ≡ whole_lines taken ++ line ∷ cond (is_last line) [] (heard (lines_of more))
+    heard_feed more =
+        ap heard (lines_line taken piece clear more)
+        ∙ heard-going (whole_lines taken) (line ∷ lines_of more) going
+
+    talk_feed : (more : List ℕ)
         → talk_on first (taken ++ (piece ++ 10 ∷ more))
         ≡ talk_over (next talked line) (cond (is_last line) [] (heard (lines_of more)))
     talk_feed more =
-        ap (λ ls. talk_over first (heard ls)) (lines_line taken piece clear more)
-        ∙ ap (talk_over first) (heard-going (whole_lines taken) (line ∷ lines_of more) going)
-        ∙ talk-append first (whole_lines taken) (heard (line ∷ lines_of more))
+        ap (talk_over first) (heard_feed more)
+        ∙ talk-append first (whole_lines taken) (line ∷ cond (is_last line) [] (heard (lines_of more)))
 
     pub over_feed : talk_over first (whole_lines (taken ++ (piece ++ 10 ∷ []))) ≡ next talked line
     over_feed = ap (talk_over first) (whole_line taken piece clear) ∙ talk-append first (whole_lines taken) (line ∷ [])
@@ -122,7 +133,7 @@ at_before base talk more lines now at e = record {
 }
 
 -- what is before a point of a talk is before all that follows
-before_more : (base : Base) (talk more : Talk) (lines : List (List ℕ)) (said : Said) → IsBefore base talk said
+pub before_more : (base : Base) (talk more : Talk) (lines : List (List ℕ)) (said : Said) → IsBefore base talk said
     → more ≡ talk_over talk lines → IsBefore base more said
 before_more base talk more lines said b e = record {
   out = begins-more _ talk.out more.out b.out
@@ -133,12 +144,6 @@ before_more base talk more lines said b e = record {
 
 module _ (base : Base) (first : Talk) (taken : List ℕ) (held : Option (List ℕ)) (now : Now)
     (s : Stands base first taken held now) where
-  -- nothing that comes can take back what is said
-  pub stands_before : (more : List ℕ) → IsBefore base (talk_on first (taken ++ more)) now.said
-  stands_before more =
-      let rest = talk_more first taken s.going more in
-      at_before base (talk_over first (whole_lines taken)) (talk_on first (taken ++ more)) rest.0 now s.at rest.1
-
   -- a piece that goes on with the line
   pub fed_piece : (piece : List ℕ) (held_now : Option (List ℕ)) → lacks 10 piece ≡ true
       → held_now ≡ readable (unfinished taken ++ piece) → Stands base first (taken ++ piece) held_now now
@@ -196,17 +201,6 @@ module _ (base : Base) (first : Talk) (taken : List ℕ) (held : Option (List �
             ≡ answered
         alone = ap (λ c. talk_over answered (cond c [] (heard (lines_of (behind ++ more))))) (sym d)
 
-    -- a line that is not answered whole
-    pub failed_line : (behind more : List ℕ) (said : Said) → IsBefore base answered said
-        → IsBefore base (talk_on first ((taken ++ (piece ++ 10 ∷ behind)) ++ more)) said
-    failed_line behind more said f =
-        before_more base answered (talk_on first ((taken ++ (piece ++ 10 ∷ behind)) ++ more))
-        (cond (is_last (unfinished taken ++ piece)) [] (heard (lines_of (behind ++ more)))) said f
-        (ap (talk_on first)
-        (append_assoc taken (piece ++ 10 ∷ behind) more
-        ∙ ap (λ t. taken ++ t) (append_assoc piece (10 ∷ behind) more))
-        ∙ talk_feed first taken s.going piece clear (behind ++ more))
-
   -- the end of the input, with no line open or with one
   pub end_open : unfinished taken ≡ [] → IsAt base (talk_on first taken) now
   end_open e = subst (λ t. IsAt base t now) (sym (talk_ended first taken s.going e)) s.at
@@ -215,8 +209,3 @@ module _ (base : Base) (first : Talk) (taken : List ℕ) (held : Option (List �
       → IsAt base (next (talk_over first (whole_lines taken)) (unfinished taken)) after
       → IsAt base (talk_on first taken) after
   end_line after h a = subst (λ t. IsAt base t after) (sym (talk_end first taken s.going h)) a
-
-  pub end_failed : (said : Said) → (unfinished taken ≡ [] → ⊥)
-      → IsBefore base (next (talk_over first (whole_lines taken)) (unfinished taken)) said
-      → IsBefore base (talk_on first taken) said
-  end_failed said h a = subst (λ t. IsBefore base t said) (sym (talk_end first taken s.going h)) a

@@ -6,6 +6,8 @@ use Rattle.def_entry.specs.Cuts.{cut_at}
 use Rattle.def_lines.specs.Blanks.{trimmed}
 use Rattle.def_lines.specs.Lines.{line_content}
 use Rattle.def_lines.specs.Words.{first_word, behind_word, is_empty}
+use Rattle.session.specs.declared.colon_word.ColonWord.{ColonWord}
+use Rattle.session.specs.declared.colon_word.ColonWord.TheVariants as colon
 
 -- an edit of the deck that needs no file; `DropLast` has the text behind its word, which may be the text of no key
 pub data DeckEdit : Type 0 where
@@ -45,27 +47,62 @@ abbrev pub watch_parts : Option (List ℕ × List ℕ) → (word : List ℕ) →
 watch_parts None word = Bad word
 watch_parts (Some p) word = watch_sides (trimmed p.0) (trimmed p.1) word
 
--- what another word that begins with a colon asks for
-unfoldable pub other_command : (word rest : List ℕ) → Command
-other_command word rest =
-    if bytes_eq word (codes ":load") then where_good (not (is_empty rest)) (Load rest) word
-    else if bytes_eq word (codes ":save") then where_good (not (is_empty rest)) (Save rest) word
-    else if bytes_eq word (codes ":stats") then where_good (is_empty rest) Stats word
-    else if bytes_eq word (codes ":watch") then watch_parts (cut_at 59 rest) word
-    else if bytes_eq word (codes ":unwatch") then where_good (is_empty rest) Unwatch word
-    else Unknown word
+-- a name, and a value behind it
+abbrev pub set_command : (rest word : List ℕ) → Command
+set_command rest word =
+    where_good (not (is_empty (behind_word rest))) (Edit (Set (first_word rest) (behind_word rest))) word
+
+-- a command that needs a text behind its word
+abbrev pub with_text : Command → (rest word : List ℕ) → Command
+with_text command rest word = where_good (not (is_empty rest)) command word
+
+-- a command with nothing behind its word
+abbrev pub alone : Command → (rest word : List ℕ) → Command
+alone command rest word = where_good (is_empty rest) command word
+
+-- the words that begin with a colon
+abbrev pub colon_words : List (List ℕ × ColonWord)
+colon_words =
+    (codes ":define", colon.Define)
+    ∷ (codes ":drop", colon.DropLast)
+    ∷ (codes ":set", colon.Set)
+    ∷ (codes ":locale", colon.Locale)
+    ∷ (codes ":undo", colon.Undo)
+    ∷ (codes ":redo", colon.Redo)
+    ∷ (codes ":load", colon.Load)
+    ∷ (codes ":save", colon.Save)
+    ∷ (codes ":stats", colon.Stats)
+    ∷ (codes ":watch", colon.Watch)
+    ∷ (codes ":unwatch", colon.Unwatch)
+    ∷ []
+
+-- what stands beside a word in such a list
+abbrev pub beside : List ℕ → List (List ℕ × ColonWord) → Option ColonWord
+beside word [] = None
+beside word (c ∷ cs) = if bytes_eq word c.0 then Some c.1 else beside word cs
+
+-- what each asks for with the rest behind it
+abbrev pub with_rest : ColonWord → (rest word : List ℕ) → Command
+with_rest colon.Define rest word = with_text (Edit (Define rest)) rest word
+with_rest colon.DropLast rest word = Edit (DropLast rest)
+with_rest colon.Set rest word = set_command rest word
+with_rest colon.Locale rest word = with_text (Edit (Locale rest)) rest word
+with_rest colon.Undo rest word = alone (Edit Undo) rest word
+with_rest colon.Redo rest word = alone (Edit Redo) rest word
+with_rest colon.Load rest word = with_text (Load rest) rest word
+with_rest colon.Save rest word = with_text (Save rest) rest word
+with_rest colon.Stats rest word = alone Stats rest word
+with_rest colon.Watch rest word = watch_parts (cut_at 59 rest) word
+with_rest colon.Unwatch rest word = alone Unwatch rest word
+
+-- the same where the word is one of them
+abbrev pub colon_by : Option ColonWord → (rest word : List ℕ) → Command
+colon_by None rest word = Unknown word
+colon_by (Some asked) rest word = with_rest asked rest word
 
 -- what a word that begins with a colon and the rest behind it ask for
 unfoldable pub colon_command : (word rest : List ℕ) → Command
-colon_command word rest =
-    if bytes_eq word (codes ":define") then where_good (not (is_empty rest)) (Edit (Define rest)) word
-    else if bytes_eq word (codes ":drop") then Edit (DropLast rest)
-    else if bytes_eq word (codes ":set") then
-    where_good (not (is_empty (behind_word rest))) (Edit (Set (first_word rest) (behind_word rest))) word
-    else if bytes_eq word (codes ":locale") then where_good (not (is_empty rest)) (Edit (Locale rest)) word
-    else if bytes_eq word (codes ":undo") then where_good (is_empty rest) (Edit Undo) word
-    else if bytes_eq word (codes ":redo") then where_good (is_empty rest) (Edit Redo) word
-    else other_command word rest
+colon_command word rest = colon_by (beside word colon_words) rest word
 
 -- `search` with a text, and without one an expression
 abbrev pub searching : (rest text : List ℕ) → Command
@@ -97,6 +134,15 @@ is_load _ = false
 abbrev pub is_save : Command → Bool
 is_save (Save name) = true
 is_save _ = false
+
+-- the name of the file that it saves
+abbrev pub saved_name : Command → Option (List ℕ)
+saved_name (Save name) = Some name
+saved_name _ = None
+
+-- the name of the file that a line saves
+abbrev pub saved_in : List ℕ → Option (List ℕ)
+saved_in line = saved_name (command_of line)
 
 -- it asks for a file
 abbrev pub names_file : Command → Bool

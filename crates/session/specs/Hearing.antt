@@ -1,6 +1,6 @@
 -- The lines that a session hears.
 use Rattle.std.specs.Prelude.{◌∷◌, [], ℕ, List, Bool, false, nat_le, length, if◌then◌else◌, Option, Some, None}
-use Rattle.session.specs.Commands.{command_of, is_quit}
+use Rattle.session.specs.Commands.{command_of, is_quit, saved_in}
 
 -- the longest line that is read
 abbrev pub longest_line : ℕ
@@ -17,6 +17,14 @@ is_last_read (Some line) = is_quit (command_of line)
 -- a line that ends the session
 abbrev pub is_last : List ℕ → Bool
 is_last line = is_last_read (readable line)
+
+-- the name of the file that a line saves, unless it is too long
+abbrev pub saved_by_read : Option (List ℕ) → Option (List ℕ)
+saved_by_read None = None
+saved_by_read (Some line) = saved_in line
+
+abbrev pub saved_by : List ℕ → Option (List ℕ)
+saved_by line = saved_by_read (readable line)
 
 -- the lines up to the first that ends the session, and with it
 abbrev pub heard : List (List ℕ) → List (List ℕ)

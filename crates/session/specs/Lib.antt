@@ -17,6 +17,7 @@ pub mod Talks
 pub mod Telling
 pub mod Answering
 pub mod Parts
+pub mod Keeping
 pub mod Standing
 pub mod Laws
 pub mod Outside

@@ -7,18 +7,27 @@ use Rattle.units_io.specs.Faults.{Rose}
 use Rattle.session.specs.Hearing.{is_last}
 use Rattle.session.specs.Input.{whole_lines}
 
--- what source, sinks and files tell, the count of failed fetches, and the count of steps
+-- what source, sinks and files tell, the counts of failed fetches and stores, and the count of steps
 pub record Outside : Type 0 where
   pub left : Option (List ℕ)
   pub out : Option (List ℕ)
   pub err : Option (List ℕ)
   pub files : Option FileMap
   pub fetch_faults : ℕ
+  pub store_faults : ℕ
   pub steps : ℕ
 
-abbrev pub outside_of : (left out err : Option (List ℕ)) → Option FileMap → (fetch_faults steps : ℕ) → Outside
-outside_of left out err files fetch_faults steps =
-    record { left = left; out = out; err = err; files = files; fetch_faults = fetch_faults; steps = steps }
+abbrev pub outside_of : (left out err : Option (List ℕ)) → Option FileMap → (fetch_faults store_faults steps : ℕ)
+    → Outside
+outside_of left out err files fetch_faults store_faults steps = record {
+  left = left;
+  out = out;
+  err = err;
+  files = files;
+  fetch_faults = fetch_faults;
+  store_faults = store_faults;
+  steps = steps;
+}
 
 -- the bytes of an input that were taken, by what is left of it
 abbrev pub taken_of : (input : List ℕ) → (left : Option (List ℕ)) → List ℕ

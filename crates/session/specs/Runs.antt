@@ -28,8 +28,10 @@ pub record HasItsCause (ending : SessionEnd) (before after : World) : Type 0 whe
 
 -- a session that opens with what is said, and then answered the lines of a source, and ended so
 pub record IsSessionRun (said : Said) (session : Known) (ending : SessionEnd) (before after : World) : Type 0 where
-  -- at the end all is written that the session says over its whole input; or a front of it, which where the input is
-  -- too long, and where the source failed, is exactly what is shown for the whole lines of the bytes taken
+  -- at the end all is written that the session says over its whole input, and the files are those behind it; or a
+  -- front of it, with the files behind some of its lines, which where the input is too long, and where the source
+  -- failed, is exactly what is shown for the whole lines of the bytes taken; a store that failed can have spoilt the
+  -- one file that it named
   pub told : (first : Talk) (input : List ℕ) (start : Outside) → before.source.left ≡ Some input →
       Opens first said session start (outside before) →
       IsEnded (session_course first input) ending start (outside after)
@@ -44,6 +46,7 @@ pub record AreAnswered (held : Option (List ℕ)) (session : Known) (ending : Se
   where
     pub told : (first : Talk) (input : List ℕ) (start : Outside) (files : FileMap) →
         before.source.left ≡ Some input → start.files ≡ Some files → start.fetch_faults ≤ before.files.fetch_faults →
+        start.store_faults ≤ before.files.store_faults →
         Waits first [] held session start (outside before) →
         IsEnded (session_course first input) ending start (outside after)
     pub heard : (first : Talk) (input : List ℕ) (start : Outside) → before.source.left ≡ Some input →

@@ -4,11 +4,13 @@ use Rattle.std.specs.Prelude.{MatchResult}
 use Rattle.std.specs.declared.option.Option.{Option}
 use Rattle.std.specs.List.{list_any}
 use Rattle.units_io.specs.FileMap.{FileMap}
-use Rattle.session.specs.Hearing.{is_last, readable}
-use Rattle.session.specs.Input.{whole_lines, unfinished}
+use Rattle.session.specs.Hearing.{heard, is_last, readable}
+use Rattle.session.specs.Input.{lines_of, whole_lines, unfinished}
+use Rattle.session.specs.Keeping.{AreLeft}
 use Rattle.session.specs.Sessions.{Known}
-use Rattle.session.specs.Talks.{Talk, talk_over, talk_on}
+use Rattle.session.specs.Talks.{Talk, files_behind, talk_over, talk_on}
 use Rattle.session.specs.declared.fault.SessionFault.{SessionFault}
+use Rattle.session.specs.declared.fault.SessionFault.TheVariants.{WriteFailed}
 use Rattle.session.specs.declared.said.Said.{Said}
 
 -- what was written before, and the count of steps at the start
@@ -44,6 +46,14 @@ pub record IsBefore (base : Base) (talk : Talk) (said : Said) : Type 0 where
   pub out : Begins (base.out ++ said.out.items) talk.out
   pub err : Begins (base.err ++ said.err.items) talk.err
 
+-- the answers to these lines broke off by a fault: what is said is a front of the talk over them, and the files are
+-- those behind some of them, but perhaps for one that could not be written
+pub record IsBroken (fault : SessionFault) (base : Base) (talk : Talk) (lines : List (List ℕ)) (now : Now) : Type 0
+  where
+    pub before : IsBefore base (talk_over talk lines) now.said
+    pub left : (m : FileMap) × (now.files ≡ Some m)
+        × AreLeft (fault ≡ WriteFailed) (files_behind talk) lines m
+
 -- the whole lines of the bytes taken are answered, none of them is the last, and the rest is held
 pub record Stands (base : Base) (first : Talk) (taken : List ℕ) (held : Option (List ℕ)) (now : Now) : Type 0 where
   pub at : IsAt base (talk_over first (whole_lines taken)) now
@@ -60,11 +70,12 @@ abbrev pub Fed : Result Bool SessionFault → Base → Talk → (taken more : Li
     → Type 0
 Fed (Ok false) base first taken more held now = Stands base first taken held now
 Fed (Ok true) base first taken more held now = IsOver base first taken (taken ++ more) now
-Fed (Err fault) base first taken more held now = IsBefore base (talk_on first (taken ++ more)) now.said
+Fed (Err fault) base first taken more held now = IsBroken fault base first (heard (lines_of (taken ++ more))) now
 
 -- a block was taken up, or the end of the input where it is empty
 abbrev pub IsTakenUp : (block : List ℕ) → Result Bool SessionFault → Base → Talk → (taken more : List ℕ)
     → (held : Option (List ℕ)) → Now → Type 0
 IsTakenUp [] result base first taken more held now =
-    MatchResult result (λ _. IsAt base (talk_on first taken) now) (λ _. IsBefore base (talk_on first taken) now.said)
+    MatchResult result (λ _. IsAt base (talk_on first taken) now)
+    (λ fault. IsBroken fault base first (heard (lines_of taken)) now)
 IsTakenUp (b ∷ block) result base first taken more held now = Fed result base first (taken ++ b ∷ block) more held now

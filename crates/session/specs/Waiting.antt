@@ -21,6 +21,7 @@ pub record Opens (first : Talk) (said : Said) (session : Known) (before now : Ou
   pub err : now.err ≡ before.err
   pub files : now.files ≡ before.files
   pub faults : before.fetch_faults ≤ now.fetch_faults
+  pub stores : before.store_faults ≤ now.store_faults
   pub at : IsAt (at_first before.steps) first
       (record { said = said; session = session; files = now.files; steps = now.steps })
 

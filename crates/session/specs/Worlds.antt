@@ -46,4 +46,4 @@ world_of source out err files steps = record { source = source; out = out; err =
 abbrev pub outside : World → Outside
 outside world =
     outside_of world.source.left world.out.written world.err.written world.files.told world.files.fetch_faults
-    world.steps
+    world.files.store_faults world.steps

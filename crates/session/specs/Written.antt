@@ -2,11 +2,13 @@
 use Rattle.std.specs.Prelude.{◌≡◌, ◌+◌, ℕ, List, false}
 use Rattle.std.specs.List.{list_any}
 use Rattle.units_io.specs.Bytes.{grown, GrowsByFront}
+use Rattle.units_io.specs.Faults.{Rose}
 use Rattle.units_io.specs.FileMap.{FileMap}
-use Rattle.session.specs.Hearing.{is_last}
-use Rattle.session.specs.Input.{whole_lines}
+use Rattle.session.specs.Hearing.{heard, is_last}
+use Rattle.session.specs.Input.{lines_of, whole_lines}
+use Rattle.session.specs.Keeping.{AreBehindSome, AreLeft}
 use Rattle.session.specs.Outside.{Outside, Rests, taken_of}
-use Rattle.session.specs.Talks.{Talk, talk_on, talk_over}
+use Rattle.session.specs.Talks.{Talk, talk_over}
 use Rattle.session.specs.Telling.{when_told}
 use Rattle.session.specs.declared.over_source.SessionEnd.{SessionEnd}
 use Rattle.session.specs.declared.over_source.SessionEnd.TheVariants.{Done, ReadFault, WriteFault, NoMemory}
@@ -31,21 +33,43 @@ pub record IsFront (output : Output) (before after : Outside) : Type 0 where
   pub out : GrowsByFront before.out after.out output.out
   pub err : GrowsByFront before.err after.err output.err
 
--- the session goes on behind the bytes taken, and exactly what is shown for their whole lines was written
+-- the session goes on behind the bytes taken: all stands that is shown for their whole lines, of which none is the last
 pub record IsCut (shown : Output) (taken : List ℕ) (before after : Outside) : Type 0 where
-  pub out : after.out ≡ grown before.out shown.out
-  pub err : after.err ≡ grown before.err shown.err
+  pub all : IsAll shown before after
   pub going : list_any is_last (whole_lines taken) ≡ false
 
--- the output over a whole input, what is shown for the whole lines of some bytes of it, and the input
+-- what is shown once these lines are answered, and the input
 pub record Course : Type 0 where
-  pub whole : Output
-  pub shown : List ℕ → Output
+  pub shown : (lines : List (List ℕ)) → Output
   pub input : List ℕ
+
+-- the lines of the input that are heard
+abbrev pub heard_in : Course → List (List ℕ)
+heard_in course = heard (lines_of course.input)
+
+-- the output over the whole input
+abbrev pub whole : Course → Output
+whole course = course.shown (heard_in course)
+
+-- the files once these lines are answered
+abbrev pub files_in : Course → List (List ℕ) → FileMap
+files_in course = λ lines. (course.shown lines).files
 
 abbrev pub IsCutShort : Course → Outside → Outside → Type 0
 IsCutShort course before after =
-    let taken = taken_of course.input after.left in IsCut (course.shown taken) taken before after
+    let taken = taken_of course.input after.left in IsCut (course.shown (whole_lines taken)) taken before after
+
+-- a part of a course: a front of its bytes on each sink, and the files behind some of its lines
+pub record IsPart (course : Course) (before after : Outside) : Type 0 where
+  pub front : IsFront (whole course) before after
+  pub files : (m : FileMap) × (after.files ≡ when_told before.files m)
+      × AreBehindSome (files_in course) (heard_in course) m
+
+-- the same, but perhaps for the one file that the next line saves, where a store failed
+pub record IsPartBut (course : Course) (before after : Outside) : Type 0 where
+  pub front : IsFront (whole course) before after
+  pub files : (m : FileMap) × (after.files ≡ when_told before.files m)
+      × AreLeft (Rose before.store_faults after.store_faults) (files_in course) (heard_in course) m
 
 -- the output of a talk
 abbrev pub output_of : Talk → Output
@@ -53,18 +77,14 @@ output_of talk = record { out = talk.out; err = talk.err; steps = talk.steps; fi
 
 -- the course of a session
 abbrev pub session_course : Talk → (input : List ℕ) → Course
-session_course first input = record {
-  whole = output_of (talk_on first input);
-  shown = λ taken. output_of (talk_over first (whole_lines taken));
-  input = input;
-}
+session_course first input = record { shown = λ lines. output_of (talk_over first lines); input = input }
 
--- what is left of a session by its end: all of it; or a front, which is cut behind the bytes taken where the input is
+-- what is left of a session by its end: all of it; or a part, which is cut behind the bytes taken where the input is
 -- too long, and where a read failed that is none of a file
 abbrev pub IsEnded : Course → SessionEnd → Outside → Outside → Type 0
-IsEnded course Done before after = IsAll course.whole before after
+IsEnded course Done before after = IsAll (whole course) before after
 IsEnded course ReadFault before after =
-    IsFront course.whole before after × (Rests before.fetch_faults after.fetch_faults → IsCutShort course before after)
-IsEnded course WriteFault before after = IsFront course.whole before after
-IsEnded course NoMemory before after = IsFront course.whole before after
-IsEnded course InputTooLong before after = IsFront course.whole before after × IsCutShort course before after
+    IsPart course before after × (Rests before.fetch_faults after.fetch_faults → IsCutShort course before after)
+IsEnded course WriteFault before after = IsPartBut course before after
+IsEnded course NoMemory before after = IsPart course before after
+IsEnded course InputTooLong before after = IsPart course before after × IsCutShort course before after

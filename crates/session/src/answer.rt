@@ -9,6 +9,7 @@ ghost use Rattle.session.specs.Answering.{AreCounted, IsAnswerTo, IsCalm, file_f
 ghost use Rattle.session.specs.Answers.{files_saved, saved_line};
 ghost use Rattle.session.specs.Commands as commands;
 ghost use Rattle.session.specs.Hearing.{longest_line};
+ghost use Rattle.session.specs.Keeping.{LineKeeps, SaveKeeps};
 ghost use Rattle.session.specs.Lines as lines;
 ghost use Rattle.session.specs.Parts.{IsLine, IsSaid};
 ghost use Rattle.session.specs.Seen.{seen_command};
@@ -188,6 +189,7 @@ fn save<F: Files>(
     ensures line { IfOk result (λ reply. IsLine reply (saved_line (saved_file deck.now) name.now) [] false) }
     ensures saved { OnOk result ((m : FileMap) → F.files files.old ≡ Some m →
         F.files files.new ≡ Some (files_saved (saved_file deck.now) name.now m)) }
+    ensures failed { SaveKeeps name.now result (F.files files.old) (F.files files.new) }
     ensures untold { F.files files.old ≡ None → F.files files.new ≡ None }
     ensures fetches { F.faults files.new ≡ F.faults files.old }
     ensures later { F.store_faults files.old ≤ F.store_faults files.new }
@@ -215,6 +217,7 @@ fn store<F: Files>(
     requires { length bytes.now ≤ longest_file }
     ensures told { OnOk result ((m : FileMap) → F.files files.old ≡ Some m →
         F.files files.new ≡ Some (with_file m name.now bytes.now)) }
+    ensures failed { SaveKeeps name.now result (F.files files.old) (F.files files.new) }
     ensures untold { F.files files.old ≡ None → F.files files.new ≡ None }
     ensures fetches { F.faults files.new ≡ F.faults files.old }
     ensures later { F.store_faults files.old ≤ F.store_faults files.new }
@@ -274,7 +277,8 @@ fn perform<L: Ledger>(
 impl Session {
     /// Answers a line as it was read, without its line feed. `ReadFailed` comes only where a fetch failed and
     /// `WriteFailed` only where a store failed, which the files count, and `OutOfMemory` where there is no memory.
-    /// After each the session is used no more.
+    /// After each the session is used no more, and the files are as before, but perhaps for the one that `WriteFailed`
+    /// is about.
     pub fn line<F: Files, L: Ledger>(
         &mut self,
         alloc: Global,
@@ -288,8 +292,8 @@ impl Session {
         ensures done { IfOk result (λ reply. reply.done ≡ commands.is_quit (commands.command_of line.now)) }
         ensures faults { AreCounted result (file_faults (F.faults files.old) (F.store_faults files.old))
             (file_faults (F.faults files.new) (F.store_faults files.new)) }
-        ensures kept { commands.is_save (commands.command_of line.now) ≡ false →
-            (F.files files.new ≡ F.files files.old) × (F.store_faults files.new ≡ F.store_faults files.old) }
+        ensures kept { LineKeeps (commands.saved_in line.now) result (F.files files.old) (F.files files.new) }
+        ensures stores { commands.saved_in line.now ≡ None → F.store_faults files.new ≡ F.store_faults files.old }
     {
         match read_command(line) {
             Command::Load(name) => load(

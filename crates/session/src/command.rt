@@ -5,39 +5,55 @@ ghost use Rattle.def_entry.specs.Cuts as cuts;
 ghost use Rattle.session.specs.Commands as spec;
 ghost use Rattle.session.specs.Seen.{seen_command};
 
+use crate::colon_word::{ColonWord, colon_word_of};
 use def_entry::cut_at;
 use def_lines::{line_content, split_word, trim};
 
 /// An edit of the deck that needs no file.
 #[derive(Clone, Copy)]
 pub enum DeckEdit<'a> {
+    /// A definition line at the end.
     Define(&'a [u8]),
-    /// With the text behind the word, which may be the text of no key.
+    /// The last definition of what the text behind the word names, which may be no key.
     DropLast(&'a [u8]),
+    /// The value of a variable.
     Set(&'a [u8], &'a [u8]),
+    /// The locale.
     Locale(&'a [u8]),
+    /// The deck before the last edit.
     Undo,
+    /// The deck before the last undo.
     Redo,
 }
 
 /// What a line of a session asks for.
 #[derive(Clone, Copy)]
 pub enum Command<'a> {
+    /// Nothing, or the reply to FROM alone where it is pending.
     Blank,
+    /// The end of the session.
     Quit,
+    /// What conforms to FROM.
     Conformable,
+    /// The names that contain a text.
     Search(&'a [u8]),
+    /// An edit of the deck that needs no file.
     Edit(DeckEdit<'a>),
+    /// The definitions of a file of this name at the end of the deck.
     Load(&'a [u8]),
+    /// A file of this name with the deck.
     Save(&'a [u8]),
-    /// With FROM and TO, neither of them blank.
+    /// A conversion to watch: FROM and TO, neither of them blank.
     Watch(&'a [u8], &'a [u8]),
+    /// Nothing is watched any more.
     Unwatch,
+    /// How many names are settled.
     Stats,
     /// A word that begins with a colon and is none of them.
     Unknown(&'a [u8]),
     /// A word that lacks what it needs.
     Bad(&'a [u8]),
+    /// FROM, or TO where FROM is pending.
     Expression(&'a [u8]),
 }
 
@@ -88,52 +104,41 @@ fn search_command<'a>(rest: &'a [u8], text: &'a [u8]) -> Command<'a>
 fn command_by_word<'a>(word: &'a [u8], rest: &'a [u8]) -> Command<'a>
     ensures { seen_command result ≡ spec.colon_command word.now rest.now }
 {
-    if word == b":define".as_slice() {
-        let edit = DeckEdit::Define(rest);
-        return where_good(!rest.is_empty(), Command::Edit(edit), word);
+    match colon_word_of(word) {
+        Some(asked) => command_of_word(asked, rest, word),
+        None => Command::Unknown(word),
     }
-    if word == b":drop".as_slice() {
-        return Command::Edit(DeckEdit::DropLast(rest));
-    }
-    if word == b":set".as_slice() {
-        let (name, value) = split_word(rest);
-        let edit = DeckEdit::Set(name, value);
-        return where_good(!value.is_empty(), Command::Edit(edit), word);
-    }
-    if word == b":locale".as_slice() {
-        let edit = DeckEdit::Locale(rest);
-        return where_good(!rest.is_empty(), Command::Edit(edit), word);
-    }
-    if word == b":undo".as_slice() {
-        return where_good(rest.is_empty(), Command::Edit(DeckEdit::Undo), word);
-    }
-    if word == b":redo".as_slice() {
-        return where_good(rest.is_empty(), Command::Edit(DeckEdit::Redo), word);
-    }
-    other_command(word, rest)
 }
 
-// What another word that begins with a colon asks for.
-#[tactic(auto, unfolding(crate::specs::Commands::other_command))]
-fn other_command<'a>(word: &'a [u8], rest: &'a [u8]) -> Command<'a>
-    ensures { seen_command result ≡ spec.other_command word.now rest.now }
+// What one of them asks for with the rest behind it.
+fn command_of_word<'a>(asked: ColonWord, rest: &'a [u8], word: &'a [u8]) -> Command<'a>
+    ensures { seen_command result ≡ spec.with_rest asked rest.now word.now }
 {
-    if word == b":load".as_slice() {
-        return where_good(!rest.is_empty(), Command::Load(rest), word);
+    match asked {
+        ColonWord::Define => with_text(Command::Edit(DeckEdit::Define(rest)), rest, word),
+        ColonWord::DropLast => Command::Edit(DeckEdit::DropLast(rest)),
+        ColonWord::Set => set_command(rest, word),
+        ColonWord::Locale => with_text(Command::Edit(DeckEdit::Locale(rest)), rest, word),
+        ColonWord::Undo => alone(Command::Edit(DeckEdit::Undo), rest, word),
+        ColonWord::Redo => alone(Command::Edit(DeckEdit::Redo), rest, word),
+        ColonWord::Load => with_text(Command::Load(rest), rest, word),
+        ColonWord::Save => with_text(Command::Save(rest), rest, word),
+        ColonWord::Stats => alone(Command::Stats, rest, word),
+        ColonWord::Watch => watch_command(rest, word),
+        ColonWord::Unwatch => alone(Command::Unwatch, rest, word),
     }
-    if word == b":save".as_slice() {
-        return where_good(!rest.is_empty(), Command::Save(rest), word);
-    }
-    if word == b":stats".as_slice() {
-        return where_good(rest.is_empty(), Command::Stats, word);
-    }
-    if word == b":watch".as_slice() {
-        return watch_command(rest, word);
-    }
-    if word == b":unwatch".as_slice() {
-        return where_good(rest.is_empty(), Command::Unwatch, word);
-    }
-    Command::Unknown(word)
+}
+
+// A name, and a value behind it.
+fn set_command<'a>(rest: &'a [u8], word: &'a [u8]) -> Command<'a>
+    ensures { seen_command result ≡ spec.set_command rest.now word.now }
+{
+    let (name, value) = split_word(rest);
+    where_good(
+        !value.is_empty(),
+        Command::Edit(DeckEdit::Set(name, value)),
+        word,
+    )
 }
 
 // FROM and TO before and behind the first `;`, where neither is blank and TO asks for no list of what conforms.
@@ -154,6 +159,20 @@ fn watch_sides<'a>(from: &'a [u8], to: &'a [u8], word: &'a [u8]) -> Command<'a>
         return Command::Bad(word);
     }
     Command::Watch(from, to)
+}
+
+// A command that needs a text behind its word.
+fn with_text<'a>(command: Command<'a>, rest: &'a [u8], word: &'a [u8]) -> Command<'a>
+    ensures { seen_command result ≡ spec.with_text (seen_command command.entry) rest.now word.now }
+{
+    where_good(!rest.is_empty(), command, word)
+}
+
+// A command with nothing behind its word.
+fn alone<'a>(command: Command<'a>, rest: &'a [u8], word: &'a [u8]) -> Command<'a>
+    ensures { seen_command result ≡ spec.alone (seen_command command.entry) rest.now word.now }
+{
+    where_good(rest.is_empty(), command, word)
 }
 
 // A command, unless it lacks what it needs.

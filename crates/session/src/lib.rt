@@ -3,6 +3,7 @@
 
 mod answer;
 mod asking;
+mod colon_word;
 mod command;
 mod counting;
 mod editing;

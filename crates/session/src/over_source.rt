@@ -40,7 +40,8 @@ const MOST_INPUT: u64 = 4_294_967_296;
 ///
 /// `specs/Runs.antt` has all that holds of it: at the end all is written that the session says over its whole input;
 /// or a front of it, which where the input is too long, and where the source failed, is exactly what is shown for the
-/// whole lines of the bytes taken; and every ending but `Done` and want of memory has its cause.
+/// whole lines of the bytes taken; the files are those behind the lines that were answered, but perhaps for one that
+/// could not be written; and every ending but `Done` and want of memory has its cause.
 pub fn run_session<S: Source, O: Sink, E: Sink, F: Files, L: Ledger>(
     alloc: Global,
     session: &mut Session,

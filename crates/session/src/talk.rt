@@ -1,14 +1,16 @@
 //! A session that answers the bytes of an input, block by block.
 
-ghost use Rattle.std.specs.Prelude.{◌≡◌, ◌++◌, ◌≤◌, List, ℕ, Some, [], length, IfOk, IfSome, MatchResult};
+ghost use Rattle.std.specs.Prelude.{◌≡◌, ◌++◌, ◌∷◌, ◌≤◌, List, ℕ, Some, [], length, IfOk, IfSome, MatchResult};
 ghost use Rattle.std.specs.Prelude.{codes, false};
 ghost use Rattle.std.specs.Option.{option_copied};
 ghost use Rattle.units_io.specs.FileMap.{FileMap};
 ghost use Rattle.session.specs.Answering.{AreCounted, IsAnswered, file_faults, scene_of};
-ghost use Rattle.session.specs.Hearing.{is_last, is_last_read, longest_line, readable};
+ghost use Rattle.session.specs.Hearing.{heard, is_last, is_last_read, longest_line, readable, saved_by_read};
+ghost use Rattle.session.specs.Input.{lines_of};
+ghost use Rattle.session.specs.Keeping.{LineKeeps};
 ghost use Rattle.session.specs.Parts.{IsLine};
 ghost use Rattle.session.specs.Sessions.{state_of};
-ghost use Rattle.session.specs.Standing.{Base, IsAt, IsBefore, Stands, Fed, now_of};
+ghost use Rattle.session.specs.Standing.{Base, IsAt, IsBroken, Stands, Fed, now_of};
 ghost use Rattle.session.specs.Steps as spec;
 ghost use Rattle.session.specs.Talks.{Talk, with_answer, talk_on};
 
@@ -69,7 +71,8 @@ pub fn feed_end<F: Files, L: Ledger>(
         MatchResult result
         (λ _. IsAt base (talk_on first input)
         (now_of said.new session.new (F.files files.new) steps.new))
-        (λ _. IsBefore base (talk_on first input) said.new) }
+        (λ fault. IsBroken fault base first (heard (lines_of input))
+        (now_of said.new session.new (F.files files.new) steps.new)) }
     ensures faults { AreCounted result (file_faults (F.faults files.old) (F.store_faults files.old))
         (file_faults (F.faults files.new) (F.store_faults files.new)) }
 {
@@ -98,8 +101,8 @@ fn end_line<F: Files, L: Ledger>(
         (λ done. (done ≡ is_last (part ++ piece.now)) × (held.new ≡ Some [])
         × IsAt base (with_answer talk (spec.answer talk.state (part ++ piece.now)) (part ++ piece.now))
         (now_of said.new session.new (F.files files.new) steps.new))
-        (λ _. IsBefore base
-        (with_answer talk (spec.answer talk.state (part ++ piece.now)) (part ++ piece.now)) said.new) }
+        (λ fault. IsBroken fault base talk ((part ++ piece.now) ∷ [])
+        (now_of said.new session.new (F.files files.new) steps.new)) }
     ensures faults { AreCounted result (file_faults (F.faults files.old) (F.store_faults files.old))
         (file_faults (F.faults files.new) (F.store_faults files.new)) }
 {
@@ -145,7 +148,8 @@ fn reply<F: Files, L: Ledger>(
         MatchResult result
         (λ done. (done ≡ is_last part) × IsAt base (with_answer talk (spec.answer talk.state part) part)
         (now_of said.new session.new (F.files files.new) steps.new))
-        (λ _. IsBefore base (with_answer talk (spec.answer talk.state part) part) said.new) }
+        (λ fault. IsBroken fault base talk (part ∷ [])
+        (now_of said.new session.new (F.files files.new) steps.new)) }
     ensures faults { AreCounted result (file_faults (F.faults files.old) (F.store_faults files.old))
         (file_faults (F.faults files.new) (F.store_faults files.new)) }
 {
@@ -173,6 +177,8 @@ fn answer_line<F: Files, L: Ledger>(
         (scene_of session.old (F.files files.old) steps.old)
         (scene_of session.new (F.files files.new) steps.new) }
     ensures done { IfOk result (λ reply. reply.done ≡ is_last_read (option_copied line.entry)) }
+    ensures kept { LineKeeps (saved_by_read (option_copied line.entry)) result (F.files files.old)
+        (F.files files.new) }
     ensures faults { AreCounted result (file_faults (F.faults files.old) (F.store_faults files.old))
         (file_faults (F.faults files.new) (F.store_faults files.new)) }
 {

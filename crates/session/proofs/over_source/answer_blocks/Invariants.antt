@@ -16,11 +16,12 @@ invariant-loop-total g l = record {
   stands : (first : Talk) (input : List ℕ) (start : Outside) → g.S.Source.left l.initial.src ≡ Some input →
       Waits first [] l.initial.held l.initial.session start
       (outside_of (g.S.Source.left l.initial.src) (g.O.Sink.written l.initial.out) (g.E.Sink.written l.initial.err)
-      (g.F.Files.files l.initial.files) (g.F.Files.faults l.initial.files) l.initial.steps) →
+      (g.F.Files.files l.initial.files) (g.F.Files.faults l.initial.files)
+      (g.F.Files.store_faults l.initial.files) l.initial.steps) →
       (taken : List ℕ) × (rest : List ℕ) × (input ≡ taken ++ rest) × (g.S.Source.left l.src ≡ Some rest)
       × Waits first taken l.held l.session start
       (outside_of (g.S.Source.left l.src) (g.O.Sink.written l.out) (g.E.Sink.written l.err)
-      (g.F.Files.files l.files) (g.F.Files.faults l.files) l.steps);
+      (g.F.Files.files l.files) (g.F.Files.faults l.files) (g.F.Files.store_faults l.files) l.steps);
 }
 
 abbrev pub decreases-loop-total : goal.decreases-loop-total

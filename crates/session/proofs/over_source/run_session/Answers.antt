@@ -1,5 +1,5 @@
 use Rattle.std.proofs.Common.{[], refl, arith, sym, ◌∙◌}
-use Rattle.session.proofs.Blocks.{any_rose, open_front, opens}
+use Rattle.session.proofs.Blocks.{any_rose, open_part, opens}
 use Rattle.session.proofs.Ending.{memory_cause, unwritten, write_cause}
 use Rattle.session.proofs.Holding.{readable_short}
 use Rattle.session.proofs.over_source.run_session.Goals as goal
@@ -14,7 +14,7 @@ returns-in_default g c = record {
 pub returns-in-Err : goal.returns-in-Err
 returns-in-Err g c = record {
   told = λ first input start q at.
-      open_front first input _ _ start _ _ at c.write.ensures.out c.write.ensures.err;
+      open_part first input _ _ start _ _ at c.write.ensures.out c.write.ensures.err refl;
   heard = λ first input start q at d. cc;
   caused = write_cause _ _ c.in-Err.ensures.cause;
 }
@@ -22,7 +22,7 @@ returns-in-Err g c = record {
 pub returns : goal.returns
 returns g c = record {
   told = λ first input start q at.
-      c.answer_blocks.ensures.told first input start _ q (sym at.files ∙ at.at.files) at.faults
+      c.answer_blocks.ensures.told first input start _ q (sym at.files ∙ at.at.files) at.faults at.stores
       (opens first _ _ _ start _ _ at c.in-Ok-write.ensures.whole.0 c.in-Ok-write.ensures.whole.1 refl refl
       (c.new-held.ensures ∙ sym (readable_short [] (omega arith))));
   heard = λ first input start q at.

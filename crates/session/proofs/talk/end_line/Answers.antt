@@ -1,16 +1,21 @@
-use Rattle.std.proofs.Common.{◌++◌, refl, sym, ◌∙◌}
+use Rattle.std.proofs.Common.{◌++◌, ◌∷◌, [], refl, sym, ◌∙◌}
+use Rattle.session.specs.declared.fault.SessionFault.TheVariants.{OutOfMemory}
+use Rattle.session.proofs.Breaking.{broken_at}
 use Rattle.session.proofs.Feeding.{line_ended, no_part}
 use Rattle.session.proofs.talk.end_line.Goals as goal
 
 pub returns-then-is_empty-clause-told : goal.returns-then-is_empty-clause-told
 returns-then-is_empty-clause-told g c = λ base talk part h at.
-    line_ended base talk c.reply-done.result c.args.piece.now (part ++ c.args.piece.now) c.clear.new.self _ _
+    line_ended base talk c.reply-done.result c.args.piece.now (part ++ c.args.piece.now) c.clear.new.self _
     (no_part part c.args.piece.now (sym (c.is_empty.ensures part h) ∙ c.if-is_empty.true)) c.clear.ensures
     (c.reply-done.ensures.told base talk c.args.piece.now c.short.ensures.is at)
 
 pub returns-clause-told : goal.returns-clause-told
 returns-clause-told g c = λ base talk part h at.
-    line_ended base talk c.reply-done-2.result (part ++ c.args.piece.now) (part ++ c.args.piece.now) c.clear-2.new.self
-    _ _ refl
-    c.clear-2.ensures
+    line_ended base talk c.reply-done-2.result (part ++ c.args.piece.now) (part ++ c.args.piece.now) c.clear-2.new.self _
+    refl c.clear-2.ensures
     (c.reply-done-2.ensures.told base talk (part ++ c.args.piece.now) (c.line.ensures.is ∙ c.in-Ok.ensures part h) at)
+
+pub returns-in-Err-clause-told : goal.returns-in-Err-clause-told
+returns-in-Err-clause-told g c = λ base talk part h at.
+    broken_at OutOfMemory base talk ((part ++ c.args.piece.now) ∷ []) _ at

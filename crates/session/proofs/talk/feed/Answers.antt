@@ -3,6 +3,7 @@ use Rattle.def_entry.specs.Seen.{seen_pair}
 use Rattle.session.specs.Input.{whole_lines, unfinished}
 use Rattle.session.specs.Standing.{now_of}
 use Rattle.session.specs.Talks.{talk_over}
+use Rattle.session.specs.declared.fault.SessionFault.TheVariants.{OutOfMemory}
 use Rattle.session.proofs.Feeding.{line_fed, line_lost, line_over, rest_held, rest_lost}
 use Rattle.session.proofs.talk.feed.Goals as goal
 
@@ -40,7 +41,8 @@ returns-in-Err-clause-told g c = λ base first taken more s.
     line_lost base first taken c.args.block.now p.0 c.loop-piece.rest.now c.loop-piece.held
     (now_of c.loop-piece.said c.loop-piece.session (g.F.Files.files c.loop-piece.files) c.loop-piece.steps) p.1 p.2
     c.in-Some.piece.now
-    c.in-Some.behind.now (sym c.in-Some.ensures) more c.end_line.new.said
+    c.in-Some.behind.now (sym c.in-Some.ensures) c.in-Err.fault more
+    (now_of c.end_line.new.said c.end_line.new.session (g.F.Files.files c.end_line.new.files) c.end_line.new.steps)
     (c.in-Err.ensures.told base (talk_over first (whole_lines (taken ++ p.0))) (unfinished (taken ++ p.0)) p.2.part
     p.2.at)
 
@@ -56,4 +58,5 @@ pub returns-in-Err-add-clause-told : goal.returns-in-Err-add-clause-told
 returns-in-Err-add-clause-told g c = λ base first taken more s.
     let p = c.loop-piece.invariant.fed base first taken s in
     rest_lost base first taken c.args.block.now p.0 c.loop-piece.rest.now c.loop-piece.held
-    (now_of c.loop-piece.said c.loop-piece.session (g.F.Files.files c.loop-piece.files) c.loop-piece.steps) p.1 p.2 more
+    (now_of c.loop-piece.said c.loop-piece.session (g.F.Files.files c.loop-piece.files) c.loop-piece.steps) p.1 p.2
+    OutOfMemory more

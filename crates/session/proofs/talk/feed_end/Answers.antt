@@ -1,7 +1,8 @@
 use Rattle.std.proofs.Common.{sym, ◌∙◌}
 use Rattle.session.specs.Input.{whole_lines, unfinished}
 use Rattle.session.specs.Talks.{talk_over}
-use Rattle.session.proofs.Talking.{end_failed, end_line, end_open}
+use Rattle.session.proofs.Breaking.{broken_end}
+use Rattle.session.proofs.Talking.{end_line, end_open}
 use Rattle.session.proofs.Feeding.{empty_part, some_part}
 use Rattle.session.proofs.talk.feed_end.Goals as goal
 
@@ -19,7 +20,7 @@ returns-in-Ok-clause-told g c = λ base first input s.
 
 pub returns-in-Err-clause-told : goal.returns-in-Err-clause-told
 returns-in-Err-clause-told g c = λ base first input s.
-    end_failed base first input _ _ s _
+    broken_end c.in-Err.fault base first input _ _ s _
     (some_part (unfinished input) (sym (c.is_empty.ensures (unfinished input) s.part) ∙ c.if-is_empty.false))
     (c.in-Err.ensures.told base (talk_over first (whole_lines input)) (unfinished input) (c.line.ensures.is ∙ s.part)
     s.at)

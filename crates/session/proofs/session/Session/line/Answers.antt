@@ -4,12 +4,13 @@ use Rattle.deck.specs.Decks.{Contents}
 use Rattle.deck_save.specs.Saved.{saved_file}
 use Rattle.session.specs.Answering.{IsAnswered, scene_of}
 use Rattle.session.specs.Answers.{files_saved, saved_line}
-use Rattle.session.specs.Commands.{Command, command_of, is_load, is_quit, is_save}
+use Rattle.session.specs.Commands.{Command, command_of, is_load, is_quit, is_save, saved_in, saved_name}
 use Rattle.session.specs.Parts.{IsLine, IsSaid}
 use Rattle.session.specs.Sessions.{Known, known_dated, state_of}
 use Rattle.session.specs.Steps.{answer_to}
 use Rattle.session.specs.Versions.{dated}
 use Rattle.session.proofs.Answering.{no_save, said_answered, save_answered, tells_needed}
+use Rattle.session.proofs.Breaking.{line_same, line_saves}
 use Rattle.session.proofs.Faulting.{unread}
 use Rattle.session.proofs.session.Session.line.Goals as goal
 use Rattle.watch.specs.Watched.{subject_of}
@@ -93,3 +94,14 @@ returns-in-Load-clause-faults g c = record {
   written = λ e. absurd (c.load.ensures.unwritten e);
   later = omega (arith, c.load.ensures.stores);
 }
+
+pub returns-in-Load-clause-kept : goal.returns-in-Load-clause-kept
+returns-in-Load-clause-kept g c = line_same (saved_in c.args.line.now) c.load.result _ _ c.load.ensures.kept
+
+pub returns-in-Save-clause-kept : goal.returns-in-Save-clause-kept
+returns-in-Save-clause-kept g c =
+    line_saves (saved_in c.args.line.now) c.in-Save.name.now c.save.result _ _
+    (ap saved_name (c.in-Save.ensures {u = tt})) c.save.ensures.failed
+
+pub returns-in_default-clause-kept : goal.returns-in_default-clause-kept
+returns-in_default-clause-kept g c = line_same (saved_in c.args.line.now) c.perform.result _ _ refl

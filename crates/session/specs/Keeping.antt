@@ -1,0 +1,49 @@
+-- What the files are where a line is not answered, and where a session breaks off.
+use Rattle.std.specs.Prelude.{◌≡◌, ◌⊎◌, ◌++◌, ◌∷◌, ℕ, List, Result, Ok, Err, Some, None, ⊤}
+use Rattle.std.specs.declared.option.Option.{Option}
+use Rattle.units_io.specs.FileMap.{FileMap}
+use Rattle.units_io.specs.Storing.{KeepsOthers}
+use Rattle.session.specs.Hearing.{saved_by}
+use Rattle.session.specs.declared.fault.SessionFault.{SessionFault}
+use Rattle.session.specs.declared.fault.SessionFault.TheVariants.{WriteFailed}
+
+-- of told files that of this name may be anything, and every other is as before; untold ones stay so
+abbrev pub KeepsAllBut : (name : List ℕ) → (old new : Option FileMap) → Type 0
+KeepsAllBut name None new = new ≡ None
+KeepsAllBut name (Some old) new = (kept : FileMap) × (new ≡ Some kept) × KeepsOthers old kept name
+
+-- the files behind a save that was not answered: where this file could not be written no other has changed, and with
+-- another fault none has
+abbrev pub SaveKeeps : {A : Type 0} → (name : List ℕ) → Result A SessionFault → (old new : Option FileMap) → Type 0
+SaveKeeps name (Ok _) old new = ⊤
+SaveKeeps name (Err WriteFailed) old new = KeepsAllBut name old new
+SaveKeeps name (Err _) old new = new ≡ old
+
+-- the same behind a line that saves the file of this name, or none: then all files are as before, answered or not
+abbrev pub LineKeeps : {A : Type 0} → (name : Option (List ℕ)) → Result A SessionFault → (old new : Option FileMap)
+    → Type 0
+LineKeeps None result old new = new ≡ old
+LineKeeps (Some name) result old new = SaveKeeps name result old new
+
+-- the files once some of these lines are answered, the first ones; `behind` has what they are behind any lines
+pub record AreBehindSome (behind : List (List ℕ) → FileMap) (lines : List (List ℕ)) (files : FileMap) : Type 0 where
+  pub answered : List (List ℕ)
+  pub rest : List (List ℕ)
+  pub front : lines ≡ answered ++ rest
+  pub reached : files ≡ behind answered
+
+-- the same, but for the file that the next line saves: of that nothing is said
+pub record AreSpoilt (behind : List (List ℕ) → FileMap) (lines : List (List ℕ)) (files : FileMap) : Type 0 where
+  pub answered : List (List ℕ)
+  pub line : List ℕ
+  pub rest : List (List ℕ)
+  pub name : List ℕ
+  pub front : lines ≡ answered ++ line ∷ rest
+  pub saves : saved_by line ≡ Some name
+  pub others : KeepsOthers (behind answered) files name
+
+-- the files where the answers to these lines break off: those behind some of them; only where a store failed, perhaps
+-- with that one spoilt
+abbrev pub AreLeft : (failed : Type 0) → (behind : List (List ℕ) → FileMap) → (lines : List (List ℕ)) → FileMap
+    → Type 0
+AreLeft failed behind lines files = AreBehindSome behind lines files ⊎ (failed × AreSpoilt behind lines files)
