@@ -14,18 +14,19 @@ pub(crate) const FILES: &[(&[u8], &[u8])] = &[
 ];
 
 // The words, which commas part; the input, behind so many blanks, and how much of it the source gives at a time; the
-// call of each kind that fails, if any; and what comes of it.
+// calls of each kind that fail, counted from 1; how many bytes each sink has room for; and what comes of it.
 #[derive(Clone, Copy)]
 pub(crate) struct Case {
     pub(crate) words: &'static [u8],
     pub(crate) blanks: usize,
     pub(crate) input: &'static [u8],
     pub(crate) piece: usize,
-    pub(crate) fetch: u64,
-    pub(crate) take: u64,
-    pub(crate) store: u64,
-    pub(crate) out_put: u64,
-    pub(crate) err_put: u64,
+    pub(crate) failing_fetches: &'static [u64],
+    pub(crate) failing_takes: &'static [u64],
+    pub(crate) failing_stores: &'static [u64],
+    pub(crate) failing_out_puts: &'static [u64],
+    pub(crate) failing_err_puts: &'static [u64],
+    pub(crate) room: usize,
     pub(crate) status: Status,
     pub(crate) out: &'static [u8],
     pub(crate) err: &'static [u8],
@@ -37,11 +38,12 @@ pub(crate) const OVER_FILES: Case = Case {
     blanks: 0,
     input: b"never taken",
     piece: 4,
-    fetch: 0,
-    take: 1,
-    store: 0,
-    out_put: 0,
-    err_put: 0,
+    failing_fetches: &[],
+    failing_takes: &[1],
+    failing_stores: &[],
+    failing_out_puts: &[],
+    failing_err_puts: &[],
+    room: 1000,
     status: Status::Done,
     out: b"\t* 4\n\t/ 0.25\n",
     err: b"main.units:2: no file: gone.units\n",
@@ -61,11 +63,12 @@ const SESSION: Case = Case {
     blanks: 0,
     input: b"1 s\nms\n",
     piece: 4,
-    fetch: 0,
-    take: 0,
-    store: 0,
-    out_put: 0,
-    err_put: 0,
+    failing_fetches: &[],
+    failing_takes: &[],
+    failing_stores: &[],
+    failing_out_puts: &[],
+    failing_err_puts: &[],
+    room: 1000,
     status: Status::Done,
     out: b"2 units, 0 prefixes, 0 nonlinear units\nYou have: You want: \t* 1000\n\t/ 0.001\nYou have: ",
     err: b"",
@@ -94,40 +97,52 @@ const TOO_LONG: Case = Case {
 pub(crate) const CASES: &[Case] = &[
     // Conversions: each fetch, some puts.
     OVER_FILES,
-    Case { fetch: 1, ..UNREAD },
-    Case { fetch: 2, ..UNREAD },
-    Case { fetch: 3, ..UNREAD },
-    Case { fetch: 4, ..UNREAD },
     Case {
-        out_put: 1,
+        failing_fetches: &[1],
+        ..UNREAD
+    },
+    Case {
+        failing_fetches: &[2],
+        ..UNREAD
+    },
+    Case {
+        failing_fetches: &[3],
+        ..UNREAD
+    },
+    Case {
+        failing_fetches: &[4],
+        ..UNREAD
+    },
+    Case {
+        failing_out_puts: &[1],
         status: Status::WriteFault,
         out: b"",
         err: b"",
         ..OVER_FILES
     },
     Case {
-        out_put: 2,
+        failing_out_puts: &[2],
         status: Status::WriteFault,
         out: b"\t* 4\n\t/ ",
         err: b"",
         ..OVER_FILES
     },
     Case {
-        err_put: 1,
+        failing_err_puts: &[1],
         status: Status::WriteFault,
         err: b"",
         ..OVER_FILES
     },
     Case {
-        err_put: 5,
+        failing_err_puts: &[5],
         status: Status::WriteFault,
         err: b"main.units:2: no file: gone.unit",
         ..OVER_FILES
     },
     Case {
         words: b"-d,0",
-        fetch: 1,
-        err_put: 1,
+        failing_fetches: &[1],
+        failing_err_puts: &[1],
         status: Status::WriteFault,
         out: b"",
         err: b"",
@@ -135,7 +150,7 @@ pub(crate) const CASES: &[Case] = &[
     },
     Case {
         words: b"10 meters,feet",
-        fetch: 1,
+        failing_fetches: &[1],
         out: b"\t* 32.808399\n\t/ 0.03048\n",
         err: b"",
         ..OVER_FILES
@@ -143,31 +158,37 @@ pub(crate) const CASES: &[Case] = &[
     // Sessions: each take, some puts.
     SESSION,
     Case {
-        take: 1,
+        failing_takes: &[1],
         status: Status::ReadFault,
         out: b"2 units, 0 prefixes, 0 nonlinear units\nYou have: ",
         ..SESSION
     },
     Case {
-        take: 2,
+        failing_takes: &[2],
         status: Status::ReadFault,
         out: b"2 units, 0 prefixes, 0 nonlinear units\nYou have: You want: ",
         ..SESSION
     },
     Case {
-        take: 3,
+        failing_takes: &[3],
         status: Status::ReadFault,
         ..SESSION
     },
     Case {
-        out_put: 2,
+        failing_out_puts: &[2],
         status: Status::WriteFault,
         out: b"2 units,",
         ..SESSION
     },
     Case {
+        room: 5,
+        status: Status::WriteFault,
+        out: b"2 uni",
+        ..SESSION
+    },
+    Case {
         input: b"1 s\nms",
-        take: 3,
+        failing_takes: &[3],
         status: Status::ReadFault,
         out: b"",
         ..QUIET
@@ -184,7 +205,7 @@ pub(crate) const CASES: &[Case] = &[
     },
     Case {
         input: b"1 s\nquit\nms\n",
-        take: 4,
+        failing_takes: &[4],
         out: b"",
         ..QUIET
     },
@@ -238,13 +259,13 @@ pub(crate) const CASES: &[Case] = &[
     },
     Case {
         input: b"1 s\nms\n:load sub/b.units\nms\n",
-        fetch: 2,
+        failing_fetches: &[2],
         status: Status::ReadFault,
         ..QUIET
     },
     Case {
         input: b":load main.units\nz\nm\n",
-        fetch: 4,
+        failing_fetches: &[4],
         status: Status::ReadFault,
         out: b"",
         ..QUIET
@@ -261,13 +282,13 @@ pub(crate) const CASES: &[Case] = &[
     },
     Case {
         input: b"1 s\nms\n:save t.units\nms\n",
-        store: 1,
+        failing_stores: &[1],
         status: Status::WriteFault,
         ..QUIET
     },
     Case {
         input: b":save t.units\n:save u.units\n1 s\nms\n",
-        store: 2,
+        failing_stores: &[2],
         status: Status::WriteFault,
         out: b"",
         ..QUIET
@@ -275,7 +296,7 @@ pub(crate) const CASES: &[Case] = &[
     // The trial, which asks for no file and no input.
     Case {
         words: b"--trial,3",
-        fetch: 1,
+        failing_fetches: &[1],
         out: b"definitions 4, edits 3, reply bytes 43, settled 3 of 4, reductions 4\n",
         err: b"",
         ..OVER_FILES

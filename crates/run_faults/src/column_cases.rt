@@ -7,7 +7,7 @@ use units_run::Status;
 const COLUMN: Case = Case {
     words: b"-f,main.units,--column,1,z,m",
     input: b"1,a\n2,b\nx,c\n",
-    take: 0,
+    failing_takes: &[],
     status: Status::Refused,
     out: b"4,a\n8,b\nerror: not a number,c\n",
     ..OVER_FILES
@@ -42,64 +42,76 @@ const HEADED: Case = Case {
 
 pub(crate) const COLUMN_CASES: &[Case] = &[
     COLUMN,
-    Case { take: 1, ..UNREAD },
-    Case { take: 2, ..UNREAD },
-    Case { take: 3, ..UNREAD },
-    Case { take: 4, ..UNREAD },
     Case {
-        out_put: 1,
+        failing_takes: &[1],
+        ..UNREAD
+    },
+    Case {
+        failing_takes: &[2],
+        ..UNREAD
+    },
+    Case {
+        failing_takes: &[3],
+        ..UNREAD
+    },
+    Case {
+        failing_takes: &[4],
+        ..UNREAD
+    },
+    Case {
+        failing_out_puts: &[1],
         out: b"",
         ..UNWRITTEN
     },
     Case {
-        out_put: 2,
+        failing_out_puts: &[2],
         out: b"4,a\n8,b\n",
         ..UNWRITTEN
     },
     Case {
-        out_put: 3,
+        failing_out_puts: &[3],
         out: b"4,a\n8,b\nerror: n",
         ..UNWRITTEN
     },
     Case {
-        out_put: 4,
+        failing_out_puts: &[4],
         out: b"4,a\n8,b\nerror: not a num",
         ..UNWRITTEN
     },
     Case {
-        err_put: 1,
+        failing_err_puts: &[1],
         err: b"",
         ..UNTOLD
     },
     Case {
-        err_put: 2,
+        failing_err_puts: &[2],
         err: b"main.uni",
         ..UNTOLD
     },
     Case {
-        err_put: 3,
+        failing_err_puts: &[3],
         err: b"main.units:2: no",
         ..UNTOLD
     },
     Case {
-        err_put: 4,
+        failing_err_puts: &[4],
         err: b"main.units:2: no file: g",
         ..UNTOLD
     },
     Case {
-        err_put: 5,
+        failing_err_puts: &[5],
         err: b"main.units:2: no file: gone.unit",
         ..UNTOLD
     },
     HEADED,
     Case {
-        take: 3,
+        failing_takes: &[3],
         status: Status::ReadFault,
         out: b"",
         ..HEADED
     },
     Case {
-        out_put: 1,
+        failing_out_puts: &[1],
         status: Status::WriteFault,
         out: b"",
         ..HEADED

@@ -29,16 +29,16 @@ fn run<L: Ledger>(alloc: Global, case: &Case, blank: Blank) -> Result<Outcome, F
     for word in case.words.split(|b| *b == b',') {
         words.push(alloc, Text::from_bytes(alloc, word)?)?;
     }
-    let mut files = MemFiles::new(alloc, &[case.fetch])?;
-    files.fail_stores(alloc, &[case.store])?;
+    let mut files = MemFiles::new(alloc, case.failing_fetches)?;
+    files.fail_stores(alloc, case.failing_stores)?;
     for (name, bytes) in FILES {
         files.add(alloc, name, bytes)?;
     }
     let mut input = vec![in alloc; b' '; case.blanks]?;
     input.extend_from_slice(case.input)?;
-    let mut source = MemSource::new(alloc, &input, case.piece.max(1), &[case.take])?;
-    let mut out = MemSink::new(alloc, 1000, 8, &[case.out_put])?;
-    let mut err = MemSink::new(alloc, 1000, 8, &[case.err_put])?;
+    let mut source = MemSource::new(alloc, &input, case.piece.max(1), case.failing_takes)?;
+    let mut out = MemSink::new(alloc, case.room, 8, case.failing_out_puts)?;
+    let mut err = MemSink::new(alloc, case.room, 8, case.failing_err_puts)?;
     let status = units_main(
         alloc,
         words.as_slice(),

@@ -18,7 +18,7 @@ use Rattle.column_run.specs.declared.end.ColumnEnd.{ColumnEnd}
 use Rattle.column_run.specs.declared.end.ColumnEnd.TheVariants as column
 use Rattle.session.proofs.Blocks.{front_all}
 use Rattle.units_run.specs.Calls.{column_run, rows_of, steps_of}
-use Rattle.units_run.specs.Endings.{IsConverted, IsStated, IsWorked, column_status}
+use Rattle.units_run.specs.Endings.{IsConverted, IsStated, IsWorked, MayEnd, column_status}
 use Rattle.units_run.specs.Planning.{IsColumn, IsPlan}
 use Rattle.units_run.specs.Plans as plans
 use Rattle.units_run.specs.Plans.{ColumnWork}
@@ -60,7 +60,7 @@ module _ (work : ColumnWork) (m : FileMap) (input : List ℕ) (before after : Ou
   converted column.NoMemory w counted = record { out = w; err = front_all _ _ _ noticed }
 
 -- which stated endings there are
-pub ends_worked : (end : ColumnEnd) → IsStated (column_status end) → IsWorked false (column_status end)
+pub ends_worked : (end : ColumnEnd) → IsStated (column_status end) → IsWorked (column_status end)
 ends_worked column.Done s = tt
 ends_worked column.Refused s = tt
 ends_worked column.ReadFault s = absurd s
@@ -68,15 +68,16 @@ ends_worked column.WriteFault s = absurd s
 ends_worked column.NoMemory s = absurd s
 ends_worked column.InputTooLong s = absurd s
 
-pub worked_more : (missing : Bool) (status : Status) → IsWorked false status → IsWorked missing status
-worked_more missing status.Done w = tt
-worked_more missing status.Refused w = tt
-worked_more missing status.Usage w = absurd w
-worked_more missing status.NoFile w = absurd w
-worked_more missing status.ReadFault w = absurd w
-worked_more missing status.WriteFault w = absurd w
-worked_more missing status.NoMemory w = absurd w
-worked_more missing status.InputTooLong w = absurd w
+-- where no session is opened a run may end so
+pub worked_may_end : (file : Bool) (status : Status) → IsWorked status → MayEnd true file false status
+worked_may_end file status.Done w = tt
+worked_may_end file status.Refused w = refl
+worked_may_end file status.Usage w = absurd w
+worked_may_end file status.NoFile w = absurd w
+worked_may_end file status.ReadFault w = absurd w
+worked_may_end file status.WriteFault w = absurd w
+worked_may_end file status.NoMemory w = absurd w
+worked_may_end file status.InputTooLong w = absurd w
 
 -- a column that is planned
 pub planned_column : (want : plans.Plan) (m : FileMap) (plan : ColumnPlan) (old new : ℕ)
@@ -87,7 +88,7 @@ planned_column (plans.Opened talk) m plan old new planned = absurd planned
 planned_column (plans.Columns work) m plan old new planned = (work, refl, planned)
 
 -- only a run that is over came to its end
-pub over_worked : (end : ColumnEnd) → IsWorked false (column_status end) → is_over end ≡ true
+pub over_worked : (end : ColumnEnd) → IsWorked (column_status end) → is_over end ≡ true
 over_worked column.Done w = refl
 over_worked column.Refused w = refl
 over_worked column.ReadFault w = absurd w

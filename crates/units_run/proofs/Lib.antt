@@ -1,5 +1,9 @@
-pub mod Converting
 pub mod BuiltInDeck
+pub mod Converting
+pub mod Leading
+pub mod Needing
 pub mod Planned
+pub mod RunEndings
 pub mod Running
 pub mod Working
+pub mod Seeing

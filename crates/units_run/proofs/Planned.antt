@@ -56,9 +56,13 @@ none_failed n fault.TooLong known = refl
 none_failed n fault.ReadFailed known = absurd (known (inr refl))
 none_failed n fault.OutOfMemory known = refl
 
-left_false : (a b : Bool) → (a || b) ≡ false → a ≡ false
+pub left_false : (a b : Bool) → (a || b) ≡ false → a ≡ false
 left_false true b e = e
 left_false false b e = refl
+
+pub right_false : (a b : Bool) → (a || b) ≡ false → b ≡ false
+right_false true b e = cc
+right_false false b e = e
 
 -- what words do not need, their command line does not load
 pub loads_needed : (words : List (List ℕ)) (line : CommandLine) → are_taken words ≡ true → line ≡ command_line_of words

@@ -1,53 +1,59 @@
 -- The run of a plan.
-use Rattle.std.proofs.Common.{◌≡◌, ◌≤◌, ◌⊎◌, inl, inr, ℕ, List, Bool, true, false, Some, None, refl, sym, ap, subst}
+use Rattle.std.proofs.Common.{◌≡◌, ◌≤◌, ◌⊎◌, [], inl, inr, ℕ, List, Bool, true, false, Some, None, refl, sym, ap, subst}
 use Rattle.std.proofs.Common.{◌∙◌, ◌||◌, arith}
 use Rattle.std.specs.declared.option.Option.{Option}
 use Rattle.units_io.specs.Bytes.{grown, GrowsByFront}
 use Rattle.units_io.specs.Faults.{Rose}
 use Rattle.units_io.specs.FileMap.{FileMap}
+use Rattle.units_io.specs.Named.{Pairs}
 use Rattle.session.specs.Hearing.{heard}
-use Rattle.session.specs.Input.{whole_lines, lines_of}
+use Rattle.session.specs.Input.{lines_of}
 use Rattle.session.specs.Outside.{Outside}
 use Rattle.session.specs.Sessions.{Known}
 use Rattle.session.specs.Talks.{Talk}
 use Rattle.session.specs.Telling.{TellsIf, when_told}
 use Rattle.session.specs.Waiting.{Opens}
-use Rattle.session.specs.Written.{Course, IsAll, IsEnded, IsFront, Output, session_course}
+use Rattle.session.specs.Written.{Course, IsAll, IsEnded, IsPart, session_course, whole}
 use Rattle.session.specs.declared.over_source.SessionEnd.{SessionEnd}
 use Rattle.session.specs.declared.over_source.SessionEnd.TheVariants as end
 use Rattle.session.specs.declared.said.Said.{Said}
 use Rattle.units_run.specs.Calls.{run_over}
 use Rattle.units_run.specs.Endings.{IsFaultless, IsLeft, IsLeftOf, IsStated, IsWorked, MayEnd, status_of}
+use Rattle.units_run.specs.LeftAlone.{OpensNone, TakesNone}
+use Rattle.units_run.specs.Needs.{converts_column, needs_files, opens_session}
 use Rattle.units_run.specs.Planning.{IsPlan}
 use Rattle.units_run.specs.Plans as plans
-use Rattle.units_run.specs.declared.plan.Plan.TheVariants.{Whole, Opened}
+use Rattle.units_run.specs.Work.{plan_of}
+use Rattle.units_run.specs.declared.column_plan.ColumnPlan.{ColumnPlan}
+use Rattle.units_run.specs.declared.plan.Plan.TheVariants.{Whole, Opened, Columns}
 use Rattle.units_run.specs.declared.status.Status.{Status}
 use Rattle.units_run.specs.declared.status.Status.TheVariants.{Done, Refused, Usage, NoFile, ReadFault, WriteFault}
 use Rattle.units_run.specs.declared.status.Status.TheVariants.{NoMemory, InputTooLong}
-use Rattle.units_run.proofs.Planned.{or_true}
+use Rattle.units_run.proofs.Planned.{left_false, not_both, or_true}
 use Rattle.column_run.proofs.Writing.{grown_none}
-
-worked_stated : (missing : Bool) (status : Status) → IsWorked missing status → IsStated status
-worked_stated missing Done w = tt
-worked_stated missing Refused w = tt
-worked_stated missing NoFile w = tt
-worked_stated missing Usage w = tt
-worked_stated true ReadFault w = absurd w
-worked_stated true WriteFault w = absurd w
-worked_stated true NoMemory w = absurd w
-worked_stated true InputTooLong w = absurd w
-worked_stated false ReadFault w = absurd w
-worked_stated false WriteFault w = absurd w
-worked_stated false NoMemory w = absurd w
-worked_stated false InputTooLong w = absurd w
+use Rattle.units_run.proofs.Seeing.{SeesFiles}
 
 -- the ending of a whole plan is a stated one
-pub may_end_stated : (taken missing : Bool) (status : Status) → MayEnd taken missing status → IsStated status
-may_end_stated false missing status is = subst IsStated (sym is) tt
-may_end_stated true missing status is = worked_stated missing status is
+pub may_end_stated : (taken file session : Bool) (status : Status) → MayEnd taken file session status → IsStated status
+may_end_stated false file session status is = subst IsStated (sym is) tt
+may_end_stated true file session Done may = tt
+may_end_stated true file session Refused may = tt
+may_end_stated true file session Usage may = tt
+may_end_stated true file session NoFile may = tt
+may_end_stated true file session ReadFault may = absurd may
+may_end_stated true file session WriteFault may = absurd may
+may_end_stated true file session NoMemory may = absurd may
+may_end_stated true file session InputTooLong may = absurd may
+
+-- how words may end that are taken, and lead to a session or to none
+pub taken_may_end : (taken file session opens : Bool) (status : Status) → taken ≡ true → session ≡ opens
+    → MayEnd true file opens status → MayEnd taken file session status
+taken_may_end taken file session opens status is_taken is may =
+    subst (λ (t : Bool). MayEnd t file session status) (sym is_taken)
+    (subst (λ (s : Bool). MayEnd true file s status) (sym is) may)
 
 pub whole_left : (course : Course) (wanted status : Status) (before after : Outside) → IsStated status → status ≡ wanted
-    → IsAll course.whole before after → IsLeft course wanted status before after
+    → IsAll (whole course) before after → IsLeft course wanted status before after
 whole_left course wanted Done before after stated is all = (is, all)
 whole_left course wanted Refused before after stated is all = (is, all)
 whole_left course wanted Usage before after stated is all = (is, all)
@@ -59,11 +65,7 @@ whole_left course wanted InputTooLong before after stated is all = absurd stated
 
 -- the course of a plan, and its ending
 abbrev pub plan_course : plans.Plan → FileMap → (input : List ℕ) → Course
-plan_course want files input = record {
-  whole = (run_over want files input (heard (lines_of input))).output;
-  shown = λ taken. (run_over want files input (whole_lines taken)).output;
-  input = input;
-}
+plan_course want files input = record { shown = λ lines. (run_over want files input lines).output; input = input }
 
 abbrev pub plan_end : plans.Plan → FileMap → (input : List ℕ) → Status
 plan_end want files input = (run_over want files input (heard (lines_of input))).status
@@ -89,10 +91,11 @@ whole_run (plans.Columns work) files input said status before after stated plann
 pub opened_talk : (want : plans.Plan) (files : FileMap) (said : Said) (session : Known) (before now : Outside)
     → IsPlan want files (Opened said session) before.steps now.steps → now.out ≡ before.out → now.err ≡ before.err
     → now.files ≡ before.files → before.files ≡ Some files → before.fetch_faults ≤ now.fetch_faults
-    → (first : Talk) × (want ≡ plans.Opened first) × Opens first said session before now
-opened_talk (plans.Whole run) files said session before now planned out err kept told faults = absurd planned
-opened_talk (plans.Columns work) files said session before now planned out err kept told faults = absurd planned
-opened_talk (plans.Opened first) files said session before now planned out err kept told faults = (
+    → before.store_faults ≤ now.store_faults → (first : Talk) × (want ≡ plans.Opened first) × Opens first said session
+    before now
+opened_talk (plans.Whole run) files said session before now planned out err kept told faults stores = absurd planned
+opened_talk (plans.Columns work) files said session before now planned out err kept told faults stores = absurd planned
+opened_talk (plans.Opened first) files said session before now planned out err kept told faults stores = (
   first,
   refl,
   record {
@@ -100,6 +103,7 @@ opened_talk (plans.Opened first) files said session before now planned out err k
     err = err;
     files = kept;
     faults = faults;
+    stores = stores;
     at = record {
       out = planned.out;
       err = planned.err;
@@ -131,22 +135,69 @@ opened_run want first files input end before after is ended =
 front_same : (o after : Option (List ℕ)) (xs : List ℕ) → after ≡ o → GrowsByFront o after xs
 front_same o after xs e = (0, omega arith, e ∙ grown_none o)
 
-unwritten : (output : Output) (before after : Outside) → after.out ≡ before.out → after.err ≡ before.err
-    → IsFront output before after
-unwritten output before after o e = record {
-  out = front_same before.out after.out output.out o;
-  err = front_same before.err after.err output.err e;
+-- where no line is answered, and nothing written, what stands is a part
+unbegun : (want : plans.Plan) (files : FileMap) (input : List ℕ) (before after : Outside) → SeesFiles want files
+    → after.out ≡ before.out → after.err ≡ before.err → after.files ≡ when_told before.files files
+    → IsPart (plan_course want files input) before after
+unbegun want files input before after sees o e kept = record {
+  front = record {
+    out = front_same before.out after.out (whole (plan_course want files input)).out o;
+    err = front_same before.err after.err (whole (plan_course want files input)).err e;
+  };
+  files = (
+    files,
+    kept,
+    record { answered = []; rest = heard (lines_of input); front = refl; reached = by want sees },
+  );
 }
+  where
+    by : (w : plans.Plan) → SeesFiles w files → files ≡ (run_over w files input []).output.files
+    by (plans.Whole run) sees = refl
+    by (plans.Opened talk) sees = sym sees
+    by (plans.Columns work) sees = refl
 
 -- no plan, since a file could not be read
-pub unread_run : (want : plans.Plan) (files : FileMap) (input : List ℕ) (before after : Outside)
-    → after.out ≡ before.out → after.err ≡ before.err → Rose before.fetch_faults after.fetch_faults
+pub unread_run : (want : plans.Plan) (files : FileMap) (input : List ℕ) (before after : Outside) → SeesFiles want files
+    → after.out ≡ before.out → after.err ≡ before.err → after.files ≡ when_told before.files files
+    → Rose before.fetch_faults after.fetch_faults
     → IsLeftOf want (plan_course want files input) (plan_end want files input) ReadFault before after
-unread_run (plans.Whole run) files input before after o e rose =
-    (unwritten _ before after o e, λ calm. absurd (calm rose))
-unread_run (plans.Opened talk) files input before after o e rose =
-    (unwritten _ before after o e, λ calm. absurd (calm rose))
-unread_run (plans.Columns work) files input before after o e rose = (o, front_same before.err after.err _ e)
+unread_run (plans.Whole run) files input before after sees o e kept rose =
+    (unbegun (plans.Whole run) files input before after sees o e kept, λ calm. absurd (calm rose))
+unread_run (plans.Opened talk) files input before after sees o e kept rose =
+    (unbegun (plans.Opened talk) files input before after sees o e kept, λ calm. absurd (calm rose))
+unread_run (plans.Columns work) files input before after sees o e kept rose =
+    (o, front_same before.err after.err _ e)
+
+-- or since there is no memory
+pub unmade_run : (want : plans.Plan) (files : FileMap) (input : List ℕ) (before after : Outside) → SeesFiles want files
+    → after.out ≡ before.out → after.err ≡ before.err → after.files ≡ when_told before.files files
+    → IsLeftOf want (plan_course want files input) (plan_end want files input) NoMemory before after
+unmade_run (plans.Whole run) files input before after sees o e kept =
+    unbegun (plans.Whole run) files input before after sees o e kept
+unmade_run (plans.Opened talk) files input before after sees o e kept =
+    unbegun (plans.Opened talk) files input before after sees o e kept
+unmade_run (plans.Columns work) files input before after sees o e kept =
+    (unbegun (plans.Columns work) files input before after sees o e kept).front
+
+-- a whole plan that is written in part
+pub cut_run : (want : plans.Plan) (files : FileMap) (input : List ℕ) (said : Said) (status : Status)
+    (before after : Outside) → IsPlan want files (Whole said status) before.steps after.steps
+    → GrowsByFront before.out after.out said.out.items → GrowsByFront before.err after.err said.err.items
+    → after.files ≡ when_told before.files files
+    → IsLeftOf want (plan_course want files input) (plan_end want files input) WriteFault before after
+cut_run (plans.Whole run) files input said status before after planned out err kept = record {
+  front = record {
+    out = subst (GrowsByFront before.out after.out) planned.out out;
+    err = subst (GrowsByFront before.err after.err) planned.err err;
+  };
+  files = (
+    files,
+    kept,
+    inl (record { answered = []; rest = heard (lines_of input); front = refl; reached = refl }),
+  );
+}
+cut_run (plans.Opened talk) files input said status before after planned out err kept = absurd planned
+cut_run (plans.Columns work) files input said status before after planned out err kept = absurd planned
 
 -- a failed read is no failed write, and no input that is too long
 pub no_write : ReadFault ≡ WriteFault → ⊥
@@ -154,6 +205,19 @@ no_write is = cc
 
 pub not_long : ReadFault ≡ InputTooLong → ⊥
 not_long is = cc
+
+-- want of memory is none of these
+pub memory_done : NoMemory ≡ Done → ⊥
+memory_done is = cc
+
+pub memory_read : NoMemory ≡ ReadFault → ⊥
+memory_read is = cc
+
+pub memory_write : NoMemory ≡ WriteFault → ⊥
+memory_write is = cc
+
+pub memory_long : NoMemory ≡ InputTooLong → ⊥
+memory_long is = cc
 
 -- files that are told are as they were when nothing changes them
 pub tells_stay : (needed : Bool) (files : Option FileMap) (m : FileMap) → TellsIf needed files m
@@ -190,13 +254,54 @@ done_end end.WriteFault is = cc
 done_end end.NoMemory is = cc
 done_end end.InputTooLong is = cc
 
--- a session that came to its end is worked
-pub session_worked : (missing : Bool) (e : SessionEnd) → IsStated (status_of e) → IsWorked missing (status_of e)
-session_worked missing end.Done s = tt
-session_worked missing end.ReadFault s = absurd s
-session_worked missing end.WriteFault s = absurd s
-session_worked missing end.NoMemory s = absurd s
-session_worked missing end.InputTooLong s = absurd s
+pub file_end : (e : SessionEnd) → status_of e ≡ NoFile → ⊥
+file_end end.Done is = cc
+file_end end.ReadFault is = cc
+file_end end.WriteFault is = cc
+file_end end.NoMemory is = cc
+file_end end.InputTooLong is = cc
+
+-- a session that came to its end is done
+pub session_may_end : (file : Bool) (e : SessionEnd) → IsStated (status_of e) → MayEnd true file true (status_of e)
+session_may_end file end.Done s = tt
+session_may_end file end.ReadFault s = absurd s
+session_may_end file end.WriteFault s = absurd s
+session_may_end file end.NoMemory s = absurd s
+session_may_end file end.InputTooLong s = absurd s
+
+-- a plan that is whole opens no session and converts no column
+pub none_opened : (want : plans.Plan) (files : FileMap) (said : Said) (session : Known) (old new : ℕ)
+    → plans.IsWhole want → IsPlan want files (Opened said session) old new → ⊥
+none_opened (plans.Whole run) files said session old new whole planned = planned
+none_opened (plans.Opened talk) files said session old new whole planned = whole
+none_opened (plans.Columns work) files said session old new whole planned = whole
+
+pub none_converted : (want : plans.Plan) (files : FileMap) (plan : ColumnPlan) (old new : ℕ)
+    → plans.IsWhole want → IsPlan want files (Columns plan) old new → ⊥
+none_converted (plans.Whole run) files plan old new whole planned = planned
+none_converted (plans.Opened talk) files plan old new whole planned = whole
+none_converted (plans.Columns work) files plan old new whole planned = whole
+
+pub neither : {A B : Type 0} → (A → ⊥) → (B → ⊥) → A ⊎ B → ⊥
+neither a b (inl x) = a x
+neither a b (inr x) = b x
+
+-- a session that was opened is no run that opens none
+pub session_opens : (words : List (List ℕ)) (vars : Pairs) (told : Option FileMap) (said : Said) (session : Known)
+    (e : SessionEnd) (ending : Status) (old new : ℕ) → opens_session words ≡ true → status_of e ≡ ending
+    → ((m : FileMap) → TellsIf (needs_files words) told m
+    → IsPlan (plan_of words vars m) m (Opened said session) old new) → OpensNone words vars ending told → ⊥
+session_opens words vars told said session e ending old new opens is planned =
+    neither (not_both (opens_session words) opens)
+    (neither (λ file. file_end e (is ∙ file))
+    (λ whole.
+    none_opened (plan_of words vars whole.0) whole.0 said session old new whole.2 (planned whole.0 whole.1)))
+
+-- a run that takes no input opens no session
+pub takes_opens : (words : List (List ℕ)) (vars : Pairs) (ending : Status) (told : Option FileMap)
+    → TakesNone words vars ending told → OpensNone words vars ending told
+takes_opens words vars ending told (inl none) = inl (left_false (opens_session words) (converts_column words) none)
+takes_opens words vars ending told (inr none) = inr none
 
 -- words that lead to a session or to a column, and yet to a whole run: there is no deck
 pub no_session_done : (session column : Bool) (status : Status) → ((session || column) ≡ true → status ≡ NoFile)
@@ -205,8 +310,8 @@ no_session_done true column status h opens done = let e : Done ≡ NoFile = sym 
 no_session_done false column status h opens done = cc
 
 pub no_column_worked : (session column : Bool) (status : Status) → ((session || column) ≡ true → status ≡ NoFile)
-    → column ≡ true → IsWorked false status → ⊥
-no_column_worked session true status h converts worked = subst (IsWorked false) (h (or_true session)) worked
+    → column ≡ true → IsWorked status → ⊥
+no_column_worked session true status h converts worked = subst IsWorked (h (or_true session)) worked
 no_column_worked session false status h converts worked = cc
 
 -- an ending that is neither a failed read nor a failed write is no fault
@@ -219,10 +324,6 @@ no_fault ReadFault read write = absurd (read refl)
 no_fault WriteFault read write = absurd (write refl)
 no_fault NoMemory read write = tt
 no_fault InputTooLong read write = tt
-
-pub neither : {A B : Type 0} → (A → ⊥) → (B → ⊥) → A ⊎ B → ⊥
-neither a b (inl x) = a x
-neither a b (inr x) = b x
 
 pub same_le : (n k : ℕ) → k ≡ n → n ≤ k
 same_le n k e = omega arith

@@ -7,7 +7,7 @@ use Rattle.column_convert.specs.Rows.{ColumnRow, queries, rows}
 use Rattle.units_io.specs.FileMap.{FileMap}
 use Rattle.units_io.specs.Named.{Pairs}
 use Rattle.session.specs.Hearing.{heard}
-use Rattle.session.specs.Input.{lines_of, whole_lines}
+use Rattle.session.specs.Input.{lines_of}
 use Rattle.session.specs.Queries.{newly}
 use Rattle.session.specs.Talks.{talk_over}
 use Rattle.session.specs.Written.{Course, Output, output_of}
@@ -61,18 +61,14 @@ pub record Call : Type 0 where
 abbrev pub plan_for : Call → Plan
 plan_for call = plan_of call.words call.vars call.files
 
+-- the run so far, once these lines of its input are answered
+abbrev pub shown_of : Call → (lines : List (List ℕ)) → Run
+shown_of call lines = run_over (plan_for call) call.files call.input lines
+
 -- the run of these words and variables over these files and this input
 abbrev pub run_of : Call → Run
-run_of call = run_over (plan_for call) call.files call.input (heard (lines_of call.input))
-
--- the run so far, where only these bytes of the input were taken: exactly their whole lines are answered
-abbrev pub shown_of : Call → (taken : List ℕ) → Run
-shown_of call taken = run_over (plan_for call) call.files call.input (whole_lines taken)
+run_of call = shown_of call (heard (lines_of call.input))
 
 -- the course of what is asked for
 abbrev pub course_of : Call → Course
-course_of call = record {
-  whole = (run_of call).output;
-  shown = λ taken. (shown_of call taken).output;
-  input = call.input;
-}
+course_of call = record { shown = λ lines. (shown_of call lines).output; input = call.input }

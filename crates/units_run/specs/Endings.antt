@@ -3,7 +3,7 @@ use Rattle.std.specs.Prelude.{◌≡◌, ℕ, List, Bool, true, false, ⊤}
 use Rattle.command_line.specs.Taken.{are_taken}
 use Rattle.command_line.specs.Fields.{command_line_of}
 use Rattle.session.specs.Outside.{Outside, Rests}
-use Rattle.session.specs.Written.{Course, IsAll, IsCutShort, IsFront, Output}
+use Rattle.session.specs.Written.{Course, IsAll, IsCutShort, IsFront, IsPart, IsPartBut, Output, whole}
 use Rattle.units_io.specs.Bytes.{GrowsByFront}
 use Rattle.session.specs.declared.over_source.SessionEnd.{SessionEnd}
 use Rattle.session.specs.declared.over_source.SessionEnd.TheVariants as end
@@ -11,7 +11,7 @@ use Rattle.column_run.specs.declared.end.ColumnEnd.{ColumnEnd}
 use Rattle.column_run.specs.declared.end.ColumnEnd.TheVariants as column
 use Rattle.units_run.specs.Calls.{Call, course_of, plan_for, run_of}
 use Rattle.units_run.specs.Plans.{Plan, Columns}
-use Rattle.units_run.specs.Needs.{loads_file}
+use Rattle.units_run.specs.Needs.{loads_file, opens_session}
 use Rattle.units_run.specs.declared.status.Status.{Status}
 use Rattle.units_run.specs.declared.status.Status.TheVariants as status
 use Rattle.units_run.specs.declared.status.Status.TheVariants.{ReadFault, WriteFault, NoMemory, InputTooLong}
@@ -41,21 +41,24 @@ IsFaultless ReadFault = ⊥
 IsFaultless WriteFault = ⊥
 IsFaultless ending = ⊤
 
--- an ending of words that are taken, by whether they lead to a definition file, of which there may be no deck
-abbrev pub IsWorked : (missing : Bool) → Status → Type 0
-IsWorked missing status.Done = ⊤
-IsWorked missing status.Refused = ⊤
-IsWorked true status.NoFile = ⊤
-IsWorked missing ending = ⊥
+-- an ending with all that was asked for, also where that is a refusal
+abbrev pub IsWorked : Status → Type 0
+IsWorked status.Done = ⊤
+IsWorked status.Refused = ⊤
+IsWorked ending = ⊥
 
--- how a run may end, faults, limits and want of memory aside, by whether its words are taken
-abbrev pub MayEnd : (taken missing : Bool) → Status → Type 0
-MayEnd false missing ending = ending ≡ status.Usage
-MayEnd true missing ending = IsWorked missing ending
+-- how a run may end, faults, limits and want of memory aside, by whether its words are taken, and lead to a definition
+-- file and to a session: there may be no deck of a file, and a session is never refused
+abbrev pub MayEnd : (taken file session : Bool) → Status → Type 0
+MayEnd false file session ending = ending ≡ status.Usage
+MayEnd true file session status.Done = ⊤
+MayEnd true file session status.Refused = session ≡ false
+MayEnd true file session status.NoFile = file ≡ true
+MayEnd true file session ending = ⊥
 
 -- the same by the words
 abbrev pub MayEndBy : (words : List (List ℕ)) → Status → Type 0
-MayEndBy words ending = MayEnd (are_taken words) (loads_file (command_line_of words)) ending
+MayEndBy words ending = MayEnd (are_taken words) (loads_file (command_line_of words)) (opens_session words) ending
 
 -- how a session ended, as an ending of the run
 abbrev pub status_of : SessionEnd → Status
@@ -74,17 +77,17 @@ column_status column.WriteFault = status.WriteFault
 column_status column.NoMemory = status.NoMemory
 column_status column.InputTooLong = status.InputTooLong
 
--- what is left of a run of this course and this ending: all of it; or a front, which is cut behind the bytes taken
+-- what is left of a run of this course and this ending: all of it; or a part, which is cut behind the bytes taken
 -- where the input is too long, and where a read failed that is none of a file
 abbrev pub IsLeft : Course → (wanted : Status) → Status → (before after : Outside) → Type 0
 IsLeft course wanted ReadFault before after =
-    IsFront course.whole before after × (Rests before.fetch_faults after.fetch_faults → IsCutShort course before after)
-IsLeft course wanted InputTooLong before after = IsFront course.whole before after × IsCutShort course before after
-IsLeft course wanted WriteFault before after = IsFront course.whole before after
-IsLeft course wanted NoMemory before after = IsFront course.whole before after
-IsLeft course wanted ending before after = (ending ≡ wanted) × IsAll course.whole before after
+    IsPart course before after × (Rests before.fetch_faults after.fetch_faults → IsCutShort course before after)
+IsLeft course wanted InputTooLong before after = IsPart course before after × IsCutShort course before after
+IsLeft course wanted WriteFault before after = IsPartBut course before after
+IsLeft course wanted NoMemory before after = IsPart course before after
+IsLeft course wanted ending before after = (ending ≡ wanted) × IsAll (whole course) before after
 
--- what is left of a run over column input: all of it; or no byte of it, where its input is not there in full; or a
+-- what is left of a run over column input: all of it; or no byte on `out`, where its input is not there in full; or a
 -- front
 abbrev pub IsConverted : Output → (wanted : Status) → Status → (before after : Outside) → Type 0
 IsConverted output wanted ReadFault before after =
@@ -97,7 +100,7 @@ IsConverted output wanted ending before after = (ending ≡ wanted) × IsAll out
 
 -- the same of any plan
 abbrev pub IsLeftOf : Plan → Course → (wanted : Status) → Status → (before after : Outside) → Type 0
-IsLeftOf (Columns work) course wanted ending before after = IsConverted course.whole wanted ending before after
+IsLeftOf (Columns work) course wanted ending before after = IsConverted (whole course) wanted ending before after
 IsLeftOf plan course wanted ending before after = IsLeft course wanted ending before after
 
 -- what a run leaves: that of its words, variables, files and input, by its ending

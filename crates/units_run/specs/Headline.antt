@@ -1,11 +1,12 @@
 -- What a run of the program is.
-use Rattle.std.specs.Prelude.{◌≡◌, ◌⊎◌, ℕ, List, [], true, false, Some}
+use Rattle.std.specs.Prelude.{◌≡◌, ◌⊎◌, ℕ, List, [], true, Some}
 use Rattle.units_io.specs.Faults.{Rose}
 use Rattle.units_io.specs.FileMap.{FileMap}
 use Rattle.units_io.specs.Named.{Pairs}
 use Rattle.session.specs.Outside.{IsReadToEnd, Rests, TookMoreThan}
 use Rattle.session.specs.Telling.{TellsIf}
 use Rattle.units_run.specs.Endings.{IsFaultless, IsRunOf, IsStated, IsWorked, MayEndBy}
+use Rattle.units_run.specs.LeftAlone.{OpensNone}
 use Rattle.units_run.specs.Needs.{converts_column, most_input, needs_files, needs_input, opens_session}
 use Rattle.session.specs.Worlds.{World, outside}
 use Rattle.units_run.specs.declared.status.Status.{Status}
@@ -26,7 +27,7 @@ pub record IsRun (words : List (List ℕ)) (vars : Pairs) (ending : Status) (bef
       opens_session words ≡ true → ending ≡ Done → IsReadToEnd input after.source.left
   -- a column that is converted, also where a cell is an error, has read its input to the end
   pub whole : (files : FileMap) (input : List ℕ) → TellsIf (needs_files words) before.files.told files →
-      before.source.left ≡ Some input → converts_column words ≡ true → IsWorked false ending →
+      before.source.left ≡ Some input → converts_column words ≡ true → IsWorked ending →
       after.source.left ≡ Some []
   -- a fault of reading is told only where a read or a fetch failed
   pub read : ending ≡ ReadFault →
@@ -42,7 +43,8 @@ pub record IsRun (words : List (List ℕ)) (vars : Pairs) (ending : Status) (bef
       Rests before.files.fetch_faults after.files.fetch_faults → Rests before.out.faults after.out.faults →
       Rests before.err.faults after.err.faults → Rests before.files.store_faults after.files.store_faults →
       IsFaultless ending
-  -- outside of a session the files are as before, whatever the ending and whether they are told or not, and none was
-  -- stored
-  pub kept : opens_session words ≡ false → after.files.told ≡ before.files.told
-  pub stores : opens_session words ≡ false → after.files.store_faults ≡ before.files.store_faults
+  -- where no session is opened the files are as before, whatever the ending and whether they are told or not, and none
+  -- was stored
+  pub kept : OpensNone words vars ending before.files.told → after.files.told ≡ before.files.told
+  pub stores : OpensNone words vars ending before.files.told →
+      after.files.store_faults ≡ before.files.store_faults

@@ -3,7 +3,10 @@ pub mod BuiltIn
 pub mod Calls
 pub mod Definitions
 pub mod Endings
+pub mod Examples
 pub mod Headline
+pub mod Laws
+pub mod LeftAlone
 pub mod Needs
 pub mod Options
 pub mod Planning

@@ -55,11 +55,11 @@ IsPlanned want files (Err _) steps_old steps_new = ⊤
 -- which plan there may be: a whole run by how it may end, which where the words lead to a session or to a column is
 -- only since there is no deck; a session only where they lead to one, and a column only where they lead to one, with
 -- options that can be printed and a number from 1
-abbrev pub IsFor : (taken missing session column : Bool) → Plan → Type 0
-IsFor taken missing session column (Whole said status) =
-    ((session || column) ≡ true → status ≡ NoFile) × MayEnd taken missing status
-IsFor taken missing session column (Opened said opened) = (taken ≡ true) × (session ≡ true)
-IsFor taken missing session column (Columns plan) =
+abbrev pub IsFor : (taken file session column : Bool) → Plan → Type 0
+IsFor taken file session column (Whole said status) =
+    ((session || column) ≡ true → status ≡ NoFile) × MayEnd taken file session status
+IsFor taken file session column (Opened said opened) = (taken ≡ true) × (session ≡ true)
+IsFor taken file session column (Columns plan) =
     (taken ≡ true) × (column ≡ true) × IsPrintable plan.options × (1 ≤ plan.column)
 
 -- what a conversion of a column touches
@@ -75,11 +75,12 @@ ends_of left out err steps = record { left = left; out = out; err = err; steps =
 -- a planned column is converted, whatever files stand beside it
 abbrev pub IsConversion : ColumnPlan → Status → (before after : Ends) → Type 0
 IsConversion plan ending before after =
-    (work : plans.ColumnWork) (m : FileMap) (input : List ℕ) (files : Option FileMap) (faults now n : ℕ) →
+    (work : plans.ColumnWork) (m : FileMap) (input : List ℕ) (files : Option FileMap)
+    (faults now stores later n : ℕ) →
     before.left ≡ Some input → IsColumn work plan n before.steps → files ≡ when_told files m →
     IsConverted (column_run work m input).output (column_run work m input).status ending
-    (outside_of before.left before.out before.err files faults n)
-    (outside_of after.left after.out after.err files now after.steps)
+    (outside_of before.left before.out before.err files faults stores n)
+    (outside_of after.left after.out after.err files now later after.steps)
 
 -- a live table gave this reply, and made the queries for it
 abbrev pub IsReplied : Asked → Result Reply AllocError → Shown → Shown → (old new : ℕ) → Type 0

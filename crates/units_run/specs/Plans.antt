@@ -1,5 +1,5 @@
 -- What the words lead to before any input is taken: a whole run, a session that is opened, or a column to be converted.
-use Rattle.std.specs.Prelude.{ℕ, Bool, List, []}
+use Rattle.std.specs.Prelude.{ℕ, Bool, List, [], ⊤}
 use Rattle.deck.specs.Decks.{Contents}
 use Rattle.reply.specs.declared.options.Options.{Options}
 use Rattle.session.specs.Talks.{Talk}
@@ -27,6 +27,12 @@ pub data Plan : Type 0 where
   Whole : WholeRun → Plan
   Opened : Talk → Plan
   Columns : ColumnWork → Plan
+
+-- all of the run is known before any input is taken
+abbrev pub IsWhole : Plan → Type 0
+IsWhole (Whole run) = ⊤
+IsWhole (Opened talk) = ⊥
+IsWhole (Columns work) = ⊥
 
 -- a text on `err`, and nothing else
 abbrev pub complaint : (text : List ℕ) → Status → Plan

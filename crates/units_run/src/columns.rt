@@ -1,6 +1,6 @@
 //! The conversion of a column.
 
-ghost use Rattle.std.specs.Prelude.{◌≡◌, ◌≤◌, ◌⊎◌, [], List, ℕ, Some, false};
+ghost use Rattle.std.specs.Prelude.{◌≡◌, ◌≤◌, ◌⊎◌, [], List, ℕ, Some};
 ghost use Rattle.reply.specs.Options.{IsPrintable};
 ghost use Rattle.session.specs.Outside.{TookMoreThan};
 ghost use Rattle.units_io.specs.Faults.{Rose};
@@ -29,9 +29,8 @@ pub(crate) fn convert_column<S: Source, O: Sink, E: Sink, L: Ledger>(
     ensures told { planning.IsConversion plan result
         (planning.ends_of (S.left src.old) (O.written out.old) (E.written err.old) steps.old)
         (planning.ends_of (S.left src.new) (O.written out.new) (E.written err.new) steps.new) }
-    ensures ends { spec.IsStated result → spec.IsWorked false result }
-    ensures whole { (input : List ℕ) → S.left src.old ≡ Some input → spec.IsWorked false result →
-        S.left src.new ≡ Some [] }
+    ensures ends { spec.IsStated result → spec.IsWorked result }
+    ensures whole { (input : List ℕ) → S.left src.old ≡ Some input → spec.IsWorked result → S.left src.new ≡ Some [] }
     ensures read { result ≡ Status.ReadFault → Rose (S.faults src.old) (S.faults src.new) }
     ensures write { result ≡ Status.WriteFault →
         Rose (O.faults out.old) (O.faults out.new) ⊎ Rose (E.faults err.old) (E.faults err.new) }

@@ -8,6 +8,7 @@ mod column_plan;
 mod columns;
 mod definitions;
 mod halt;
+mod laws;
 mod no_deck;
 mod options;
 mod plan;
@@ -16,5 +17,6 @@ mod status;
 mod words_plan;
 mod work;
 
+pub use laws::{ending_law, need_laws, run_examples};
 pub use run::units_main;
 pub use status::Status;

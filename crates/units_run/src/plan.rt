@@ -25,8 +25,8 @@ impl Plan {
     /// A text on `err`, and nothing else.
     pub(crate) fn complaint(alloc: Global, text: &[u8], status: Status) -> Result<Plan, AllocError>
         ensures told { (m : FileMap) (n : ℕ) → IsPlanned (spec.complaint text.now status) m result n n }
-        ensures kind { (taken missing session column : Bool) → ((session || column) ≡ true → status ≡ Status.NoFile) →
-            MayEnd taken missing status → IfOk result (IsFor taken missing session column) }
+        ensures kind { (taken file session column : Bool) → ((session || column) ≡ true → status ≡ Status.NoFile) →
+            MayEnd taken file session status → IfOk result (IsFor taken file session column) }
     {
         let said = Said {
             out: Vec::new(alloc),

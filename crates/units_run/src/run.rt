@@ -1,8 +1,9 @@
 //! The run of the program.
-ghost use Rattle.std.specs.Prelude.{◌≡◌, false};
+ghost use Rattle.std.specs.Prelude.{◌≡◌, ◌⊎◌, false};
 ghost use Rattle.units_run.specs.Endings as endings;
 ghost use Rattle.units_run.specs.Headline as spec;
-ghost use Rattle.units_run.specs.Needs.{needs_files, needs_input};
+ghost use Rattle.units_run.specs.LeftAlone.{OpensNone, TakesNone};
+ghost use Rattle.units_run.specs.Needs.{needs_files};
 ghost use Rattle.session.specs.Worlds.{files_of, sink_of, source_of, world_of};
 
 use crate::columns::convert_column;
@@ -23,9 +24,9 @@ use units_io::{Files, Sink, Source, Steps, Text, Vars};
 /// `run`: with a stated status (0 to 3) all bytes of the run stand on both sinks, its files and its count of steps are
 /// those of the run, and the status is its own; with any other each sink holds a front of its bytes, which where the
 /// input was too long (7), and where the source failed (4), is exactly what is shown for the whole lines of the bytes
-/// taken, and of a column no byte on `out`. `specs/Headline.antt` has all that holds of a run. `source`, `no_deck`,
-/// `unasked`: nothing is taken outside of a session and of a column or without a deck, and no file is asked for where
-/// none is needed.
+/// taken, and of a column no byte on `out`. `specs/Headline.antt` has all that holds of a run. `source`, `unasked`:
+/// nothing is taken outside of a session and of a column or without a deck, and no file is asked for where none is
+/// needed. `unread`: where no session is opened, and a fetch failed, nothing is taken and nothing is written.
 pub fn units_main<S: Source, O: Sink, E: Sink, F: Files, L: Ledger>(
     alloc: Global,
     words: &[Text],
@@ -43,9 +44,10 @@ pub fn units_main<S: Source, O: Sink, E: Sink, F: Files, L: Ledger>(
         (world_of (source_of (S.left src.new) (S.taken src.new) (S.faults src.new))
         (sink_of (O.written out.new) (O.faults out.new)) (sink_of (E.written err.new) (E.faults err.new))
         (files_of (F.files files.new) (F.faults files.new) (F.store_faults files.new)) steps.new) }
-    ensures source { needs_input words.now ≡ false → src.new ≡ src.old }
-    ensures no_deck { result ≡ Status.NoFile → src.new ≡ src.old }
+    ensures source { TakesNone words.now vars.now result (F.files files.old) → src.new ≡ src.old }
     ensures unasked { needs_files words.now ≡ false → files.new ≡ files.old }
+    ensures unread { OpensNone words.now vars.now result (F.files files.old) →
+        (F.faults files.new ≡ F.faults files.old) ⊎ ((src.new ≡ src.old) × (out.new ≡ out.old) × (err.new ≡ err.old)) }
 {
     match make_plan(alloc, words, vars, files, steps) {
         Ok(Plan::Whole(said, status)) => match said.write(out, err) {

@@ -7,7 +7,7 @@ ghost use Rattle.units_run.specs.Endings.{code_of};
 pub enum Status {
     /// The run came to its end.
     Done,
-    /// The reply is a refusal.
+    /// A reply is a fault or a conformability error, a check found something, or a cell is an error.
     Refused,
     /// The words are not taken.
     Usage,
@@ -19,7 +19,7 @@ pub enum Status {
     WriteFault,
     /// There was not enough memory.
     NoMemory,
-    /// More than 4,294,967,296 bytes of input were taken.
+    /// More than 4,294,967,296 bytes of a session, or 16,777,216 of a column, were taken.
     InputTooLong,
 }
 

@@ -5,7 +5,7 @@ ghost use Rattle.std.specs.Prelude.{if◌then◌else◌};
 ghost use Rattle.units_io.specs.FileMap.{FileMap};
 ghost use Rattle.def_lines.specs.Words.{is_empty};
 ghost use Rattle.def_lines.specs.Lines.{line_content};
-ghost use Rattle.units_run.specs.Endings.{IsWorked};
+ghost use Rattle.units_run.specs.Endings.{MayEnd};
 ghost use Rattle.units_run.specs.Options.{HasColumn, HasDigits};
 ghost use Rattle.units_run.specs.Planning.{IsFor, IsPlanned};
 ghost use Rattle.units_run.specs.Work as spec;
@@ -178,7 +178,7 @@ fn to_text(line: &CommandLine) -> &[u8]
 // How a reply ends the run.
 fn reply_status(refused: bool) -> Status
     ensures is { result ≡ (if refused then Status.Refused else Status.Done) }
-    ensures worked { IsWorked false result }
+    ensures worked { MayEnd true false false result }
 {
     if refused {
         Status::Refused
@@ -190,7 +190,7 @@ fn reply_status(refused: bool) -> Status
 // How a check report ends the run.
 fn check_status(report: &[u8]) -> Status
     ensures is { result ≡ (if is_empty report.now then Status.Done else Status.Refused) }
-    ensures worked { IsWorked false result }
+    ensures worked { MayEnd true false false result }
 {
     if report.is_empty() {
         Status::Done

@@ -1,4 +1,4 @@
-use Rattle.std.proofs.Common.{◌∙◌, List, false, sym, ap, subst, arith}
+use Rattle.std.proofs.Common.{◌∙◌, List, sym, ap, subst, arith}
 use Rattle.units_io.specs.Bytes.{grown, GrowsByFront}
 use Rattle.session.specs.Outside.{Outside}
 use Rattle.column_convert.specs.Rows.{ColumnRow}
@@ -11,20 +11,21 @@ use Rattle.units_run.proofs.Converting.{converted, ends_worked, rows_same, steps
 use Rattle.units_run.proofs.columns.convert_column.Goals as goal
 
 pub returns-in_default-clause-told : goal.returns-in_default-clause-told
-returns-in_default-clause-told g c = λ work m input files faults now n q at fs. record {
+returns-in_default-clause-told g c = λ work m input files faults now stores later n q at fs. record {
   out = (0, omega arith, grown_none (g.O.Sink.written c.args.out.now));
   err = subst (GrowsByFront (g.E.Sink.written c.args.err.now) (g.E.Sink.written c.put_all.new.sink))
       (c.as_slice.ensures.value ∙ at.err) c.in_default.ensures.front;
 }
 
 pub returns-clause-told : goal.returns-clause-told
-returns-clause-told g c = λ work m input files faults now n q at fs.
+returns-clause-told g c = λ work m input files faults now stores later n q at fs.
     let before : Outside = record {
       left = g.S.Source.left c.args.src.now;
       out = g.O.Sink.written c.args.out.now;
       err = g.E.Sink.written c.args.err.now;
       files = files;
       fetch_faults = faults;
+      store_faults = stores;
       steps = n;
     } in
     let after : Outside = record {
@@ -33,6 +34,7 @@ returns-clause-told g c = λ work m input files faults now n q at fs.
       err = g.E.Sink.written c.put_all.new.sink;
       files = files;
       fetch_faults = now;
+      store_faults = later;
       steps = c.run_columns-end.new.steps;
     } in
     subst
@@ -54,5 +56,5 @@ returns-clause-told g c = λ work m input files faults now n q at fs.
 
 pub returns-clause-ends : goal.returns-clause-ends
 returns-clause-ends g c = λ s.
-    subst (IsWorked false) (sym c.status_of.ensures)
+    subst IsWorked (sym c.status_of.ensures)
     (ends_worked c.run_columns-end.result (subst IsStated c.status_of.ensures s))

@@ -5,27 +5,30 @@ use Rattle.std.specs.declared.option.Option.{Option}
 use Rattle.units_io.specs.FileMap.{FileMap}
 use Rattle.command_line.specs.Fields.{command_line_of}
 use Rattle.units_run.specs.Endings.{IsLeftOf, IsStated, IsWorked, MayEnd}
+use Rattle.units_run.specs.LeftAlone.{OpensNone}
 use Rattle.units_run.specs.Plans as plans
 use Rattle.session.specs.Outside.{TookMoreThan}
 use Rattle.units_run.specs.Needs.{converts_column, loads_file, needs_input, opens_session}
 use Rattle.units_run.specs.Work.{plan_of}
 use Rattle.units_run.specs.declared.status.Status.{Status}
 use Rattle.units_run.specs.declared.status.Status.TheVariants.{ReadFault, WriteFault}
+use Rattle.units_run.proofs.Running.{cut_run, memory_done, memory_long, memory_read, memory_write, unmade_run}
+use Rattle.units_run.proofs.Seeing.{plan_sees}
 use Rattle.session.proofs.Blocks.{of_two}
-use Rattle.units_run.proofs.Planned.{column_most, input_files, no_column, not_both, or_true, session_most, tells_needed}
-use Rattle.units_run.proofs.Planned.{tells_told}
-use Rattle.units_run.proofs.Running.{done_end, may_end_stated, neither, no_fault, opened_run, opened_talk, plan_course}
-use Rattle.units_run.proofs.Running.{long_end, no_column_worked, no_session_done, plan_end, read_end, same_le}
-use Rattle.units_run.proofs.Running.{no_write, not_long, session_worked, tells_stay, unread_run, whole_run}
-use Rattle.units_run.proofs.Running.{write_end}
-use Rattle.units_run.proofs.Converting.{planned_column, worked_more}
+use Rattle.units_run.proofs.Planned.{column_most, false_by, input_files, no_column, not_both, or_true, session_most}
+use Rattle.units_run.proofs.Planned.{tells_needed, tells_told}
+use Rattle.units_run.proofs.Running.{done_end, long_end, may_end_stated, neither, no_column_worked, no_fault}
+use Rattle.units_run.proofs.Running.{no_session_done, no_write, none_converted, not_long, opened_run, opened_talk}
+use Rattle.units_run.proofs.Running.{plan_course, plan_end, read_end, same_le, session_may_end, session_opens}
+use Rattle.units_run.proofs.Running.{taken_may_end, takes_opens, tells_stay, unread_run, whole_run, write_end}
+use Rattle.units_run.proofs.Converting.{planned_column, worked_may_end}
 use Rattle.units_run.proofs.run.units_main.Goals as goal
 
 pub returns-in-Ok-clause-run : goal.returns-in-Ok-clause-run
 returns-in-Ok-clause-run g c =
     let planned = c.in-Ok-Whole in
     let kind = rw planned.field-0-is at planned.ensures.kind in
-    let stated = may_end_stated _ _ planned.status kind.1 in
+    let stated = may_end_stated _ _ _ planned.status kind.1 in
     record {
       leaves = λ m input s q.
           whole_run (plan_of c.args.words.now c.args.vars.now m) m input planned.said planned.status _ _ stated
@@ -53,6 +56,7 @@ returns-in-Ok-Opened-clause-run g c =
       err = g.E.Sink.written c.args.err.now;
       files = g.F.Files.files c.args.files.now;
       fetch_faults = g.F.Files.faults c.args.files.now;
+      store_faults = g.F.Files.store_faults c.args.files.now;
       steps = c.args.steps.now;
     } in
     let after : Outside = record {
@@ -61,13 +65,16 @@ returns-in-Ok-Opened-clause-run g c =
       err = g.E.Sink.written c.run_session-end.new.err;
       files = g.F.Files.files c.run_session-end.new.files;
       fetch_faults = g.F.Files.faults c.run_session-end.new.files;
+      store_faults = g.F.Files.store_faults c.run_session-end.new.files;
       steps = c.run_session-end.new.steps;
     } in
     let opened = c.in-Ok-Opened in
     let kind = rw opened.field-0-is at opened.ensures.kind in
-    let missing = loads_file (command_line_of c.args.words.now) in
     let ended = c.run_session-end.ensures in
     let is = sym c.status_of.ensures in
+    let opens : (OpensNone c.args.words.now c.args.vars.now c.status_of.result (g.F.Files.files c.args.files.now) → ⊥) =
+    session_opens _ _ _ opened.said opened.session c.run_session-end.result _ _ _ kind.1 is
+    (λ m s. rw opened.field-0-is at (opened.ensures.told m s)) in
     let read : (c.status_of.result ≡ ReadFault → Rose (g.S.Source.faults c.args.src.now)
     (g.S.Source.faults c.run_session-end.new.src)
     ⊎ Rose (g.F.Files.faults c.args.files.now) (g.F.Files.faults c.run_session-end.new.files)) = λ so.
@@ -94,21 +101,21 @@ returns-in-Ok-Opened-clause-run g c =
           let files = tells_needed _ _ m (input_files c.args.words.now session) s in
           let talk =
           opened_talk want m opened.said opened.session before _ plan refl refl opened.ensures.kept files
-          (same_le _ _ opened.ensures.calm) in
+          (same_le _ _ opened.ensures.calm) (same_le _ _ opened.ensures.stores) in
           subst
           (λ (st : Status). IsLeftOf want (plan_course want m input) (plan_end want m input) st before after) is
           (opened_run want talk.0 m input c.run_session-end.result before after talk.1
           (ended.told talk.0 input before (tells_needed _ _ input need q) talk.2));
       ends = λ stated.
-          subst (λ b. MayEnd b missing c.status_of.result) (sym kind.0)
-          (subst (IsWorked missing) is
-          (session_worked missing c.run_session-end.result (subst IsStated c.status_of.ensures stated)));
+          taken_may_end _ (loads_file (command_line_of c.args.words.now)) _ true c.status_of.result kind.0 kind.1
+          (subst (MayEnd true _ true) is
+          (session_may_end _ c.run_session-end.result (subst IsStated c.status_of.ensures stated)));
       heard = λ m input t q need done.
           let want = plan_of c.args.words.now c.args.vars.now m in
           let plan = rw opened.field-0-is at (opened.ensures.told m (tells_told _ _ m t)) in
           let talk =
           opened_talk want m opened.said opened.session before _ plan refl refl opened.ensures.kept t
-          (same_le _ _ opened.ensures.calm) in
+          (same_le _ _ opened.ensures.calm) (same_le _ _ opened.ensures.stores) in
           ended.heard talk.0 input before q talk.2 (done_end c.run_session-end.result (is ∙ done));
       whole = λ m input s q column over. absurd (no_column c.args.words.now kind.1 column);
       read = read;
@@ -120,15 +127,14 @@ returns-in-Ok-Opened-clause-run g c =
           (ended.caused.too_long (long_end c.run_session-end.result (is ∙ so)));
       complete = λ s f o e w.
           no_fault c.status_of.result (λ so. neither s f (read so)) (λ so. neither o (neither e w) (write so));
-      kept = λ none. absurd (not_both _ kind.1 none);
-      stores = λ none. absurd (not_both _ kind.1 none);
+      kept = λ none. absurd (opens none);
+      stores = λ none. absurd (opens none);
     }
 
 pub returns-in-Ok-Columns-clause-run : goal.returns-in-Ok-Columns-clause-run
 returns-in-Ok-Columns-clause-run g c =
     let columns = c.in-Ok-Columns in
     let is_for = rw columns.field-0-is at columns.ensures.kind in
-    let missing = loads_file (command_line_of c.args.words.now) in
     let ended = c.convert_column.ensures in
     record {
       leaves = λ m input s q.
@@ -138,6 +144,7 @@ returns-in-Ok-Columns-clause-run g c =
             err = g.E.Sink.written c.args.err.now;
             files = g.F.Files.files c.args.files.now;
             fetch_faults = g.F.Files.faults c.args.files.now;
+            store_faults = g.F.Files.store_faults c.args.files.now;
             steps = c.args.steps.now;
           } in
           let planned = c.in-Ok-Columns in
@@ -157,6 +164,7 @@ returns-in-Ok-Columns-clause-run g c =
             err = g.E.Sink.written c.convert_column.new.err;
             files = f;
             fetch_faults = g.F.Files.faults c.make_plan.new.files;
+            store_faults = g.F.Files.store_faults c.make_plan.new.files;
             steps = c.convert_column.new.steps;
           }))
           (sym planned.ensures.kept)
@@ -168,15 +176,18 @@ returns-in-Ok-Columns-clause-run g c =
             err = g.E.Sink.written c.convert_column.new.err;
             files = g.F.Files.files c.args.files.now;
             fetch_faults = g.F.Files.faults c.make_plan.new.files;
+            store_faults = g.F.Files.store_faults c.make_plan.new.files;
             steps = c.convert_column.new.steps;
           }))
           (sym column.1)
           (c.convert_column.ensures.told column.0 m input (g.F.Files.files c.args.files.now)
-          (g.F.Files.faults c.args.files.now) (g.F.Files.faults c.make_plan.new.files) c.args.steps.now
+          (g.F.Files.faults c.args.files.now) (g.F.Files.faults c.make_plan.new.files)
+          (g.F.Files.store_faults c.args.files.now) (g.F.Files.store_faults c.make_plan.new.files) c.args.steps.now
           (tells_needed _ _ input need q) column.2 (tells_stay _ _ m s)));
       ends = λ stated.
-          subst (λ b. MayEnd b missing c.convert_column.result) (sym is_for.0)
-          (worked_more missing c.convert_column.result (ended.ends stated));
+          taken_may_end _ (loads_file (command_line_of c.args.words.now)) _ false c.convert_column.result is_for.0
+          (false_by _ (λ opens. no_column c.args.words.now opens is_for.1))
+          (worked_may_end _ c.convert_column.result (ended.ends stated));
       heard = λ m input t q opens done. absurd (no_column c.args.words.now opens is_for.1);
       whole = λ m input s q column over. ended.whole input q over;
       read = λ so. inl (ended.read so);
@@ -196,16 +207,46 @@ returns-in-Ok-Opened-clause-unasked g c = λ none.
     let kind = rw c.in-Ok-Opened.field-0-is at c.in-Ok-Opened.ensures.kind in
     absurd (not_both _ (input_files c.args.words.now kind.1) none)
 
-pub returns-in-Ok-Columns-clause-no_deck : goal.returns-in-Ok-Columns-clause-no_deck
-returns-in-Ok-Columns-clause-no_deck g c = λ is.
-    absurd (subst (IsWorked false) is (c.convert_column.ensures.ends (subst IsStated (sym is) tt)))
+pub returns-in-Ok-Opened-clause-source : goal.returns-in-Ok-Opened-clause-source
+returns-in-Ok-Opened-clause-source g c = λ none.
+    let opened = c.in-Ok-Opened in
+    let kind = rw opened.field-0-is at opened.ensures.kind in
+    absurd
+    (session_opens c.args.words.now c.args.vars.now (g.F.Files.files c.args.files.now) opened.said opened.session
+    c.run_session-end.result c.status_of.result _ _ kind.1 (sym c.status_of.ensures)
+    (λ m s. rw opened.field-0-is at (opened.ensures.told m s)) (takes_opens _ _ _ _ none))
+
+pub returns-in-Ok-Columns-clause-source : goal.returns-in-Ok-Columns-clause-source
+returns-in-Ok-Columns-clause-source g c = λ none.
+    let planned = c.in-Ok-Columns in
+    let kind = rw planned.field-0-is at planned.ensures.kind in
+    let words = c.args.words.now in
+    absurd
+    (neither
+    (not_both (needs_input words)
+    (ap (λ (b : Bool). opens_session words || b) kind.1 ∙ or_true (opens_session words)))
+    (neither (λ file. subst IsWorked file (c.convert_column.ensures.ends (subst IsStated (sym file) tt)))
+    (λ whole.
+    none_converted (plan_of words c.args.vars.now whole.0) whole.0 planned.plan _ _ whole.2
+    (rw planned.field-0-is at (planned.ensures.told whole.0 whole.1))))
+    none)
+
+pub returns-in-Ok-Opened-clause-unread : goal.returns-in-Ok-Opened-clause-unread
+returns-in-Ok-Opened-clause-unread g c = λ none.
+    let opened = c.in-Ok-Opened in
+    let kind = rw opened.field-0-is at opened.ensures.kind in
+    absurd
+    (session_opens c.args.words.now c.args.vars.now (g.F.Files.files c.args.files.now) opened.said opened.session
+    c.run_session-end.result c.status_of.result _ _ kind.1 (sym c.status_of.ensures)
+    (λ m s. rw opened.field-0-is at (opened.ensures.told m s)) none)
 
 pub returns-in-Err-ReadFault-clause-run : goal.returns-in-Err-ReadFault-clause-run
 returns-in-Err-ReadFault-clause-run g c =
     let rose = c.make_plan.ensures.cause (c.in-Err-ReadFault.is ∙ ap Err c.in-Err-ReadFault.field-0-is) in
     record {
       leaves = λ m input s q.
-          unread_run (plan_of c.args.words.now c.args.vars.now m) m input _ _ refl refl rose;
+          unread_run (plan_of c.args.words.now c.args.vars.now m) m input _ _
+          (plan_sees c.args.words.now c.args.vars.now m) refl refl (c.make_plan.ensures.kept ∙ tells_stay _ _ m s) rose;
       ends = λ stated. absurd stated;
       heard = λ m input t q opens done. cc;
       whole = λ m input s q column over. absurd over;
@@ -215,4 +256,38 @@ returns-in-Err-ReadFault-clause-run g c =
       complete = λ s f o e w. absurd (f rose);
       kept = λ none. c.make_plan.ensures.kept;
       stores = λ none. c.make_plan.ensures.stores;
+    }
+
+pub returns-clause-run : goal.returns-clause-run
+returns-clause-run g c = record {
+  leaves = λ m input s q.
+      unmade_run (plan_of c.args.words.now c.args.vars.now m) m input _ _
+      (plan_sees c.args.words.now c.args.vars.now m) refl refl (c.make_plan.ensures.kept ∙ tells_stay _ _ m s);
+  ends = λ stated. absurd stated;
+  heard = λ m input t q opens done. absurd (memory_done done);
+  whole = λ m input s q column over. absurd over;
+  read = λ is. absurd (memory_read is);
+  write = λ is. absurd (memory_write is);
+  too_long = λ is. absurd (memory_long is);
+  complete = λ s f o e w. tt;
+  kept = λ none. c.make_plan.ensures.kept;
+  stores = λ none. c.make_plan.ensures.stores;
+}
+
+pub returns-in-Ok-Whole-clause-run : goal.returns-in-Ok-Whole-clause-run
+returns-in-Ok-Whole-clause-run g c =
+    let planned = c.in-Ok-Whole in record {
+      leaves = λ m input s q.
+          cut_run (plan_of c.args.words.now c.args.vars.now m) m input planned.said planned.status _ _
+          (rw planned.field-0-is at (planned.ensures.told m s)) c.write.ensures.out c.write.ensures.err
+          (planned.ensures.kept ∙ tells_stay _ _ m s);
+      ends = λ stated. absurd stated;
+      heard = λ m input t q opens done. cc;
+      whole = λ m input s q column over. absurd over;
+      read = λ is. cc;
+      write = λ is. of_two c.in-Err.ensures.cause;
+      too_long = λ is. cc;
+      complete = λ s f o e w. absurd (neither o e c.in-Err.ensures.cause);
+      kept = λ none. planned.ensures.kept;
+      stores = λ none. planned.ensures.stores;
     }

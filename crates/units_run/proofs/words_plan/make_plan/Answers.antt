@@ -35,4 +35,4 @@ returns-in_ok-complaint-in-Err-Usage-clause-kind g c =
     c.in_ok-complaint-in-Err-Usage.ensures.kind (are_taken words) (loads_file (command_line_of words))
     (opens_session words) (converts_column words)
     (λ leads. absurd (no_lead words untaken leads))
-    (subst (λ (b : Bool). MayEnd b (loads_file (command_line_of words)) Usage) (sym untaken) refl)
+    (subst (λ (b : Bool). MayEnd b (loads_file (command_line_of words)) (opens_session words) Usage) (sym untaken) refl)

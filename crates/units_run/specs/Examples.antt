@@ -1,0 +1,78 @@
+-- Some words, and what they lead to.
+use Rattle.std.specs.Prelude.{◌≡◌, ◌∷◌, ℕ, List, [], Bool, true, false, Some, None, codes}
+use Rattle.units_io.specs.FileMap.{FileMap, file_of}
+use Rattle.units_io.specs.Named.{Pairs}
+use Rattle.command_line.specs.Examples.{no_line}
+use Rattle.command_line.specs.Usage.{usage_text}
+use Rattle.units_run.specs.Calls.{Run, run_of}
+use Rattle.units_run.specs.Needs.{most_input, needs_files, needs_input}
+use Rattle.units_run.specs.Options.{options_of}
+use Rattle.units_run.specs.declared.status.Status.{Status}
+use Rattle.units_run.specs.declared.status.Status.TheVariants.{Usage, NoFile}
+
+-- whether words need files, and input
+abbrev pub HasNeeds : (words : List (List ℕ)) → (files input : Bool) → Type 0
+HasNeeds words files input = (needs_files words ≡ files) × (needs_input words ≡ input)
+
+-- the run that says this on `err`, and nothing else
+abbrev pub complained : (text : List ℕ) → Status → FileMap → Run
+complained text status files =
+    record { output = record { out = []; err = text; steps = 0; files = files }; status = status }
+
+pub record RunExamples : Type 0 where
+  -- a session needs both, a column its input
+  pub session : HasNeeds [] true true
+  pub column : HasNeeds (codes "--column" ∷ codes "2" ∷ codes "--header" ∷ codes "feet" ∷ codes "m" ∷ []) false true
+  -- a reply, a check and a trial need no input
+  pub reply : HasNeeds (codes "m" ∷ codes "-q" ∷ codes "ft" ∷ []) false false
+  pub reply_by_file : HasNeeds (codes "--exact" ∷ codes "-f" ∷ codes "first.units" ∷ codes "yd" ∷ codes "m" ∷ [])
+      true false
+  pub check : HasNeeds (codes "-c" ∷ codes "-l" ∷ codes "en_GB" ∷ []) false false
+  pub trial : HasNeeds (codes "--trial" ∷ codes "007" ∷ []) false false
+  -- nor do words that are not taken
+  pub untaken : HasNeeds (codes "-d" ∷ codes "0" ∷ codes "m" ∷ codes "ft" ∷ []) false false
+  -- the most bytes of input of a session, and of a column
+  pub session_input : most_input [] ≡ 4294967296
+  pub column_input :
+      most_input (codes "--column" ∷ codes "2" ∷ codes "--header" ∷ codes "feet" ∷ codes "m" ∷ []) ≡ 16777216
+  -- words that are not taken, and a definition file that is absent
+  pub usage : (vars : Pairs) (files : FileMap) (input : List ℕ) →
+      run_of (record {
+        words = codes "-d" ∷ codes "0" ∷ codes "m" ∷ codes "ft" ∷ [];
+        vars = vars;
+        files = files;
+        input = input;
+      })
+      ≡ complained usage_text Usage files
+  pub absent : (vars : Pairs) (files : FileMap) (input : List ℕ) → file_of files (codes "first.units") ≡ None →
+      run_of (record {
+        words = codes "--exact" ∷ codes "-f" ∷ codes "first.units" ∷ codes "yd" ∷ codes "m" ∷ [];
+        vars = vars;
+        files = files;
+        input = input;
+      })
+      ≡ complained (codes "units: no file: first.units\n") NoFile files
+  -- eight digits where none are asked for, and no other option
+  pub no_options : options_of no_line
+      ≡ record {
+        digits = 8;
+        exact = false;
+        strict = false;
+        one_line = false;
+        compact = false;
+        quiet = false;
+        round = false;
+        verbose = false;
+      }
+  -- a terse reply is not verbose
+  pub terse_verbose : options_of (record no_line { digits = Some 12; terse = true; verbose = true })
+      ≡ record {
+        digits = 12;
+        exact = false;
+        strict = true;
+        one_line = true;
+        compact = true;
+        quiet = true;
+        round = false;
+        verbose = false;
+      }

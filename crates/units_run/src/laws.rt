@@ -1,0 +1,24 @@
+//! Laws of what words lead to, and some words. The functions here do nothing: their contracts are what is said.
+
+ghost use Rattle.units_run.specs.Examples.{RunExamples};
+ghost use Rattle.units_run.specs.Laws.{EndingLaw, NeedLaws};
+
+use command_line::{refused_examples, taken_examples};
+
+/// Files and input that the words do not need change nothing.
+pub fn need_laws()
+    ensures { NeedLaws }
+{}
+
+/// A run ends as its words may.
+pub fn ending_law()
+    ensures { EndingLaw }
+{}
+
+/// Some words, and what they lead to.
+pub fn run_examples()
+    ensures { RunExamples }
+{
+    taken_examples();
+    refused_examples();
+}
