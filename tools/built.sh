@@ -64,7 +64,7 @@ prove() {
 build() {
     local crates crate place=0
     mapfile -t crates < <(lines_of "$name" | sed 's/[ :].*//')
-    say "from nothing that takes some ten minutes on four processors, 4 GB of memory and 1.5 GB of disk; the log is $log"
+    say "from nothing that takes an hour or more, 4 GB of memory and 1.5 GB of disk; the log is $log"
     : > "$log"
     if [ -e "$program" ]; then cp -p "$program" "$program.before"; fi
     trap put_back EXIT

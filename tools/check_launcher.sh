@@ -87,7 +87,7 @@ expect 'a release that was changed' 127 '' '*not built yet*' "two/bin/units $yar
 fake_rt 'exit 1'
 expect 'a proof that fails' 126 '' '*units_io was not proved*build.log*' "PATH=\$PATH:$folder/rt one/bin/units $yard"
 fake_rt "if [ \$1 = run ]; then cp $program out/units; : > out/units.stamp; fi"
-expect 'a build' 0 "$answer" '*ten minutes*units_io is proved (1 of *units is proved*' "PATH=\$PATH:$folder/rt one/bin/units $yard"
+expect 'a build' 0 "$answer" '*an hour or more*units_io is proved (1 of *units is proved*' "PATH=\$PATH:$folder/rt one/bin/units $yard"
 expect 'what was built' 0 "$answer" '' "one/bin/units $yard"
 echo '// an edit' >> one/crates/units_run/src/run.rt
 expect 'what was built, older than its sources' 127 '' '*is older than its sources*no command rt*' "one/bin/units $yard"

@@ -17,9 +17,10 @@ import random
 import subprocess
 import sys
 from collections import Counter
-from pathlib import Path
 
-PROGRAM = Path(__file__).resolve().parent.parent / "crates/edge_calls/out/edge_calls"
+from built import program
+
+PROGRAM = "edge_calls"
 NODES = 12
 SHOWN = 5  # how many differences are printed
 
@@ -106,7 +107,7 @@ def main():
     random.seed(int(sys.argv[2]) if len(sys.argv) > 2 else 1)
     calls = list(random_calls(count))
     spelled_calls = "".join(call + "\n" for call, _ in calls)
-    run = subprocess.run([PROGRAM], input=spelled_calls, capture_output=True, text=True, check=True)
+    run = subprocess.run([program(PROGRAM)], input=spelled_calls, capture_output=True, text=True, check=True)
     told = run.stdout.splitlines()
     if len(told) != len(calls):
         sys.exit(f"{len(told)} answers to {len(calls)} calls")

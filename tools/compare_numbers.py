@@ -17,8 +17,8 @@ import sys
 from collections import Counter
 from decimal import ROUND_HALF_EVEN, Context, Decimal
 from fractions import Fraction
-from pathlib import Path
 
+from built import program
 from numbers_at_limits import (
     MOST,
     damaged,
@@ -34,7 +34,7 @@ from numbers_at_limits import (
     whole,
 )
 
-PROGRAM = Path(__file__).resolve().parent.parent / "crates/number_calls/out/number_calls"
+PROGRAM = "number_calls"
 MOST_EXPONENT = 9_999  # the largest exponent of a numeral
 SHOWN = 5  # how many differences of a kind are printed
 NUMBER = re.compile(r"-?[0-9.]+(\|[0-9]+|e[+-][0-9]+)?")
@@ -228,7 +228,7 @@ def compared(kind, make, count, seed):
     r = random.Random(f"{seed} {kind}")
     calls = [make(r, kind) for _ in range(count)]
     lines = b"".join(line + b"\n" for line, _ in calls)
-    run = subprocess.run([PROGRAM], input=lines, stdout=subprocess.PIPE, check=False)
+    run = subprocess.run([program(PROGRAM)], input=lines, stdout=subprocess.PIPE, check=False)
     answers = run.stdout.decode().split("\n")[:-1]
     different = [(call, want, got) for (call, want), got in zip(calls, answers) if want != got]
     words = Counter(want for _, want in calls if not NUMBER.fullmatch(want))
@@ -246,8 +246,6 @@ def main():
     sys.set_int_max_str_digits(0)
     count = int(sys.argv[1]) if len(sys.argv) > 1 else 100_000
     seed = sys.argv[2] if len(sys.argv) > 2 else "1"
-    if not PROGRAM.exists():
-        sys.exit(f"{PROGRAM} is missing: build it by `cd crates/number_calls && rt run < /dev/null`")
     differences = sum(compared(kind, make, count, seed) for kind, make in KINDS.items())
     print(f"{count * len(KINDS)} calls, {differences} differences")
     sys.exit(1 if differences else 0)

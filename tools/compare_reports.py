@@ -21,7 +21,7 @@ answers calls by the recursion, over the files of the folder it stands in.
 writes what a check of each prefix of a file writes, the shortest first, which is looked for as `p.units`: its notices,
 the faults of its keys, and a line with the status.
 
-Tables and their faults are those of compare_live.py. A prefix is told as faulty where its own entry
+Tables and their faults are those of plain_live.py. A prefix is told as faulty where its own entry
 is, gone through from the prefix on. All numbers are exact.
 """
 
@@ -32,13 +32,15 @@ import sys
 import tempfile
 from pathlib import Path
 
-import compare_live
 import tables_at_random
-from compare_decks import BLANKS, Files, Refusal, key_text, keys_in_order
-from compare_live import Live
-from compare_values import Fault, Points
+from built import program
+from plain_decks import Board, Files, keys_in_order
+from plain_lines import BLANKS, Refusal, key_text
+from plain_live import Live
+from plain_quantities import Fault
+from plain_tables import Alias, Points
 
-PROGRAM = Path(__file__).resolve().parent.parent / "crates/answer_calls/out/answer_calls"
+PROGRAM = "answer_calls"
 SHOWN = 5  # how many differences are printed
 PARTS = ["m", "2 m", "0 m", "-1 m", "1|2 a", "a", "s", "b / 0", "1e20 1e20", "nosuch", "sin(2)", "ab", "fa(2)", "3"]
 
@@ -70,7 +72,7 @@ class Reports:
         function = self.live.callable(name)
         if isinstance(function, Points):
             function.unit(self.live, None)
-        elif not isinstance(function, compare_live.Alias):
+        elif not isinstance(function, Alias):
             for end in (function.argument, function.result):
                 if end.unit:
                     end.unit(self.live, None)
@@ -113,7 +115,7 @@ def told(outcome):
 
 def deck_of(name):
     """The deck of a file, or nothing where it is none."""
-    board = compare_live.compare_decks.Board()
+    board = Board()
     try:
         board.load(Files(), name)
     except Refusal:
@@ -143,7 +145,7 @@ def answers_of_program(name, calls):
     """The lines of each answer; the options that are set before each call mark where it begins."""
     lines = [f"load {name}", *(line for call in calls for line in ("options exact", call))]
     given = "".join(line + "\n" for line in lines).encode("latin-1")
-    run = subprocess.run([PROGRAM], input=given, stdout=subprocess.PIPE, check=True)
+    run = subprocess.run([program(PROGRAM)], input=given, stdout=subprocess.PIPE, check=True)
     answers = run.stdout.decode("latin-1").split("\n")[:-1]
     starts = [at for at, line in enumerate(answers) if line == "ok"][1:]
     return [answers[start + 1 : end] for start, end in zip(starts, [*starts[1:], len(answers)])]
@@ -221,8 +223,6 @@ def main():
         for line in prefix_lines(sys.argv[2]):
             sys.stdout.buffer.write((line + "\n").encode("latin-1"))
         return 0
-    if not PROGRAM.exists():
-        sys.exit(f"{PROGRAM} is missing: build it by `tools/built.sh answer_calls`")
     tally = Tally()
     if sys.argv[1:2] == ["--definitions"]:
         compare_definitions(tally, sys.argv[2])

@@ -17,9 +17,10 @@ import subprocess
 import sys
 from collections import Counter, namedtuple
 from decimal import Decimal
-from pathlib import Path
 
-PROGRAM = Path(__file__).resolve().parent.parent / "crates/text_calls/out/text_calls"
+from built import program
+
+PROGRAM = "text_calls"
 DEEPEST = 64
 SHOWN = 5  # how many differences of a kind are printed
 BATCH = 200_000  # how many lines one run of the program takes
@@ -336,7 +337,7 @@ def compared(name, lists):
     total, differences, words = 0, [], Counter()
     while batch := list(itertools.islice(lists, BATCH)):
         lines = "".join(line_of(text, binder) + "\n" for _, text, _, binder in batch)
-        run = subprocess.run([PROGRAM], input=lines.encode(), stdout=subprocess.PIPE, check=False)
+        run = subprocess.run([program(PROGRAM)], input=lines.encode(), stdout=subprocess.PIPE, check=False)
         answers = run.stdout.decode().split("\n")[:-1]
         if run.returncode != 0 or len(answers) != len(batch):
             sys.exit(f"the program ended with status {run.returncode} after {len(answers)} answers")
@@ -357,8 +358,6 @@ def main():
     longest = int(sys.argv[1]) if len(sys.argv) > 1 else 5
     count = int(sys.argv[2]) if len(sys.argv) > 2 else 200_000
     seed = sys.argv[3] if len(sys.argv) > 3 else "1"
-    if not PROGRAM.exists():
-        sys.exit(f"{PROGRAM} is missing: build it by `cd crates/text_calls && rt run < /dev/null`")
     differences = compared(f"all lists up to {longest} tokens", every_list(longest))
     differences += compared("random lists", random_lists(count, seed))
     sys.exit(1 if differences else 0)

@@ -18,11 +18,11 @@ one more, and so on.
 import subprocess
 import sys
 from fractions import Fraction
-from pathlib import Path
 
+from built import program
 from compare_numbers import digits_answer
 
-PROGRAM = Path(__file__).resolve().parent.parent / "crates/units/out/units"
+PROGRAM = "units"
 DIGITS = 8
 
 
@@ -88,7 +88,7 @@ def main():
             print(wanted)
             continue
         for _ in range(2):
-            run = subprocess.run([PROGRAM, "--trial", str(count)], stdout=subprocess.PIPE, check=False)
+            run = subprocess.run([program(PROGRAM), "--trial", str(count)], stdout=subprocess.PIPE, check=False)
             if (run.stdout.decode(), run.returncode) != (f"{wanted}\n", 0):
                 differences += 1
                 print(f"{count}: {run.stdout.decode()!r}, status {run.returncode}, not {wanted!r}")

@@ -1,0 +1,38 @@
+#!/usr/bin/env bash
+# Times `units --column` over rows of two fields beside awk, which multiplies the same column and prints the rows. Prints the
+# seconds of the processor, the lowest of some runs.
+#   bench/columns.sh [ROWS]
+# ROWS is 1,000,000 where no number is given; a run takes 16,777,216 bytes at most.
+set -u
+root=$(cd "$(dirname "${BASH_SOURCE[0]}")/.." && pwd)
+program=$("$root/tools/built.sh" units) || exit
+exec python3 - "$program" "${1:-1000000}" <<'PYTHON'
+import os
+import subprocess
+import sys
+import tempfile
+
+program, count = sys.argv[1], int(sys.argv[2])
+AWK = "BEGIN { FS = OFS = \",\" } { $2 = $2 * 0.3048; print }"
+
+
+def timed(command, path, runs=5):
+    """The lowest seconds of the processor."""
+    costs = []
+    for _ in range(runs):
+        with open(path, "rb") as given, open(os.devnull, "wb") as to:
+            process = subprocess.Popen(command, stdin=given, stdout=to)
+            _, status, usage = os.wait4(process.pid, 0)
+        if status:
+            sys.exit(f"{command[0]}: status {status}")
+        costs.append(usage.ru_utime + usage.ru_stime)
+    return min(costs)
+
+
+with tempfile.NamedTemporaryFile("w", suffix=".csv") as file:
+    file.write("".join(f"{i},{i % 997 / 4}\n" for i in range(count)))
+    file.flush()
+    for name, command in ("units", [program, "--column", "2", "feet", "m"]), ("awk", ["awk", AWK]):
+        print(f"{name:6} {timed(command, file.name):6.2f} s of the processor", flush=True)
+    print(f"{count} rows, {os.stat(file.name).st_size / 1e6:.1f} MB")
+PYTHON

@@ -1,0 +1,15 @@
+"""The programs that were proved and built of the present sources."""
+
+import functools
+import subprocess
+import sys
+from pathlib import Path
+
+
+@functools.cache
+def program(name):
+    """The path of a program, which tools/built.sh proves and builds first where it is missing or older than its sources."""
+    run = subprocess.run([Path(__file__).with_name("built.sh"), name], stdout=subprocess.PIPE, check=False)
+    if run.returncode != 0:
+        sys.exit(run.returncode)
+    return run.stdout.decode().strip()
