@@ -44,6 +44,34 @@ Calls in calls, as deep as they go.
   calls too deep: f_17
   [1]
 
+Expressions in functions in functions, each nested as deep as it may be, on the stack that most systems give: parentheses
+of roots, of products with the argument, of calls, of inverses and of signs, each in a sum, in a product, beside a number
+and with an exponent. Each is 1 where the argument is.
+
+  $ deep() { echo 'v_1(x) x ; v_1'; for i in $(seq 2 16); do printf "v_$i(x) "; printf "$1%.0s" $(seq $2); printf "v_$((i - 1))(x)"; printf ')^1%.0s' $(seq $2); echo; done; }
+  $ usual() { (ulimit -s 8192; units "$@"); }
+  $ deep '0+1*1 sqrt(' 63 > roots.units
+  $ usual -f roots.units "v_16(1)"
+  \tDefinition: 1 (esc)
+  $ usual -f roots.units "$(printf '0+1*1 sqrt(%.0s' $(seq 63))v_16(1)$(printf ')^1%.0s' $(seq 63))"
+  \tDefinition: 1 (esc)
+  $ deep '0+1*1 x(' 63 > products.units
+  $ usual -f products.units "v_16(1)"
+  \tDefinition: 1 (esc)
+  $ deep '0+1*1 v_1(' 63 > calls.units
+  $ usual -f calls.units "v_16(1)"
+  \tDefinition: 1 (esc)
+  $ deep '0+1*1 ~v_1(' 63 > inverses.units
+  $ usual -f inverses.units "v_16(1)"
+  \tDefinition: 1 (esc)
+  $ deep '0-1*-1 sqrt(' 31 > signs.units
+  $ usual -f signs.units "v_16(1)"
+  \tDefinition: 1 (esc)
+  $ deep '0+1*1 sqrt(' 64 > deeper.units
+  $ usual -f deeper.units "v_2(1)" 2>&1 | head -2
+  unknown unit: v_2
+  err: deeper.units:2: nested too deep
+
 Tables of points.
 
   $ units "zincgauge(12)" in

@@ -424,6 +424,40 @@ An undo of each kind of edit, a load with an open block among them; what was und
   \t* 1.1365225 (esc)
   \t/ 0.87987699 (esc)
 
+A variable that is set and set anew is undone to its first value and to none, and made again, with others set between;
+and so is a locale to and fro.
+
+  $ file sized.units 'm !' 'step 5 m' '!var SIZE big' 'step 10 m' '!endvar' '!var SIZE small' 'step 2 m' '!endvar'
+  $ session -q -f sized.units -- ':set SIZE big' ':set OTHER x' ':set SIZE small' step m :undo step m :undo :undo step m \
+  >   :redo step m :redo :redo step m :redo
+  \t* 2 (esc)
+  \t/ 0.5 (esc)
+  \t* 10 (esc)
+  \t/ 0.1 (esc)
+  \t* 5 (esc)
+  \t/ 0.2 (esc)
+  \t* 10 (esc)
+  \t/ 0.1 (esc)
+  \t* 2 (esc)
+  \t/ 0.5 (esc)
+  nothing to redo
+  $ file places.units 'm !' '!locale en_GB' 'a 2 m' '!endlocale' '!locale en_US' 'a 5 m' '!endlocale'
+  $ session -q -l en_US -f places.units -- ':locale en_GB' ':set SIZE x' ':locale en_US' a m :undo a m :undo a m \
+  >   :undo a m :redo a m :redo :redo a m :redo
+  \t* 5 (esc)
+  \t/ 0.2 (esc)
+  \t* 2 (esc)
+  \t/ 0.5 (esc)
+  \t* 2 (esc)
+  \t/ 0.5 (esc)
+  \t* 5 (esc)
+  \t/ 0.2 (esc)
+  \t* 2 (esc)
+  \t/ 0.5 (esc)
+  \t* 5 (esc)
+  \t/ 0.2 (esc)
+  nothing to redo
+
 A line that was dropped comes back where it stood. A load is undone and made again with the blocks that it closed, and
 with what was defined behind it.
 
