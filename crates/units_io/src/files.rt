@@ -80,7 +80,7 @@ impl<T: Drop> From<AllocFailed<T>> for StoreFault {
 /// Files to read and to write.
 pub trait Files {
     ghost use Rattle.units_io.specs.Fetching.{FileMap, IsFetched, FailsWithCause, faults_after_fetch, longest_file};
-    ghost use Rattle.units_io.specs.Storing.{IsStored, StoreHasCause};
+    ghost use Rattle.units_io.specs.Storing.{IsStored, StoreHasCause, faults_after_store};
 
     /// The bytes of each file, where they are told.
     ghost files: { Self → Option FileMap };
@@ -102,11 +102,12 @@ pub trait Files {
         ensures counted { faults self.new ≡ faults_after_fetch (faults self.old) result }
         ensures stores { store_faults self.new ≡ store_faults self.old };
 
-    /// Gives the file of this name these bytes. `Failed` comes only where the count of failed stores rose,
-    /// and may leave this file as anything, but no other. Where memory is wanting nothing changes.
+    /// Gives the file of this name these bytes. `Failed` may leave this file as anything, but no other; then,
+    /// and only then, the count of failed stores is one more. Where memory is wanting nothing changes.
     fn store(&mut self, alloc: Global, name: &[u8], bytes: &[u8]) -> Result<(), StoreFault>
         requires { length bytes.now ≤ longest_file }
         ensures told { IsStored (files self.old) (files self.new) name.now bytes.now result }
         ensures cause { StoreHasCause (store_faults self.old) (store_faults self.new) result }
+        ensures counted { store_faults self.new ≡ faults_after_store (store_faults self.old) result }
         ensures fetches { faults self.new ≡ faults self.old };
 }

@@ -10,7 +10,7 @@ use std::fs::{File, OpenFile};
 use std::io::{ErrorKind, Read};
 use std::rt::Files;
 
-// The room that is there for each read.
+// The least room that is there for each read.
 const BLOCK: usize = 65_536;
 
 // The bytes of the file at this path, of which one more than the limit is read.
@@ -72,11 +72,11 @@ fn read_behind<F: Read>(file: &mut F, bytes: &mut Vec<u8>, end: usize) -> Result
     }
 }
 
-// Doubles the room where less than a block is left behind the end.
+// Makes room for a block behind the end where there is less, and for as much again as was read where that is more.
 fn keep_block(bytes: &mut Vec<u8>, end: usize) -> Result<(), AllocError>
     requires within { end ≤ vec_len bytes.old }
     requires limit { end ≤ longest_file }
-    ensures { IfOk result (λ _. end ≤ vec_len bytes.new) }
+    ensures { IfOk result (λ _. end + BLOCK ≤ vec_len bytes.new) }
 {
     if bytes.len() - end < BLOCK {
         let wider = end + end.max(BLOCK);

@@ -1,14 +1,19 @@
 //! How a file of the system is written: as a new file beside it, which then takes its place. A fault leaves
-//! the file as it was, and the new one is removed, unless the system refuses that too.
+//! the file as it was, and the new one is removed, unless the system refuses that too. A link stays, and the
+//! file to which it leads is written.
 use crate::files::StoreFault;
 use std::alloc::{AllocError, Global};
-use std::fs::{File, OpenFile, Permissions};
+use std::fs::{File, Metadata, OpenFile, Permissions};
 use std::io::{ErrorKind, Write};
+use std::os::unix::fs::MetadataExt;
 use std::rt::Files;
 use std::{fs, io};
 
 // How many names of a new file are tried, each of which a run that was cut off may have left.
 const MOST_NAMES: u32 = 1000;
+
+// Where the system names what a run writes to.
+const STREAMS: &[&str] = &["/dev/stdout", "/dev/stderr"];
 
 // A new file under a name that no other had.
 #[derive(Drop)]
@@ -17,7 +22,7 @@ struct NewFile<F> {
     file: F,
 }
 
-// Gives the file at this path these bytes, whole or not at all.
+// Gives the file at this path, or behind the links there, these bytes, whole or not at all.
 pub(super) fn save_file<H: Files>(
     rt: &H,
     alloc: Global,
@@ -25,18 +30,59 @@ pub(super) fn save_file<H: Files>(
     bytes: &[u8],
 ) -> Result<(), StoreFault> {
     let permissions = kept_permissions(rt, path)?;
-    let NewFile { name, file } = new_file_beside(rt, alloc, path)?;
-    let written = write_whole(file, permissions, bytes);
-    put_in_place(rt, name.as_str(), path, written)
+    if permissions.is_none() || !is_link(rt, path)? {
+        return replace(rt, alloc, path, permissions, bytes);
+    }
+    let target = link_target(rt, alloc, path)?;
+    replace(rt, alloc, target.as_str(), permissions, bytes)
 }
 
-// The permissions of the file that is to be replaced, if there is one.
+// The permissions of the file that is to be replaced, if there is one. A file to which this run writes may not be:
+// what is said behind would go to one without a name.
 fn kept_permissions<H: Files>(rt: &H, path: &str) -> Result<Option<Permissions>, StoreFault> {
     match fs::metadata(rt, path) {
-        Ok(old) if old.is_file() => Ok(Some(old.permissions())),
+        Ok(old) if old.is_file() && !is_stream(rt, &old) => Ok(Some(old.permissions())),
         Err(e) if e.kind() == ErrorKind::NotFound => Ok(None),
         _ => Err(StoreFault::Failed),
     }
+}
+
+// Whether what was found is the file to which standard output or standard error leads.
+fn is_stream<H: Files>(rt: &H, found: &Metadata) -> bool {
+    STREAMS.iter().any(|name| match fs::metadata(rt, *name) {
+        Ok(stream) => stream.dev() == found.dev() && stream.ino() == found.ino(),
+        Err(_) => false,
+    })
+}
+
+// Whether a link stands at this path, at which something stands.
+fn is_link<H: Files>(rt: &H, path: &str) -> Result<bool, StoreFault> {
+    match fs::symlink_metadata(rt, path) {
+        Ok(found) => Ok(found.is_symlink()),
+        Err(_) => Err(StoreFault::Failed),
+    }
+}
+
+// The path of the file to which the links at this path lead.
+fn link_target<H: Files>(rt: &H, alloc: Global, path: &str) -> Result<String, StoreFault> {
+    match rt.canonicalize(alloc, path) {
+        Ok(target) => Ok(target.into_string()),
+        Err(e) if e.kind() == ErrorKind::OutOfMemory => Err(StoreFault::OutOfMemory),
+        Err(_) => Err(StoreFault::Failed),
+    }
+}
+
+// Puts a new file with these bytes at this path, in the place of one that stands there.
+fn replace<H: Files>(
+    rt: &H,
+    alloc: Global,
+    path: &str,
+    permissions: Option<Permissions>,
+    bytes: &[u8],
+) -> Result<(), StoreFault> {
+    let NewFile { name, file } = new_file_beside(rt, alloc, path)?;
+    let written = write_whole(file, permissions, bytes);
+    put_in_place(rt, name.as_str(), path, written)
 }
 
 // A new file in the folder of this path.

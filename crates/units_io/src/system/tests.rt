@@ -6,6 +6,7 @@ use crate::{
     DirFiles, Failed, FetchFault, Files, Sink, Source, StdSink, StdSource, StoreFault, Text,
 };
 use std::io::{ErrorKind, Read, Write};
+use std::os::unix::fs::symlink;
 use std::{fs, io};
 
 // A reader and a writer of one byte a call, whose second call ends in this error.
@@ -178,6 +179,20 @@ fn a_stored_file_is_read_back(rt: HostRuntime) -> io::Result<()> {
     assert!(rt; fetched(&rt, b".units-save-0").err() == Some(FetchFault::Absent));
     fs::remove_file(&rt, "test-saved-beside")?;
     fs::remove_dir_all(&rt, "test-saved")
+}
+
+#[test]
+fn a_store_through_a_link_writes_its_file(rt: HostRuntime) -> io::Result<()> {
+    empty_folder(&rt, "test-links")?;
+    fs::create_dir(&rt, "test-links/far")?;
+    fs::write(&rt, "test-links/far/file", b"m !")?;
+    symlink(&rt, "far/file", "test-links/near")?;
+    symlink(&rt, "near", "test-links/nearer")?;
+    assert!(rt; stored(&rt, b"test-links/nearer", b"g 3 m").is_ok());
+    assert!(rt; holds(&rt, b"test-links/far/file", b"g 3 m"));
+    assert!(rt; fs::symlink_metadata(&rt, "test-links/nearer")?.is_symlink());
+    assert!(rt; file_count(&rt, "test-links")? == 3);
+    fs::remove_dir_all(&rt, "test-links")
 }
 
 // Names under which nothing can be stored.
