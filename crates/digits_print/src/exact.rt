@@ -1,9 +1,11 @@
 //! The exact text of a fraction.
 
-ghost use Rattle.std.specs.Prelude.{◌≡◌, ◌++◌, IfOk, codes, string_bytes};
+ghost use Rattle.std.specs.Prelude.{◌≡◌, ◌++◌, ◌⊎◌, IfOk, codes, string_bytes};
 ghost use Rattle.std.specs.Fmt.{signed_decimal};
-ghost use Rattle.digits_print.specs.Exact.{exact_text};
+ghost use Rattle.frac128.specs.Fraction.{IsFrac};
+ghost use Rattle.digits_print.specs.Exact.{ReadsAsQuotient, ReadsAsWhole, exact_text};
 
+use crate::laws::exact_law;
 use frac128::Frac;
 use std::alloc::{AllocError, Global};
 use units_io::Text;
@@ -11,7 +13,17 @@ use units_io::Text;
 /// The fraction in decimal digits: `n`, or `n|d` where the denominator is above 1. The only
 /// error is want of memory.
 pub fn print_exact(alloc: Global, x: &Frac) -> Result<Text, AllocError>
-    ensures { IfOk result (λ text. text ≡ exact_text x.now) }
+    ensures reads { IfOk result (λ text. ReadsAsWhole text x.now ⊎ ReadsAsQuotient text x.now) }
+    ensures computed { IfOk result (λ text. text ≡ exact_text x.now) }
+{
+    exact_law();
+    lowest_text(alloc, x)
+}
+
+// The text of a fraction, which is in lowest terms.
+fn lowest_text(alloc: Global, x: &Frac) -> Result<Text, AllocError>
+    ensures lowest { IsFrac x.now }
+    ensures computed { IfOk result (λ text. text ≡ exact_text x.now) }
 {
     let text = if x.den() == 1 {
         x.num().to_string(alloc)?

@@ -1,15 +1,18 @@
 //! The whole part.
 
 ghost use Rattle.std.specs.Prelude.{◌≡◌};
-ghost use Rattle.frac128.specs.Floor.{floor_of};
+ghost use Rattle.frac128.specs.Floor.{IsFloor, floor_of};
 
 use crate::fraction::Frac;
+use crate::laws::floor_law;
 
 impl Frac {
     /// The greatest whole number that is at most the fraction.
     pub fn floor(&self) -> Frac
-        ensures { result ≡ floor_of self.now }
+        ensures greatest { IsFloor self.now result.num }
+        ensures computed { result ≡ floor_of self.now }
     {
+        floor_law();
         Frac::whole(self.num().div_euclid(self.den()))
     }
 }

@@ -32,5 +32,5 @@ ceiling_is (negsuc a) d natural some = absurd (omega (arith, ints))
 
 pub returns : goal.returns
 returns c =
-    c.negate-2.ensures ∙ ap negated c.floor.ensures ∙ ap (λ x. negated (floor_of x)) c.negate.ensures
+    c.negate-2.ensures ∙ ap negated c.floor.ensures.computed ∙ ap (λ x. negated (floor_of x)) c.negate.ensures
     ∙ ceiling_is c.args.x.now.num c.args.x.now.den c.requires.plain c.requires.part
