@@ -8,6 +8,7 @@ use Rattle.expr_tree.specs.Trees.{syntax}
 use Rattle.def_entry.specs.declared.entry.What.{What as MadeWhat}
 use Rattle.def_entry.specs.declared.form.Form.{Form as CutForm}
 use Rattle.def_entry.specs.declared.heading.Heading.{Heading as CutHeading}
+use Rattle.def_entry.specs.declared.interval.Closing.{Closing}
 use Rattle.def_entry.specs.declared.key.Key.{Key}
 use Rattle.def_entry.specs.declared.options.Options.{Options as CutOptions}
 use Rattle.def_entry.specs.declared.options.Units.{Units as CutUnits}
@@ -30,8 +31,8 @@ abbrev pub seen_behind : {A : Type 0} → A × Bor (List ℕ) → A × List ℕ
 seen_behind found = (found.0, found.1.now)
 
 -- what stands before a bracket, what that is, and what stands behind it
-abbrev pub seen_closed : Bor (List ℕ) × Bool × Bor (List ℕ) → List ℕ × Bool × List ℕ
-seen_closed parts = (parts.0.now, parts.1, parts.2.now)
+abbrev pub seen_closed : Closing → List ℕ × Bool × List ℕ
+seen_closed parts = (parts.before.now, parts.is_square, parts.behind.now)
 
 -- the head of a line
 abbrev pub seen_heading : CutHeading → Heading

@@ -10,6 +10,14 @@ use crate::entry::{Bound, Span};
 use crate::number::number;
 use def_lines::trim;
 
+// The parts of a text that a bracket closes: what stands before it, whether it is `]`, and what stands behind it.
+#[derive(Clone, Copy)]
+struct Closing<'a> {
+    before: &'a [u8],
+    is_square: bool,
+    behind: &'a [u8],
+}
+
 // The interval at the front, and what stands behind it.
 #[tactic(auto, unfolding(crate::specs::Intervals::interval_at))]
 pub(crate) fn interval_at(text: &[u8]) -> Option<(Span, &[u8])>
@@ -17,10 +25,10 @@ pub(crate) fn interval_at(text: &[u8]) -> Option<(Span, &[u8])>
 {
     let (low_closed, inside) = opened(text)?;
     let (low, behind) = cut_at(inside, b',')?;
-    let (high, high_closed, behind) = closed(behind)?;
+    let end = closed(behind)?;
     let low = bound_in(low_closed, trim(low))?;
-    let high = bound_in(high_closed, trim(high))?;
-    Some((Span { low, high }, behind))
+    let high = bound_in(end.is_square, trim(end.before))?;
+    Some((Span { low, high }, end.behind))
 }
 
 // Whether the bracket at the front is `[`, and what stands behind it.
@@ -35,11 +43,15 @@ fn opened(text: &[u8]) -> Option<(bool, &[u8])>
 }
 
 // What stands before the first `]` or `)`, whether that is `]`, and what stands behind it.
-fn closed(text: &[u8]) -> Option<(&[u8], bool, &[u8])>
+fn closed(text: &[u8]) -> Option<Closing<'_>>
     ensures { option_map seen_closed result ≡ spec.closed text.now }
 {
     match closing_place(text) {
-        Some(place) => Some((&text[..place], text[place] == b']', &text[place + 1..])),
+        Some(place) => Some(Closing {
+            before: &text[..place],
+            is_square: text[place] == b']',
+            behind: &text[place + 1..],
+        }),
         None => None,
     }
 }

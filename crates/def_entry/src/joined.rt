@@ -1,6 +1,6 @@
 //! Two texts side by side.
 
-ghost use Rattle.std.specs.Prelude.{◌≡◌, ◌++◌, IfOk};
+ghost use Rattle.std.specs.Prelude.{◌≡◌, ◌++◌, IfOk, OnOk};
 
 use std::alloc::{AllocError, Global};
 use units_io::Text;
@@ -12,4 +12,13 @@ pub(crate) fn joined(alloc: Global, front: &[u8], behind: &[u8]) -> Result<Text,
     let mut bytes = Vec::from_slice(alloc, front)?;
     bytes.extend_from_slice(behind)?;
     Ok(Text::from(bytes))
+}
+
+// Puts two texts, one behind the other, at the end of another.
+pub(crate) fn put_joined(text: &mut Vec<u8>, front: &[u8], behind: &[u8]) -> Result<(), AllocError>
+    ensures { OnOk result (text.new.items ≡ text.old.items ++ (front.now ++ behind.now)) }
+{
+    text.extend_from_slice(front)?;
+    text.extend_from_slice(behind)?;
+    Ok(())
 }

@@ -35,4 +35,4 @@ pub use laws::{
     same_text_law, told_law,
 };
 pub use reading::read_entry;
-pub use spelling::{KeyFault, key_text, read_key};
+pub use spelling::{KeyFault, key_text, put_key, read_key};

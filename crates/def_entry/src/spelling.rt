@@ -1,10 +1,10 @@
 //! The texts of keys, written and read.
 
-ghost use Rattle.std.specs.Prelude.{◌≡◌, ◌≢◌, ◌⊎◌, ℕ, List, IfOk, MatchOption, MatchResult, Some, None};
+ghost use Rattle.std.specs.Prelude.{◌≡◌, ◌≢◌, ◌⊎◌, ◌++◌, ℕ, List, IfOk, MatchOption, MatchResult, OnOk, Some, None};
 ghost use Rattle.def_entry.specs.Keys as spec;
 ghost use Rattle.def_entry.specs.declared.spelling.KeyFault.TheVariants as key_fault;
 
-use crate::joined::joined;
+use crate::joined::put_joined;
 use crate::key::{Key, Kind};
 use expr_tree::is_name;
 use std::alloc::{AllocError, Global};
@@ -36,12 +36,21 @@ impl From<AllocError> for KeyFault {
 pub fn key_text(alloc: Global, key: &Key) -> Result<Text, AllocError>
     ensures { IfOk result (λ text. text ≡ spec.key_text key.now) }
 {
+    let mut text = Vec::new(alloc);
+    put_key(&mut text, key)?;
+    Ok(Text::from(text))
+}
+
+/// Puts a key behind a text, as `key_text` writes it. The only error is want of memory.
+pub fn put_key(text: &mut Vec<u8>, key: &Key) -> Result<(), AllocError>
+    ensures { OnOk result (text.new.items ≡ text.old.items ++ spec.key_text key.now) }
+{
     let name = key.name.as_bytes();
     match key.kind {
-        Kind::Unit => Text::from_bytes(alloc, name),
-        Kind::Prefix => joined(alloc, name, b"-"),
-        Kind::Func => joined(alloc, name, b"()"),
-        Kind::List => joined(alloc, b"!unitlist ", name),
+        Kind::Unit => Ok(text.extend_from_slice(name)?),
+        Kind::Prefix => put_joined(text, name, b"-"),
+        Kind::Func => put_joined(text, name, b"()"),
+        Kind::List => put_joined(text, b"!unitlist ", name),
     }
 }
 

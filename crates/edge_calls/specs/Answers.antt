@@ -1,10 +1,11 @@
 -- What the calls answer that may be refused.
-use Rattle.std.specs.Prelude.{◌≡◌, ◌≤◌, ◌+◌, ℕ, Option, Some, None}
+use Rattle.std.specs.Prelude.{◌≡◌, ◌≤◌, ◌+◌, ℕ, List, Bool, true, length, replicate, Option, Some, None}
 use Rattle.edge_links.specs.Edges.{Graph}
 use Rattle.edge_links.specs.Into.{AreUsers}
-use Rattle.edge_links.specs.Reach.{Forgets}
+use Rattle.edge_links.specs.Reach.{Forgets, IsAffected, IsCleared}
 use Rattle.edge_calls.specs.declared.answer.Answer.{Answer}
 use Rattle.edge_calls.specs.declared.answer.Answer.TheVariants.{Done, Refused, Number, Nodes}
+use Rattle.edge_calls.specs.Marks.{has_mark, unmarked}
 
 -- the newest node is the last, where there is one
 abbrev pub IsNewest : Option ℕ → ℕ → Type 0
@@ -18,9 +19,16 @@ TellsUsers key graph Refused = graph.nodes ≤ key
 TellsUsers key graph Done = ⊥
 TellsUsers key graph (Number n) = ⊥
 
--- a node that is there, and what leads to it, is forgotten
+-- the nodes that lead to a key, and the key itself, in order: those that lose their marks where all nodes had one
+pub record AreForgotten (key : ℕ) (graph : Graph) (nodes : List ℕ) : Type 0 where
+  pub marks : List Bool
+  pub count : length marks ≡ graph.nodes
+  pub cleared : IsCleared (IsAffected graph.edges key) (has_mark (replicate graph.nodes true)) (has_mark marks)
+  pub listed : nodes ≡ unmarked 0 marks
+
+-- a node that is there, and what leads to it, is forgotten, and these nodes are answered
 abbrev pub IsUnsettled : ℕ → Graph → Graph → Answer → Type 0
-IsUnsettled key old new (Nodes cleared) = Forgets key old.edges new.edges
+IsUnsettled key old new (Nodes nodes) = Forgets key old.edges new.edges × AreForgotten key old nodes
 IsUnsettled key old new Refused = (old.nodes ≤ key) × (new ≡ old)
 IsUnsettled key old new Done = ⊥
 IsUnsettled key old new (Number n) = ⊥

@@ -14,8 +14,9 @@ use Rattle.edge_links.specs.PlaceReach as place
 use Rattle.edge_links.specs.Times.{times}
 use Rattle.edge_links.proofs.Counting.{owned_zero}
 use Rattle.edge_links.proofs.Linked.{same_heads}
-use Rattle.edge_links.proofs.Listed.{user, key_of, by_edge, at_none, at_free, at_edge, at_same, count_other}
-use Rattle.edge_links.proofs.Listed.{counts_same, counts_none}
+use Rattle.edge_links.proofs.EdgeCounts.{count_other}
+use Rattle.edge_links.proofs.Listed.{user, key_of, by_edge, at_none, at_free, at_edge, at_same, counts_same}
+use Rattle.edge_links.proofs.Listed.{counts_none}
 use Rattle.edge_links.proofs.Put.{read}
 use Rattle.edge_links.proofs.Reaching.{user_head, affected_down, affected_up, affected_there}
 

@@ -1,6 +1,7 @@
 mod Begun
 mod Counting
 mod Cuts
+pub mod EdgeCounts
 mod Forgotten
 mod Growing
 mod Joining
@@ -8,7 +9,7 @@ mod Leaving
 mod Linked
 mod Linking
 mod Listed
-mod Membership
+pub mod Membership
 mod Moves
 mod Placing
 mod Put

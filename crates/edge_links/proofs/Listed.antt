@@ -1,11 +1,12 @@
 -- The edges at the first places.
-use Rattle.std.proofs.Common.{◌≡◌, ◌⊎◌, ℕ, zero, suc, ◌+◌, ◌<◌, Bool, true, false, nat_eq, List, [], ◌∷◌, ◌++◌}
+use Rattle.std.proofs.Common.{◌≡◌, ◌⊎◌, ℕ, zero, suc, ◌+◌, ◌<◌, Bool, true, false, nat_eq, [], ◌∷◌, ◌++◌}
 use Rattle.std.proofs.Common.{get_or, refl, sym, ◌∙◌, ap, arith, inl, inr}
 use Rattle.std.proofs.lemmas.Bool.{cases_eq, cond-true, cond-false, eq-eqb, ne_eqb}
-use Rattle.std.specs.Prelude.{◌&&◌, ◌||◌}
-use Rattle.edge_links.specs.Edges.{Edge, edge, edge_count}
+use Rattle.std.specs.Prelude.{◌||◌}
+use Rattle.edge_links.specs.Edges.{edge, edge_count}
 use Rattle.edge_links.specs.Owners.{Owners}
 use Rattle.edge_links.specs.Shown.{edge_at, edges_below}
+use Rattle.edge_links.proofs.EdgeCounts.{count_append}
 
 -- the head of the user of a place
 abbrev pub user : Owners → ℕ → ℕ
@@ -78,14 +79,6 @@ same_below s t (suc n) h =
     ap (λ es. es ++ edges_below t n) (h n (omega arith))
     ∙ ap (λ es. edge_at s n ++ es) (same_below s t n (λ p l. h p (omega arith)))
 
--- edges of two lists are counted together
-pub count_append : (es ds : List Edge) (x y : ℕ) → edge_count (es ++ ds) x y ≡ edge_count es x y + edge_count ds x y
-count_append [] ds x y = omega arith
-count_append (e ∷ es) ds x y = plus _ _ _ _ (count_append es ds x y)
-  where
-    plus : (a b d f : ℕ) → b ≡ d + f → a + b ≡ a + d + f
-    plus a b d f h = omega arith
-
 -- what holds of the count at each place holds of the sum
 pub counts_same : (s t : Owners) (x y n : ℕ)
     → ((p : ℕ) → p < n → edge_count (edge_at t p) x y ≡ edge_count (edge_at s p) x y)
@@ -131,40 +124,3 @@ counts_one s t x y q (suc n) l h = elim (cases_eq n q) [
 
     below : (a b d e f g i j : ℕ) → a ≡ b + d → e ≡ f + g → b ≡ f → d + j ≡ g + i → a + j ≡ e + i
     below a b d e f g i j k l m n = omega arith
-
--- the count of one edge
-and_true : (x y : Bool) → x ≡ true → y ≡ true → x && y ≡ true
-and_true true y e f = f
-and_true false y e f = cc
-
--- two tests do not hold together where the first does not
-and_false : (x y : Bool) → x ≡ false → x && y ≡ false
-and_false true y e = cc
-and_false false y e = refl
-
--- an edge is counted once between its own nodes
-pub count_self : (a b : ℕ) → edge_count (edge a b ∷ []) a b ≡ 1
-count_self a b =
-    ap (λ k. k + 0) (cond-true (nat_eq a a && nat_eq b b) 1 0 (and_true _ _ (eq-eqb a a refl) (eq-eqb b b refl)))
-
--- and never from another user
-pub count_other : (a b x y : ℕ) → (a ≡ x → ⊥) → edge_count (edge a b ∷ []) x y ≡ 0
-count_other a b x y ne = ap (λ k. k + 0) (cond-false (nat_eq a x && nat_eq b y) 1 0 (and_false _ _ (ne_eqb a x ne)))
-
--- an edge that is counted is the one
-pub count_found : (a b x y : ℕ) → 0 < edge_count (edge a b ∷ []) x y → (a ≡ x) × (b ≡ y)
-count_found a b x y l = elim (cases_eq a x) [
-  | inr ne ↦ absurd (none _ (count_other a b x y ne) l)
-  | inl e ↦ elim (cases_eq b y) [
-    | inl f ↦ (e, f)
-    | inr ne ↦ absurd
-        (none _ (ap (λ k. k + 0) (cond-false (nat_eq a x && nat_eq b y) 1 0 (and_right _ _ (ne_eqb b y ne)))) l)
-  ]
-]
-  where
-    none : (k : ℕ) → k ≡ 0 → 0 < k → ⊥
-    none k e l = omega arith
-
-    and_right : (p q : Bool) → q ≡ false → p && q ≡ false
-    and_right true q e = e
-    and_right false q e = refl

@@ -8,7 +8,8 @@ use Rattle.edge_links.specs.PlaceReach.{IsEdge}
 use Rattle.edge_links.specs.PlaceReach as place
 use Rattle.edge_links.specs.Reach.{HasEdge, Reaches, at_once, further, IsAffected}
 use Rattle.edge_links.specs.Shown.{edge_at, edges_below, AreLinks}
-use Rattle.edge_links.proofs.Listed.{user, key_of, by_edge, at_none, at_edge, count_append, count_found, count_self}
+use Rattle.edge_links.proofs.EdgeCounts.{count_append, count_found, count_self}
+use Rattle.edge_links.proofs.Listed.{user, key_of, by_edge, at_none, at_edge}
 
 -- an edge that is counted stands at a place
 pub record Stands (s : Owners) (n x y : ℕ) : Type 0 where

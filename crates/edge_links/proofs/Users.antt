@@ -9,8 +9,8 @@ use Rattle.edge_links.specs.Shown.{edge_at, edges_below, AreLinks}
 use Rattle.edge_links.specs.Times.{times}
 use Rattle.edge_links.specs.Into.{AreUsers}
 use Rattle.edge_links.proofs.Counting.{owned_end}
-use Rattle.edge_links.proofs.Listed.{user, key_of, by_edge, at_none, at_edge, count_append, count_self, count_other}
-use Rattle.edge_links.proofs.Listed.{count_found}
+use Rattle.edge_links.proofs.EdgeCounts.{count_append, count_found, count_other, count_self}
+use Rattle.edge_links.proofs.Listed.{user, key_of, by_edge, at_none, at_edge}
 use Rattle.edge_links.proofs.Reaching.{key_head}
 use Rattle.edge_links.proofs.Weighing.{summed, weighed, weighed_summed, many}
 

@@ -62,5 +62,6 @@ fn put_shown(
     requires { IsStyle style }
     ensures { OnOk result (text.new.items ≡ text.old.items ++ (words.now ++ amount_text style x.now)) }
 {
-    put_named(text, words, x.show(alloc, style)?.as_bytes())
+    text.extend_from_slice(words)?;
+    x.put(alloc, text, style)
 }

@@ -43,7 +43,7 @@ pub(crate) fn query_text(
     let mut text = Vec::new(alloc);
     match answer {
         Ok(value) => return Ok(value.show(alloc, Style::Exact)?.into_bytes()),
-        Err(QueryFault::Name(fault)) => put_name_fault(alloc, &mut text, fault)?,
+        Err(QueryFault::Name(fault)) => put_name_fault(&mut text, fault)?,
         Err(QueryFault::Value(fault)) => put_value_fault(alloc, &mut text, fault, Style::Exact)?,
         Err(QueryFault::OutOfMemory) => return Err(AllocError),
     }

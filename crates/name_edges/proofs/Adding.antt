@@ -7,7 +7,8 @@ use Rattle.std.specs.Prelude.{◌&&◌}
 use Rattle.edge_links.specs.Edges.{Edge, edge, edge_count, SameEdges}
 use Rattle.name_edges.specs.Nodes.{edge_to, edges_to}
 use Rattle.name_edges.proofs.Halves.{node_of}
-use Rattle.name_edges.proofs.Linked.{count_append, one_other_key, one_other_user}
+use Rattle.edge_links.proofs.EdgeCounts.{count_append}
+use Rattle.name_edges.proofs.Linked.{one_other_key, one_other_user}
 use Rattle.name_edges.proofs.Nodes.{counted}
 
 -- both nodes of a name are there

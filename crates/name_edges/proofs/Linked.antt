@@ -1,38 +1,15 @@
 -- Edges of one user, counted.
 use Rattle.std.proofs.Common.{◌≡◌, ◌⊎◌, ℕ, ◌+◌, ◌<◌, ◌≤◌, List, [], ◌∷◌, ◌++◌, map, Contains, refl, sym, ◌∙◌, ap, subst}
 use Rattle.std.proofs.Common.{inl, inr, arith}
-use Rattle.std.proofs.Common.{Bool, true, false, cond, nat_eq, get_or, length, zero, suc, take}
+use Rattle.std.proofs.Common.{cond, nat_eq, get_or, length, zero, suc, take}
 use Rattle.std.proofs.lemmas.Bool.{cases_eq, cond-true, cond-false, eq-eqb, ne_eqb}
 use Rattle.std.proofs.lemmas.List.{take_all}
 use Rattle.std.specs.Prelude.{◌&&◌}
 use Rattle.edge_links.specs.Edges.{Edge, edge, edge_count, SameEdges}
 use Rattle.edge_links.specs.Reach.{HasEdge}
+use Rattle.edge_links.proofs.EdgeCounts.{and_left, and_right, and_true, count_append}
+use Rattle.edge_links.proofs.Membership.{contains_cases, contains_first, contains_later, contains_none}
 use Rattle.name_edges.specs.Nodes.{edge_to}
-
--- edges of two lists are counted together
-pub count_append : (es ds : List Edge) (x y : ℕ) → edge_count (es ++ ds) x y ≡ edge_count es x y + edge_count ds x y
-count_append [] ds x y = omega arith
-count_append (e ∷ es) ds x y =
-    sums _ _ _ _ (count_append es ds x y)
-  where
-    sums : (a b d f : ℕ) → b ≡ d + f → a + b ≡ (a + d) + f
-    sums a b d f h = omega (arith, h)
-
--- two tests that hold hold together
-and_both : (a b : Bool) → a ≡ true → b ≡ true → a && b ≡ true
-and_both true true e f = refl
-and_both true false e f = f
-and_both false b e f = e
-
--- they do not where the first does not
-and_left : (a b : Bool) → a ≡ false → a && b ≡ false
-and_left true b e = cc
-and_left false b e = refl
-
--- nor where the second does not
-and_right : (a b : Bool) → b ≡ false → a && b ≡ false
-and_right true b e = e
-and_right false b e = refl
 
 -- how often the one edge is the other
 abbrev pub one_count : ℕ → ℕ → ℕ → ℕ → ℕ
@@ -40,7 +17,7 @@ one_count a b x y = cond (nat_eq a x && nat_eq b y) 1 0
 
 -- an edge is counted once between its own nodes
 pub one_self : (a b x y : ℕ) → a ≡ x → b ≡ y → one_count a b x y ≡ 1
-one_self a b x y e f = cond-true (nat_eq a x && nat_eq b y) 1 0 (and_both _ _ (eq-eqb a x e) (eq-eqb b y f))
+one_self a b x y e f = cond-true (nat_eq a x && nat_eq b y) 1 0 (and_true _ _ (eq-eqb a x e) (eq-eqb b y f))
 
 -- and never from another user
 pub one_other_user : (a b x y : ℕ) → (a ≡ x → ⊥) → one_count a b x y ≡ 0
@@ -50,37 +27,17 @@ one_other_user a b x y ne = cond-false (nat_eq a x && nat_eq b y) 1 0 (and_left 
 pub one_other_key : (a b x y : ℕ) → (b ≡ y → ⊥) → one_count a b x y ≡ 0
 one_other_key a b x y ne = cond-false (nat_eq a x && nat_eq b y) 1 0 (and_right _ _ (ne_eqb b y ne))
 
--- nothing is in an empty list
-no_member : (x : ℕ) → Contains [] x → ⊥
-no_member x (i, l, e) = omega (arith, l)
-
--- the first member is in a list
-member_first : (x y : ℕ) (xs : List ℕ) → x ≡ y → Contains (y ∷ xs) x
-member_first x y xs e = (0, omega arith, sym e)
-
--- so is one of the others
-member_later : (x y : ℕ) (xs : List ℕ) → Contains xs x → Contains (y ∷ xs) x
-member_later x y xs (i, l, e) = (suc i, omega (arith, l), e)
-
--- and a member is one of these
-member_cases : (x y : ℕ) (xs : List ℕ) → Contains (y ∷ xs) x → (x ≡ y) ⊎ Contains xs x
-member_cases x y xs (i, l, e) = at i l e
-  where
-    at : (i : ℕ) → i < length (y ∷ xs) → get_or (y ∷ xs) i x ≡ x → (x ≡ y) ⊎ Contains xs x
-    at zero l e = inl (sym e)
-    at (suc i) l e = inr (i, omega (arith, l), e)
-
 -- the edges of a user lead from it, and to these keys
 edges_from : (user : ℕ) (keys : List ℕ) (x y : ℕ) → HasEdge (map (edge user) keys) x y → (x ≡ user) × Contains keys y
 edges_from user [] x y h = absurd (omega (arith, h))
 edges_from user (k ∷ keys) x y h = elim (cases_eq (one_count user k x y) 0) [
   | inl z ↦
-      let r = edges_from user keys x y (rest _ _ z h) in (r.0, member_later y k keys r.1)
+      let r = edges_from user keys x y (rest _ _ z h) in (r.0, contains_later y k keys r.1)
   | inr some ↦ elim (cases_eq user x) [
     | inr ne ↦ absurd (some (one_other_user user k x y ne))
     | inl e ↦ elim (cases_eq k y) [
       | inr ne ↦ absurd (some (one_other_key user k x y ne))
-      | inl f ↦ (sym e, member_first y k keys (sym f))
+      | inl f ↦ (sym e, contains_first y k keys (sym f))
     ]
   ]
 ]
@@ -90,8 +47,8 @@ edges_from user (k ∷ keys) x y h = elim (cases_eq (one_count user k x y) 0) [
 
 -- there is an edge to each of the keys
 edges_to : (user : ℕ) (keys : List ℕ) (y : ℕ) → Contains keys y → HasEdge (map (edge user) keys) user y
-edges_to user [] y i = absurd (no_member y i)
-edges_to user (k ∷ keys) y i = elim (member_cases y k keys i) [
+edges_to user [] y i = absurd (contains_none y i)
+edges_to user (k ∷ keys) y i = elim (contains_cases y k keys i) [
   | inl e ↦ some _ _ (one_self user k user y refl (sym e))
   | inr j ↦ more _ _ (edges_to user keys y j)
 ]

@@ -20,9 +20,9 @@ use std::alloc::{AllocError, Global};
 /// Which of the keys that are looked at a word leads to at its place. They are looked at in order, absent ones too.
 ///
 /// Alone a word is a unit, or a function; before an operand in parentheses a function, or a unit;
-/// behind a `~` a function only. Else, but behind a `~`, it is the plural of a unit, or of a
-/// prefix and a unit, or it is a prefix, or a prefix and a unit, the longest prefix first. The only
-/// error is want of memory.
+/// behind a `~` a function only. Else, but behind a `~`, it is a plural, in `s`, `es` or `ies`: of a
+/// unit, or else of a prefix, or of a prefix and a unit, the longest prefix first. Else it is itself a
+/// prefix, or a prefix and a unit, in the same order. The only error is want of memory.
 pub fn resolve<P: Present, L: Looking>(
     alloc: Global,
     table: &P,

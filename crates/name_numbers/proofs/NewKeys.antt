@@ -23,13 +23,13 @@ use Rattle.name_numbers.proofs.Paths.{AllKnown, distinct_keys}
 use Rattle.name_numbers.proofs.Reached.{key_reached, key_way, known_reached, number_below, number_reached}
 
 -- the key of a number that is among some is among their keys
-key_in : (key : ℕ → Key) (ns : List ℕ) (n : ℕ) → In n ns → Contains (map key ns) (key n)
+pub key_in : (key : ℕ → Key) (ns : List ℕ) (n : ℕ) → In n ns → Contains (map key ns) (key n)
 key_in key [] n i = absurd i
 key_in key (m ∷ ns) n (inl e) = member_first (key n) (key m) (map key ns) (ap key e)
 key_in key (m ∷ ns) n (inr i) = member_later (key n) (key m) (map key ns) (key_in key ns n i)
 
 -- a key among those of some numbers is that of one of them
-number_in : (key : ℕ → Key) (ns : List ℕ) (k : Key) → Contains (map key ns) k → (n : ℕ) × (k ≡ key n) × In n ns
+pub number_in : (key : ℕ → Key) (ns : List ℕ) (k : Key) → Contains (map key ns) k → (n : ℕ) × (k ≡ key n) × In n ns
 number_in key [] k i = absurd (no_member k i)
 number_in key (m ∷ ns) k i = elim (member_cases k (key m) (map key ns) i) [
   | inl e ↦ (m, e, inl refl)

@@ -5,21 +5,26 @@ ghost use Rattle.piecewise.specs.Lines as spec;
 
 use frac128::{Frac, FracFault};
 
-// The y at x on the line through two points: y0 + (y1 - y0) * (x - x0) / (x1 - x0).
-#[tactic(auto, unfolding(crate::specs::Lines::on_line))]
-pub(crate) fn on_line(
-    x0: &Frac,
-    y0: &Frac,
-    x1: &Frac,
-    y1: &Frac,
-    x: &Frac,
-) -> Result<Frac, FracFault>
-    ensures { result ≡ spec.on_line (x0.now, y0.now) (x1.now, y1.now) x.now }
-{
-    let rise = y1.sub(y0)?;
-    let run = x.sub(x0)?;
-    let product = rise.mul(&run)?;
-    let width = x1.sub(x0)?;
-    let part = product.div(&width)?;
-    y0.add(&part)
+// A line through two points, each an x and its y.
+#[derive(Clone, Copy)]
+pub(crate) struct Line<'a> {
+    pub(crate) x0: &'a Frac,
+    pub(crate) y0: &'a Frac,
+    pub(crate) x1: &'a Frac,
+    pub(crate) y1: &'a Frac,
+}
+
+impl Line<'_> {
+    // The y at x: y0 + (y1 - y0) * (x - x0) / (x1 - x0).
+    #[tactic(auto, unfolding(crate::specs::Lines::on_line))]
+    pub(crate) fn at(&self, x: &Frac) -> Result<Frac, FracFault>
+        ensures { result ≡ spec.on_line (self.now.x0.now, self.now.y0.now) (self.now.x1.now, self.now.y1.now) x.now }
+    {
+        let rise = self.y1.sub(self.y0)?;
+        let run = x.sub(self.x0)?;
+        let product = rise.mul(&run)?;
+        let width = self.x1.sub(self.x0)?;
+        let part = product.div(&width)?;
+        self.y0.add(&part)
+    }
 }

@@ -8,7 +8,7 @@ ghost use Rattle.piecewise.specs.Points as point_spec;
 ghost use Rattle.piecewise.specs.Tables as spec;
 
 use crate::fault::{PointsFault, TableFault};
-use crate::line::on_line;
+use crate::line::Line;
 use frac128::{Frac, order_law};
 use std::alloc::{AllocError, Global};
 use std::cmp::Ordering;
@@ -136,7 +136,13 @@ fn encloses(left: Ordering, right: Ordering) -> bool
 fn y_on(left: &Point, right: &Point, x: &Frac) -> Result<Frac, TableFault>
     ensures { result ≡ spec.numbered (spec.y_on x.now (record { left = left.now; right = right.now })) }
 {
-    on_line(&left.0, &left.1, &right.0, &right.1, x).map_err(TableFault::Number)
+    let line = Line {
+        x0: &left.0,
+        y0: &left.1,
+        x1: &right.0,
+        y1: &right.1,
+    };
+    line.at(x).map_err(TableFault::Number)
 }
 
 // The x at y on the segment, or that of its left end where it is flat.
@@ -146,5 +152,11 @@ fn x_on(left: &Point, right: &Point, y: &Frac) -> Result<Frac, TableFault>
     if left.1.cmp(&right.1).is_eq() {
         return Ok(left.0);
     }
-    on_line(&left.1, &left.0, &right.1, &right.0, y).map_err(TableFault::Number)
+    let exchanged = Line {
+        x0: &left.1,
+        y0: &left.0,
+        x1: &right.1,
+        y1: &right.0,
+    };
+    exchanged.at(y).map_err(TableFault::Number)
 }

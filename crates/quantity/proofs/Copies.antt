@@ -70,15 +70,17 @@ with_number law factor p ps order is =
     (left_alone (exponent_in factor) ps [] 0 order.kept refl)) ∙ ap Some is
 
 -- a product whose first factor is a number
-pub of_number : ReducedLaw → (p o : Exponents) (ps os : Powers) → AreInOrder ps → exponents_in ps ≡ p → AreInOrder os
-    → exponents_in os ≡ o
-    → ps ≡ [] → Some o ≡ product_exponents p o
-of_number law p o ps os order is others also none =
-    let left = list_of ps ps p order is refl in
-    let right = list_of os os o others also refl in
-    sym (ap Some also)
-    ∙ product_ok law Plain p o ps os os left right
-    (right_alone Plain ps os os 0 others.kept none (sym (taken_plain os)))
+pub number_with : ReducedLaw → (o : Exponents) (os : Powers) → AreInOrder os → exponents_in os ≡ o
+    → product_exponents map_of.empty o ≡ Some o
+number_with law o os order is =
+    let left = list_of [] [] map_of.empty no_order no_power refl in
+    let right = list_of os os o order is refl in
+    sym (product_ok law Plain map_of.empty o [] os os left right
+    (right_alone Plain [] os os 0 order.kept refl (sym (taken_plain os)))) ∙ ap Some is
+
+-- a map of no names is empty
+pub no_names : (p : Exponents) → IsTrue (map_of.len p == 0) → p ≡ map_of.empty
+no_names p h = let n : map_of.len p ≡ 0 = grind (arith, nat_tests) in map_of.empty_of_len p n
 
 -- a list of length 0 is empty
 pub none_in : (es : Powers) → IsTrue (length es == 0) → es ≡ []

@@ -1,6 +1,7 @@
 pub mod Amount
 pub mod Answers
 pub mod Degrees
+pub mod Examples
 pub mod Exponents
 pub mod Factors
 pub mod Merges

@@ -54,6 +54,13 @@ impl Degree {
         self.num
     }
 
+    // The denominator is not 0.
+    pub(crate) fn has_denominator(&self)
+        ensures { 0 < self.now.den }
+    {
+        let _ = &self.den;
+    }
+
     // The denominator.
     pub(crate) fn den(&self) -> u32
         ensures value { result ≡ self.now.den }

@@ -1,6 +1,7 @@
 //! Laws of the definitions that the contracts cite.
 
 ghost use Rattle.quantity.specs.Amount.{ConformLaw};
+ghost use Rattle.quantity.specs.Examples.{ExamplesLaw};
 ghost use Rattle.quantity.specs.Exponents.{SameExponentsLaw};
 ghost use Rattle.quantity.specs.Products.{ProductLaw};
 ghost use Rattle.quantity.specs.Told.{ToldLaw};
@@ -28,4 +29,9 @@ pub fn product_law()
 /// No step has want of memory as its fault.
 pub fn told_law()
     ensures { ToldLaw }
+{}
+
+/// Some powers and some texts are those that were found by hand.
+pub fn examples_law()
+    ensures { ExamplesLaw }
 {}

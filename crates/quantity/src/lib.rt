@@ -22,5 +22,5 @@ mod text;
 pub use digits_print::Style;
 pub use exponent::Exponent;
 pub use fault::QuantityFault;
-pub use laws::{conform_law, product_law, same_exponents_law, told_law};
+pub use laws::{conform_law, examples_law, product_law, same_exponents_law, told_law};
 pub use quantity::Quantity;

@@ -133,21 +133,21 @@ impl Powers {
     pub(crate) fn times_all(self, alloc: Global, other: Powers) -> Result<Powers, ExponentFault>
         ensures { AreThose result (product_exponents self other) }
     {
-        reduced_law();
-        if self.items.is_empty() {
-            other.items.as_slice();
+        if self.is_empty() {
+            other.number_facts();
             return Ok(other);
         }
         self.times(alloc, &other, Factor::Plain)
     }
 
-    // A number has no exponents to add or to take away.
+    // A number has no exponents to add or to take away, as the one factor or as the other.
     pub(crate) fn number_facts(&self)
         ensures product { product_exponents self.now map.empty ≡ Some self.now }
+        ensures factor { product_exponents map.empty self.now ≡ Some self.now }
         ensures quotient { quotient_exponents self.now map.empty ≡ Some self.now }
     {
         reduced_law();
-        self.items.as_slice();
+        let _ = &self.items;
     }
 
     // The exponents of a power.
@@ -155,8 +155,7 @@ impl Powers {
         ensures { AreThose result (power_exponents self degree.now) }
     {
         reduced_law();
-        // Its denominator is above 0.
-        degree.den();
+        degree.has_denominator();
         let items = scale(alloc, self.items, degree)?;
         Ok(Powers { items })
     }

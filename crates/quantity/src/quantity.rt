@@ -93,8 +93,7 @@ impl Quantity {
         ensures value { result ≡ self.now.value }
         ensures kept { IsFrac self.now.value }
     {
-        // It is kept.
-        self.value.den();
+        is_kept(&self.value);
         self.value
     }
 
@@ -105,8 +104,8 @@ impl Quantity {
         self.powers.exponent(name)
     }
 
-    /// Tells what is known of the exponents: none is 0, and each is in lowest terms, its numerator
-    /// from -32,767 to 32,767 and its denominator at most 60. The call does nothing.
+    /// Tells what is known of the exponents, which the laws of quantities ask for: none is 0, and each is in lowest
+    /// terms, its numerator from -32,767 to 32,767 and its denominator at most 60. The call does nothing.
     pub fn exponent_facts(&self)
         ensures { AreExponents self.now.exponents }
     {
@@ -119,6 +118,13 @@ impl Quantity {
     {
         self.powers.is_empty()
     }
+}
+
+// A fraction is in lowest terms and fits.
+fn is_kept(x: &Frac)
+    ensures { IsFrac x.now }
+{
+    x.den();
 }
 
 // The number 1.

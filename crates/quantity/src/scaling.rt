@@ -22,8 +22,7 @@ pub(crate) fn scale(
     ensures { IsListed result (scaled degree.now items.items) }
 {
     reduced_law();
-    // Its denominator is above 0.
-    degree.den();
+    degree.has_denominator();
     let mut powers = SmallVec::new(alloc);
     for power in items {
         put_product(&mut powers, power, degree)?;

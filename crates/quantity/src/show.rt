@@ -1,6 +1,6 @@
 //! The text of a quantity.
 
-ghost use Rattle.std.specs.Prelude.{◌≡◌, IfOk};
+ghost use Rattle.std.specs.Prelude.{◌≡◌, ◌++◌, IfOk, OnOk};
 ghost use Rattle.digits_print.specs.Styles.{IsStyle};
 ghost use Rattle.quantity.specs.Text.{amount_text};
 
@@ -21,5 +21,14 @@ impl Quantity {
         let mut text = print_number(alloc, &self.value, style)?.into_bytes();
         self.powers.put_text(alloc, &mut text)?;
         Ok(Text::from(text))
+    }
+
+    /// Puts the text that `show` gives behind another. The only error is want of memory.
+    pub fn put(&self, alloc: Global, text: &mut Vec<u8>, style: Style) -> Result<(), AllocError>
+        requires { IsStyle style }
+        ensures { OnOk result (text.new.items ≡ text.old.items ++ amount_text style self.now) }
+    {
+        text.extend_from_slice(print_number(alloc, &self.value, style)?.as_bytes())?;
+        self.powers.put_text(alloc, text)
     }
 }

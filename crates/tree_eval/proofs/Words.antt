@@ -134,7 +134,8 @@ module _ (direction : Direction) (has : ℕ → Bool) (callee : ℕ → Callable
   pub operand_fault : (e : EvalFault) → Gives amount_in (Err e) (value y a)
       → Gives amount_in (Err e) (value (operated direction m y) a)
   operand_fault e k =
-      fault_first amount_in amount_in e (value y a) (taken direction (callee id)) (value (operated direction m y) a) taken_word k
+      fault_first amount_in amount_in e (value y a) (taken direction (callee id)) (value (operated direction m y) a)
+      taken_word k
 
   -- what the function gives at what the operand is worth, both give
   pub taken_give : {u : Amount} → value y a ≡ Ok u → {A : Type 0} (f : A → Amount) (r : Result A EvalFault)

@@ -3,6 +3,7 @@ pub mod Directions
 pub mod Ends
 pub mod Entries
 pub mod Environment
+pub mod Examples
 pub mod Expanded
 pub mod Expansion
 pub mod Faults

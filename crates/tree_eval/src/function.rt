@@ -32,7 +32,12 @@ use std::alloc::Global;
 // The greatest rank of a function that is called.
 const MOST_RANK: u32 = 16;
 
-/// The value of a function, an alias or a table at an argument, or its first fault.
+/// The value of a function, an alias or a table at an argument. `Value` with the first of these faults:
+/// `CallsTooDeep` where its rank is above 16; of a function `WrongArgument` where the argument does not conform to its
+/// in unit, or is no number where it has a domain alone, `NotInDomain` where the argument is outside of that, the first
+/// fault of its expression, `WrongResult` and `NotInRange` where the same is so of the result by its out unit and its
+/// range; of an alias what its target gives; of a table `WrongArgument` where the argument is no number, `OutsideTable` where no segment holds it, and a
+/// fault of a step. A fault of a unit comes where the unit is first needed. `OutOfMemory` where there is no memory.
 pub fn apply<E: Env>(
     alloc: Global,
     env: &E,
@@ -45,7 +50,12 @@ pub fn apply<E: Env>(
     take(alloc, env, Direction::Forward, id, arg)
 }
 
-/// The inverse of a function, an alias or a table at a value, or its first fault.
+/// The inverse of a function, an alias or a table at a value. `Value` with the first of these faults: `CallsTooDeep`
+/// where its rank is above 16; of a function `NoInverse` where it has none, `WrongArgument` and `NotInRange` where the
+/// value does not conform to its out unit or is outside its range, the first fault of its inverse, `WrongResult` and
+/// `NotInDomain` where the same is so of the result by its in unit and its domain; of a table `WrongArgument` where the
+/// value does not conform to its unit, `OutsideTable` where no segment holds it, and a fault of a step. A fault of a
+/// unit comes where the unit is first needed. `OutOfMemory` where there is no memory.
 pub fn unapply<E: Env>(
     alloc: Global,
     env: &E,

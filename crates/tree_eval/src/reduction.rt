@@ -18,7 +18,8 @@ use std::alloc::{AllocError, Global};
 use std::sync::ledger::Ledger;
 use units_io::Steps;
 
-/// The outcome of the name with this number, of which its line says this, in one step.
+/// The outcome of the name with this number, of which its line says this, in one step. The only error is want of
+/// memory: a fault of its value is an outcome.
 pub fn reduce<E: Env, L: Ledger>(
     alloc: Global,
     env: &E,

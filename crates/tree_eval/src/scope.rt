@@ -1,6 +1,6 @@
 //! What expressions are worth. Calls nest as deep as one expression and the functions that it calls, some thousand
-//! parentheses, and the stack with them. So each puts its worth where its caller holds it, and what needs room stands in
-//! calls that end before others nest.
+//! parentheses, and the stack with them. So each puts its worth where its caller holds it, and what needs room stands
+//! in calls that end before others nest.
 
 ghost use Rattle.std.specs.Prelude.{◌≡◌, ◌+◌, ◌++◌, ◌<◌, IsTrue, OnOk, Some, length, map, slice_get};
 ghost use Rattle.std.specs.Option.{option_copied};
@@ -33,7 +33,10 @@ use expr_tree::{RootKind, Tree, Trees, view_law};
 use quantity::Quantity;
 use std::alloc::Global;
 
-/// The value of a tree, in which `arg` stands for the argument, or its first fault.
+/// The value of a tree, in which `arg` stands for the argument. `Value` with the first fault from left to right: of a
+/// step on numbers, of a sum of quantities that do not conform, of an exponent that is no number or out of range, of a
+/// call or an inverse (`apply`, `unapply`), or of a function without an argument. `OutOfMemory` where there is no
+/// memory.
 pub fn eval<E: Env>(
     alloc: Global,
     env: &E,

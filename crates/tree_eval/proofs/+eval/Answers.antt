@@ -174,12 +174,14 @@ scope::Scope::worth-returns-in-Sum-clause-place g t c =
     (ap syntax c.in-Sum.is ∙ c.view_law.ensures.sum c.in-Sum.terms) in
     chain_ends is _ _ _ c.chain-in-Sum.ensures.place
 
-pub scope::Scope::operated-returns-in_err-put_word-clause-worth : goal.scope::Scope::operated-returns-in_err-put_word-clause-worth
+pub scope::Scope::operated-returns-in_err-put_word-clause-worth
+    : goal.scope::Scope::operated-returns-in_err-put_word-clause-worth
 scope::Scope::operated-returns-in_err-put_word-clause-worth g t c m h =
     let p = err_from_is_err_and c.from_residual-in_err-put_word.result c.from_residual-in_err-put_word.ensures.1 in
     rw (p.1, p.2) (word_fault _ _ _ _ _ _ h c.in_default.not-Function _ c.in_err-put_word.ensures)
 
-pub scope::Scope::operated-returns-in_err-worth-2-clause-worth : goal.scope::Scope::operated-returns-in_err-worth-2-clause-worth
+pub scope::Scope::operated-returns-in_err-worth-2-clause-worth
+    : goal.scope::Scope::operated-returns-in_err-worth-2-clause-worth
 scope::Scope::operated-returns-in_err-worth-2-clause-worth g t c m h =
     let p = err_from_is_err_and c.from_residual-in_err-worth-2.result c.from_residual-in_err-worth-2.ensures.1 in
     rw (p.1, p.2) (behind_fault _ _ _ _ _ _ h c.in_default.not-Function c.in_ok-put_word.ensures _
@@ -190,12 +192,14 @@ scope::Scope::operated-returns-clause-worth g t c m h =
     both_give _ _ _ _ _ _ h c.in_default.not-Function c.in_ok-put_word.ensures
     (c.in_ok-worth-2.ensures.worth ∙ ap (λ x. Ok x) (sym c.get.ensures)) _ _ c.take_lent.ensures
 
-pub scope::Scope::operated-returns-in_err-worth-clause-worth : goal.scope::Scope::operated-returns-in_err-worth-clause-worth
+pub scope::Scope::operated-returns-in_err-worth-clause-worth
+    : goal.scope::Scope::operated-returns-in_err-worth-clause-worth
 scope::Scope::operated-returns-in_err-worth-clause-worth g t c m h =
     let p = err_from_is_err_and c.from_residual.result c.from_residual.ensures.1 in
     rw (p.1, p.2) (operand_fault _ _ _ _ _ _ h c.in-Function.is _ c.in_err-worth.ensures.worth)
 
-pub scope::Scope::operated-returns-in-Function-clause-worth : goal.scope::Scope::operated-returns-in-Function-clause-worth
+pub scope::Scope::operated-returns-in-Function-clause-worth
+    : goal.scope::Scope::operated-returns-in-Function-clause-worth
 scope::Scope::operated-returns-in-Function-clause-worth g t c m h =
     taken_give _ _ _ _ _ _ h c.in-Function.is c.in_ok-worth.ensures.worth _ _
     c.put_taken.ensures

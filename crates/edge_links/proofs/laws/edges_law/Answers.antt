@@ -2,7 +2,7 @@ use Rattle.std.proofs.Common.{◌≡◌, ◌⊎◌, ◌↔◌, ℕ, ◌+◌, ◌
 use Rattle.std.proofs.lemmas.Bool.{cases_eq}
 use Rattle.edge_links.specs.Edges.{Edge, edge, edge_count, SameEdges}
 use Rattle.edge_links.specs.Reach.{HasEdge, Reaches, at_once, further, IsAffected, Forgets}
-use Rattle.edge_links.proofs.Listed.{count_append, count_self, count_found}
+use Rattle.edge_links.proofs.EdgeCounts.{count_append, count_self, count_found}
 use Rattle.edge_links.proofs.laws.edges_law.Goals as goal
 
 same_edge : (es ds : List Edge) → SameEdges es ds → (x y : ℕ) → HasEdge es x y → HasEdge ds x y

@@ -1,4 +1,4 @@
-use Rattle.std.proofs.Common.{◌<◌, ap, sym, subst, ◌∙◌}
+use Rattle.std.proofs.Common.{ap, sym, ◌∙◌}
 use Rattle.std.proofs.lemmas.Result.{err_from_is_err_and}
 use Rattle.frac128.specs.Fraction.{Fraction}
 use Rattle.quantity.specs.Merges.{Powers, are_exponents, scaled}
@@ -15,10 +15,9 @@ pub returns-in_err-put_product : goal.returns-in_err-put_product
 returns-in_err-put_product c =
     let error = err_from_is_err_and c.from_residual.result c.from_residual.ensures.1 in
     let by : Fraction = c.args.degree.now in
-    let some : 0 < by.den = subst (λ d. 0 < d) c.den.ensures.value c.den.ensures.some in
     let all = c.into_iter-power-iterator.ensures.into_iter_gives.0 in
     rw (error.1, error.2)
     (handed_on _ _ _ _ _ c.in_err-put_product.ensures (λ fails.
     ap (λ (es : Powers). are_exponents (scaled by es)) (sym all)
-    ∙ scaling_fault c.reduced_law.ensures by _ _ c.loop-power.power-iterator _ c.in-Some.power some
+    ∙ scaling_fault c.reduced_law.ensures by _ _ c.loop-power.power-iterator _ c.in-Some.power c.has_denominator.ensures
     c.loop-power.invariant c.in-Some.ensures.steps fails))

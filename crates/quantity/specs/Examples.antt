@@ -1,0 +1,41 @@
+-- Powers of some numbers and texts of some names with exponents, found by hand.
+use Rattle.std.specs.Prelude.{◌≡◌, ◌∷◌, [], ℕ, ℤ, pos, negsuc, false, List, Ok, Err, codes}
+use Rattle.frac128.specs.Fraction.{Fraction, whole}
+use Rattle.frac128.specs.declared.fault.FracFault.TheVariants.{DivisionByZero, NoExactRoot}
+use Rattle.quantity.specs.Degrees.{is_degree}
+use Rattle.quantity.specs.Powers.{powered}
+use Rattle.quantity.specs.Text.{listed_text}
+
+-- a quotient that is in lowest terms
+abbrev pub quotient : ℤ → ℕ → Fraction
+quotient n d = record { num = n; den = d }
+
+-- a name with its exponent
+abbrev pub power : List ℕ → Fraction → List ℕ × Fraction
+power name e = (name, e)
+
+-- what numbers to the power of a fraction are: a root and its power, or no fraction
+pub record PowersLaw : Type 0 where
+  pub root : powered (quotient (pos 4) 9) (quotient (pos 1) 2) ≡ Ok (quotient (pos 2) 3)
+  pub turned_round : powered (quotient (pos 8) 27) (quotient (negsuc 1) 3) ≡ Ok (quotient (pos 9) 4)
+  pub odd_root : powered (whole (negsuc 7)) (quotient (pos 2) 3) ≡ Ok (whole (pos 4))
+  pub no_power : powered (whole (pos 7)) (whole (pos 0)) ≡ Ok (whole (pos 1))
+  pub no_root : powered (whole (pos 2)) (quotient (pos 1) 2) ≡ Err NoExactRoot
+  pub below_zero : powered (whole (negsuc 3)) (quotient (pos 1) 2) ≡ Err NoExactRoot
+  pub by_zero : powered (whole (pos 0)) (whole (negsuc 0)) ≡ Err DivisionByZero
+  pub out_of_range : is_degree (whole (pos 32768)) ≡ false
+
+-- how names with exponents are written
+pub record TextsLaw : Type 0 where
+  pub none : listed_text [] ≡ []
+  pub plain : listed_text (power (codes "kg") (whole (pos 1)) ∷ power (codes "m") (whole (pos 2)) ∷ [])
+      ≡ codes " kg m^2"
+  pub under : listed_text (power (codes "m") (whole (pos 1)) ∷ power (codes "s") (whole (negsuc 1)) ∷ [])
+      ≡ codes " m / s^2"
+  pub only_under : listed_text (power (codes "s") (whole (negsuc 0)) ∷ []) ≡ codes " / s"
+  pub root : listed_text (power (codes "V") (quotient (pos 3) 2) ∷ []) ≡ codes " V^3|2"
+
+-- law: they are so
+pub record ExamplesLaw : Type 0 where
+  pub powers : PowersLaw
+  pub texts : TextsLaw

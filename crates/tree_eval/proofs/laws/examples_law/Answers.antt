@@ -1,0 +1,36 @@
+use Rattle.std.proofs.Common.{refl}
+use Rattle.frac128.specs.Divisors.{gcd, gcd_within}
+use Rattle.frac128.specs.Steps.{reduced}
+use Rattle.tree_eval.specs.Examples.{TestsLaw, ValuesLaw}
+use Rattle.tree_eval.proofs.laws.examples_law.Goals as goal
+
+values : ValuesLaw
+unfolding gcd gcd_within reduced
+values = record {
+  decimals = refl;
+  quotients = refl;
+  negative = refl;
+  no_argument = refl;
+  by_zero = refl;
+  from_the_left = refl;
+  uncalled = refl;
+  called = refl;
+  too_deep = refl;
+  other_name = refl;
+  no_inverse = refl;
+}
+
+tests : TestsLaw
+tests = record {
+  closed_end = refl;
+  open_end = refl;
+  between = refl;
+  below = refl;
+  open_low_end = refl;
+  no_high_end = refl;
+  outside = refl;
+  any = refl;
+}
+
+pub returns : goal.returns
+returns c = record { values = values; tests = tests }
