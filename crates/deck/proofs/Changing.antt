@@ -1,5 +1,6 @@
 -- The keys whose entries differ.
-use Rattle.std.proofs.Common.{◌≡◌, ◌++◌, ◌&&◌, ℕ, List, Bool, true, false, true≢false, not, refl, sym, ap, subst, ◌∙◌}
+use Rattle.std.proofs.Common.{◌≡◌, ◌++◌, ◌∷◌, ◌&&◌, ◌||◌, [], ℕ, List, Bool, true, false, true≢false, not, cond}
+use Rattle.std.proofs.Common.{refl, sym, ap, subst, ◌∙◌}
 use Rattle.std.proofs.Common.{Option, Some, None, Ok, option_map}
 use Rattle.std.specs.List.{filter}
 use Rattle.std.specs.Map.{lookup}
@@ -17,7 +18,7 @@ use Rattle.deck_lines.specs.declared.key_number.KeyNumber.{KeyNumber}
 use Rattle.deck_lines.specs.declared.line.DeckLine.{DeckLine}
 use Rattle.deck.specs.Changes.{AreOnce, IsTableChange, is_same_entry}
 use Rattle.deck.specs.LastPlaces.{AreLast, place_at}
-use Rattle.deck.specs.Numbers.{AreInPlace, differs, entry_there, keys_where}
+use Rattle.deck.specs.Numbers.{AreInPlace, differs, entry_there, key_if, keys_where}
 use Rattle.deck.specs.Tables.{Definitions, Table, entry_at, place_of, table_of}
 use Rattle.deck.specs.declared.places.last_places.LastPlaces.{LastPlaces}
 use Rattle.deck.proofs.EntryTexts.{entry_itself, read_at, same_entry}
@@ -55,6 +56,24 @@ changed_among t u keys once beside same = record {
         ∙ ap (λ o. not (is_same_entry (entry_at t k) o) && is_among keys k) (sym equal)
         ∙ ap (λ s. not s && is_among keys k) (entry_itself (entry_at t k)))
 
+-- where no other key than one differs
+pub changed_at : (t u : Table) (k : Key) → ((j : Key) → is_same j k ≡ false → entry_at t j ≡ entry_at u j)
+    → ((j : Key) → is_same_entry (entry_at t j) (entry_at u j) ≡ true → entry_at t j ≡ entry_at u j)
+    → IsTableChange t u (key_if (differ t u k) (Some k))
+changed_at t u k others same =
+    subst (IsTableChange t u) (alone (differ t u k)) (changed_among t u (k ∷ []) (refl, tt) beside same)
+  where
+    alone : (b : Bool) → cond b (k ∷ []) [] ≡ key_if b (Some k)
+    alone true = refl
+    alone false = refl
+
+    not_first : (b : Bool) → (b || false) ≡ false → b ≡ false
+    not_first true h = h
+    not_first false h = refl
+
+    beside : (j : Key) → is_among (k ∷ []) j ≡ false → entry_at t j ≡ entry_at u j
+    beside j h = others j (not_first (is_same j k) h)
+
 -- an entry of a table of lines is one that a line defines
 pub from_place : (lines : List DeckLine) (ds : Definitions) → AreInPlace lines ds → (k : Key) (e : Entry)
     → entry_at (table_of ds) k ≡ Some e → (place : ℕ) × (definition_at lines place ≡ Some (k, e))
@@ -90,6 +109,26 @@ entry_placed lines ds placed k = by (lookup (is_same k) ds) refl ∙ sym (entry_
         → entry_there lines (option_map (λ p. p.0) o) ≡ option_map (λ v. v.1) o
     by None g = refl
     by (Some v) g = ap (option_map (λ d. d.1)) (placed k v g)
+
+-- where an edit leaves all keys but one, the texts at the places of this one tell whether it changes
+pub changed_at_places : SameTextLaw → (lines : List DeckLine) (ds es : Definitions) → AreInPlace lines ds
+    → AreInPlace lines es → (k : Key) (o : Option Key) (before after : Option ℕ) → o ≡ Some k
+    → before ≡ place_of ds k → after ≡ place_of es k
+    → ((j : Key) → is_same j k ≡ false → entry_at (table_of ds) j ≡ entry_at (table_of es) j)
+    → IsTableChange (table_of ds) (table_of es)
+    (key_if (not (is_same_entry (entry_there lines before) (entry_there lines after))) o)
+changed_at_places law lines ds es placed put k o before after at was now others =
+    subst (IsTableChange (table_of ds) (table_of es)) (sym keys_are)
+    (changed_at (table_of ds) (table_of es) k others (same_by_text law lines lines ds es placed put))
+  where
+    keys_are : key_if (not (is_same_entry (entry_there lines before) (entry_there lines after))) o
+        ≡ key_if (differ (table_of ds) (table_of es) k) (Some k)
+    keys_are =
+        ap (λ x. key_if (not (is_same_entry x (entry_there lines after))) o)
+        (ap (entry_there lines) was ∙ entry_placed lines ds placed k)
+        ∙ ap (λ x. key_if (not (is_same_entry (entry_at (table_of ds) k) x)) o)
+        (ap (entry_there lines) now ∙ entry_placed lines es put k)
+        ∙ ap (key_if (differ (table_of ds) (table_of es) k)) at
 
 module _ (store : Store) (numbering : IsNumbering store) (ds : Definitions) (placed : AreInPlace store.lines ds) where
   -- a key without a number is not defined

@@ -14,12 +14,13 @@ use Rattle.def_entry.specs.Views.{what_view}
 use Rattle.def_entry.specs.declared.entry.What.{What as MadeWhat}
 use Rattle.def_entry.specs.declared.key.Key.{Key}
 use Rattle.deck_lines.specs.Limits.{pass_limit}
-use Rattle.deck_lines.specs.Marks.{with_mark, with_marks}
+use Rattle.deck_lines.specs.Marks.{with_marks}
 use Rattle.deck_lines.specs.Readings.{entry_in}
 use Rattle.deck_lines.specs.Stores.{definition_at}
 use Rattle.deck_lines.specs.declared.line.DeckLine.{DeckLine}
 use Rattle.deck_lines.proofs.Entries.{text_in}
-use Rattle.deck.proofs.Marking.{marks_drop, marks_take}
+use Rattle.deck_lines.proofs.Keeping.{marks_drop, marks_get, marks_len, marks_take}
+use Rattle.deck_lines.proofs.Replacing.{few_lines}
 
 -- one more item
 pub copied_step : {A : Type 0} (xs rest now copy whole : List A) (x : A) → xs ≡ x ∷ rest → now ≡ copy ++ x ∷ []
@@ -27,22 +28,13 @@ pub copied_step : {A : Type 0} (xs rest now copy whole : List A) (x : A) → xs 
 copied_step xs rest now copy whole x at e h = ap (λ t. t ++ rest) e ∙ append_assoc copy (x ∷ []) rest
     ∙ sym (ap (λ t. copy ++ t) at) ∙ h
 
--- the line at a place, with its mark
-pub mark_there : (ls : List Line) (ms : List Bool) (i : ℕ) (l : Line) (m : Bool) → length ms ≡ length ls → i < length ls
-    →
-    l ≡ get_or ls i l → m ≡ get_or ms i false → slice_get (with_marks ls ms) i ≡ Some (with_mark m l)
-mark_there [] ms i l m h g e f = absurd (omega arith)
-mark_there (k ∷ ls) [] i l m h g e f = absurd (omega arith)
-mark_there (k ∷ ls) (n ∷ ms) zero l m h g e f = rw (e, f) refl
-mark_there (k ∷ ls) (n ∷ ms) (suc i) l m h g e f = mark_there ls ms i l m (omega arith) (omega arith) e f
-
--- the same in lines that are told
+-- the line at a place, with its mark, in lines that are told
 pub line_there : (ls : List Line) (ms : List Bool) (lines : List DeckLine) (i : ℕ) (l : Line) (m : Bool) (text : List ℕ)
     → with_marks ls ms ≡ lines → length ms ≡ length ls → i < length ls →
     l ≡ get_or ls i l → m ≡ get_or ms i false → text ≡ l.text
     → slice_get lines i ≡ Some (record { number = l.number; text = text; mark = m })
 line_there ls ms lines i l m text are h g e f same =
-    ap (λ xs. slice_get xs i) (sym are) ∙ mark_there ls ms i l m h g e f
+    ap (λ xs. slice_get xs i) (sym are) ∙ marks_get ls ms i l m h g e f
     ∙ ap (λ t. Some (record { number = l.number; text = t; mark = m })) (sym same)
 
 -- the front of a list, with the item behind it
@@ -94,11 +86,6 @@ defined_by_parts lines place x k what e at keyed said same =
         let what : what_view what ≡ d.1.what = same ∙ ap (λ (f : Entry). f.what) (same_Some e d.1 said) in
         ap Some (λ i. (one i, record { text = text i; what = what i }))
 
--- so many lines from a place on
-pub length_within : (xs : List DeckLine) → pass_limit xs ≡ false → length xs ≤ 100000
-unfolding pass_limit
-length_within xs e = grind (arith, nat_tests, e)
-
 -- a part of lines and of marks is the part of the marked lines
 pub part_marks : (ls : List Line) (ms : List Bool) (lines : List DeckLine) (at count : ℕ) → with_marks ls ms ≡ lines
     → length ms ≡ length ls →
@@ -108,3 +95,13 @@ part_marks ls ms lines at count are each =
     ap (λ n. with_marks (take n (drop at ls)) (take n (drop at ms))) so_many
     ∙ marks_take count (drop at ls) (drop at ms) ∙ ap (take count) (marks_drop at ls ms each)
     ∙ ap (λ xs. take count (drop at xs)) are
+
+-- it is one of the lines, and has not more of them than a deck
+module _ (ls : List Line) (ms : List Bool) (stored lines : List DeckLine) (at count : ℕ)
+    (are : with_marks ls ms ≡ stored)
+    (each : length ms ≡ length ls) (same : stored ≡ lines) (inside : at + count ≤ length lines) where
+  pub part_within : at + count ≤ length ls
+  part_within = omega (arith, inside, ap length same, ap length are, marks_len ls ms each)
+
+  pub part_few : pass_limit stored ≡ false → at + count ≤ 100000
+  part_few limit = omega (arith, part_within, few_lines stored limit, ap length are, marks_len ls ms each)

@@ -29,7 +29,7 @@ use Rattle.deck.proofs.Lasting.{last_extended}
 use Rattle.deck.proofs.Placing.{in_place}
 
 -- what stands in a list stands there with more behind it
-get_more : {A : Type 0} (xs ys : List A) (i : ℕ) (x : A) → slice_get xs i ≡ Some x → slice_get (xs ++ ys) i ≡ Some x
+pub get_more : {A : Type 0} (xs ys : List A) (i : ℕ) (x : A) → slice_get xs i ≡ Some x → slice_get (xs ++ ys) i ≡ Some x
 get_more [] ys i x h = cc
 get_more (y ∷ xs) ys zero x h = h
 get_more (y ∷ xs) ys (suc i) x h = get_more xs ys i x h

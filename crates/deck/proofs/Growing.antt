@@ -11,6 +11,7 @@ use Rattle.def_entry.specs.Keys.{key}
 use Rattle.def_entry.specs.SameKeys.{is_same_kind}
 use Rattle.deck_lines.specs.Names.{Names, is_numbered, key_at, names_of, with_key, with_name, with_names}
 use Rattle.deck_lines.specs.declared.key_number.KeyNumber.{KeyNumber}
+use Rattle.deck.proofs.Extending.{get_more}
 use Rattle.deck.proofs.Sameness.{same_kind}
 
 -- the names of a kind, where those of one kind are replaced
@@ -32,12 +33,6 @@ names_with names kind.List kind.Unit these = refl
 names_with names kind.List kind.Prefix these = refl
 names_with names kind.List kind.Func these = refl
 names_with names kind.List kind.List these = refl
-
--- what stands at a place stands there where more comes behind
-still : {A : Type 0} (xs ys : List A) (i : ℕ) (y : A) → slice_get xs i ≡ Some y → slice_get (xs ++ ys) i ≡ Some y
-still [] ys i y e = cc
-still (x ∷ xs) ys zero y e = e
-still (x ∷ xs) ys (suc i) y e = still xs ys i y e
 
 -- what stands past the end of a list stands last in the longer one
 last_is : {A : Type 0} (xs : List A) (x y : A) (i : ℕ) → slice_get xs i ≡ None → slice_get (xs ++ x ∷ []) i ≡ Some y
@@ -74,7 +69,8 @@ module _ (names : Names) (k : Key) where
           (slice_get (cond b (names_of names n.kind) (names_of names n.kind ++ k.name ∷ [])) n.number) ≡ Some j
       kept b None h f = cc
       kept true (Some y) h f = ap (option_map (key n.kind)) h ∙ f
-      kept false (Some y) h f = ap (option_map (key n.kind)) (still (names_of names n.kind) (k.name ∷ []) n.number y h)
+      kept false (Some y) h f = ap (option_map (key n.kind))
+          (get_more (names_of names n.kind) (k.name ∷ []) n.number y h)
           ∙ f
 
       by : (b : Bool) → is_same_kind n.kind k.kind ≡ b → key_at (with_key names k) n ≡ Some j

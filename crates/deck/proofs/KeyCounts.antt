@@ -103,3 +103,9 @@ counted t keys each once kind =
   where
     own : Key → Bool
     own key = is_same_kind kind key.kind
+
+-- tables with the same keys have as many of each kind
+pub count_same : (t u : Table) → ((k : Key) → is_present t k ≡ is_present u k) → (kind : Kind)
+    → key_count t kind ≡ key_count u kind
+count_same t u same kind =
+    counted u (each_once (keys_of t)) (λ k. among_each (keys_of t) k ∙ among t k ∙ same k) (once_each (keys_of t)) kind

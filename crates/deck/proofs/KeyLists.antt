@@ -1,5 +1,6 @@
 -- The list of all keys.
-use Rattle.std.proofs.Common.{◌≡◌, ◌++◌, ◌∷◌, ◌&&◌, [], zero, suc, List, Bool, true, false, true≢false, refl, sym, ap}
+use Rattle.std.proofs.Common.{◌≡◌, ◌++◌, ◌∷◌, ◌&&◌, [], ℕ, zero, suc, List, Bool, true, false, true≢false, refl, sym}
+use Rattle.std.proofs.Common.{ap}
 use Rattle.std.proofs.Common.{subst, ◌∙◌, arith, Some, option_map}
 use Rattle.std.proofs.lemmas.List.Sorted.{list_any-IsPermutation, ranks_by, sorted_far}
 use Rattle.std.proofs.lemmas.Map.Keys.{IsDistinct-IsPermutation}
@@ -18,13 +19,13 @@ use Rattle.deck_lines.specs.Numbering.{IsNumbering}
 use Rattle.deck_lines.specs.Stores.{Store}
 use Rattle.deck_lines.specs.declared.key_number.KeyNumber.{KeyNumber}
 use Rattle.deck.specs.Changes.{AreOnce}
-use Rattle.deck.specs.KeyLists.{IsWhole}
-use Rattle.deck.specs.LastPlaces.{AreLast, place_at}
+use Rattle.deck.specs.Holding.{holds, is_found, is_holding}
+use Rattle.deck.specs.LastPlaces.{AreLast}
 use Rattle.deck.specs.Numbers.{AreInPlace, keys_where}
 use Rattle.deck.specs.Tables.{Definitions, is_present, place_of, table_of}
 use Rattle.deck.specs.declared.places.last_places.LastPlaces.{LastPlaces}
 use Rattle.deck.proofs.Changing.{not_defined}
-use Rattle.deck.proofs.KeyCounts.{counted, distinct, flips, once_distinct}
+use Rattle.deck.proofs.KeyCounts.{distinct, flips}
 use Rattle.deck.proofs.Listing.{among_filter, once_filter}
 use Rattle.deck.proofs.Numbered.{all_filter, all_keys, among_all, once_all}
 use Rattle.deck.proofs.Placing.{place_present}
@@ -63,9 +64,13 @@ module _ (law : KeyOrderLaw) where
 -- the numbered keys that have a last place, in order
 module _ (store : Store) (numbering : IsNumbering store) (ds : Definitions) (placed : AreInPlace store.lines ds)
     (last : LastPlaces) (are_last : AreLast store.names ds last) where
-  by_number : (n : KeyNumber) (k : Key) → key_at store.names n ≡ Some k
-      → is_some (place_at last n) ≡ is_present (table_of ds) k
-  by_number n k e = ap is_some (are_last.place n ∙ ap (option_and_then (place_of ds)) e) ∙ place_present ds k
+  -- the key of a number is found where it has an entry and its name holds the text
+  by_number : (text : List ℕ) (n : KeyNumber) (k : Key) → key_at store.names n ≡ Some k
+      → is_found store.names last text n ≡ (is_present (table_of ds) k && holds k.name text)
+  by_number text n k e =
+      ap (λ b. b && is_holding text (key_at store.names n))
+      (ap is_some (are_last.place n ∙ ap (option_and_then (place_of ds)) e) ∙ place_present ds k)
+      ∙ ap (λ o. is_present (table_of ds) k && is_holding text o) e
 
   -- a key that has an entry has a number
   present_numbered : (k : Key) → (is_present (table_of ds) k && is_among (all_keys store.names) k)
@@ -81,27 +86,36 @@ module _ (store : Store) (numbering : IsNumbering store) (ds : Definitions) (pla
           ∙ ap (λ o. is_some (option_map (λ p. p.0) o)) (not_defined store numbering ds placed k h)))
       by false e n h = ap (λ b. b && is_among (all_keys store.names) k) e ∙ sym e
 
-  pub all_keys_found : KeyOrderLaw → (found sorted : List Key) →
-      found ≡ keys_where (λ n. is_some (place_at last n)) kind.Unit 0 store.names.units
-      ++ (keys_where (λ n. is_some (place_at last n)) kind.Prefix 0 store.names.prefixes
-      ++ (keys_where (λ n. is_some (place_at last n)) kind.Func 0 store.names.functions
-      ++ keys_where (λ n. is_some (place_at last n)) kind.List 0 store.names.lists)) →
-      IsPermutation found sorted → IsSorted key_cmp sorted → IsWhole (table_of ds) sorted
-  all_keys_found law found sorted e moved up = record {
-    all = record { each = each; order = in_strict_order law sorted up apart };
-    count = counted (table_of ds) sorted each (once_distinct sorted apart);
-  }
+  -- they are in strict order, and the keys that have an entry and whose names hold the text are among them
+  pub keys_found : KeyOrderLaw → (text : List ℕ) (found sorted : List Key) →
+      found ≡ keys_where (is_found store.names last text) kind.Unit 0 store.names.units
+      ++ (keys_where (is_found store.names last text) kind.Prefix 0 store.names.prefixes
+      ++ (keys_where (is_found store.names last text) kind.Func 0 store.names.functions
+      ++ keys_where (is_found store.names last text) kind.List 0 store.names.lists)) →
+      IsPermutation found sorted → IsSorted key_cmp sorted → IsStrictlySortedBy key_cmp sorted
+      × ((k : Key) → is_among sorted k ≡ (is_present (table_of ds) k && holds k.name text))
+  keys_found law text found sorted e moved up = (in_strict_order law sorted up apart, each)
     where
-      is : found ≡ filter (is_present (table_of ds)) (all_keys store.names)
-      is = e ∙ all_filter store.names (λ n. is_some (place_at last n)) (is_present (table_of ds)) by_number
+      own : Key → Bool
+      own k = is_present (table_of ds) k && holds k.name text
+
+      is : found ≡ filter own (all_keys store.names)
+      is = e ∙ all_filter store.names (is_found store.names last text) own (by_number text)
 
       apart : IsDistinct is_same sorted
       apart =
           IsDistinct-IsPermutation is_same flips found sorted moved
           (distinct found (subst AreOnce (sym is)
-          (once_filter (is_present (table_of ds)) (all_keys store.names) (once_all store.names numbering.unique))))
+          (once_filter own (all_keys store.names) (once_all store.names numbering.unique))))
 
-      each : (k : Key) → is_among sorted k ≡ is_present (table_of ds) k
+      both : (p h a : Bool) → (p && a) ≡ p → ((p && h) && a) ≡ (p && h)
+      both true true a g = g
+      both true false a g = refl
+      both false h a g = refl
+
+      each : (k : Key) → is_among sorted k ≡ own k
       each k =
           sym (list_any-IsPermutation (is_same k) found sorted moved) ∙ ap (λ ks. is_among ks k) is
-          ∙ among_filter (is_present (table_of ds)) (all_keys store.names) k ∙ present_numbered k
+          ∙ among_filter own (all_keys store.names) k
+          ∙ both (is_present (table_of ds) k) (holds k.name text) (is_among (all_keys store.names) k)
+          (present_numbered k)

@@ -4,19 +4,21 @@ use Rattle.std.proofs.Common.{get_or, take, drop, map, set, refl, sym, ap, ◌�
 use Rattle.std.specs.Option.{is_some}
 use Rattle.deck.specs.KindPlaces.{HasSamePlaces, place_count, place_in}
 
--- the place that is put, and the others
-pub in_set_same : (ps : List (Option ℕ)) (n p : ℕ) → n < length ps → place_in (set ps n (Some p)) n ≡ Some p
-in_set_same [] n p h = absurd (omega arith)
-in_set_same (x ∷ ps) zero p h = refl
-in_set_same (x ∷ ps) (suc n) p h = in_set_same ps n p (omega arith)
+-- the place that is put, or none, and the others
+pub in_set_same : (ps : List (Option ℕ)) (n : ℕ) (place : Option ℕ) → n < length ps
+    → place_in (set ps n place) n ≡ place
+in_set_same [] n place h = absurd (omega arith)
+in_set_same (x ∷ ps) zero place h = refl
+in_set_same (x ∷ ps) (suc n) place h = in_set_same ps n place (omega arith)
 
--- a place that is put leaves all others
-pub in_set_other : (ps : List (Option ℕ)) (n p m : ℕ) → (m ≡ n → ⊥) → place_in (set ps n (Some p)) m ≡ place_in ps m
-in_set_other [] n p m h = refl
-in_set_other (x ∷ ps) zero p zero h = absurd (h refl)
-in_set_other (x ∷ ps) zero p (suc m) h = refl
-in_set_other (x ∷ ps) (suc n) p zero h = refl
-in_set_other (x ∷ ps) (suc n) p (suc m) h = in_set_other ps n p m (λ e. h (ap suc e))
+-- it leaves all others
+pub in_set_other : (ps : List (Option ℕ)) (n : ℕ) (place : Option ℕ) (m : ℕ) → (m ≡ n → ⊥)
+    → place_in (set ps n place) m ≡ place_in ps m
+in_set_other [] n place m h = refl
+in_set_other (x ∷ ps) zero place zero h = absurd (h refl)
+in_set_other (x ∷ ps) zero place (suc m) h = refl
+in_set_other (x ∷ ps) (suc n) place zero h = refl
+in_set_other (x ∷ ps) (suc n) place (suc m) h = in_set_other ps n place m (λ e. h (ap suc e))
 
 -- it is counted where there was none before
 pub count_set : (ps : List (Option ℕ)) (n p : ℕ) → n < length ps →
@@ -31,6 +33,32 @@ count_set (Some q ∷ ps) (suc n) p h = ap (λ c. c + 1) (count_set ps n p (omeg
     more : (b : Bool) (c : ℕ) → cond b c (c + 1) + 1 ≡ cond b (c + 1) ((c + 1) + 1)
     more true c = refl
     more false c = refl
+
+-- one more in both
+more : (b : Bool) (c : ℕ) → cond b (c + 1) c + 1 ≡ cond b ((c + 1) + 1) (c + 1)
+more true c = refl
+more false c = refl
+
+-- as many places, and one less where one is taken away
+pub count_none : (ps : List (Option ℕ)) (n : ℕ) → n < length ps →
+    place_count ps ≡ cond (is_some (place_in ps n)) (place_count (set ps n None) + 1) (place_count (set ps n None))
+count_none [] n h = absurd (omega arith)
+count_none (None ∷ ps) zero h = refl
+count_none (Some q ∷ ps) zero h = refl
+count_none (None ∷ ps) (suc n) h = count_none ps n (omega arith)
+count_none (Some q ∷ ps) (suc n) h =
+    ap (λ c. c + 1) (count_none ps n (omega arith)) ∙ more (is_some (place_in ps n)) (place_count (set ps n None))
+
+-- it is counted no more, unless another comes in its stead
+pub count_other : (ps : List (Option ℕ)) (n : ℕ) (x : Option ℕ) → is_some (place_in ps n) ≡ true →
+    place_count (set ps n x) + 1 ≡ cond (is_some x) (place_count ps + 1) (place_count ps)
+count_other [] zero x h = cc
+count_other [] (suc n) x h = cc
+count_other (None ∷ ps) zero x h = cc
+count_other (Some q ∷ ps) zero None h = refl
+count_other (Some q ∷ ps) zero (Some p) h = refl
+count_other (None ∷ ps) (suc n) x h = count_other ps n x h
+count_other (Some q ∷ ps) (suc n) x h = ap (λ c. c + 1) (count_other ps n x h) ∙ more (is_some x) (place_count ps)
 
 -- room for one more number changes no place
 pub in_longer : (ps : List (Option ℕ)) (m : ℕ) → place_in (ps ++ None ∷ []) m ≡ place_in ps m

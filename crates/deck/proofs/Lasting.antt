@@ -1,5 +1,5 @@
 -- Last places, with a definition more.
-use Rattle.std.proofs.Common.{◌≡◌, ◌++◌, ◌∷◌, ◌+◌, ◌<◌, [], ℕ, suc, List, Bool, true, false, true≢false, cond, length}
+use Rattle.std.proofs.Common.{◌≡◌, ◌++◌, ◌∷◌, ◌+◌, ◌<◌, [], ℕ, suc, List, Bool, true, false, cond, length}
 use Rattle.std.proofs.Common.{set, take, reverse, length-take, append_assoc, add-zero, refl, sym, ap, subst, ◌∙◌, arith}
 use Rattle.std.proofs.Common.{Option, Some, None, option_map, slice_get}
 use Rattle.std.proofs.lemmas.List.{reverse-append}
@@ -22,9 +22,11 @@ use Rattle.deck.specs.Tables.{Definitions, definition_by, definitions_by, defini
 use Rattle.deck.specs.Tables.{table_of}
 use Rattle.deck.specs.declared.places.last_places.LastPlaces.{LastPlaces}
 use Rattle.deck.proofs.Counting.{count_push}
-use Rattle.deck.proofs.KindPlacing.{count_set, in_set_other, in_set_same}
+use Rattle.deck.proofs.KeyCounts.{count_same}
+use Rattle.deck.proofs.KindPlacing.{count_set}
+use Rattle.deck.proofs.OnePlace.{numbers_differ, other_place, own_place}
 use Rattle.deck.proofs.Placing.{place_present}
-use Rattle.deck.proofs.Sameness.{key_itself, kind_itself, same_key, same_kind}
+use Rattle.deck.proofs.Sameness.{same_key, same_kind}
 
 -- the kind of a key is that of its number
 pub kind_at : (names : Names) (n : KeyNumber) (k : Key) → key_at names n ≡ Some k → k.kind ≡ n.kind
@@ -41,42 +43,21 @@ module _ (names : Names) (unique : IsOneToOne names) (ds : Definitions) (n : Key
     (put : (kind : Kind)
     → places_of now kind
     ≡ cond (is_same_kind kind n.kind) (set (places_of old kind) n.number (Some at)) (places_of old kind)) where
-  own_place : place_at now n ≡ Some at
-  own_place =
-      ap (λ ps. place_in ps n.number)
-      (put n.kind ∙ ap (λ b. cond b (set (places_of old n.kind) n.number (Some at)) (places_of old n.kind))
-      (kind_itself n.kind))
-      ∙ in_set_same (places_of old n.kind) n.number at room
-
-  other_place : (m : KeyNumber) → (m ≡ n → ⊥) → place_at now m ≡ place_at old m
-  other_place m differs = by (is_same_kind m.kind n.kind) refl
-    where
-      number_differs : m.kind ≡ n.kind → m.number ≡ n.number → ⊥
-      number_differs g h = differs (λ i. record { kind = g i; number = h i })
-
-      by : (b : Bool) → is_same_kind m.kind n.kind ≡ b → place_at now m ≡ place_at old m
-      by true h =
-          ap (λ ps. place_in ps m.number)
-          (put m.kind ∙ ap (λ b. cond b (set (places_of old m.kind) n.number (Some at)) (places_of old m.kind)) h)
-          ∙ in_set_other (places_of old m.kind) n.number at m.number (number_differs (same_kind m.kind n.kind h))
-      by false h =
-          ap (λ ps. place_in ps m.number)
-          (put m.kind ∙ ap (λ b. cond b (set (places_of old m.kind) n.number (Some at)) (places_of old m.kind)) h)
-
   places_more : (m : KeyNumber) → place_at now m ≡ option_and_then (place_of ((k, (at, e)) ∷ ds)) (key_at names m)
   places_more m = by (key_at names m) refl
     where
-      differ : (j : Key) → key_at names m ≡ Some j → is_same j k ≡ false → m ≡ n → ⊥
-      differ j h f s =
-          true≢false (sym (key_itself j) ∙ ap (is_same j) (same_Some j k (sym h ∙ ap (key_at names) s ∙ numbered)) ∙ f)
+      other : (m ≡ n → ⊥) → place_at now m ≡ place_at old m
+      other differs = other_place n (Some at) old now put m differs
 
       with_key : (j : Key) → key_at names m ≡ Some j → (b : Bool) → is_same j k ≡ b
           → place_at now m ≡ option_map (λ p. p.0) (cond b (Some (at, e)) (lookup (is_same j) ds))
-      with_key j h true f = ap (place_at now) (unique m n k (h ∙ ap Some (same_key j k f)) numbered) ∙ own_place
-      with_key j h false f = other_place m (differ j h f) ∙ before.place m ∙ ap (option_and_then (place_of ds)) h
+      with_key j h true f = ap (place_at now) (unique m n k (h ∙ ap Some (same_key j k f)) numbered)
+          ∙ own_place n (Some at) old now put room
+      with_key j h false f = other (numbers_differ names n m k j numbered h f) ∙ before.place m
+          ∙ ap (option_and_then (place_of ds)) h
 
       by : (o : Option Key) → key_at names m ≡ o → place_at now m ≡ option_and_then (place_of ((k, (at, e)) ∷ ds)) o
-      by None h = other_place m (λ s. none_numbered (sym h ∙ ap (key_at names) s ∙ numbered)) ∙ before.place m
+      by None h = other (λ s. none_numbered (sym h ∙ ap (key_at names) s ∙ numbered)) ∙ before.place m
           ∙ ap (option_and_then (place_of ds)) h
         where
           none_numbered : None ≡ Some k → ⊥
@@ -180,6 +161,19 @@ last_same names ds old now before same = record {
   place = λ n. (same n.kind).place n.number ∙ before.place n;
   count = λ kind. (same kind).count ∙ before.count kind;
 }
+
+-- other definitions in which each key has the same place
+pub last_alike : (names : Names) (ds es : Definitions) (last : LastPlaces)
+    → ((k : Key) → place_of ds k ≡ place_of es k) → AreLast names ds last → AreLast names es last
+last_alike names ds es last same before = record {
+  place = λ n. before.place n ∙ by (key_at names n);
+  count = λ kind. before.count kind ∙ count_same (table_of ds) (table_of es)
+      (λ k. sym (place_present ds k) ∙ ap is_some (same k) ∙ place_present es k) kind;
+}
+  where
+    by : (o : Option Key) → option_and_then (place_of ds) o ≡ option_and_then (place_of es) o
+    by None = refl
+    by (Some k) = same k
 
 -- more numbers, of keys that are not defined
 pub last_extended : (names more : Names) (ds : Definitions) (last : LastPlaces) → AreLast names ds last →

@@ -1,5 +1,6 @@
 -- Keys among lists, and lists in which each key stands once.
 use Rattle.std.proofs.Common.{◌≡◌, ◌++◌, ◌∷◌, ◌&&◌, ◌||◌, [], List, Bool, true, false, cond, refl, sym, ap, ◌∙◌}
+use Rattle.std.proofs.Common.{append_assoc}
 use Rattle.std.specs.List.{filter}
 use Rattle.def_entry.specs.declared.key.Key.{Key}
 use Rattle.def_entry.specs.SameKeys.{is_among, is_same}
@@ -16,13 +17,14 @@ among-append (x ∷ ks) ls k = ap (λ b. is_same k x || b) (among-append ks ls k
     or_assoc true b c = refl
     or_assoc false b c = refl
 
+-- nothing holds beside what does not
+pub and_false : (b : Bool) → (b && false) ≡ false
+and_false true = refl
+and_false false = refl
+
 -- a key among those that pass a test
 pub among_filter : (p : Key → Bool) (ks : List Key) (k : Key) → is_among (filter p ks) k ≡ (p k && is_among ks k)
-among_filter p [] k = and_false (p k)
-  where
-    and_false : (b : Bool) → false ≡ (b && false)
-    and_false true = refl
-    and_false false = refl
+among_filter p [] k = sym (and_false (p k))
 among_filter p (x ∷ ks) k = by (among_filter p ks k) (p x) refl (is_same k x) refl
   where
     by : is_among (filter p ks) k ≡ (p k && is_among ks k) → (b : Bool) → p x ≡ b → (s : Bool) → is_same k x ≡ s
@@ -39,12 +41,8 @@ pub once_filter : (p : Key → Bool) (ks : List Key) → AreOnce ks → AreOnce 
 once_filter p [] h = tt
 once_filter p (x ∷ ks) h = by (p x) (once_filter p ks h.1)
   where
-    no_more : (b : Bool) → (b && false) ≡ false
-    no_more true = refl
-    no_more false = refl
-
     by : (b : Bool) → AreOnce (filter p ks) → AreOnce (cond b (x ∷ filter p ks) (filter p ks))
-    by true ih = (among_filter p ks x ∙ ap (λ b. p x && b) h.0 ∙ no_more (p x), ih)
+    by true ih = (among_filter p ks x ∙ ap (λ b. p x && b) h.0 ∙ and_false (p x), ih)
     by false ih = ih
 
 -- two lists that share no key
@@ -82,3 +80,7 @@ once_each (x ∷ ks) = by (is_among ks x) refl (once_each ks)
     by : (b : Bool) → is_among ks x ≡ b → AreOnce (each_once ks) → AreOnce (cond b (each_once ks) (x ∷ each_once ks))
     by true h ih = ih
     by false h ih = (among_each ks x ∙ h, ih)
+
+-- four lists in a row
+pub four_lists : {A : Type 0} (a b c d : List A) → ((a ++ b) ++ c) ++ d ≡ a ++ (b ++ (c ++ d))
+four_lists a b c d = append_assoc (a ++ b) c d ∙ append_assoc a b (c ++ d)

@@ -15,7 +15,7 @@ use Rattle.deck_lines.specs.Names.{IsOneToOne, Names, is_numbered, key_at, names
 use Rattle.deck_lines.specs.declared.key_number.KeyNumber.{KeyNumber}
 use Rattle.deck.specs.Changes.{AreOnce}
 use Rattle.deck.specs.Numbers.{key_if, keys_where}
-use Rattle.deck.proofs.Listing.{among-append, once-append}
+use Rattle.deck.proofs.Listing.{among-append, and_false, once-append}
 use Rattle.deck.proofs.Sameness.{same_kind}
 
 -- the number of a key by its kind
@@ -91,11 +91,7 @@ module _ (names : Names) where
 -- a key among those of a kind
 pub among_kind : (a : Kind) (ns : List (List ℕ)) (k : Key)
     → is_among (map (key a) ns) k ≡ (is_same_kind k.kind a && list_any (bytes_eq k.name) ns)
-among_kind a [] k = no_more (is_same_kind k.kind a)
-  where
-    no_more : (b : Bool) → false ≡ (b && false)
-    no_more true = refl
-    no_more false = refl
+among_kind a [] k = sym (and_false (is_same_kind k.kind a))
 among_kind a (n ∷ ns) k = by (is_same_kind k.kind a) (among_kind a ns k)
   where
     by : (b : Bool) → is_among (map (key a) ns) k ≡ (b && list_any (bytes_eq k.name) ns)
@@ -167,14 +163,10 @@ once_kind : (a : Kind) (ns : List (List ℕ))
 once_kind a [] h = tt
 once_kind a (n ∷ ns) h = (
   among_kind a ns (key a n) ∙ ap (λ b. is_same_kind a a && b) (by (list_any (bytes_eq n) ns) refl)
-      ∙ no_more (is_same_kind a a),
+      ∙ and_false (is_same_kind a a),
   once_kind a ns (λ i j name e f. less i j (h (suc i) (suc j) name e f)),
 )
   where
-    no_more : (b : Bool) → (b && false) ≡ false
-    no_more true = refl
-    no_more false = refl
-
     less : (i j : ℕ) → suc i ≡ suc j → i ≡ j
     less i j e = omega (arith, e)
 

@@ -1,12 +1,13 @@
 -- A table has one list of its keys.
-use Rattle.std.proofs.Common.{◌≡◌, ◌∷◌, [], ◌||◌, List, Bool, true, false, T, cond, map, is_some, Option, Some, refl}
+use Rattle.std.proofs.Common.{◌≡◌, ◌∷◌, [], ◌&&◌, ◌||◌, ℕ, List, Bool, true, false, T, cond, map, is_some, Option, Some}
+use Rattle.std.proofs.Common.{refl}
 use Rattle.std.proofs.Common.{sym, ap, subst, ◌∙◌, inl, inr}
 use Rattle.std.proofs.lemmas.Bool.{and_parts, cases_Bool, false_from_ne_true, true≢false}
 use Rattle.std.proofs.lemmas.Map.Lookups.{btree_set_from_contains}
 use Rattle.std.specs.Cmp.{Equal-is, tied_itself}
 use Rattle.std.specs.FinMap as map_of
 use Rattle.std.specs.FinMap.Entries.{below_all}
-use Rattle.std.specs.List.{AllByRecursion, list_any}
+use Rattle.std.specs.List.{AllByRecursion, filter, list_any}
 use Rattle.std.specs.List.Sorted.{IsStrictlySortedBy}
 use Rattle.std.specs.Ordering.{eq_by_cmp, is_eq, is_lt}
 use Rattle.std.specs.declared.cmp.Ordering.{Ordering}
@@ -17,10 +18,13 @@ use Rattle.def_entry.specs.KeyOrder.{key_cmp}
 use Rattle.def_entry.specs.SameKeys.{is_among, is_same}
 use Rattle.def_entry.proofs.SameKeys.{key_order, same_keys}
 use Rattle.deck.specs.Changes.{AreOnce}
-use Rattle.deck.specs.KeyLists.{AreKeys, KeyListLaw, WholeLaw, table_keys}
+use Rattle.deck.specs.Holding.{holds, keys_holding}
+use Rattle.deck.specs.KeyLists.{AreKeys, IsWhole, KeyListLaw, WholeLaw, table_keys}
 use Rattle.deck.specs.Tables.{Table, is_present, keys_of}
 use Rattle.deck.proofs.Counting.{among}
 use Rattle.deck.proofs.KeyCounts.{counted}
+use Rattle.deck.proofs.Listing.{among_filter}
+use Rattle.deck.proofs.TextPlaces.{holds_nothing}
 
 -- a test that holds is true
 told : (b : Bool) → T b → b ≡ true
@@ -90,19 +94,12 @@ contained (e ∷ es) k =
     ∙ with_one (eq_by_cmp key_cmp k e.0) (is_same k e.0) (tells k e.0) e.1 (map_of.get (map_of_table es) k)
     ∙ ap (λ b. is_same k e.0 || b) (contained es k)
 
--- the law of the one list of keys
-pub one_key_list : KeyListLaw
-one_key_list table keys are =
-    btree_set_from_contains key_order.total (record { keys = keys }) (record { keys = table_keys table })
-    are.order (in_order table) alike key_order.exact
-  where
-    alike : (k : Key) → list_any (eq_by_cmp key_cmp k) keys ≡ list_any (eq_by_cmp key_cmp k) (table_keys table)
-    alike k =
-        any_alike k keys
-        ∙ (are.each k
-        ∙ (sym (among table k)
-        ∙ (sym (contained table k)
-        ∙ map_of.contains_key-keys (map_of_table table) k)))
+-- two lists of the same keys in strict order are one
+pub one_order : (ks ls : List Key) → IsStrictlySortedBy key_cmp ks → IsStrictlySortedBy key_cmp ls
+    → ((k : Key) → is_among ks k ≡ is_among ls k) → ks ≡ ls
+one_order ks ls order too same =
+    btree_set_from_contains key_order.total (record { keys = ks }) (record { keys = ls }) order too
+    (λ k. any_alike k ks ∙ same k ∙ sym (any_alike k ls)) key_order.exact
 
 -- the keys of the table are all of them
 are_keys : (table : Table) → AreKeys table (table_keys table)
@@ -112,6 +109,51 @@ are_keys table = record { each = each; order = in_order table }
     each k =
         sym (any_alike k (table_keys table))
         ∙ (sym (map_of.contains_key-keys (map_of_table table) k) ∙ (contained table k ∙ among table k))
+
+-- the law of the one list of keys
+pub one_key_list : KeyListLaw
+one_key_list table keys are =
+    one_order keys (table_keys table) are.order (in_order table)
+    (λ k. are.each k ∙ sym ((are_keys table).each k))
+
+-- keys that are less than one are so where some are left out
+less_filter : (p : Key → Bool) (k : Key) (ks : List Key) → AllByRecursion (λ y. key_cmp k y ≡ Less) ks
+    → AllByRecursion (λ y. key_cmp k y ≡ Less) (filter p ks)
+less_filter p k [] h = tt
+less_filter p k (y ∷ ks) h = by (less_filter p k ks h.1) (p y)
+  where
+    by : AllByRecursion (λ x. key_cmp k x ≡ Less) (filter p ks) → (b : Bool)
+        → AllByRecursion (λ x. key_cmp k x ≡ Less) (cond b (y ∷ filter p ks) (filter p ks))
+    by ih true = (h.0, ih)
+    by ih false = ih
+
+-- so keys in strict order stay in it
+order_filter : (p : Key → Bool) (ks : List Key) → IsStrictlySortedBy key_cmp ks
+    → IsStrictlySortedBy key_cmp (filter p ks)
+unfolding IsStrictlySortedBy
+order_filter p [] h = tt
+order_filter p (k ∷ ks) h = by (order_filter p ks h.1) (p k)
+  where
+    by : IsStrictlySortedBy key_cmp (filter p ks) → (b : Bool)
+        → IsStrictlySortedBy key_cmp (cond b (k ∷ filter p ks) (filter p ks))
+    by ih true = (less_filter p k ks h.0, ih)
+    by ih false = ih
+
+-- keys in strict order are those of the table whose names hold a text where these are among them
+pub holding_found : (text : List ℕ) (table : Table) (ks : List Key) → IsStrictlySortedBy key_cmp ks
+    → ((k : Key) → is_among ks k ≡ (is_present table k && holds k.name text)) → ks ≡ keys_holding text table
+holding_found text table ks order each =
+    one_order ks (keys_holding text table) order
+    (order_filter (λ k. holds k.name text) (table_keys table) (in_order table))
+    (λ k. each k ∙ turned (is_present table k) (holds k.name text)
+    ∙ sym (among_filter (λ j. holds j.name text) (table_keys table) k
+    ∙ ap (λ b. holds k.name text && b) ((are_keys table).each k)))
+  where
+    turned : (a b : Bool) → (a && b) ≡ (b && a)
+    turned true true = refl
+    turned true false = refl
+    turned false true = refl
+    turned false false = refl
 
 -- a key that is less than all of some is not among them
 none_below : (k : Key) (ks : List Key) → AllByRecursion (λ y. key_cmp k y ≡ Less) ks → is_among ks k ≡ false
@@ -130,3 +172,14 @@ pub all_whole : WholeLaw
 all_whole table =
     let are = are_keys table in
     record { all = are; count = counted table (table_keys table) are.each (once (table_keys table) are.order) }
+
+-- where each key passes a test, none is left out
+all_pass : (p : Key → Bool) (ks : List Key) → ((k : Key) → p k ≡ true) → filter p ks ≡ ks
+all_pass p [] h = refl
+all_pass p (k ∷ ks) h = ap (λ b. cond b (k ∷ filter p ks) (filter p ks)) (h k) ∙ ap (λ t. k ∷ t) (all_pass p ks h)
+
+-- all names hold the empty text
+pub whole_holding : (table : Table) (ks : List Key) → ks ≡ keys_holding [] table → IsWhole table ks
+whole_holding table ks is =
+    subst (IsWhole table)
+    (sym (is ∙ all_pass (λ k. holds k.name []) (table_keys table) (λ k. holds_nothing k.name))) (all_whole table)

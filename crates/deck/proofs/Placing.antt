@@ -105,3 +105,11 @@ place_present ds k = by (lookup (is_same k) ds) ∙ ap is_some (sym (entry_found
     by : (o : Option (ℕ × Entry)) → is_some (option_map (λ v. v.0) o) ≡ is_some (option_map (λ v. v.1) o)
     by None = refl
     by (Some v) = refl
+
+-- a key without an entry has no place
+pub no_place : (ds : Definitions) (k : Key) → entry_at (table_of ds) k ≡ None → place_of ds k ≡ None
+no_place ds k h = by (lookup (is_same k) ds) (sym (entry_found ds k) ∙ h)
+  where
+    by : (o : Option (ℕ × Entry)) → option_map (λ v. v.1) o ≡ None → option_map (λ v. v.0) o ≡ None
+    by None g = refl
+    by (Some v) g = cc

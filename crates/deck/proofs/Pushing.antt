@@ -1,6 +1,6 @@
 -- A line that is put at the end of a deck.
 use Rattle.std.proofs.Common.{◌≡◌, ◌++◌, ◌∷◌, ◌+◌, ◌&&◌, [], ℕ, suc, List, Bool, true, false, not, cond, length, refl}
-use Rattle.std.proofs.Common.{ap, ◌∙◌, arith, Option, Some, None, reverse}
+use Rattle.std.proofs.Common.{ap, ◌∙◌, arith, Some, None, reverse}
 use Rattle.std.proofs.lemmas.List.{reverse-append}
 use Rattle.std.proofs.lemmas.Option.{same_Some}
 use Rattle.std.specs.Option.{option_and_then}
@@ -14,6 +14,7 @@ use Rattle.deck.specs.Active.{behind_kind, outer_blocks, start}
 use Rattle.deck_lines.specs.Blocks.{role_of, same_ending}
 use Rattle.deck_lines.specs.Closed.{blocks_without, blocks_past_role, blocks_past, blocks_after, IsClosed}
 use Rattle.deck_lines.specs.Readings.{defined_by, entry_in, reading_by, reading_of}
+use Rattle.deck_lines.proofs.Closing.{after-append, and_then_pair}
 use Rattle.deck.specs.Tables.{definition_by, definitions, definitions_from}
 use Rattle.deck.proofs.Lasting.{from-append}
 use Rattle.deck.proofs.Marking.{length-activity}
@@ -34,12 +35,6 @@ activity-append locale place (x ∷ xs) ys =
 outer_len : (hs : List Bool) (n : ℕ) → length hs ≡ suc n → length (outer_blocks hs) ≡ n
 outer_len [] n h = absurd (omega arith)
 outer_len (b ∷ hs) n h = omega arith
-
--- a step that gives something had something to go on with
-and_then_pair : {A B : Type 0} (f : A → Option B) (o : Option A) (y : B) → option_and_then f o ≡ Some y
-    → (x : A) × (o ≡ Some x) × (f x ≡ Some y)
-and_then_pair f None y e = cc
-and_then_pair f (Some x) y e = (x, refl, e)
 
 -- a variable that is set leaves which blocks hold
 set_holds : (c : Bool) (place : Surroundings) (vars : Pairs)
@@ -108,14 +103,6 @@ none_around : (settings : Settings) (lines : List DeckLine) → IsClosed lines
     → (behind_lines settings.locale (start settings) lines).holds ≡ []
 none_around settings lines closed = no_length _ (holds_after settings.locale lines (start settings) [] [] closed refl)
 
--- the blocks behind two lists of lines are those of the second behind the first
-blocks_after-append : (xs ys : List DeckLine) (bs cs : List Ending) → blocks_after bs xs ≡ Some cs
-    → blocks_after bs (xs ++ ys) ≡ blocks_after cs ys
-blocks_after-append [] ys bs cs e = ap (λ b. blocks_after b ys) (same_Some bs cs e)
-blocks_after-append (x ∷ xs) ys bs cs e =
-    let p = and_then_pair (λ now. blocks_after now xs) (blocks_past bs x) cs e in
-    ap (option_and_then (λ now. blocks_after now (xs ++ ys))) p.1 ∙ blocks_after-append xs ys p.0 cs p.2
-
 -- a line that defines a key has no mark, and opens and closes nothing
 pub plain_by : (x : DeckLine) (e : Key × Entry) → entry_in x ≡ Some e → x.mark ≡ false
 unfolding entry_in
@@ -160,7 +147,7 @@ module _ (settings : Settings) (lines : List DeckLine) (closed : IsClosed lines)
   pub closed_push : IsClosed (lines ++ x ∷ [])
   unfolding blocks_past
   closed_push =
-      blocks_after-append lines (x ∷ []) [] [] closed
+      after-append lines (x ∷ []) [] [] closed
       ∙ ap (λ m. option_and_then (λ now. blocks_after now [])
       (cond m (Some []) (blocks_past_role [] (role_of (kind_of x.text))))) (plain_by x e defines)
       ∙ ap (λ r. option_and_then (λ now. blocks_after now []) (blocks_past_role [] r)) (inside x e defines)

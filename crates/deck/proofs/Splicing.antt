@@ -10,6 +10,7 @@ use Rattle.deck_lines.specs.Numbering.{IsNumbering}
 use Rattle.deck_lines.specs.Stores.{Store}
 use Rattle.deck_lines.specs.declared.key_number.KeyNumber.{KeyNumber}
 use Rattle.deck_lines.specs.declared.line.DeckLine.{DeckLine}
+use Rattle.deck_lines.proofs.Exchanging.{parts_of}
 use Rattle.deck.specs.Changes.{IsTableChange}
 use Rattle.deck.specs.Decks.{Contents}
 use Rattle.deck.specs.LastPlaces.{AreLast, IsIndexed}
@@ -44,24 +45,6 @@ rest_of (suc at) [] ys zs h = absurd (omega arith)
 rest_of (suc at) (x ∷ xs) ys zs h =
     let next : suc at + length ys ≡ suc (at + length ys) = omega arith in
     ap (λ n. drop n (x ∷ (take at xs ++ (ys ++ zs)))) next ∙ rest_of at xs ys zs (omega arith)
-
--- a list in three parts
-parts_of : {A : Type 0} (at cut : ℕ) (xs : List A) → at + cut ≤ length xs
-    → take at xs ++ (take cut (drop at xs) ++ drop (at + cut) xs) ≡ xs
-parts_of zero cut xs h = ap (λ n. take cut xs ++ drop n xs) (zero_plus cut) ∙ two cut xs
-  where
-    zero_plus : (n : ℕ) → 0 + n ≡ n
-    zero_plus n = omega arith
-
-    two : {A : Type 0} (n : ℕ) (ys : List A) → take n ys ++ drop n ys ≡ ys
-    two zero ys = refl
-    two (suc n) [] = refl
-    two (suc n) (y ∷ ys) = ap (λ t. y ∷ t) (two n ys)
-parts_of (suc at) cut [] h = absurd (omega arith)
-parts_of (suc at) cut (x ∷ xs) h =
-    let next : suc at + cut ≡ suc (at + cut) = omega arith in
-    ap (λ n. x ∷ (take at xs ++ (take cut (drop at xs) ++ drop n (x ∷ xs)))) next
-    ∙ ap (λ t. x ∷ t) (parts_of at cut xs (omega arith))
 
 -- the law of inverses
 pub undone : InverseLaw

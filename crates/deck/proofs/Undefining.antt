@@ -1,15 +1,15 @@
 -- A line that defines a key, taken out at the end.
-use Rattle.std.proofs.Common.{◌≡◌, ◌++◌, ◌∷◌, ◌+◌, ◌-◌, ◌<◌, ◌||◌, ◌↔◌, [], ℕ, zero, suc, List, Bool, true, false}
-use Rattle.std.proofs.Common.{true≢false, not, cond, length, set, take, refl, sym, ap, subst, ◌∙◌, arith, length-append}
-use Rattle.std.proofs.Common.{Option, Some, None, Ok, option_map, slice_get}
+use Rattle.std.proofs.Common.{◌≡◌, ◌++◌, ◌∷◌, ◌+◌, ◌-◌, ◌<◌, [], ℕ, List, Bool, true, false}
+use Rattle.std.proofs.Common.{not, cond, length, set, take, refl, sym, ap, subst, ◌∙◌, arith, length-append}
+use Rattle.std.proofs.Common.{Option, Some, None, option_map, slice_get}
 use Rattle.std.proofs.lemmas.Option.{same_Some, slice_get_within}
 use Rattle.std.specs.Map.{lookup}
 use Rattle.std.specs.Option.{is_some, option_and_then}
 use Rattle.def_entry.specs.declared.key.Key.{Key}
 use Rattle.def_entry.specs.declared.key.Kind.{Kind}
 use Rattle.def_entry.specs.Entries.{Entry}
-use Rattle.def_entry.specs.Reading.{SameTextLaw, entry_of}
-use Rattle.def_entry.specs.SameKeys.{is_among, is_same, is_same_kind}
+use Rattle.def_entry.specs.Reading.{SameTextLaw}
+use Rattle.def_entry.specs.SameKeys.{is_same, is_same_kind}
 use Rattle.deck_lines.specs.Closed.{IsClosed, blocks_after, blocks_past}
 use Rattle.deck_lines.specs.Names.{IsOneToOne, Names, key_at}
 use Rattle.deck_lines.specs.Numbering.{IsNumbering}
@@ -18,71 +18,27 @@ use Rattle.deck_lines.specs.Stores.{Store, definition_at}
 use Rattle.deck_lines.specs.declared.key_number.KeyNumber.{KeyNumber}
 use Rattle.deck_lines.specs.declared.line.DeckLine.{DeckLine}
 use Rattle.deck_lines.specs.declared.line.Ending.{Ending}
-use Rattle.deck_lines.proofs.Entries.{reads}
 use Rattle.deck.specs.Changes.{IsTableChange, is_same_entry}
 use Rattle.deck.specs.KeyLists.{key_count}
 use Rattle.deck.specs.KindPlaces.{place_count, place_in}
 use Rattle.deck.specs.LastPlaces.{AreLast, IsIndexed, place_at, places_of}
 use Rattle.deck.specs.Numbers.{AreInPlace, entry_there, key_if}
-use Rattle.deck.specs.Tables.{Definitions, Table, definitions, entry_at, is_present, place_of, table_of}
+use Rattle.deck.specs.Tables.{Definitions, definitions, entry_at, is_present, place_of, table_of}
 use Rattle.deck.specs.declared.places.last_places.LastPlaces.{LastPlaces}
 use Rattle.deck.specs.declared.settings.Settings.{Settings}
-use Rattle.deck.proofs.Changing.{entry_placed, from_line}
+use Rattle.deck.proofs.Changing.{changed_at_places}
 use Rattle.deck.proofs.Counting.{count_push}
 use Rattle.deck.proofs.Dropping.{blocks_stay}
-use Rattle.deck.proofs.EntryTexts.{entry_itself, same_entry}
 use Rattle.deck.proofs.Extending.{in_place_more, take_front}
+use Rattle.deck.proofs.KindPlacing.{count_other}
 use Rattle.deck.proofs.Lasting.{kind_at}
+use Rattle.deck.proofs.OnePlace.{numbers_differ, other_place, own_place}
 use Rattle.deck.proofs.Placing.{at_length, in_place, place_present}
 use Rattle.deck.proofs.Pushing.{placed_push}
-use Rattle.deck.proofs.Sameness.{key_itself, kind_itself, same_key, same_kind}
-
--- a place that is given or taken away, and the others
-set_same : (ps : List (Option ℕ)) (n : ℕ) (x : Option ℕ) → n < length ps → place_in (set ps n x) n ≡ x
-set_same [] n x h = absurd (omega arith)
-set_same (p ∷ ps) zero x h = refl
-set_same (p ∷ ps) (suc n) x h = set_same ps n x (omega arith)
-
--- a place that is taken out leaves all others
-set_other : (ps : List (Option ℕ)) (n : ℕ) (x : Option ℕ) (m : ℕ) → (m ≡ n → ⊥)
-    → place_in (set ps n x) m ≡ place_in ps m
-set_other [] n x m h = refl
-set_other (p ∷ ps) zero x zero h = absurd (h refl)
-set_other (p ∷ ps) zero x (suc m) h = refl
-set_other (p ∷ ps) (suc n) x zero h = refl
-set_other (p ∷ ps) (suc n) x (suc m) h = set_other ps n x m (λ e. h (ap suc e))
-
--- as many places, and one less where one is taken away
-pub count_none : (ps : List (Option ℕ)) (n : ℕ) → n < length ps →
-    place_count ps ≡ cond (is_some (place_in ps n)) (place_count (set ps n None) + 1) (place_count (set ps n None))
-count_none [] n h = absurd (omega arith)
-count_none (None ∷ ps) zero h = refl
-count_none (Some q ∷ ps) zero h = refl
-count_none (None ∷ ps) (suc n) h = count_none ps n (omega arith)
-count_none (Some q ∷ ps) (suc n) h =
-    ap (λ c. c + 1) (count_none ps n (omega arith)) ∙ more (is_some (place_in ps n)) (place_count (set ps n None))
-  where
-    more : (b : Bool) (c : ℕ) → cond b (c + 1) c + 1 ≡ cond b ((c + 1) + 1) (c + 1)
-    more true c = refl
-    more false c = refl
-
--- it is counted no more, unless another comes in its stead
-count_other : (ps : List (Option ℕ)) (n : ℕ) (x : Option ℕ) → is_some (place_in ps n) ≡ true →
-    place_count (set ps n x) + 1 ≡ cond (is_some x) (place_count ps + 1) (place_count ps)
-count_other [] zero x h = cc
-count_other [] (suc n) x h = cc
-count_other (None ∷ ps) zero x h = cc
-count_other (Some q ∷ ps) zero None h = refl
-count_other (Some q ∷ ps) zero (Some p) h = refl
-count_other (None ∷ ps) (suc n) x h = count_other ps n x h
-count_other (Some q ∷ ps) (suc n) x h = ap (λ c. c + 1) (count_other ps n x h) ∙ more (is_some x) (place_count ps)
-  where
-    more : (b : Bool) (c : ℕ) → cond b (c + 1) c + 1 ≡ cond b ((c + 1) + 1) (c + 1)
-    more true c = refl
-    more false c = refl
+use Rattle.deck.proofs.Sameness.{key_itself, same_key, same_kind}
 
 -- a number with a place is within
-place_within : (ps : List (Option ℕ)) (n p : ℕ) → place_in ps n ≡ Some p → n < length ps
+pub place_within : (ps : List (Option ℕ)) (n p : ℕ) → place_in ps n ≡ Some p → n < length ps
 place_within ps n p h = by (slice_get ps n) refl h
   where
     by : (o : Option (Option ℕ)) → slice_get ps n ≡ o → option_and_then (λ place. place) o ≡ Some p → n < length ps
@@ -104,47 +60,24 @@ module _ (names : Names) (unique : IsOneToOne names) (ds : Definitions) (n : Key
   pub number_room : n.number < length (places_of old n.kind)
   number_room = place_within (places_of old n.kind) n.number at there
 
-  own_place : place_at now n ≡ place
-  own_place =
-      ap (λ ps. place_in ps n.number)
-      (put n.kind ∙ ap (λ b. cond b (set (places_of old n.kind) n.number place) (places_of old n.kind)) own_kind)
-      ∙ set_same (places_of old n.kind) n.number place number_room
-    where
-      own_kind : is_same_kind n.kind n.kind ≡ true
-      own_kind = kind_itself n.kind
-
-  other_place : (m : KeyNumber) → (m ≡ n → ⊥) → place_at now m ≡ place_at old m
-  other_place m differs = by (is_same_kind m.kind n.kind) refl
-    where
-      number_differs : m.kind ≡ n.kind → m.number ≡ n.number → ⊥
-      number_differs g h = differs (λ i. record { kind = g i; number = h i })
-
-      by : (b : Bool) → is_same_kind m.kind n.kind ≡ b → place_at now m ≡ place_at old m
-      by true h =
-          ap (λ ps. place_in ps m.number)
-          (put m.kind ∙ ap (λ b. cond b (set (places_of old m.kind) n.number place) (places_of old m.kind)) h)
-          ∙ set_other (places_of old m.kind) n.number place m.number (number_differs (same_kind m.kind n.kind h))
-      by false h =
-          ap (λ ps. place_in ps m.number)
-          (put m.kind ∙ ap (λ b. cond b (set (places_of old m.kind) n.number place) (places_of old m.kind)) h)
-
   places_less : (m : KeyNumber) → place_at now m ≡ option_and_then (place_of ds) (key_at names m)
   places_less m = by (key_at names m) refl
     where
-      differ : (j : Key) → key_at names m ≡ Some j → is_same j k ≡ false → m ≡ n → ⊥
-      differ j h f s = true≢false
-          (sym (key_itself j) ∙ ap (is_same j) (same_Some j k (sym h ∙ ap (key_at names) s ∙ numbered)) ∙ f)
+      other : (m ≡ n → ⊥) → place_at now m ≡ place_at old m
+      other differs = other_place n place old now put m differs
 
       with_key : (j : Key) → key_at names m ≡ Some j → (b : Bool) → is_same j k ≡ b → place_at now m ≡ place_of ds j
       with_key j h true f =
-          ap (place_at now) (unique m n k (h ∙ ap Some (same_key j k f)) numbered) ∙ own_place ∙ is
+          ap (place_at now) (unique m n k (h ∙ ap Some (same_key j k f)) numbered)
+          ∙ own_place n place old now put number_room ∙ is
           ∙ ap (place_of ds) (sym (same_key j k f))
       with_key j h false f =
-          other_place m (differ j h f) ∙ before.place m ∙ ap (option_and_then (place_of ((k, (at, e)) ∷ ds))) h
+          other (numbers_differ names n m k j numbered h f) ∙ before.place m
+          ∙ ap (option_and_then (place_of ((k, (at, e)) ∷ ds))) h
           ∙ ap (λ b. option_map (λ p. p.0) (cond b (Some (at, e)) (lookup (is_same j) ds))) f
 
       by : (o : Option Key) → key_at names m ≡ o → place_at now m ≡ option_and_then (place_of ds) o
-      by None h = other_place m (λ s. none_numbered (sym h ∙ ap (key_at names) s ∙ numbered)) ∙ before.place m
+      by None h = other (λ s. none_numbered (sym h ∙ ap (key_at names) s ∙ numbered)) ∙ before.place m
           ∙ ap (option_and_then (place_of ((k, (at, e)) ∷ ds))) h
         where
           none_numbered : None ≡ Some k → ⊥
@@ -239,82 +172,33 @@ module _ (settings : Settings) (store : Store) (front : List DeckLine) (x : Deck
           last_places is put));
     }
 
--- tables without the newest entry
-module _ (t : Table) (k : Key) (e : Entry) where
-  without_same : entry_at t k ≡ Some e → IsTableChange ((k, e) ∷ t) t []
-  without_same same = record { changed = λ j. (λ _. by j (is_same j k) refl, λ _ m. true≢false (sym m)); once = tt }
-    where
-      by : (j : Key) (b : Bool) → is_same j k ≡ b → entry_at ((k, e) ∷ t) j ≡ entry_at t j
-      by j true h = ap (λ b. cond b (Some e) (entry_at t j)) h ∙ sym same ∙ ap (entry_at t) (sym (same_key j k h))
-      by j false h = ap (λ b. cond b (Some e) (entry_at t j)) h
-
-  without_other : (entry_at t k ≡ Some e → ⊥) → IsTableChange ((k, e) ∷ t) t (k ∷ [])
-  without_other differs = record { changed = λ j. by j (is_same j k) refl; once = (refl, tt) }
-    where
-      by : (j : Key) (b : Bool) → is_same j k ≡ b → (is_among (k ∷ []) j ≡ true → ⊥) ↔
-          (entry_at ((k, e) ∷ t) j ≡ entry_at t j)
-      by j true h = (
-        λ never. absurd (never (ap (λ b. b || false) h)),
-        λ same _. differs (ap (entry_at t) (sym (same_key j k h)) ∙ sym same
-            ∙ ap (λ b. cond b (Some e) (entry_at t j)) h),
-      )
-      by j false h = (
-        λ _. ap (λ b. cond b (Some e) (entry_at t j)) h,
-        λ _ m.
-            true≢false (sym m ∙ ap (λ b. b || false) h),
-      )
-
 -- the keys that it changes, by the texts of the two entries
 pub changed_less : SameTextLaw → (settings : Settings) (lines front : List DeckLine) (x : DeckLine) (k : Key)
     (e : Entry) (o : Option Key) (place : ℕ) (uncovered : Option ℕ)
-    → lines ≡ front ++ x ∷ [] → entry_in x ≡ Some (k, e) → definitions settings lines ≡ (k, (length front, e)) ∷
-    definitions settings front
+    → lines ≡ front ++ x ∷ [] → definitions settings lines ≡ (k, (length front, e)) ∷ definitions settings front
     → o ≡ Some k → place ≡ length front → uncovered ≡ place_of (definitions settings front) k
     → IsTableChange (table_of (definitions settings lines)) (table_of (definitions settings front))
     (key_if (not (is_same_entry (entry_there lines (Some place)) (entry_there lines uncovered))) o)
-changed_less law settings lines front x k e o place uncovered is defines ds at last covers =
-    subst (λ (old : Definitions). IsTableChange (table_of old) t keys) (sym ds)
-    (by (is_same_entry (Some e) (entry_at t k)) refl)
+changed_less law settings lines front x k e o place uncovered is ds at last covers =
+    changed_at_places law lines (definitions settings lines) (definitions settings front) (in_place settings lines)
+    placed k o (Some place) uncovered at own covers others
   where
-    t : Table
-    t = table_of (definitions settings front)
-
-    keys : List Key
-    keys = key_if (not (is_same_entry (entry_there lines (Some place)) (entry_there lines uncovered))) o
-
-    here : entry_there lines (Some place) ≡ Some e
-    here =
-        ap (λ p. option_map (λ d. d.1) (definition_at lines p)) last
-        ∙ ap (λ ls. option_map (λ d. d.1) (definition_at ls (length front))) is
-        ∙ ap (λ d. option_map (λ d. d.1) (option_and_then entry_in d)) (at_length front x [])
-        ∙ ap (option_map (λ d. d.1)) defines
-
     placed : AreInPlace lines (definitions settings front)
     placed = subst (λ ls. AreInPlace ls (definitions settings front)) (sym is)
         (in_place_more front (x ∷ []) (definitions settings front) (in_place settings front))
 
-    below : entry_there lines uncovered ≡ entry_at t k
-    below = ap (entry_there lines) covers ∙ entry_placed lines (definitions settings front) placed k
+    own : Some place ≡ place_of (definitions settings lines) k
+    own =
+        ap Some last
+        ∙ sym (ap (λ (now : Definitions). place_of now k) ds
+        ∙ ap (λ b. option_map (λ p. p.0)
+        (cond b (Some (length front, e)) (lookup (is_same k) (definitions settings front)))) (key_itself k))
 
-    keys_are : keys ≡ key_if (not (is_same_entry (Some e) (entry_at t k))) (Some k)
-    keys_are =
-        ap (λ a. key_if (not (is_same_entry a (entry_there lines uncovered))) o) here
-        ∙ ap (λ a. key_if (not (is_same_entry (Some e) a)) o) below
-        ∙ ap (λ p. key_if (not (is_same_entry (Some e) (entry_at t k))) p) at
-
-    equal : is_same_entry (Some e) (entry_at t k) ≡ true → entry_at t k ≡ Some e
-    equal same = sym (same_entry law k (Some e) (entry_at t k) own
-        (from_line front (definitions settings front) (in_place settings front) k) same)
-      where
-        own : (f : Entry) → Some e ≡ Some f → (text : List ℕ) × (entry_of text ≡ Ok (k, f))
-        own f h = (x.text, reads x (k, f) (defines ∙ ap (λ g. Some (k, g)) (same_Some e f h)))
-
-    by : (b : Bool) → is_same_entry (Some e) (entry_at t k) ≡ b → IsTableChange ((k, e) ∷ t) t keys
-    by true h = subst (IsTableChange ((k, e) ∷ t) t) (sym (keys_are ∙ ap (λ b. key_if (not b) (Some k)) h))
-        (without_same t k e (equal h))
-    by false h = subst (IsTableChange ((k, e) ∷ t) t) (sym (keys_are ∙ ap (λ b. key_if (not b) (Some k)) h))
-        (without_other t k e (λ same. true≢false (sym (entry_itself (Some e)) ∙ ap (is_same_entry (Some e)) (sym same)
-        ∙ h)))
+    others : (j : Key) → is_same j k ≡ false
+        → entry_at (table_of (definitions settings lines)) j ≡ entry_at (table_of (definitions settings front)) j
+    others j apart =
+        ap (λ (now : Definitions). entry_at (table_of now) j) ds
+        ∙ ap (λ b. cond b (Some e) (entry_at (table_of (definitions settings front)) j)) apart
 
 -- the last line stands in front of no other
 pub last_at : (lines front : List DeckLine) (x : DeckLine) (n : ℕ) → lines ≡ front ++ x ∷ [] → n ≡ length lines

@@ -2,7 +2,9 @@ pub mod Active
 pub mod Changes
 pub mod Decks
 pub mod Edits
+pub mod Examples
 pub mod Failing
+pub mod Holding
 pub mod KeyLists
 pub mod KindPlaces
 pub mod LastPlaces

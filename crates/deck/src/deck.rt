@@ -119,6 +119,14 @@ impl Deck {
         self.store.lines_few();
     }
 
+    /// A law of each deck: its lines are closed and within the limits.
+    pub fn lines_closed(&self)
+        ensures closed { IsClosed self.now.lines }
+        ensures within { pass_limit self.now.lines ≡ false }
+    {
+        let _ = self.lines();
+    }
+
     /// The lines, without their marks.
     pub fn lines(&self) -> &Lines
         ensures is { result.now ≡ map unmarked self.now.lines }

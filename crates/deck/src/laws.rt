@@ -1,6 +1,7 @@
 //! Laws of decks.
 
 ghost use Rattle.deck.specs.Changes.{ChangedLaw};
+ghost use Rattle.deck.specs.Examples.{ExamplesLaw};
 ghost use Rattle.deck.specs.KeyLists.{KeyListLaw, WholeLaw};
 ghost use Rattle.deck.specs.Splices.{InverseLaw};
 ghost use Rattle.deck.specs.Tables.{TableLaw};
@@ -32,4 +33,9 @@ pub fn table_keys_are_whole()
 /// A table has no more entries than there are lines, and each of its entries is that of a line.
 pub fn tables_are_of_lines()
     ensures { TableLaw }
+{}
+
+/// A small deck has the active lines and the last places, and edits make of it the decks, that were found by hand.
+pub fn examples_law()
+    ensures { ExamplesLaw }
 {}

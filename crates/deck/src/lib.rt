@@ -4,6 +4,7 @@
 mod deck;
 mod fault;
 mod force;
+mod holding;
 mod laws;
 mod no_files;
 mod places;
@@ -13,8 +14,8 @@ mod splice;
 pub use deck::{BorrowedKey, Deck, PlacedEntry};
 pub use fault::DeckFault;
 pub use laws::{
-    changes_are_computed, key_lists_are_one, splices_are_undone, table_keys_are_whole,
-    tables_are_of_lines,
+    changes_are_computed, examples_law, key_lists_are_one, splices_are_undone,
+    table_keys_are_whole, tables_are_of_lines,
 };
 pub use no_files::NoFiles;
 pub use settings::Settings;

@@ -4,6 +4,8 @@ mod changes;
 mod kind_places;
 mod last_places;
 mod pass;
+mod search;
 
 pub(crate) use changes::{changed_key, changed_keys, keys_between};
 pub(crate) use last_places::LastPlaces;
+pub(crate) use search::last_of;

@@ -1,6 +1,7 @@
 -- The deck of a file is closed.
 use Rattle.std.proofs.Common.{◌≡◌, ◌++◌, ◌∷◌, [], ℕ, zero, suc, List, Bool, true, false, cond, map, refl, ap, ◌∙◌}
 use Rattle.std.proofs.Common.{Option, Some, None, codes, Result, Ok, Err}
+use Rattle.std.proofs.lemmas.Option.{same_Some}
 use Rattle.std.specs.Bool.{⊤}
 use Rattle.std.specs.Option.{option_and_then}
 use Rattle.units_io.specs.FileMap.{FileMap, file_of}
@@ -30,12 +31,8 @@ use Rattle.deck_lines.specs.declared.line.Ending.TheVariants.{ByLocale, ByVar, B
 use Rattle.deck_lines.specs.declared.line.Role.{Role}
 use Rattle.deck_lines.specs.declared.line.Role.TheVariants.{Opens, Closes, Inside}
 
--- what is there twice is one
-some_is : {A : Type 0} (x y : A) → Some x ≡ Some y → x ≡ y
-some_is x y e = cc
-
 -- a step that gives something had something to go on with
-and_then_pair : {A B : Type 0} (f : A → Option B) (o : Option A) (y : B) → option_and_then f o ≡ Some y
+pub and_then_pair : {A B : Type 0} (f : A → Option B) (o : Option A) (y : B) → option_and_then f o ≡ Some y
     → (x : A) × (o ≡ Some x) × (f x ≡ Some y)
 and_then_pair f None y e = cc
 and_then_pair f (Some x) y e = (x, refl, e)
@@ -47,15 +44,15 @@ closed_more e [] cs ds h = cc
 closed_more e (b ∷ bs) cs ds h = by (same_ending e b) h
   where
     by : (t : Bool) → cond t (Some bs) None ≡ Some cs → cond t (Some (bs ++ ds)) None ≡ Some (cs ++ ds)
-    by true g = ap (λ x. Some (x ++ ds)) (some_is bs cs g)
+    by true g = ap (λ x. Some (x ++ ds)) (same_Some bs cs g)
     by false g = cc
 
 -- so each role does what it does
 by_more : (bs cs ds : List Ending) (role : Role) → blocks_past_role bs role ≡ Some cs
     → blocks_past_role (bs ++ ds) role ≡ Some (cs ++ ds)
-by_more bs cs ds (Opens e) h = ap (λ x. Some (x ++ ds)) (some_is (e ∷ bs) cs h)
+by_more bs cs ds (Opens e) h = ap (λ x. Some (x ++ ds)) (same_Some (e ∷ bs) cs h)
 by_more bs cs ds (Closes e) h = closed_more e bs cs ds h
-by_more bs cs ds Inside h = ap (λ y. Some (y ++ ds)) (some_is bs cs h)
+by_more bs cs ds Inside h = ap (λ y. Some (y ++ ds)) (same_Some bs cs h)
 
 -- so does each line
 past_more : (bs cs ds : List Ending) (line : DeckLine) → blocks_past bs line ≡ Some cs
@@ -65,13 +62,13 @@ past_more bs cs ds line h = by line.mark h
   where
     by : (m : Bool) → cond m (Some bs) (blocks_past_role bs (role_of (kind_of line.text))) ≡ Some cs
         → cond m (Some (bs ++ ds)) (blocks_past_role (bs ++ ds) (role_of (kind_of line.text))) ≡ Some (cs ++ ds)
-    by true g = ap (λ y. Some (y ++ ds)) (some_is bs cs g)
+    by true g = ap (λ y. Some (y ++ ds)) (same_Some bs cs g)
     by false g = by_more bs cs ds (role_of (kind_of line.text)) g
 
 -- what is closed is so in other blocks too
 pub after_more : (xs : List DeckLine) (bs cs ds : List Ending) → blocks_after bs xs ≡ Some cs
     → blocks_after (bs ++ ds) xs ≡ Some (cs ++ ds)
-after_more [] bs cs ds h = ap (λ y. Some (y ++ ds)) (some_is bs cs h)
+after_more [] bs cs ds h = ap (λ y. Some (y ++ ds)) (same_Some bs cs h)
 after_more (x ∷ xs) bs cs ds h =
     let p = and_then_pair (λ now. blocks_after now xs) (blocks_past bs x) cs h in
     ap (option_and_then (λ now. blocks_after now xs)) (past_more bs p.0 ds x p.1) ∙ after_more xs p.0 cs ds p.2
@@ -79,7 +76,7 @@ after_more (x ∷ xs) bs cs ds h =
 -- the blocks behind two lists of lines are those of the second behind the first
 pub after-append : (xs ys : List DeckLine) (bs cs : List Ending) → blocks_after bs xs ≡ Some cs
     → blocks_after bs (xs ++ ys) ≡ blocks_after cs ys
-after-append [] ys bs cs e = ap (λ b. blocks_after b ys) (some_is bs cs e)
+after-append [] ys bs cs e = ap (λ b. blocks_after b ys) (same_Some bs cs e)
 after-append (x ∷ xs) ys bs cs e =
     let p = and_then_pair (λ now. blocks_after now xs) (blocks_past bs x) cs e in
     ap (option_and_then (λ now. blocks_after now (xs ++ ys))) p.1 ∙ after-append xs ys p.0 cs p.2

@@ -1,15 +1,15 @@
-mod Closing
+pub mod Closing
 mod Defining
 mod Drafting
 pub mod Entries
 mod Exchangeable
-mod Exchanging
-mod Finding
-mod Keeping
+pub mod Exchanging
+pub mod Finding
+pub mod Keeping
 mod Keys
 mod Loading
 mod Numbering
-mod Replacing
+pub mod Replacing
 mod Stepping
 mod Storing
 mod Telling

@@ -8,17 +8,13 @@ use Rattle.std.specs.Str.{bytes_eq}
 use Rattle.std.specs.Cmp.Lexicographic.{bytes_decides}
 use Rattle.std.proofs.lemmas.List.{map-append}
 use Rattle.std.proofs.lemmas.List.Quantifiers.{position-Some}
-use Rattle.std.proofs.lemmas.Option.{slice_get-get_or, slice_get-map}
+use Rattle.std.proofs.lemmas.Option.{same_Some, slice_get-get_or, slice_get-map}
 use Rattle.indexmap.specs.IndexSet.{insert_key}
 use Rattle.deck_lines.specs.Names.{with_name}
 
 -- names that are told to be equal are one
 pub same_name : (a b : List ℕ) → bytes_eq a b ≡ true → a ≡ b
 same_name a b h = (bytes_decides a b).0 h
-
--- what is there twice is one
-pub some_one : {A : Type 0} (x y : A) → Some x ≡ Some y → x ≡ y
-some_one x y e = cc
 
 module _ {K : Type 0} (items : K → List ℕ) (name : List ℕ) where
   -- a name is among those that keys hold
@@ -97,7 +93,7 @@ pub found_is_any : (name : List ℕ) (names : List (List ℕ)) (i : ℕ) → sli
     → list_any (bytes_eq name) names ≡ true
 found_is_any name [] i e = absurd (cc)
 found_is_any name (x ∷ xs) zero e =
-    let same : name ≡ x = sym (some_one x name e) in
+    let same : name ≡ x = sym (same_Some x name e) in
     ap (λ b. b || list_any (bytes_eq name) xs) ((bytes_decides name x).1 same)
 found_is_any name (x ∷ xs) (suc i) e = ap (λ b. bytes_eq name x || b) (found_is_any name xs i e)
     ∙ either (bytes_eq name x)
@@ -127,7 +123,7 @@ IsDistinct names = (i j : ℕ) (x : List ℕ) → slice_get names i ≡ Some x �
 -- what stands at a place with a name more: one of the others, or it
 behind_all : (xs : List (List ℕ)) (y : List ℕ) (i : ℕ) (x : List ℕ) → slice_get (xs ++ y ∷ []) i ≡ Some x
     → (slice_get xs i ≡ Some x) ⊎ ((i ≡ length xs) × (y ≡ x))
-behind_all [] y zero x e = inr (refl, some_one y x e)
+behind_all [] y zero x e = inr (refl, same_Some y x e)
 behind_all [] y (suc i) x e = absurd (cc)
 behind_all (z ∷ xs) y zero x e = inl e
 behind_all (z ∷ xs) y (suc i) x e = elim (behind_all xs y i x e) [ inl h ↦ inl h | inr h ↦ inr (ap suc h.0, h.1) ]

@@ -1,6 +1,6 @@
 -- Lines with their marks exchanged, within the limits.
 use Rattle.std.proofs.Common.{◌≡◌, ◌++◌, ◌+◌, ◌-◌, ◌≤◌, ℕ, List, Bool, false, length, map, take, drop, sym, ap, ◌∙◌}
-use Rattle.std.proofs.Common.{arith}
+use Rattle.std.proofs.Common.{arith, subst}
 use Rattle.std.proofs.lemmas.Bool.Decides.{nat_tests}
 use Rattle.std.proofs.lemmas.List.{length-map}
 use Rattle.std.proofs.lemmas.List.Sums.{sum_by-append}
@@ -116,3 +116,44 @@ module _ (ls : List Line) (ms : List Bool) (bytes : ℕ) (kept : IsWithin ls ms 
     where
       each : length ms' ≡ length ls'
       each = ap length q ∙ long ls (map unmarked put) ms (map mark_of put) at cut kept.marked same ∙ sym (ap length p)
+
+-- the same of lines that are told
+module _ (ls : List Line) (ms : List Bool) (bytes : ℕ) (kept : IsWithin ls ms bytes) (lines put : List DeckLine)
+    (at cut : ℕ) (are : with_marks ls ms ≡ lines) (h : at + cut ≤ length lines)
+    (within : pass_limit (take at lines ++ (put ++ drop (at + cut) lines)) ≡ false) where
+  pub told_places : at + cut ≤ length ls
+  told_places = omega (arith, h, ap length are, marks_len ls ms kept.marked)
+
+  told_within : pass_limit (take at (with_marks ls ms) ++ (put ++ drop (at + cut) (with_marks ls ms))) ≡ false
+  told_within = ap (λ (t : List DeckLine). pass_limit (take at t ++ (put ++ drop (at + cut) t))) are ∙ within
+
+  -- the lines that go
+  pub told_gone : (gone : List DeckLine) → gone ≡ with_marks (take cut (drop at ls)) (take cut (drop at ms))
+      → gone ≡ take cut (drop at lines)
+  told_gone gone is =
+      is ∙ gone_marked ls ms bytes kept put at cut told_places told_within
+      ∙ ap (λ (t : List DeckLine). take cut (drop at t)) are
+
+  pub told_small : text_len (take cut (drop at lines)) ≤ bytes
+  told_small =
+      subst (λ (t : List DeckLine). text_len (take cut (drop at t)) ≤ bytes) are
+      (gone_small ls ms bytes kept put at cut told_places told_within)
+
+  -- the lines that are there afterwards
+  pub told_exchanged : (ls' : List Line) (ms' : List Bool)
+      → ls' ≡ take at ls ++ (map unmarked put ++ drop (at + cut) ls)
+      → ms' ≡ take at ms ++ (map mark_of put ++ drop (at + cut) ms) →
+      with_marks ls' ms' ≡ take at lines ++ (put ++ drop (at + cut) lines)
+  told_exchanged ls' ms' p q =
+      exchanged ls ms bytes kept put at cut told_places told_within ls' ms' p q
+      ∙ ap (λ (t : List DeckLine). take at t ++ (put ++ drop (at + cut) t)) are
+
+  -- which are within the limits
+  pub told_kept : (ls' : List Line) (ms' : List Bool) (len some : ℕ) (gone : List DeckLine)
+      → ls' ≡ take at ls ++ (map unmarked put ++ drop (at + cut) ls)
+      → ms' ≡ take at ms ++ (map mark_of put ++ drop (at + cut) ms) →
+      len ≡ text_len put → gone ≡ with_marks (take cut (drop at ls)) (take cut (drop at ms)) → some ≡ text_len gone
+      → IsWithin ls' ms' (bytes + len - some)
+  told_kept ls' ms' len some gone p q e is f =
+      within_exchanged ls ms bytes kept put at cut told_places told_within ls' ms' len some p q e
+      (f ∙ ap text_len (is ∙ gone_marked ls ms bytes kept put at cut told_places told_within))

@@ -1,6 +1,7 @@
 -- Lines with what they define.
 use Rattle.std.proofs.Common.{◌≡◌, ◌++◌, ◌∷◌, ◌+◌, [], ℕ, List, map, take, drop, true, refl, inl, inr, sym, ap, subst}
 use Rattle.std.proofs.Common.{◌∙◌, Option, Some, None, option_map, slice_get, length}
+use Rattle.std.proofs.lemmas.Option.{same_Some}
 use Rattle.std.specs.Option.{option_and_then}
 use Rattle.std.proofs.lemmas.List.{drop-map, length-map, map-append, take-map}
 use Rattle.def_entry.specs.Entries.{Entry, What}
@@ -21,7 +22,7 @@ use Rattle.deck_lines.specs.declared.store.definitions.Definitions.{Definitions}
 use Rattle.deck_lines.proofs.Defining.{grown, there}
 use Rattle.deck_lines.proofs.Finding.{get_append, get_drop, get_take}
 use Rattle.deck_lines.proofs.Keys.{found_key, one_to_one}
-use Rattle.deck_lines.proofs.Numbering.{found_is_any, some_one}
+use Rattle.deck_lines.proofs.Numbering.{found_is_any}
 
 -- what was defined is defined where room was made
 pub defined_same : (d room : Definitions) (said : List (Option (Key × Entry))) → room.of_lines.items ≡ d.of_lines.items
@@ -119,14 +120,14 @@ numbered_at : (names : Names) (o : Option (Option Definition)) (l : Option DeckL
 numbered_at names o None d e is = absurd (cc)
 numbered_at names None (Some line) d e is = absurd (cc)
 numbered_at names (Some x) (Some line) d e is =
-    by x (some_one (option_map (seen_definition names) x) (option_map keyed_definition (entry_in line)) e
+    by x (same_Some (option_map (seen_definition names) x) (option_map keyed_definition (entry_in line)) e
     ∙ ap (option_map keyed_definition) is)
   where
     by : (y : Option Definition) → option_map (seen_definition names) y ≡ Some (keyed_definition d)
         → is_numbered names d.0 ≡ true
     by None p = absurd (cc)
     by (Some y) p = numbered names y.key d.0
-        (ap (λ (q : Option Key × What). q.0) (some_one (seen_definition names y) (keyed_definition d) p))
+        (ap (λ (q : Option Key × What). q.0) (same_Some (seen_definition names y) (keyed_definition d) p))
 
 -- the numbers of keys beside lines
 pub numbering_of : (lines : List DeckLine) (d : Definitions) (s : Store) → IsKept lines d

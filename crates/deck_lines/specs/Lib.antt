@@ -2,6 +2,7 @@ pub mod Blocks
 pub mod Closed
 pub mod Edited
 pub mod Excerpts
+pub mod Examples
 pub mod Exchangeable
 pub mod Exchanges
 pub mod Includes

@@ -12,7 +12,7 @@ mod store;
 
 pub use draft::{Draft, LoadFault, Notices};
 pub use key_number::KeyNumber;
-pub use laws::{decks_are_closed, first_faults_end_loads};
+pub use laws::{decks_are_closed, examples_law, first_faults_end_loads};
 pub use line::{Block, BorrowedLine, DeckLine, DeckLines, Ending, MarkedLines, Role};
 pub use load::load_text;
 pub use reading::{Reading, read_line};

@@ -15,6 +15,7 @@ ghost use Rattle.deck.specs.Changes.{IsChange};
 ghost use Rattle.deck.specs.Decks.{Contents};
 ghost use Rattle.deck.specs.Edits as edit;
 ghost use Rattle.deck.specs.LastPlaces.{IsIndexed, places_of};
+ghost use Rattle.deck.specs.Tables.{last_place};
 ghost use Rattle.deck.specs.Undefining as undefining;
 ghost use Rattle.deck.specs.declared.fault.DeckFault.TheVariants.{OutOfMemory};
 ghost use Rattle.deck.specs.declared.settings.Settings as settings_spec;
@@ -56,10 +57,9 @@ impl Deck {
         if !self.has_room(line) {
             return Err(DeckFault::DeckFull);
         }
-        let keys = self.changed_by(alloc, &key, Entry { line, what: &what })?;
-        let covered = self.last_place(&key);
+        let over = self.changed_over(alloc, &key, Entry { line, what: &what })?;
         self.push_definition(alloc, line, key, what)?;
-        Ok((keys, covered))
+        Ok(over)
     }
 
     // Whether one more line of this text is within the limits.
@@ -70,23 +70,29 @@ impl Deck {
         self.store.has_room(text.len())
     }
 
-    // The keys that a line changes at the end of the deck: its own, unless its entry is the same.
-    fn changed_by(&self, alloc: Global, key: &Key, entry: Entry<'_>) -> Result<Keys, AllocError>
-        ensures { IfOk result (λ keys. IsClosed self.now.lines
+    // The keys that a line changes at the end of the deck: its own, unless its entry is the same. Beside them the
+    // place of the last active line of its key before, if there was one, by the same look-up.
+    fn changed_over(
+        &self,
+        alloc: Global,
+        key: &Key,
+        entry: Entry<'_>,
+    ) -> Result<(Keys, Option<usize>), AllocError>
+        ensures changed { IfOk result (λ over. IsClosed self.now.lines
             → entry_in (plain_line 0 entry.entry.line.now) ≡ Some (key.now, entry_view entry.entry)
-            → IsChange self.now (edit.with_line entry.entry.line.now self.now) keys) }
+            → IsChange self.now (edit.with_line entry.entry.line.now self.now) over.0) }
+        ensures place { IfOk result (λ over. over.1 ≡ last_place self.now.settings self.now.lines key.now) }
     {
         same_text_law();
-        let mut keys = Keys::new(alloc);
-        if let Some(old) = self.entry(key.kind, key.name.as_bytes()) {
-            if old.text() == entry.text() {
-                return Ok(keys);
-            }
+        let Some(old) = self.placed_entry(key.kind, key.name.as_bytes()) else {
+            let keys = key_alone(alloc, key)?;
+            return Ok((keys, None));
+        };
+        if old.entry.text() == entry.text() {
+            return Ok((Keys::new(alloc), Some(old.place)));
         }
-        let kind = key.kind;
-        let name = key.name.copy(alloc)?;
-        keys.push(alloc, Key { kind, name })?;
-        Ok(keys)
+        let keys = key_alone(alloc, key)?;
+        Ok((keys, Some(old.place)))
     }
 
     // Puts a line that defines a key at the end.
@@ -106,6 +112,17 @@ impl Deck {
         let line = Line { number: 0, text };
         put_definition(alloc, &mut self.store, &mut self.last, line, (key, what))
     }
+}
+
+// A key alone.
+fn key_alone(alloc: Global, key: &Key) -> Result<Keys, AllocError>
+    ensures { IfOk result (λ keys. keys ≡ key.now ∷ []) }
+{
+    let mut keys = Keys::new(alloc);
+    let kind = key.kind;
+    let name = key.name.copy(alloc)?;
+    keys.push(alloc, Key { kind, name })?;
+    Ok(keys)
 }
 
 // Puts a line that defines a key at the end of the lines, and its place among the last places.

@@ -5,27 +5,31 @@ ghost use Rattle.deck.specs.Edits as edit;
 use super::Deck;
 use crate::fault::DeckFault;
 use crate::force::active_flags;
-use crate::places::{LastPlaces, changed_keys};
-use def_entry::{Key, Keys};
+use crate::places::{changed_key, last_of};
+use def_entry::{Key, Keys, same_text_law};
 use std::alloc::Global;
 
 impl Deck {
     /// Takes out the last active line of a key, which uncovers the one before it, and answers the key
     /// if its entry differs afterwards. `NoSuchKey` where no active line defines it; the only other
-    /// error is want of memory. It takes one pass over the deck.
+    /// error is want of memory. It goes over the lines, and over the keys that have a number.
     pub fn drop_last(&mut self, alloc: Global, key: &Key) -> Result<Keys, DeckFault>
         ensures { edit.IsEdit (edit.after_drop key.now self.old) self.old self.new result }
     {
+        same_text_law();
         let Some(place) = self.last_place(key) else {
             return Err(DeckFault::NoSuchKey);
         };
+        let Some(number) = self.store.key_number(place) else {
+            unreachable!()
+        };
         let mut flags = active_flags(alloc, &self.store, &self.settings)?;
         flags[place] = false;
-        let mut last = LastPlaces::by_flags(alloc, flags.as_slice(), &self.store)?;
-        let keys = changed_keys(alloc, &self.store, &self.last, &last)?;
-        last.close_gap(place);
+        let uncovered = last_of(&self.store, flags.as_slice(), number);
+        let keys = changed_key(alloc, &self.store, number, Some(place), uncovered)?;
+        self.last.restore(number, uncovered);
+        self.last.close_gap(place);
         self.store.remove(place);
-        self.last = last;
         Ok(keys)
     }
 }

@@ -1,6 +1,7 @@
 //! The keys of a deck.
 
 ghost use Rattle.std.specs.Prelude.{◌≡◌, ◌++◌, ◌∷◌, [], map, option_map, IfOk, OnOk};
+ghost use Rattle.deck.specs.Holding.{keys_holding};
 ghost use Rattle.deck.specs.KeyLists.{IsWhole};
 ghost use Rattle.deck.specs.PlacedKeys.{key_there, keys_there, lent_key, placed_key};
 ghost use Rattle.deck.specs.Tables.{table};
@@ -36,6 +37,16 @@ impl Deck {
         ensures { IfOk result (λ places. IsWhole (table self.now) (keys_there self.now.lines places.items)) }
     {
         let placed = self.placed_keys(alloc)?;
+        let places = places_of(alloc, placed.as_slice())?;
+        Ok(places)
+    }
+
+    /// The same of those keys alone whose names hold a text: no others are sorted. The only error is want of memory.
+    pub fn key_places_holding(&self, alloc: Global, text: &[u8]) -> Result<Vec<usize>, AllocError>
+        ensures { IfOk result (λ places. keys_there self.now.lines places.items
+            ≡ keys_holding text.now (table self.now)) }
+    {
+        let placed = self.placed_keys_holding(alloc, text)?;
         let places = places_of(alloc, placed.as_slice())?;
         Ok(places)
     }

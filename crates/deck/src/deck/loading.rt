@@ -68,7 +68,8 @@ pub(crate) fn load_file<F: Files>(
     requires { draft.old.notices ≡ [] }
     ensures told { (m : FileMap) (d : Contents) → F.files files.old ≡ Some m → d.lines ≡ draft.old.store.lines
         → loading.IsRead (loading.after_append m name.now d) d draft.new.store.lines draft.new.notices result }
-    ensures ends { loading.IsEnd (F.files files.old) name.now (excerpt_in draft.old) (λ _. excerpt_in draft.new) result }
+    ensures ends { loading.IsEnd (F.files files.old) name.now (excerpt_in draft.old)
+        (λ _. excerpt_in draft.new) result }
     ensures extends { Extends draft.old.store draft.new.store }
     ensures closed { OnOk result (IsClosed draft.old.store.lines → IsClosed draft.new.store.lines) }
     ensures answers { IfErr result (λ fault. loading.is_load_fault fault ≡ true) }

@@ -1,17 +1,18 @@
 //! The keys of a deck with their places.
 
-ghost use Rattle.std.specs.Prelude.{◌≡◌, ◌++◌, All, map, IfOk, OnOk, is_some};
+ghost use Rattle.std.specs.Prelude.{◌≡◌, ◌++◌, All, map, IfOk, OnOk};
 ghost use Rattle.std.specs.List.Sorted.{IsPermutation, IsSortedByKey};
 ghost use Rattle.def_entry.specs.KeyOrder.{KeyOrderLaw, key_cmp, kind_number};
 ghost use Rattle.deck_lines.specs.Names.{key_at, names_of};
 ghost use Rattle.deck_lines.specs.Numbering.{IsNumbering};
+ghost use Rattle.deck.specs.Holding.{is_found, keys_holding};
 ghost use Rattle.deck.specs.KeyLists.{IsWhole};
-ghost use Rattle.deck.specs.LastPlaces.{place_at};
 ghost use Rattle.deck.specs.Numbers.{key_if, keys_where};
 ghost use Rattle.deck.specs.PlacedKeys.{ArePlaced, IsInPlace, placed_key};
 ghost use Rattle.deck.specs.Tables.{table};
 
 use super::Deck;
+use crate::holding::holds;
 use crate::places::LastPlaces;
 use deck_lines::{KeyNumber, LineStore};
 use def_entry::{Kind, key_order_law};
@@ -33,21 +34,35 @@ impl Deck {
         ensures whole { IfOk result (λ keys. IsWhole (table self.now) (map placed_key keys.items)) }
         ensures in_place { IfOk result (λ keys. All (IsInPlace self.now.lines) keys.items) }
     {
+        let keys = self.placed_keys_holding(alloc, &[])?;
+        Ok(keys)
+    }
+
+    /// Those of them whose names hold a text, in the same order. No others are sorted.
+    pub(super) fn placed_keys_holding(
+        &self,
+        alloc: Global,
+        text: &[u8],
+    ) -> Result<Vec<PlacedKey<'_>>, AllocError>
+        ensures keys { IfOk result (λ keys. map placed_key keys.items ≡ keys_holding text.now (table self.now)) }
+        ensures in_place { IfOk result (λ keys. All (IsInPlace self.now.lines) keys.items) }
+    {
         key_order_law();
         let mut keys = Vec::new(alloc);
-        push_placed(&mut keys, &self.store, &self.last, Kind::Unit)?;
-        push_placed(&mut keys, &self.store, &self.last, Kind::Prefix)?;
-        push_placed(&mut keys, &self.store, &self.last, Kind::Func)?;
-        push_placed(&mut keys, &self.store, &self.last, Kind::List)?;
+        push_placed(&mut keys, &self.store, &self.last, text, Kind::Unit)?;
+        push_placed(&mut keys, &self.store, &self.last, text, Kind::Prefix)?;
+        push_placed(&mut keys, &self.store, &self.last, text, Kind::Func)?;
+        push_placed(&mut keys, &self.store, &self.last, text, Kind::List)?;
         Ok(in_order(keys))
     }
 }
 
-// Puts the keys of a kind that have a last place behind some keys.
+// Puts the keys of a kind that have a last place, and whose names hold a text, behind some keys.
 fn push_placed<'a>(
     keys: &mut Vec<PlacedKey<'a>>,
     store: &'a LineStore,
     last: &LastPlaces,
+    text: &[u8],
     kind: Kind,
 ) -> Result<(), AllocError>
     requires places { ArePlaced store.now last.now }
@@ -55,26 +70,27 @@ fn push_placed<'a>(
     ensures numbering { IsNumbering store.now }
     ensures in_place { OnOk result (All (IsInPlace store.now.lines) keys.new.items) }
     ensures keys { OnOk result (map placed_key keys.new.items ≡ map placed_key keys.old.items
-        ++ keys_where (λ n. is_some (place_at last.now n)) kind 0 (names_of store.now.names kind)) }
+        ++ keys_where (is_found store.now.names last.now text.now) kind 0 (names_of store.now.names kind)) }
 {
     for number in 0..store.name_count(kind) {
-        push_if_placed(keys, store, last, KeyNumber { kind, number })?;
+        push_if_placed(keys, store, last, text, KeyNumber { kind, number })?;
     }
     Ok(())
 }
 
-// Puts the key of this number behind some keys, where it has a last place.
+// Puts the key of this number behind some keys, where it has a last place and its name holds a text.
 fn push_if_placed<'a>(
     keys: &mut Vec<PlacedKey<'a>>,
     store: &'a LineStore,
     last: &LastPlaces,
+    text: &[u8],
     n: KeyNumber,
 ) -> Result<(), AllocError>
     requires places { ArePlaced store.now last.now }
     requires placed { All (IsInPlace store.now.lines) keys.old.items }
     ensures in_place { OnOk result (All (IsInPlace store.now.lines) keys.new.items) }
     ensures keys { OnOk result (map placed_key keys.new.items ≡ map placed_key keys.old.items
-        ++ key_if (is_some (place_at last.now n)) (key_at store.now.names n)) }
+        ++ key_if (is_found store.now.names last.now text.now n) (key_at store.now.names n)) }
 {
     let Some(place) = last.get(n) else {
         return Ok(());
@@ -82,6 +98,9 @@ fn push_if_placed<'a>(
     let Some(name) = store.name(n) else {
         return Ok(());
     };
+    if !holds(name, text) {
+        return Ok(());
+    }
     let kind = n.kind;
     keys.push(PlacedKey { kind, name, place })?;
     Ok(())

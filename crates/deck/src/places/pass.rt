@@ -38,19 +38,7 @@ impl LastPlaces {
         LastPlaces::of_edited(alloc, flags.as_slice(), edited)
     }
 
-    /// The place of the last line of each key among those whose flag is true.
-    pub(crate) fn by_flags(
-        alloc: Global,
-        flags: &[bool],
-        store: &LineStore,
-    ) -> Result<LastPlaces, AllocError>
-        requires { length flags.now ≡ length store.now.lines }
-        ensures { IfOk result (λ last. AreLast store.now.names (definitions_by flags.now store.now.lines) last) }
-    {
-        LastPlaces::of_edited(alloc, flags, &EditedLines::unchanged(store))
-    }
-
-    // The same of the lines after an edit.
+    // The place of the last line of each key among those whose flag is true, after an edit.
     fn of_edited(
         alloc: Global,
         flags: &[bool],

@@ -1,72 +1,44 @@
-use Rattle.std.proofs.Common.{◌≡◌, ◌≤◌, ◌+◌, List, length, take, drop, ap, subst, ◌∙◌, arith}
+use Rattle.std.proofs.Common.{◌≡◌, List, take, drop, ap, subst, ◌∙◌, arith}
 use Rattle.std.specs.Prelude.{IfOk}
 use Rattle.deck_lines.specs.declared.line.DeckLine.{DeckLine}
 use Rattle.deck.specs.Decks.{Contents}
-use Rattle.deck.proofs.Copying.{length_within, part_marks}
-use Rattle.deck.proofs.Marking.{marks_len}
+use Rattle.deck.proofs.Copying.{part_few, part_marks, part_within}
 use Rattle.deck.proofs.deck.Deck.lines_from.Goals as goal
 
 pub overflow_add-end : goal.overflow_add-end
 overflow_add-end c =
-    let within : c.args.at + c.args.count ≤ length c.marked.result.lines.now =
     omega (
       arith,
-      c.requires,
-      ap (λ (d : Contents). length d.lines) c.self.view_is,
-      ap length c.marked.ensures.lines,
-      marks_len c.marked.result.lines.now c.marked.result.marks.now c.marked.ensures.each,
-    ) in
-    let few : length c.marked.result.lines.now ≤ 100000 =
-    omega (
-      arith,
-      length_within c.self.inside.store.lines c.marked.ensures.within,
-      ap length c.marked.ensures.lines,
-      marks_len c.marked.result.lines.now c.marked.result.marks.now c.marked.ensures.each,
-    ) in
-    omega (arith, within, few)
+      part_few c.marked.result.lines.now c.marked.result.marks.now c.self.inside.store.lines _ c.args.at c.args.count
+          c.marked.ensures.lines c.marked.ensures.each (ap (λ (d : Contents). d.lines) c.self.view_is) c.requires
+          c.marked.ensures.within,
+    )
 
 pub offset_bounds-lines-at : goal.offset_bounds-lines-at
 offset_bounds-lines-at c =
-    let within : c.args.at + c.args.count ≤ length c.marked.result.lines.now =
     omega (
       arith,
-      c.requires,
-      ap (λ (d : Contents). length d.lines) c.self.view_is,
-      ap length c.marked.ensures.lines,
-      marks_len c.marked.result.lines.now c.marked.result.marks.now c.marked.ensures.each,
-    ) in
-    let few : length c.marked.result.lines.now ≤ 100000 =
-    omega (
-      arith,
-      length_within c.self.inside.store.lines c.marked.ensures.within,
-      ap length c.marked.ensures.lines,
-      marks_len c.marked.result.lines.now c.marked.result.marks.now c.marked.ensures.each,
-    ) in
-    omega (arith, within, few)
+      part_few c.marked.result.lines.now c.marked.result.marks.now c.self.inside.store.lines _ c.args.at c.args.count
+          c.marked.ensures.lines c.marked.ensures.each (ap (λ (d : Contents). d.lines) c.self.view_is) c.requires
+          c.marked.ensures.within,
+    )
 
 pub slice_bounds-copied_lines-end : goal.slice_bounds-copied_lines-end
 slice_bounds-copied_lines-end c =
-    let within : c.args.at + c.args.count ≤ length c.marked.result.lines.now =
     omega (
       arith,
-      c.requires,
-      ap (λ (d : Contents). length d.lines) c.self.view_is,
-      ap length c.marked.ensures.lines,
-      marks_len c.marked.result.lines.now c.marked.result.marks.now c.marked.ensures.each,
-    ) in
-    omega arith
+      part_within c.marked.result.lines.now c.marked.result.marks.now c.self.inside.store.lines _ c.args.at c.args.count
+          c.marked.ensures.lines c.marked.ensures.each (ap (λ (d : Contents). d.lines) c.self.view_is) c.requires,
+    )
 
 pub slice_bounds-copied_lines-end-2 : goal.slice_bounds-copied_lines-end-2
 slice_bounds-copied_lines-end-2 c =
-    let within : c.args.at + c.args.count ≤ length c.marked.result.lines.now =
     omega (
       arith,
-      c.requires,
-      ap (λ (d : Contents). length d.lines) c.self.view_is,
-      ap length c.marked.ensures.lines,
-      marks_len c.marked.result.lines.now c.marked.result.marks.now c.marked.ensures.each,
-    ) in
-    omega (arith, c.marked.ensures.each)
+      c.marked.ensures.each,
+      part_within c.marked.result.lines.now c.marked.result.marks.now c.self.inside.store.lines _ c.args.at c.args.count
+          c.marked.ensures.lines c.marked.ensures.each (ap (λ (d : Contents). d.lines) c.self.view_is) c.requires,
+    )
 
 pub returns : goal.returns
 returns c =

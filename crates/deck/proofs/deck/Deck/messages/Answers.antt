@@ -5,10 +5,11 @@ use Rattle.def_lines.specs.declared.line.Line.{Line}
 use Rattle.def_lines.specs.Kinds.{kind_of}
 use Rattle.deck_lines.specs.Marks.{with_mark, with_marks}
 use Rattle.deck_lines.specs.declared.line.DeckLine.{DeckLine}
+use Rattle.deck_lines.proofs.Keeping.{marks_len}
 use Rattle.deck.specs.Active.{active_lines}
 use Rattle.deck.specs.Decks.{Contents}
 use Rattle.deck.specs.Messages.{in_turn, message_in, message_of, where_true}
-use Rattle.deck.proofs.Marking.{length-activity, marks_at, marks_len}
+use Rattle.deck.proofs.Marking.{length-activity, marks_at}
 use Rattle.deck.proofs.Telling.{flag_read, told_all, told_step}
 use Rattle.deck.proofs.deck.Deck.messages.Goals as goal
 

@@ -1,70 +1,9 @@
-use Rattle.std.proofs.Common.{◌≡◌, ◌++◌, All, List, map, append_assoc, ap, subst, ◌∙◌}
-use Rattle.std.proofs.lemmas.List.Sorted.{All-permutation, IsPermutation-map}
-use Rattle.std.specs.Option.{is_some}
-use Rattle.def_entry.specs.declared.key.Key.{Key}
-use Rattle.def_entry.specs.declared.key.Kind.{Kind}
-use Rattle.def_entry.specs.declared.key.Kind.TheVariants as kind
-use Rattle.def_entry.specs.KeyOrder.{key_cmp}
-use Rattle.deck_lines.specs.Names.{names_of}
-use Rattle.deck_lines.specs.Stores.{Store}
-use Rattle.deck.specs.Decks.{Contents}
-use Rattle.deck.specs.KeyLists.{IsWhole}
-use Rattle.deck.specs.LastPlaces.{IsIndexed, place_at}
-use Rattle.deck.specs.Numbers.{keys_where}
-use Rattle.deck.specs.PlacedKeys.{ArePlaced, IsInPlace, placed_key}
-use Rattle.deck.specs.Tables.{definitions, table}
-use Rattle.deck.specs.declared.places.last_places.LastPlaces.{LastPlaces}
-use Rattle.deck.specs.declared.settings.Settings.{Settings}
-use Rattle.deck.proofs.KeyLists.{all_keys_found}
-use Rattle.deck.proofs.PlacedKeys.{all_placed, sorted_map}
-use Rattle.deck.proofs.Placing.{in_place}
+use Rattle.std.proofs.Common.{map}
+use Rattle.deck.specs.PlacedKeys.{placed_key}
+use Rattle.deck.specs.Tables.{table}
+use Rattle.deck.proofs.OneKeyList.{whole_holding}
 use Rattle.deck.proofs.deck.Deck.placed_keys.Goals as goal
-
-four : (a b c d : List Key) → ((a ++ b) ++ c) ++ d ≡ a ++ (b ++ (c ++ d))
-four a b c d = append_assoc (a ++ b) c d ∙ append_assoc a b (c ++ d)
 
 pub returns-clause-whole : goal.returns-clause-whole
 returns-clause-whole c =
-    let s = c.self.inside in
-    let of : Kind → List Key = λ k. keys_where (λ n. is_some (place_at s.last n)) k 0 (names_of s.store.names k) in
-    let found : map placed_key c.push_placed-4.new.keys.items ≡ ((of kind.Unit ++ of kind.Prefix) ++ of kind.Func) ++ of
-    kind.List =
-    c.in_ok-push_placed-4.ensures.keys
-    ∙ ap (λ ks. ks ++ of kind.List)
-    (c.in_ok-push_placed-3.ensures.keys ∙ ap (λ ks. ks ++ of kind.Func) (c.in_ok-push_placed-2.ensures.keys
-    ∙ ap (λ ks. ks ++ of kind.Prefix)
-    (c.in_ok-push_placed.ensures.keys ∙ ap (λ ks. map placed_key ks ++ of kind.Unit) c.new-keys.ensures.items))) in
-    subst (λ (d : Contents). IsWhole (table d) (map placed_key c.in_order.result.items)) c.self.view_is
-    (all_keys_found s.store c.in_ok-push_placed.ensures.numbering (definitions s.settings s.store.lines)
-    (in_place s.settings s.store.lines) s.last c.self.invariant.places
-    c.key_order_law.ensures (map placed_key c.push_placed-4.new.keys.items) (map placed_key c.in_order.result.items)
-    (found ∙ four (of kind.Unit) (of kind.Prefix) (of kind.Func) (of kind.List))
-    (IsPermutation-map placed_key _ _ c.in_order.ensures.same)
-    (sorted_map key_cmp placed_key c.in_order.result.items (c.in_order.ensures.sorted c.key_order_law.ensures)))
-
-pub returns-clause-in_place : goal.returns-clause-in_place
-returns-clause-in_place c =
-    subst (λ (d : Contents). All (IsInPlace d.lines) c.in_order.result.items) c.self.view_is
-    (All-permutation (IsInPlace c.self.inside.store.lines) _ _ c.in_order.ensures.same
-    c.in_ok-push_placed-4.ensures.in_place)
-
-placed_in : (store : Store) (settings : Settings) (last : LastPlaces) → IsIndexed store settings last
-    → ArePlaced store last
-placed_in store settings last indexed =
-    all_placed store last (definitions settings store.lines) (in_place settings store.lines) indexed.places
-
-pub push_placed-requires-clause-places : goal.push_placed-requires-clause-places
-push_placed-requires-clause-places c =
-    placed_in c.self.inside.store c.self.inside.settings c.self.inside.last c.self.invariant
-
-pub push_placed-requires-2-clause-places : goal.push_placed-requires-2-clause-places
-push_placed-requires-2-clause-places c =
-    placed_in c.self.inside.store c.self.inside.settings c.self.inside.last c.self.invariant
-
-pub push_placed-requires-3-clause-places : goal.push_placed-requires-3-clause-places
-push_placed-requires-3-clause-places c =
-    placed_in c.self.inside.store c.self.inside.settings c.self.inside.last c.self.invariant
-
-pub push_placed-requires-4-clause-places : goal.push_placed-requires-4-clause-places
-push_placed-requires-4-clause-places c =
-    placed_in c.self.inside.store c.self.inside.settings c.self.inside.last c.self.invariant
+    whole_holding (table c.args.self.now) (map placed_key c.in_ok-keys.keys.items) c.in_ok-keys.ensures.keys

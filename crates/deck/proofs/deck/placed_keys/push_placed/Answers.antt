@@ -1,9 +1,8 @@
 use Rattle.std.proofs.Common.{◌++◌, ◌<◌, Bool, length, map, sym, ap, ◌∙◌, arith}
 use Rattle.std.proofs.lemmas.List.{append-nil, drop_all}
-use Rattle.std.specs.Option.{is_some}
 use Rattle.deck_lines.specs.Names.{names_of}
 use Rattle.deck_lines.specs.declared.key_number.KeyNumber.{KeyNumber}
-use Rattle.deck.specs.LastPlaces.{place_at}
+use Rattle.deck.specs.Holding.{is_found}
 use Rattle.deck.specs.Numbers.{keys_where}
 use Rattle.deck.specs.PlacedKeys.{placed_key}
 use Rattle.deck.proofs.Numbering.{where_step}
@@ -15,7 +14,7 @@ loop-number-preserved c =
     let within : c.loop-number.number < length (names_of names c.args.kind) =
     omega (arith, c.loop-number-test.true, c.name_count-number-end.ensures.count) in (
       c.in_ok-push_if_placed.ensures.in_place,
-      where_step (λ (n : KeyNumber). is_some (place_at c.args.last.now n)) names c.args.kind c.loop-number.number
+      where_step (is_found names c.args.last.now c.args.text.now) names c.args.kind c.loop-number.number
           (map placed_key c.loop-number.keys.items) (map placed_key c.push_if_placed.new.keys.items) _ within
           c.loop-number.invariant.1 c.in_ok-push_if_placed.ensures.keys,
     )
@@ -23,7 +22,7 @@ loop-number-preserved c =
 pub returns-clause-keys : goal.returns-clause-keys
 returns-clause-keys c =
     let names = names_of c.args.store.now.names c.args.kind in
-    let test : KeyNumber → Bool = λ n. is_some (place_at c.args.last.now n) in
+    let test : KeyNumber → Bool = is_found c.args.store.now.names c.args.last.now c.args.text.now in
     sym (append-nil (map placed_key c.loop-number.keys.items))
     ∙ ap (λ ns. map placed_key c.loop-number.keys.items ++ keys_where test c.args.kind c.loop-number.number ns)
     (sym (drop_all c.loop-number.number names

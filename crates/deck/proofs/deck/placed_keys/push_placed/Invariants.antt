@@ -1,7 +1,6 @@
 use Rattle.std.proofs.Common.{◌≡◌, ◌++◌, All, drop, map}
-use Rattle.std.specs.Option.{is_some}
 use Rattle.deck_lines.specs.Names.{names_of}
-use Rattle.deck.specs.LastPlaces.{place_at}
+use Rattle.deck.specs.Holding.{is_found}
 use Rattle.deck.specs.Numbers.{keys_where}
 use Rattle.deck.specs.PlacedKeys.{IsInPlace, placed_key}
 use Rattle.deck.proofs.deck.placed_keys.push_placed.Given as goal
@@ -10,6 +9,6 @@ abbrev pub invariant-loop-number : goal.invariant-loop-number
 invariant-loop-number l =
     All (IsInPlace l.store.lines) l.keys.items
     × (map placed_key l.keys.items
-    ++ keys_where (λ n. is_some (place_at l.last n)) l.kind l.number (drop l.number (names_of l.store.names l.kind))
+    ++ keys_where (is_found l.store.names l.last l.text) l.kind l.number (drop l.number (names_of l.store.names l.kind))
     ≡ map placed_key l.initial.keys.items
-    ++ keys_where (λ n. is_some (place_at l.last n)) l.kind 0 (names_of l.store.names l.kind))
+    ++ keys_where (is_found l.store.names l.last l.text) l.kind 0 (names_of l.store.names l.kind))

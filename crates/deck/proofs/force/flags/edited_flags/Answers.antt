@@ -2,7 +2,8 @@ use Rattle.std.proofs.Common.{◌++◌, ◌∷◌, ◌+◌, [], List, drop, refl
 use Rattle.std.proofs.lemmas.List.{append-nil, drop_all}
 use Rattle.deck_lines.specs.declared.line.DeckLine.{DeckLine}
 use Rattle.deck.specs.Active.{Surroundings, activity, is_active}
-use Rattle.deck.proofs.Marking.{activity_step, line_at}
+use Rattle.deck_lines.proofs.Finding.{drop_found}
+use Rattle.deck.proofs.Marking.{activity_step}
 use Rattle.deck.proofs.force.flags.edited_flags.Goals as goal
 
 pub line-line-requires : goal.line-line-requires
@@ -26,7 +27,7 @@ loop-place-preserved c =
     ∙ ap (λ (s : Surroundings). (c.loop-place.flags.items ++ is_active c.loop-place.around line ∷ [])
     ++ activity locale s rest) (c.in_ok-pass.ensures line.number)
     ∙ activity_step locale c.loop-place.around (drop c.loop-place.place lines) rest c.loop-place.flags.items _ line
-    (line_at lines c.loop-place.place line c.line-line.ensures) c.loop-place.invariant
+    (drop_found lines c.loop-place.place line c.line-line.ensures) c.loop-place.invariant
 
 pub returns : goal.returns
 returns c =

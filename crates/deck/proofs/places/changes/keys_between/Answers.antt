@@ -1,4 +1,4 @@
-use Rattle.std.proofs.Common.{◌≡◌, ◌++◌, List, sym, ap, subst, ◌∙◌, append_assoc}
+use Rattle.std.proofs.Common.{◌≡◌, ◌++◌, List, sym, ap, subst, ◌∙◌}
 use Rattle.def_entry.specs.declared.key.Key.{Key}
 use Rattle.def_entry.specs.declared.key.Kind.{Kind}
 use Rattle.def_entry.specs.declared.key.Kind.TheVariants as kind
@@ -7,10 +7,8 @@ use Rattle.deck.specs.Changes.{IsTableChange}
 use Rattle.deck.specs.Numbers.{differs, keys_where}
 use Rattle.deck.specs.Tables.{table_of}
 use Rattle.deck.proofs.Changing.{changed_numbers}
+use Rattle.deck.proofs.Listing.{four_lists}
 use Rattle.deck.proofs.places.changes.keys_between.Goals as goal
-
-four : (a b c d : List Key) → ((a ++ b) ++ c) ++ d ≡ a ++ (b ++ (c ++ d))
-four a b c d = append_assoc (a ++ b) c d ∙ append_assoc a b (c ++ d)
 
 pub returns : goal.returns
 returns c = λ ds es placed put was is_last.
@@ -25,6 +23,6 @@ returns c = λ ds es placed put was is_last.
     ∙ ap (λ ks. ks ++ changed kind.Prefix)
     (c.in_ok-push_changed.ensures.keys ∙ ap (λ ks. ks ++ changed kind.Unit) c.new-keys.ensures))) in
     subst (IsTableChange (table_of ds) (table_of es))
-    (sym (keys ∙ four (changed kind.Unit) (changed kind.Prefix) (changed kind.Func) (changed kind.List)))
+    (sym (keys ∙ four_lists (changed kind.Unit) (changed kind.Prefix) (changed kind.Func) (changed kind.List)))
     (changed_numbers c.same_text_law.ensures c.args.edited.now c.in_ok-push_changed.ensures.numbering_before
     c.in_ok-push_changed.ensures.numbering_after c.args.before.now c.args.after.now ds es placed put was is_last)

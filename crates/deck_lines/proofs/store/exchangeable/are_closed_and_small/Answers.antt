@@ -4,10 +4,15 @@ use Rattle.std.proofs.lemmas.List.{drop_all}
 use Rattle.deck_lines.specs.Closed.{blocks_after}
 use Rattle.deck_lines.specs.Limits.{most_bytes, text_len}
 use Rattle.deck_lines.specs.Origins.{exchanged_lines}
+use Rattle.deck_lines.specs.declared.line.BorrowedLine.{BorrowedLine}
 use Rattle.deck_lines.specs.declared.line.DeckLine.{DeckLine}
 use Rattle.deck_lines.proofs.Exchangeable.{at_end, blocks_more, not_closed, texts_more, too_long}
 use Rattle.deck_lines.proofs.Finding.{drop_found, exchanged_len}
 use Rattle.deck_lines.proofs.store.exchangeable.are_closed_and_small.Goals as goal
+
+-- the line that is lent
+abbrev lent_line : BorrowedLine → DeckLine
+lent_line line = record { number = line.number; text = line.text.now; mark = line.mark }
 
 pub line_at-line-requires-clause-inside : goal.line_at-line-requires-clause-inside
 line_at-line-requires-clause-inside c =
@@ -23,13 +28,7 @@ pub loop-place-preserved : goal.loop-place-preserved
 loop-place-preserved c =
     let after : List DeckLine = exchanged_lines c.args.at c.args.cut c.args.put.now c.args.store.now.lines in
     let i = c.loop-place.place in
-    let line : DeckLine =
-    record {
-      number = c.line_at-line.result.number;
-      text = c.line_at-line.result.text.now;
-      mark =
-          c.line_at-line.result.mark;
-    } in
+    let line : DeckLine = lent_line c.line_at-line.result in
     let there = drop_found after i line c.line_at-line.ensures in
     let before = reverse c.loop-place.endings.items in
     let now = reverse c.pass_line.new.endings.items in
@@ -45,13 +44,7 @@ pub returns-then-room-len : goal.returns-then-room-len
 returns-then-room-len c =
     let after : List DeckLine = exchanged_lines c.args.at c.args.cut c.args.put.now c.args.store.now.lines in
     let i = c.loop-place.place in
-    let line : DeckLine =
-    record {
-      number = c.line_at-line.result.number;
-      text = c.line_at-line.result.text.now;
-      mark =
-          c.line_at-line.result.mark;
-    } in (
+    let line : DeckLine = lent_line c.line_at-line.result in (
       λ t. absurd (false≢true t),
       λ h. absurd (too_long after (drop i after) (drop (i + 1) after) line
           (drop_found after i line c.line_at-line.ensures) (length line.text) c.loop-place.room refl
@@ -62,13 +55,7 @@ pub returns-then-not-passes : goal.returns-then-not-passes
 returns-then-not-passes c =
     let after : List DeckLine = exchanged_lines c.args.at c.args.cut c.args.put.now c.args.store.now.lines in
     let i = c.loop-place.place in
-    let line : DeckLine =
-    record {
-      number = c.line_at-line.result.number;
-      text = c.line_at-line.result.text.now;
-      mark =
-          c.line_at-line.result.mark;
-    } in
+    let line : DeckLine = lent_line c.line_at-line.result in
     let now = reverse c.pass_line.new.endings.items in (
       λ t. absurd (false≢true t),
       λ h. absurd (not_closed after (drop i after) (drop (i + 1) after) line

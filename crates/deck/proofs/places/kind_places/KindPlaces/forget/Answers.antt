@@ -3,8 +3,7 @@ use Rattle.std.proofs.Common.{◌∙◌, arith, Option, None}
 use Rattle.std.specs.Option.{is_some}
 use Rattle.deck.specs.KindPlaces.{place_count}
 use Rattle.deck.specs.declared.places.kind_places.KindPlaces.TheInside.{Inside}
-use Rattle.deck.proofs.KindPlacing.{in_index}
-use Rattle.deck.proofs.Undefining.{count_none}
+use Rattle.deck.proofs.KindPlacing.{count_none, in_index}
 use Rattle.deck.proofs.places.kind_places.KindPlaces.forget.Goals as goal
 use Rattle.deck.proofs.places.kind_places.KindPlaces.forget.Goals.{then-is_some, else-is_some}
 

@@ -1,9 +1,7 @@
-use Rattle.std.proofs.Common.{◌≡◌, ◌≤◌, ◌+◌, ◌++◌, List, false, length, take, drop, ap, ◌∙◌, arith}
-use Rattle.deck_lines.specs.Limits.{pass_limit, text_len}
-use Rattle.deck_lines.specs.Marks.{with_marks}
-use Rattle.deck_lines.specs.declared.line.DeckLine.{DeckLine}
+use Rattle.std.proofs.Common.{◌≡◌, length, take, drop, ap, ◌∙◌, arith}
+use Rattle.deck_lines.specs.Limits.{text_len}
 use Rattle.deck_lines.proofs.Keeping.{marks_len}
-use Rattle.deck_lines.proofs.Replacing.{exchanged, gone_marked, gone_small, put_fits, within_exchanged}
+use Rattle.deck_lines.proofs.Replacing.{put_fits, told_exchanged, told_gone, told_kept, told_small}
 use Rattle.deck_lines.proofs.store.line_list.LineList.exchange.Goals as goal
 
 pub marked_texts_len-len-requires : goal.marked_texts_len-len-requires
@@ -35,128 +33,50 @@ overflow_add-self c =
 
 pub marked_texts_len-requires : goal.marked_texts_len-requires
 marked_texts_len-requires c =
-    let places : c.args.at + c.args.cut ≤ length c.self.inside.lines =
-    omega (
-      arith,
-      c.requires.places,
-      ap length c.self.view_is,
-      marks_len c.self.inside.lines c.self.inside.marks.items c.self.invariant.marked,
-    ) in
-    let within : pass_limit
-    (take c.args.at (with_marks c.self.inside.lines c.self.inside.marks.items)
-    ++ (c.args.put ++ drop (c.args.at + c.args.cut) (with_marks c.self.inside.lines c.self.inside.marks.items)))
-    ≡ false =
-    ap (λ (lines : List DeckLine).
-    pass_limit (take c.args.at lines ++ (c.args.put ++ drop (c.args.at + c.args.cut) lines))) c.self.view_is
-    ∙ c.requires.within in
-    let gone : c.as_slice-2.result.now
-    ≡ take c.args.cut (drop c.args.at (with_marks c.self.inside.lines c.self.inside.marks.items)) =
-    c.as_slice-2.ensures ∙ c.in_ok-gone.ensures.gone
-    ∙ gone_marked c.self.inside.lines c.self.inside.marks.items c.self.inside.bytes c.self.invariant c.args.put
-    c.args.at c.args.cut places within in
+    let s = c.self.inside in
+    let gone : c.as_slice-2.result.now ≡ take c.args.cut (drop c.args.at c.args.self.now) =
+    told_gone s.lines s.marks.items s.bytes c.self.invariant c.args.self.now c.args.put c.args.at c.args.cut
+    c.self.view_is c.requires.places c.requires.within _ (c.as_slice-2.ensures ∙ c.in_ok-gone.ensures.gone) in
     omega (
       arith,
       ap text_len gone,
       c.self.invariant.small,
-      gone_small c.self.inside.lines c.self.inside.marks.items c.self.inside.bytes c.self.invariant c.args.put
-          c.args.at c.args.cut places within,
+      told_small s.lines s.marks.items s.bytes c.self.invariant c.args.self.now c.args.put c.args.at c.args.cut
+          c.self.view_is c.requires.places c.requires.within,
     )
 
 pub overflow_sub-self : goal.overflow_sub-self
 overflow_sub-self c =
-    let places : c.args.at + c.args.cut ≤ length c.self.inside.lines =
-    omega (
-      arith,
-      c.requires.places,
-      ap length c.self.view_is,
-      marks_len c.self.inside.lines c.self.inside.marks.items c.self.invariant.marked,
-    ) in
-    let within : pass_limit
-    (take c.args.at (with_marks c.self.inside.lines c.self.inside.marks.items)
-    ++ (c.args.put ++ drop (c.args.at + c.args.cut) (with_marks c.self.inside.lines c.self.inside.marks.items)))
-    ≡ false =
-    ap (λ (lines : List DeckLine).
-    pass_limit (take c.args.at lines ++ (c.args.put ++ drop (c.args.at + c.args.cut) lines))) c.self.view_is
-    ∙ c.requires.within in
-    let gone : c.as_slice-2.result.now
-    ≡ take c.args.cut (drop c.args.at (with_marks c.self.inside.lines c.self.inside.marks.items)) =
-    c.as_slice-2.ensures ∙ c.in_ok-gone.ensures.gone
-    ∙ gone_marked c.self.inside.lines c.self.inside.marks.items c.self.inside.bytes c.self.invariant c.args.put
-    c.args.at c.args.cut places within in
+    let s = c.self.inside in
+    let gone : c.as_slice-2.result.now ≡ take c.args.cut (drop c.args.at c.args.self.now) =
+    told_gone s.lines s.marks.items s.bytes c.self.invariant c.args.self.now c.args.put c.args.at c.args.cut
+    c.self.view_is c.requires.places c.requires.within _ (c.as_slice-2.ensures ∙ c.in_ok-gone.ensures.gone) in
     omega (
       arith,
       c.marked_texts_len.ensures,
       ap text_len gone,
-      gone_small c.self.inside.lines c.self.inside.marks.items c.self.inside.bytes c.self.invariant c.args.put
-          c.args.at c.args.cut places within,
+      told_small s.lines s.marks.items s.bytes c.self.invariant c.args.self.now c.args.put c.args.at c.args.cut
+          c.self.view_is c.requires.places c.requires.within,
     )
 
 pub invariant_of-self-2 : goal.invariant_of-self-2
 invariant_of-self-2 c =
-    let places : c.args.at + c.args.cut ≤ length c.self.inside.lines =
-    omega (
-      arith,
-      c.requires.places,
-      ap length c.self.view_is,
-      marks_len c.self.inside.lines c.self.inside.marks.items c.self.invariant.marked,
-    ) in
-    let within : pass_limit
-    (take c.args.at (with_marks c.self.inside.lines c.self.inside.marks.items)
-    ++ (c.args.put ++ drop (c.args.at + c.args.cut) (with_marks c.self.inside.lines c.self.inside.marks.items)))
-    ≡ false =
-    ap (λ (lines : List DeckLine).
-    pass_limit (take c.args.at lines ++ (c.args.put ++ drop (c.args.at + c.args.cut) lines))) c.self.view_is
-    ∙ c.requires.within in
-    let gone : c.as_slice-2.result.now
-    ≡ take c.args.cut (drop c.args.at (with_marks c.self.inside.lines c.self.inside.marks.items)) =
-    c.as_slice-2.ensures ∙ c.in_ok-gone.ensures.gone
-    ∙ gone_marked c.self.inside.lines c.self.inside.marks.items c.self.inside.bytes c.self.invariant c.args.put
-    c.args.at c.args.cut places within in
-    within_exchanged c.self.inside.lines c.self.inside.marks.items c.self.inside.bytes c.self.invariant c.args.put
-    c.args.at c.args.cut places within _ _ c.marked_texts_len-len.result c.marked_texts_len.result
-    c.in_ok-gone.ensures.ok.0 c.in_ok-gone.ensures.ok.1
+    let s = c.self.inside in
+    told_kept s.lines s.marks.items s.bytes c.self.invariant c.args.self.now c.args.put c.args.at c.args.cut
+    c.self.view_is c.requires.places c.requires.within _ _ c.marked_texts_len-len.result c.marked_texts_len.result
+    c.as_slice-2.result.now c.in_ok-gone.ensures.ok.0 c.in_ok-gone.ensures.ok.1
     (c.marked_texts_len-len.ensures ∙ ap text_len c.as_slice.ensures)
-    (c.marked_texts_len.ensures ∙ ap text_len gone)
+    (c.as_slice-2.ensures ∙ c.in_ok-gone.ensures.gone) c.marked_texts_len.ensures
 
 pub returns-clause-ok : goal.returns-clause-ok
 returns-clause-ok c =
-    let places : c.args.at + c.args.cut ≤ length c.self.inside.lines =
-    omega (
-      arith,
-      c.requires.places,
-      ap length c.self.view_is,
-      marks_len c.self.inside.lines c.self.inside.marks.items c.self.invariant.marked,
-    ) in
-    let within : pass_limit
-    (take c.args.at (with_marks c.self.inside.lines c.self.inside.marks.items)
-    ++ (c.args.put ++ drop (c.args.at + c.args.cut) (with_marks c.self.inside.lines c.self.inside.marks.items)))
-    ≡ false =
-    ap (λ (lines : List DeckLine).
-    pass_limit (take c.args.at lines ++ (c.args.put ++ drop (c.args.at + c.args.cut) lines))) c.self.view_is
-    ∙ c.requires.within in
-    exchanged c.self.inside.lines c.self.inside.marks.items c.self.inside.bytes c.self.invariant c.args.put c.args.at
-    c.args.cut places within c.exchange_in_list.new.lines c.exchange_in_list.new.marks.items
-    c.in_ok-gone.ensures.ok.0 c.in_ok-gone.ensures.ok.1
-    ∙ ap (λ (lines : List DeckLine). take c.args.at lines ++ (c.args.put ++ drop (c.args.at + c.args.cut) lines))
-    c.self.view_is
+    let s = c.self.inside in
+    told_exchanged s.lines s.marks.items s.bytes c.self.invariant c.args.self.now c.args.put c.args.at c.args.cut
+    c.self.view_is c.requires.places c.requires.within c.exchange_in_list.new.lines
+    c.exchange_in_list.new.marks.items c.in_ok-gone.ensures.ok.0 c.in_ok-gone.ensures.ok.1
 
 pub returns-clause-gone : goal.returns-clause-gone
 returns-clause-gone c =
-    let places : c.args.at + c.args.cut ≤ length c.self.inside.lines =
-    omega (
-      arith,
-      c.requires.places,
-      ap length c.self.view_is,
-      marks_len c.self.inside.lines c.self.inside.marks.items c.self.invariant.marked,
-    ) in
-    let within : pass_limit
-    (take c.args.at (with_marks c.self.inside.lines c.self.inside.marks.items)
-    ++ (c.args.put ++ drop (c.args.at + c.args.cut) (with_marks c.self.inside.lines c.self.inside.marks.items)))
-    ≡ false =
-    ap (λ (lines : List DeckLine).
-    pass_limit (take c.args.at lines ++ (c.args.put ++ drop (c.args.at + c.args.cut) lines))) c.self.view_is
-    ∙ c.requires.within in
-    c.in_ok-gone.ensures.gone
-    ∙ gone_marked c.self.inside.lines c.self.inside.marks.items c.self.inside.bytes c.self.invariant c.args.put
-    c.args.at c.args.cut places within
-    ∙ ap (λ (lines : List DeckLine). take c.args.cut (drop c.args.at lines)) c.self.view_is
+    let s = c.self.inside in
+    told_gone s.lines s.marks.items s.bytes c.self.invariant c.args.self.now c.args.put c.args.at c.args.cut
+    c.self.view_is c.requires.places c.requires.within _ c.in_ok-gone.ensures.gone

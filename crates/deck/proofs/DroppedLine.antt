@@ -1,0 +1,114 @@
+-- The line at the last place of a key, taken out of a deck.
+use Rattle.std.proofs.Common.{◌≡◌, ◌<◌, ℕ, List, Bool, false, not, cond, length, map, set, sym, ap, subst, ◌∙◌}
+use Rattle.std.proofs.Common.{Option, Some, None, Ok, option_map}
+use Rattle.std.proofs.lemmas.Option.{same_Some}
+use Rattle.std.specs.Option.{option_and_then}
+use Rattle.def_entry.specs.declared.key.Key.{Key}
+use Rattle.def_entry.specs.declared.key.Kind.{Kind}
+use Rattle.def_entry.specs.Entries.{Entry}
+use Rattle.def_entry.specs.Reading.{SameTextLaw}
+use Rattle.def_entry.specs.SameKeys.{is_same_kind}
+use Rattle.deck_lines.specs.Names.{Names, key_at}
+use Rattle.deck_lines.specs.Numbering.{IsNumbering}
+use Rattle.deck_lines.specs.Stores.{Store, definition_at}
+use Rattle.deck_lines.specs.declared.key_number.KeyNumber.{KeyNumber}
+use Rattle.deck_lines.specs.declared.line.DeckLine.{DeckLine}
+use Rattle.deck.specs.Active.{active_lines}
+use Rattle.deck.specs.Changes.{IsTableChange, is_same_entry}
+use Rattle.deck.specs.Decks.{Contents}
+use Rattle.deck.specs.Edits.{after_drop, without_some}
+use Rattle.deck.specs.KindPlaces.{without_gap}
+use Rattle.deck.specs.LastPlaces.{AreLast, IsIndexed, places_of}
+use Rattle.deck.specs.Numbers.{entry_there, key_if}
+use Rattle.deck.specs.Tables.{definitions, definitions_by, last_place, place_of, table, table_of}
+use Rattle.deck.specs.declared.places.last_places.LastPlaces.{LastPlaces}
+use Rattle.deck.specs.declared.settings.Settings.{Settings}
+use Rattle.deck.proofs.Dropping.{DefinesAt, defined_last, definitions_dropped, dropped, indexed_dropped, table_moved}
+use Rattle.deck.proofs.Dropping.{within}
+use Rattle.deck.proofs.Uncovering.{changed_dropped, last_uncovered}
+use Rattle.deck.proofs.Undefining.{place_within}
+
+module _ (settings : Settings) (store : Store) (notices : List (List ℕ)) (d : Contents)
+    (view : record { lines = store.lines; settings = settings; notices = notices } ≡ d) (k : Key) (place : ℕ)
+    (is : Some place ≡ last_place d.settings d.lines k) where
+  was : place_of (definitions settings store.lines) k ≡ Some place
+  was = ap (λ (c : Contents). last_place c.settings c.lines k) view ∙ sym is
+
+  defines : (e : Entry) × DefinesAt store.lines place (k, e)
+  defines = defined_last settings store.lines k place was
+
+  -- it is one of the lines
+  pub line_inside : place < length store.lines
+  line_inside = within settings store.lines place (k, defines.0) defines.1
+
+  -- it defines a key
+  pub line_defines : None ≡ option_map (λ e. Some e.0) (definition_at store.lines place) → ⊥
+  line_defines h = never (h ∙ ap (option_map (λ e. Some e.0)) defines.1)
+    where
+      never : None ≡ Some (Some k) → ⊥
+      never g = cc
+
+  -- the edit takes it out
+  pub line_dropped : (left : List DeckLine) → left ≡ dropped place store.lines
+      → after_drop k d ≡ Ok (record { lines = left; settings = settings; notices = notices })
+  line_dropped left given =
+      ap (λ (c : Contents). after_drop k c) (sym view)
+      ∙ ap (λ o. without_some o (record { lines = store.lines; settings = settings; notices = notices })) was
+      ∙ ap (λ (ls : List DeckLine). Ok (record { lines = ls; settings = settings; notices = notices })) (sym given)
+
+  module _ (n : KeyNumber)
+      (told : Some (key_at store.names n) ≡ option_map (λ e. Some e.0) (definition_at store.lines place)) where
+    -- the number that it tells is that of the key
+    numbered : key_at store.names n ≡ Some k
+    numbered = same_Some (key_at store.names n) (Some k) (told ∙ ap (option_map (λ e. Some e.0)) defines.1)
+
+    -- and has a place
+    pub room_drop : (old : LastPlaces) → IsIndexed store settings old → n.number < length (places_of old n.kind)
+    room_drop old indexed =
+        place_within (places_of old n.kind) n.number place
+        (indexed.places.place n ∙ ap (option_and_then (place_of (definitions settings store.lines))) numbered ∙ was)
+
+    module _ (active flags : List Bool) (are : active ≡ active_lines settings store.lines)
+        (without : flags ≡ set active place false) (uncovered : Option ℕ)
+        (covers : (j : Key) → key_at store.names n ≡ Some j
+        → uncovered ≡ place_of (definitions_by flags store.lines) j) where
+      flags_are : flags ≡ set (active_lines settings store.lines) place false
+      flags_are = without ∙ ap (λ (fs : List Bool). set fs place false) are
+
+      -- the deck without it
+      pub indexed_drop : IsNumbering store → (old put now : LastPlaces) → IsIndexed store settings old →
+          ((kind : Kind) → places_of put kind ≡ cond (is_same_kind kind n.kind)
+          (set (places_of old kind) n.number uncovered) (places_of old kind)) →
+          ((kind : Kind) → places_of now kind ≡ map (option_map (without_gap place)) (places_of put kind)) →
+          (new : Store) → new.lines ≡ dropped place store.lines → new.names ≡ store.names → IsIndexed new settings now
+      indexed_drop numbering old put now indexed one gap new left names =
+          indexed_dropped settings store.lines place (k, defines.0) defines.1 new put now left indexed.closed
+          (subst (λ (ns : Names). AreLast ns (definitions_by (set (active_lines settings store.lines) place false)
+          store.lines) put) (sym names)
+          (subst (λ (fs : List Bool). AreLast store.names (definitions_by fs store.lines) put) flags_are
+          (last_uncovered settings store n k defines.0 place flags uncovered numbered was defines.1 flags_are
+          (covers k numbered) numbering old put indexed.places one)))
+          gap
+
+      -- its table is that of the lines whose flags are left
+      table_left : (left : List DeckLine) → left ≡ dropped place store.lines
+          → table_of (definitions settings left) ≡ table_of (definitions_by flags store.lines)
+      table_left left given =
+          ap (λ (ls : List DeckLine). table_of (definitions settings ls)) given
+          ∙ ap table_of (definitions_dropped settings store.lines place (k, defines.0) defines.1)
+          ∙ table_moved place (definitions_by (set (active_lines settings store.lines) place false) store.lines)
+          ∙ ap (λ (fs : List Bool). table_of (definitions_by fs store.lines)) (sym flags_are)
+
+      -- the keys that this changes
+      pub changed_drop : SameTextLaw → (left : List DeckLine) (keys : List Key) → left ≡ dropped place store.lines
+          → keys ≡ key_if (not (is_same_entry (entry_there store.lines (Some place))
+          (entry_there store.lines uncovered))) (key_at store.names n) →
+          IsTableChange (table d) (table_of (definitions settings left)) keys
+      changed_drop law left keys given keys_are =
+          subst (λ (c : Contents). IsTableChange (table c) (table_of (definitions settings left)) keys) view
+          (subst (λ t. IsTableChange (table_of (definitions settings store.lines)) t keys)
+          (sym (table_left left given))
+          (subst (λ (ks : List Key). IsTableChange (table_of (definitions settings store.lines))
+          (table_of (definitions_by flags store.lines)) ks) (sym keys_are)
+          (changed_dropped settings store n k defines.0 place flags uncovered numbered was defines.1 flags_are
+          (covers k numbered) law)))

@@ -1,0 +1,79 @@
+-- The last line of a deck, where it can be taken out.
+use Rattle.std.proofs.Common.{◌≡◌, ◌++◌, ◌∷◌, ◌-◌, ◌<◌, [], ℕ, List, not, cond, length, set, take, sym, ap, subst, ◌∙◌}
+use Rattle.std.proofs.Common.{Option, Some, option_map}
+use Rattle.std.proofs.lemmas.Option.{same_Some}
+use Rattle.def_entry.specs.declared.key.Key.{Key}
+use Rattle.def_entry.specs.declared.key.Kind.{Kind}
+use Rattle.def_entry.specs.Reading.{SameTextLaw}
+use Rattle.def_entry.specs.SameKeys.{is_same_kind}
+use Rattle.deck_lines.specs.Names.{key_at}
+use Rattle.deck_lines.specs.Numbering.{IsNumbering}
+use Rattle.deck_lines.specs.Stores.{Store, definition_at}
+use Rattle.deck_lines.specs.declared.key_number.KeyNumber.{KeyNumber}
+use Rattle.deck_lines.specs.declared.line.DeckLine.{DeckLine}
+use Rattle.deck.specs.Changes.{IsTableChange, is_same_entry}
+use Rattle.deck.specs.Decks.{Contents}
+use Rattle.deck.specs.LastPlaces.{IsIndexed, places_of}
+use Rattle.deck.specs.Numbers.{entry_there, key_if}
+use Rattle.deck.specs.Tables.{definitions, last_place, table, table_of}
+use Rattle.deck.specs.Undefining.{CanUndefine}
+use Rattle.deck.specs.declared.places.last_places.LastPlaces.{LastPlaces}
+use Rattle.deck.specs.declared.settings.Settings.{Settings}
+use Rattle.deck.proofs.Undefining.{changed_less, defined_there, definitions_are, front_taken, indexed_less, last_at}
+use Rattle.deck.proofs.Undefining.{room_there}
+
+module _ (settings : Settings) (store : Store) (notices : List (List ℕ)) (d : Contents)
+    (view : record { lines = store.lines; settings = settings; notices = notices } ≡ d)
+    (uncovered : Option ℕ) (can : CanUndefine uncovered d) (len : ℕ) (count : len ≡ length store.lines)
+    (numbering : IsNumbering store) (last : LastPlaces) (indexed : IsIndexed store settings last) (n : KeyNumber)
+    (told : Some (key_at store.names n) ≡ option_map (λ e. Some e.0) (definition_at store.lines (len - 1))) where
+  split : store.lines ≡ can.front ++ can.line ∷ []
+  split = ap (λ (c : Contents). c.lines) view ∙ can.lines
+
+  covers : uncovered ≡ last_place settings can.front can.key
+  covers = can.place ∙ ap (λ (c : Contents). last_place c.settings can.front can.key) (sym view)
+
+  at_end : len - 1 ≡ length can.front
+  at_end = last_at store.lines can.front can.line len split count
+
+  left_is : take (len - 1) store.lines ≡ can.front
+  left_is = front_taken store.lines can.front can.line len split count
+
+  -- the number that it tells is that of its key
+  numbered : key_at store.names n ≡ Some can.key
+  numbered =
+      same_Some (key_at store.names n) (Some can.key)
+      (told ∙ ap (λ p. option_map (λ e. Some e.0) (definition_at store.lines p)) at_end
+      ∙ ap (option_map (λ e. Some e.0))
+      (defined_there settings store can.front can.line can.key can.entry split can.defines numbering last indexed))
+
+  -- the number has a place
+  pub room_undefined : n.number < length (places_of last n.kind)
+  room_undefined =
+      room_there settings store can.front can.line can.key can.entry split can.defines numbering last indexed n
+      uncovered numbered covers
+
+  -- the deck without it
+  pub indexed_undefined : (now : LastPlaces) (new : Store) → new.lines ≡ take (len - 1) store.lines
+      → new.names ≡ store.names → ((kind : Kind) → places_of now kind ≡ cond (is_same_kind kind n.kind)
+      (set (places_of last kind) n.number uncovered) (places_of last kind)) →
+      IsIndexed new settings now
+  indexed_undefined now new left names put =
+      indexed_less settings store can.front can.line can.key can.entry split can.defines numbering last indexed n
+      uncovered numbered covers now new (left ∙ left_is) names put
+
+  -- the keys that this changes
+  pub changed_undefined : SameTextLaw → (left : List DeckLine) (keys : List Key) → left ≡ take (len - 1) store.lines
+      → keys ≡ key_if (not (is_same_entry (entry_there store.lines (Some (len - 1)))
+      (entry_there store.lines uncovered))) (key_at store.names n) →
+      IsTableChange (table d) (table_of (definitions settings left)) keys
+  changed_undefined law left keys is given =
+      subst (λ (c : Contents). IsTableChange (table c) (table_of (definitions settings left)) keys) view
+      (subst (λ (ls : List DeckLine). IsTableChange (table_of (definitions settings store.lines))
+      (table_of (definitions settings ls)) keys) (sym (is ∙ left_is))
+      (subst (λ (ks : List Key). IsTableChange (table_of (definitions settings store.lines))
+      (table_of (definitions settings can.front)) ks) (sym given)
+      (changed_less law settings store.lines can.front can.line can.key can.entry (key_at store.names n) (len - 1)
+      uncovered split
+      (definitions_are settings store can.front can.line can.key can.entry split can.defines numbering last indexed)
+      numbered at_end covers)))

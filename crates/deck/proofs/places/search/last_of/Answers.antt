@@ -1,0 +1,28 @@
+use Rattle.std.proofs.Common.{◌≡◌, ◌++◌, ◌<◌, [], Bool, false, length, get_or, take, sym, ap, ◌∙◌, arith}
+use Rattle.std.proofs.lemmas.List.{take_more}
+use Rattle.std.proofs.lemmas.Option.{slice_get-get_or}
+use Rattle.std.specs.Option.{option_and_then}
+use Rattle.deck_lines.specs.Marks.{plain_line}
+use Rattle.deck_lines.specs.Readings.{entry_in}
+use Rattle.deck_lines.specs.Stores.{definition_at}
+use Rattle.deck_lines.specs.declared.line.DeckLine.{DeckLine}
+use Rattle.deck.specs.Tables.{Definitions, definition_by, definitions_by, place_of}
+use Rattle.deck.proofs.Lasting.{by_step}
+use Rattle.deck.proofs.places.search.last_of.Goals as goal
+
+pub loop-place-preserved : goal.loop-place-preserved
+loop-place-preserved c = λ k at.
+    let lines = c.args.store.now.lines in
+    let i = c.loop-place.place in
+    let x : DeckLine = get_or lines i (plain_line 0 []) in
+    let f : Bool = get_or c.args.flags.now i false in
+    let inside : i < length c.args.flags.now = omega (arith, c.loop-place-test.true) in
+    let within : i < length lines = omega (arith, c.loop-place-test.true, c.requires) in
+    let before : Definitions = definitions_by (take i c.args.flags.now) (take i lines) in
+    let there : definition_at lines i ≡ entry_in x =
+    ap (option_and_then entry_in) (slice_get-get_or lines i (plain_line 0 []) within) in
+    c.later_of-last.ensures k before at (c.loop-place.invariant k at)
+    ∙ ap (λ (ds : Definitions). place_of ds k)
+    (ap (λ o. definition_by i f o ++ before) there
+    ∙ sym (by_step c.args.flags.now lines i f x c.requires within (take_more c.args.flags.now i false inside)
+    (take_more lines i (plain_line 0 []) within)))

@@ -1,0 +1,85 @@
+-- A small deck, and what edits make of it, by hand.
+use Rattle.std.specs.Prelude.{◌≡◌, ◌++◌, ◌∷◌, ℕ, List, [], true, false, Some, None, Ok, Err, codes}
+use Rattle.expr_tree.specs.declared.fault.ParseFault.TheVariants.{Syntax}
+use Rattle.def_entry.specs.declared.fault.EntryFault.TheVariants.{BadForm, Parse}
+use Rattle.def_entry.specs.declared.key.Key.{Key}
+use Rattle.def_entry.specs.declared.key.Kind.TheVariants as kind
+use Rattle.def_entry.specs.Keys.{key}
+use Rattle.deck_lines.specs.Marks.{marked_line, plain_line}
+use Rattle.deck_lines.specs.declared.line.DeckLine.{DeckLine}
+use Rattle.deck.specs.Active.{active_lines}
+use Rattle.deck.specs.Changes.{changed_keys}
+use Rattle.deck.specs.Decks.{Contents}
+use Rattle.deck.specs.Edits.{after_define, after_drop}
+use Rattle.deck.specs.Tables.{last_place, table}
+use Rattle.deck.specs.declared.fault.DeckFault.TheVariants.{BadLine, NoSuchKey}
+use Rattle.deck.specs.declared.settings.Settings.{Settings}
+
+-- up to the line that defines `g` for the second time, where a variable has one of two values
+abbrev pub first_lines : List DeckLine
+first_lines =
+    plain_line 1 (codes "m !")
+    ∷ plain_line 2 (codes "!locale en_US")
+    ∷ plain_line 3 (codes "g 3 m")
+    ∷ plain_line 4 (codes "!endlocale")
+    ∷ plain_line 5 (codes "!set SIZE big")
+    ∷ plain_line 6 (codes "!var SIZE big large")
+    ∷ []
+
+-- behind that line; the last one has a notice
+abbrev pub rest_lines : List DeckLine
+rest_lines = plain_line 8 (codes "!endvar") ∷ marked_line 9 (codes "h 2 +") ∷ []
+
+-- all lines of the deck
+abbrev pub all_lines : List DeckLine
+all_lines = first_lines ++ plain_line 7 (codes "g 5 m") ∷ rest_lines
+
+-- settings with this locale
+abbrev pub in_locale : List ℕ → Settings
+in_locale locale = record { locale = locale; vars = [] }
+
+-- settings with this locale, where the variable has this value
+abbrev pub with_size : List ℕ → List ℕ → Settings
+with_size locale size = record { locale = locale; vars = (codes "SIZE", size) ∷ [] }
+
+-- a deck of these lines under these settings
+abbrev pub deck : Settings → List DeckLine → Contents
+deck settings these = record { lines = these; settings = settings; notices = [] }
+
+-- the key of a unit
+abbrev pub unit : List ℕ → Key
+unit name = key kind.Unit name
+
+-- law: which lines are active, where keys are defined last, what edits make of the deck, and which keys other settings
+-- change
+pub record ExamplesLaw : Type 0 where
+  -- both blocks hold
+  pub both : active_lines (in_locale (codes "en_US")) all_lines
+      ≡ true ∷ true ∷ true ∷ true ∷ true ∷ true ∷ true ∷ true ∷ false ∷ []
+  -- a block of another locale
+  pub elsewhere : active_lines (in_locale (codes "en_GB")) all_lines
+      ≡ true ∷ true ∷ false ∷ false ∷ true ∷ true ∷ true ∷ true ∷ false ∷ []
+  -- a variable that has a value keeps it
+  pub neither : active_lines (with_size (codes "en_GB") (codes "small")) all_lines
+      ≡ true ∷ true ∷ false ∷ false ∷ true ∷ true ∷ false ∷ false ∷ false ∷ []
+  -- the places of `g`, from 0, and of a key that only a line with a notice would define
+  pub last : last_place (in_locale (codes "en_US")) all_lines (unit (codes "g")) ≡ Some 6
+  pub first : last_place (with_size (codes "en_US") (codes "small")) all_lines (unit (codes "g")) ≡ Some 2
+  pub nowhere : last_place (with_size (codes "en_GB") (codes "small")) all_lines (unit (codes "g")) ≡ None
+  pub untold : last_place (in_locale (codes "en_US")) all_lines (unit (codes "h")) ≡ None
+  -- a line that is put at the end, and two that are refused
+  pub defined : after_define (codes "h 2 g") (deck (in_locale (codes "en_US")) all_lines)
+      ≡ Ok (deck (in_locale (codes "en_US")) (all_lines ++ plain_line 0 (codes "h 2 g") ∷ []))
+  pub unread : after_define (codes "h 2 +") (deck (in_locale (codes "en_US")) all_lines)
+      ≡ Err (BadLine (Parse (Syntax 3)))
+  pub directive : after_define (codes "!set SIZE small") (deck (in_locale (codes "en_US")) all_lines)
+      ≡ Err (BadLine BadForm)
+  -- the last active line of `g` is taken out, and the one before stays; `h` has no line
+  pub dropped : after_drop (unit (codes "g")) (deck (in_locale (codes "en_US")) all_lines)
+      ≡ Ok (deck (in_locale (codes "en_US")) (first_lines ++ rest_lines))
+  pub undefined : after_drop (unit (codes "h")) (deck (in_locale (codes "en_US")) all_lines) ≡ Err NoSuchKey
+  -- settings under which another line of `g` is the last, and settings under which the same line is
+  pub switched : changed_keys (table (deck (in_locale (codes "en_US")) all_lines))
+      (table (deck (with_size (codes "en_US") (codes "small")) all_lines)) ≡ unit (codes "g") ∷ []
+  pub stays : changed_keys (table (deck (in_locale (codes "en_US")) all_lines))
+      (table (deck (in_locale (codes "en_GB")) all_lines)) ≡ []

@@ -1,0 +1,53 @@
+use Rattle.std.proofs.Common.{ℕ, List, [], codes, refl, ap, Option}
+use Rattle.std.specs.Fmt.{digits}
+use Rattle.std.specs.Cmp.Lexicographic.{slice_cmp}
+use Rattle.std.specs.FinMap.{get-empty}
+use Rattle.std.specs.Ordering.{nat_cmp}
+use Rattle.units_io.specs.FileMap.{FileMap, no_files}
+use Rattle.units_io.specs.Fetching.{answer_of}
+use Rattle.def_lines.specs.Kinds.{kind_of}
+use Rattle.def_entry.specs.Headings.{heading}
+use Rattle.def_entry.specs.Reading.{what_of}
+use Rattle.expr_tree.specs.Faults.{fault_from}
+use Rattle.expr_tree.specs.Lexemes.{lexemes_from, tokens_in}
+use Rattle.expr_tree.specs.Parsed.{parsed}
+use Rattle.expr_tree.specs.Reading.{tree_of}
+use Rattle.frac128.specs.Numerals.{greatest}
+use Rattle.deck_lines.specs.Examples.{ExamplesLaw}
+use Rattle.deck_lines.specs.Excerpts.{Excerpt, in_turn, include_excerpt, line_without_notice, line_with_notice}
+use Rattle.deck_lines.specs.Excerpts.{rest_excerpt}
+use Rattle.deck_lines.specs.Includes.{deck_of, included_below, included_by, of_answer}
+use Rattle.deck_lines.specs.Readings.{reading_of}
+use Rattle.deck_lines.proofs.laws.examples_law.Goals as goal
+
+-- an include line of the first file, where this is found of the other
+abbrev included_as : FileMap → ℕ → Option (List ℕ) → Excerpt
+included_as files number found =
+    include_excerpt (codes "sub/a.units") (record { number = number; text = codes "!include b.units" })
+    (of_answer (included_by files 15 (codes "sub/b.units")) (codes "sub/b.units") (answer_of found))
+
+abbrev nothing : Excerpt
+nothing = record { lines = []; notices = [] }
+
+-- the first file with what stands around that line
+abbrev around : FileMap → Option (List ℕ) → Excerpt
+around files found =
+    in_turn (line_without_notice (record { number = 1; text = codes "m !" }))
+    (in_turn (included_as files 2 found)
+    (in_turn (line_with_notice (codes "sub/a.units") (record { number = 3; text = codes "!endutf8" })
+    (codes "stray end")) nothing))
+
+examples : ExamplesLaw
+unfolding deck_of rest_excerpt included_below reading_of kind_of heading what_of parsed tree_of fault_from lexemes_from
+    tokens_in greatest digits
+examples = record {
+  plain = refl;
+  faulty = refl;
+  unclosed = refl;
+  absent = ap (λ found. in_turn (included_as no_files 1 found) nothing)
+      (get-empty (slice_cmp nat_cmp) (codes "sub/b.units"));
+  included = λ files there. ap (around files) there;
+}
+
+pub returns : goal.returns
+returns c = examples

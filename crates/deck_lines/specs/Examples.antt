@@ -1,0 +1,59 @@
+-- The decks of a few texts, found by hand.
+use Rattle.std.specs.Prelude.{◌≡◌, ◌∷◌, [], Some, codes}
+use Rattle.units_io.specs.FileMap.{FileMap, file_of}
+use Rattle.deck_lines.specs.Includes.{deck_of, lone_deck_of}
+use Rattle.deck_lines.specs.Marks.{marked_line, plain_line}
+
+-- law: what a few texts give as the file `sub/a.units`, alone and beside other files
+pub record ExamplesLaw : Type 0 where
+  -- blank lines and comments are no lines of a deck, and the others have the numbers that they have in the file
+  pub plain : lone_deck_of (codes "sub/a.units") (codes "# lengths\n\nm !\n  ft 12 in # feet\n")
+      ≡ record { lines = plain_line 3 (codes "m !") ∷ plain_line 4 (codes "ft 12 in") ∷ []; notices = [] }
+  -- a line that gives no entry, a directive that is none and an end that closes nothing stay without effect
+  pub faulty : lone_deck_of (codes "sub/a.units") (codes "h 2 +\n!units\n!endvar\n")
+      ≡ record {
+        lines = marked_line 1 (codes "h 2 +") ∷ marked_line 2 (codes "!units") ∷ marked_line 3 (codes "!endvar") ∷ [];
+        notices =
+            codes "sub/a.units:1: syntax error at 3"
+            ∷ codes "sub/a.units:2: unknown directive"
+            ∷ codes "sub/a.units:3: stray end"
+            ∷ [];
+      }
+  -- an end closes the innermost block alone; blocks that are left open are closed at the end of the file, the
+  -- innermost first, and told in the order of their lines
+  pub unclosed : lone_deck_of (codes "sub/a.units") (codes "!locale en_US\n!var SIZE big\n!endlocale\ng 3 m\n")
+      ≡ record {
+        lines =
+            plain_line 1 (codes "!locale en_US")
+            ∷ plain_line 2 (codes "!var SIZE big")
+            ∷ marked_line 3 (codes "!endlocale")
+            ∷ plain_line 4 (codes "g 3 m")
+            ∷ plain_line 2 (codes "!endvar")
+            ∷ plain_line 1 (codes "!endlocale")
+            ∷ [];
+        notices =
+            codes "sub/a.units:3: stray end"
+            ∷ codes "sub/a.units:1: unclosed block"
+            ∷ codes "sub/a.units:2: unclosed block"
+            ∷ [];
+      }
+  -- an include of a file that is absent, which is looked for beside its includer
+  pub absent : lone_deck_of (codes "sub/a.units") (codes "!include b.units\n")
+      ≡ record {
+        lines = marked_line 1 (codes "!include b.units") ∷ [];
+        notices = codes "sub/a.units:1: no file: sub/b.units" ∷ [];
+      }
+  -- the lines of a file that is included stand behind the include line, and its blocks end with it
+  pub included : (files : FileMap) → file_of files (codes "sub/b.units") ≡ Some (codes "!utf8\ns !") →
+      deck_of files (codes "sub/a.units") (codes "m !\n!include b.units\n!endutf8\n")
+      ≡ record {
+        lines =
+            plain_line 1 (codes "m !")
+            ∷ plain_line 2 (codes "!include b.units")
+            ∷ plain_line 1 (codes "!utf8")
+            ∷ plain_line 2 (codes "s !")
+            ∷ plain_line 1 (codes "!endutf8")
+            ∷ marked_line 3 (codes "!endutf8")
+            ∷ [];
+        notices = codes "sub/b.units:1: unclosed block" ∷ codes "sub/a.units:3: stray end" ∷ [];
+      }
