@@ -69,8 +69,7 @@ fn define(alloc: Global, table: &mut LiveTable, text: Text) -> Result<Step, Step
     requires { CanStep (step.Define text) (version_of table.old.deck) }
     ensures { IsStepped (step.Define text) table.old table.new result }
 {
-    // The lines of each deck are closed and within the limits.
-    let _ = table.deck().lines();
+    table.deck().lines_closed();
     match table.define_over(alloc, text.as_bytes()) {
         Ok(uncovered) => Ok(Step::Undefine(uncovered)),
         Err(DeckFault::OutOfMemory) => Err(Step::Define(text)),
@@ -83,8 +82,7 @@ fn undefine(alloc: Global, table: &mut LiveTable, uncovered: Option<usize>) -> R
     requires { CanStep (step.Undefine uncovered) (version_of table.old.deck) }
     ensures { IsStepped (step.Undefine uncovered) table.old table.new result }
 {
-    // The lines of each deck are closed and within the limits.
-    let _ = table.deck().lines();
+    table.deck().lines_closed();
     match table.undefine(alloc, uncovered) {
         Ok(text) => Ok(Step::Define(text)),
         Err(_) => Err(Step::Undefine(uncovered)),
@@ -103,8 +101,7 @@ fn exchange(
     ensures { IsStepped (step.Exchange at cut put) table.old table.new result }
 {
     splices_are_undone();
-    // The lines of each deck are closed and within the limits.
-    let _ = table.deck().lines();
+    table.deck().lines_closed();
     let Ok(settings) = table.deck().settings().copy(alloc) else {
         return Err(Step::Exchange { at, cut, put });
     };
@@ -138,8 +135,7 @@ fn switch(alloc: Global, table: &mut LiveTable, change: SettingsChange) -> Resul
     requires { CanStep (step.Switch change) (version_of table.old.deck) }
     ensures { IsStepped (step.Switch change) table.old table.new result }
 {
-    // The lines of each deck are closed and within the limits.
-    let _ = table.deck().lines();
+    table.deck().lines_closed();
     let Ok(settings) = changed_settings(alloc, table.deck().settings(), &change) else {
         return Err(Step::Switch(change));
     };

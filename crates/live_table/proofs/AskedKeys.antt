@@ -1,15 +1,12 @@
 -- What is answered where a key is asked for.
-use Rattle.std.proofs.Common.{◌≡◌, ◌⊎◌, ◌↔◌, ◌<◌, ℕ, Bool, true, List, [], ◌∷◌, map, length, Contains, Option}
-use Rattle.std.proofs.Common.{None, option_map, refl, sym, ◌∙◌, ap, subst, inl, inr, arith}
-use Rattle.std.specs.Prelude.{Ok, Err}
+use Rattle.std.proofs.Common.{◌≡◌, ◌⊎◌, ◌↔◌, ◌<◌, ℕ, true, List, [], ◌∷◌, map, length, Contains, None}
+use Rattle.std.proofs.Common.{refl, sym, ◌∙◌, ap, subst, inl, inr, arith}
+use Rattle.std.specs.Prelude.{Result, Ok, Err}
 use Rattle.def_entry.specs.declared.key.Key.{Key}
 use Rattle.def_entry.specs.Tables.{Table}
 use Rattle.name_walk.specs.declared.step.Step.{Step}
 use Rattle.name_walk.specs.declared.step.Step.TheVariants.{Nowhere, To}
-use Rattle.name_walk.specs.Closed.{IsSettled}
-use Rattle.name_walk.specs.Faults as walk
 use Rattle.name_walk.specs.NewlyClosed.{AreNewlyClosed}
-use Rattle.table_names.specs.declared.fault.NameFault.{NameFault}
 use Rattle.table_names.specs.Closed.{AreClosed, IsClosed}
 use Rattle.table_names.specs.Faults.{key_fault}
 use Rattle.table_names.specs.Leads.{Reaches}
@@ -18,24 +15,23 @@ use Rattle.table_names.specs.Words.{key_words}
 use Rattle.table_names.proofs.Closing.{closed_law}
 use Rattle.table_names.proofs.Members.{member_cases, member_first, member_later}
 use Rattle.table_names.proofs.Reaching.{reach_law}
-use Rattle.deck.specs.Decks.{Contents}
 use Rattle.deck.specs.Tables.{table}
-use Rattle.name_numbers.specs.FaultLaws.{NumberedFaultLaw}
-use Rattle.name_numbers.specs.Numbered.{LeadToKnown, named}
-use Rattle.name_numbers.specs.SettlingLaws.{AreNewKeys, SettlingLaw}
-use Rattle.live_table.specs.declared.dead_end.DeadEnd.{DeadEnd}
+use Rattle.name_numbers.specs.Numbered.{LeadToKnown}
+use Rattle.name_numbers.specs.SettlingLaws.{AreNewKeys}
 use Rattle.live_table.specs.declared.fault.QueryFault.{QueryFault}
-use Rattle.live_table.specs.Asked.{AreAllSettled, IsAnswered, IsAsked, IsClosing}
+use Rattle.live_table.specs.Asked.{IsAnswered, IsAsked, IsSettledKey, fault_in}
 use Rattle.live_table.specs.Explored.{AreExplored, fault_at}
-use Rattle.live_table.specs.Exploring.{AreAllExplored, AreGrown, IsKnown, is_known}
+use Rattle.live_table.specs.Exploring.{IsKnown}
 use Rattle.live_table.specs.Shown.{IsRightTable, Shown}
 use Rattle.live_table.specs.Sound.{IsSound}
 use Rattle.live_table.specs.States.{AsksKey}
 use Rattle.live_table.specs.Stored.{Listed, key_at, shown}
-use Rattle.live_table.proofs.AllExplored.{explored_all, to_known}
-use Rattle.live_table.proofs.Growing.{grown_both, key_same, known_still, known_within}
-use Rattle.live_table.proofs.GrownLive.{grown_sound, key_query, same_shown}
+use Rattle.live_table.proofs.AllExplored.{to_known}
+use Rattle.live_table.proofs.Growing.{key_same, known_still, known_within}
+use Rattle.live_table.proofs.GrownLive.{key_query}
 use Rattle.live_table.proofs.Queries.{are_marks, asked_fault, asked_none, is_kept, reached_settled}
+use Rattle.live_table.proofs.Stages.{AreAllStages, AreStages, IsSettledAfter, Stages, explored_there, known_there}
+use Rattle.live_table.proofs.Stages.{same_start, sound_there}
 
 -- a closed key reaches what its list says
 key_reached : (t : Table) (k : Key) → IsClosed t k → (n : Key) → Contains (k ∷ key_reach t k) n ↔
@@ -54,118 +50,109 @@ key_reached t k closed n = (
     words : AreClosed t (key_words t k)
     words = (closed_law.key t k).0 closed
 
--- ---- a key
-module _ (faults : NumberedFaultLaw) (settles : SettlingLaw) (deck : Contents) (l : Listed) (r : ℕ)
-    (ends : List DeadEnd) (known : ℕ → Bool) (n : ℕ)
-    (sound : IsSound deck l r) (explored : AreExplored (table deck) l ends known) (is_known : known n ≡ true) where
-  abbrev k : Key
-  k = key_at l.keys n
+-- a key was given a number, and the number is known
+pub record IsNumber (s : Stages) (key : Key) (n : ℕ) : Type 0 where
+  pub is : key ≡ key_at s.led.keys n
+  pub known : IsKnown s.led s.before s.list n
 
-  abbrev query : List Step
-  query = To n ∷ []
-
-  abbrev own_fault : Option NameFault
-  own_fault = key_fault (table deck) k
-
-  abbrev Asked : Key → Type 0
-  Asked m = (m ≡ k) ⊎ Reaches (table deck) k m
-
-  key_by_name : option_map (named (table deck) (key_at l.keys) (fault_at ends)) (walk.fault l.graph [] query)
-      ≡ own_fault
-  key_by_name = faults.key (table deck) (key_at l.keys) (fault_at ends) l.graph known explored.numbered
-      sound.numbers.net.range n is_known
-
-  key_new : own_fault ≡ None → (order : List ℕ) → AreNewlyClosed l.graph l.settled query order
-      → AreNewKeys (is_kept (shown deck l r).kept) Asked (map (key_at l.keys) order)
-  key_new none order c =
-      settles.key (table deck) (key_at l.keys) (fault_at ends) l.graph known l.settled (is_kept (shown deck l r).kept)
-      explored.numbered
-      (are_marks deck l r ends known sound.numbers explored) n order is_known none c
-
-  pub key_asked_fault : {A : Type 0} (Given : A → Type 0) (now : Shown) (old later : ℕ) → IsRightTable now
-      → (q : QueryFault)
-      → IsAnswered (table deck) l ends query (Err q) (shown deck l r) now old later
-      → IsAsked (AsksKey k) own_fault Given (Err q) (shown deck l r) now old later
-  key_asked_fault Given now old later right q a =
-      asked_fault (AsksKey k) own_fault (k ∷ key_reach (table deck) k) Asked deck l r ends query sound
-      (key_query (table deck) k) key_by_name
-      (key_reached (table deck) k) key_new Given now old later right q a
-
-  pub key_settled_now : (now : Listed) (count old later : ℕ) → IsSound deck now count → now.keys ≡ l.keys
-      → (order : List ℕ) → IsClosing l query order → AreAllSettled (map (key_at l.keys) order) (shown deck l r)
-      (shown deck now count) old later
-      → IsAsked (AsksKey k) own_fault (λ m. (k ≡ key_at now.keys m) × IsSettled now.settled m) (Ok n) (shown deck l r)
-      (shown deck now count) old later
-  key_settled_now now count old later after keys order c all =
-      asked_none (AsksKey k) own_fault (k ∷ key_reach (table deck) k) Asked deck l r ends query sound
-      (key_query (table deck) k) key_by_name
-      (key_reached (table deck) k) key_new (λ m. (k ≡ key_at now.keys m) × IsSettled now.settled m)
-      (shown deck now count) old later after.right n order c all (
-        ap (λ (ks : List Key). key_at ks n) (sym keys),
-        reached_settled deck l now r count old later query order sound after.numbers keys c.closes all n within
-            (n, inl refl, inl refl),
-      )
-    where
-      within : n < length l.keys
-      within =
-          let a : n < length l.graph = explored.numbered.within n is_known in
-          let b : length l.graph ≡ length l.keys = sound.numbers.step_count in omega arith
-
--- ---- a key that was given a number, and what is below it explored
 abbrev number_of : Step → ℕ
 number_of (To n) = n
 number_of (Nowhere n) = n
 
-module _ (deck : Contents) (l m k : Listed) (r : ℕ) (before here list there : List ℕ) (ends more : List DeadEnd)
-    (n : ℕ) (key : Key)
-    (first : AreGrown (table deck) l m before here list ends ends)
-    (second : AreGrown (table deck) m k before list there ends more)
-    (place : (key ≡ key_at m.keys n) × IsKnown m before list n) where
-  numbered : AreGrown (table deck) l k before here there ends more
-  numbered = grown_both (table deck) l m k before here list there ends ends more first second
+-- ---- what is below it was explored
+module _ (s : Stages) (are : AreStages s) (key : Key) (n : ℕ) (number : IsNumber s key n) where
+  number_known : known_there s n ≡ true
+  number_known = to_known s.explored s.before s.there n (known_still (table s.deck) s.led s.explored s.before s.list
+      s.there s.ends s.more are.first.nodes are.first.listed are.second n number.known)
 
-  key_known : is_known k.settled before there n ≡ true
-  key_known = to_known k before there n (known_still (table deck) m k before list there ends more first.nodes
-      first.listed second n place.1)
+  key_is : key_at s.explored.keys n ≡ key
+  key_is = key_same s.led.keys s.explored.keys n are.second.keys_more (known_within (table s.deck) s.led s.before s.list
+      are.first.nodes are.first.listed n number.known) ∙ sym number.is
 
-  key_is : key_at k.keys n ≡ key
-  key_is = key_same m.keys k.keys n second.keys_more (known_within (table deck) m before list first.nodes first.listed n
-      place.1) ∙ sym place.0
-
-  pub one_known : LeadToKnown (is_known k.settled before there) (To n ∷ [])
-  one_known p (inl e) =
-      subst (λ (x : ℕ). is_known k.settled before there x ≡ true) (sym (ap number_of e)) key_known
+  pub one_known : LeadToKnown (known_there s) (To n ∷ [])
+  one_known p (inl e) = subst (λ (x : ℕ). known_there s x ≡ true) (sym (ap number_of e)) number_known
   one_known p (inr i) = absurd i
 
-  same_start : shown deck k r ≡ shown deck l r
-  same_start = same_shown deck l k before here there ends more r numbered
+-- ---- the key of a known number, where all below it was explored
+module _ (s : Stages) (are : AreAllStages s) (n : ℕ) (known : known_there s n ≡ true) where
+  abbrev k : Key
+  k = key_at s.explored.keys n
 
-  module _ (faults : NumberedFaultLaw) (settles : SettlingLaw) (sound : IsSound deck l r)
-      (all : AreAllExplored (table deck) k before there more) where
-    numbered_sound : IsSound deck k r
-    numbered_sound = grown_sound deck l k before here there ends more r numbered sound
+  abbrev query : List Step
+  query = To n ∷ []
 
-    explored : AreExplored (table deck) k more (is_known k.settled before there)
-    explored = explored_all (table deck) k before there more second.nodes all
+  abbrev Asked : Key → Type 0
+  Asked m = (m ≡ k) ⊎ Reaches (table s.deck) k m
 
-    pub key_explored_fault : {A : Type 0} (Given : A → Type 0) (now : Shown) (old later : ℕ) → IsRightTable now
-        → (f : QueryFault)
-        → IsAnswered (table deck) k more (To n ∷ []) (Err f) (shown deck k r) now old later
-        → IsAsked (AsksKey key) (key_fault (table deck) key) Given (Err f) (shown deck l r) now old later
-    key_explored_fault Given now old later right f a =
-        subst (λ (p : Shown × Key). IsAsked (AsksKey p.1) (key_fault (table deck) p.1) Given (Err f) p.0 now old later)
-        (λ i. (same_start i, key_is i))
-        (key_asked_fault faults settles deck k r more (is_known k.settled before there) n numbered_sound explored
-        key_known Given now old later right f a)
+  sound : IsSound s.deck s.explored s.reductions
+  sound = sound_there s are.stages
 
-    pub key_explored_settled : (now : Listed) (count old later : ℕ) → IsSound deck now count → now.keys ≡ k.keys
-        → (order : List ℕ) → IsClosing k (To n ∷ []) order
-        → AreAllSettled (map (key_at k.keys) order) (shown deck k r) (shown deck now count) old later
-        → IsAsked (AsksKey key) (key_fault (table deck) key) (λ p. (key ≡ key_at now.keys p) × IsSettled now.settled p)
-        (Ok n) (shown deck l r) (shown deck now count) old later
-    key_explored_settled now count old later after keys order c all_settled =
-        subst (λ (p : Shown × Key). IsAsked (AsksKey p.1) (key_fault (table deck) p.1)
-        (λ x. (p.1 ≡ key_at now.keys x) × IsSettled now.settled x) (Ok n) p.0 (shown deck now count) old later)
-        (λ i. (same_start i, key_is i))
-        (key_settled_now faults settles deck k r more (is_known k.settled before there) n numbered_sound explored
-        key_known now count old later after keys order c all_settled)
+  explored : AreExplored (table s.deck) s.explored s.more (known_there s)
+  explored = explored_there s are
+
+  by_name : fault_in (table s.deck) s.explored s.more query ≡ key_fault (table s.deck) k
+  by_name =
+      are.faults.key (table s.deck) (key_at s.explored.keys) (fault_at s.more) s.explored.graph (known_there s)
+      explored.numbered sound.numbers.net.range n known
+
+  new : key_fault (table s.deck) k ≡ None → (order : List ℕ)
+      → AreNewlyClosed s.explored.graph s.explored.settled query order
+      → AreNewKeys (is_kept (shown s.deck s.explored s.reductions).kept) Asked (map (key_at s.explored.keys) order)
+  new none order c =
+      are.settles.key (table s.deck) (key_at s.explored.keys) (fault_at s.more) s.explored.graph (known_there s)
+      s.explored.settled (is_kept (shown s.deck s.explored s.reductions).kept) explored.numbered
+      (are_marks s.deck s.explored s.reductions s.more (known_there s) sound.numbers explored) n order known none c
+
+  known_fault : {A : Type 0} (Given : A → Type 0) (now : Shown) (old later : ℕ) → IsRightTable now
+      → (f : QueryFault)
+      → IsAnswered (table s.deck) s.explored s.more query (Err f) (shown s.deck s.explored s.reductions) now old later
+      → IsAsked (AsksKey k) (key_fault (table s.deck) k) Given (Err f) (shown s.deck s.explored s.reductions) now old
+      later
+  known_fault Given now old later right f a =
+      asked_fault (AsksKey k) (key_fault (table s.deck) k) (k ∷ key_reach (table s.deck) k) Asked s.deck s.explored
+      s.reductions s.more query sound (key_query (table s.deck) k) by_name (key_reached (table s.deck) k) new Given now
+      old later right f a
+
+  known_settled : (now : Listed) (count old later : ℕ) → IsSettledAfter s query now count old later
+      → IsAsked (AsksKey k) (key_fault (table s.deck) k) (IsSettledKey now k) (Ok n)
+      (shown s.deck s.explored s.reductions) (shown s.deck now count) old later
+  known_settled now count old later after =
+      asked_none (AsksKey k) (key_fault (table s.deck) k) (k ∷ key_reach (table s.deck) k) Asked s.deck s.explored
+      s.reductions s.more query sound (key_query (table s.deck) k) by_name (key_reached (table s.deck) k) new
+      (IsSettledKey now k) (shown s.deck now count) old later after.sound.right n after.order after.closing after.all (
+        ap (λ (ks : List Key). key_at ks n) (sym after.keys),
+        reached_settled s.deck s.explored now s.reductions count old later query after.order sound after.sound.numbers
+            after.keys after.closing.closes after.all n within (n, inl refl, inl refl),
+      )
+    where
+      within : n < length s.explored.keys
+      within =
+          let a : n < length s.explored.graph = explored.numbered.within n known in
+          let b : length s.explored.graph ≡ length s.explored.keys = sound.numbers.step_count in omega arith
+
+-- ---- the key that was given the number
+module _ (s : Stages) (are : AreAllStages s) (key : Key) (n : ℕ) (number : IsNumber s key n) where
+  -- no answer, or its fault
+  pub key_explored_fault : {A : Type 0} (Given : A → Type 0) (now : Shown) (old later : ℕ) → IsRightTable now
+      → (f : QueryFault)
+      → IsAnswered (table s.deck) s.explored s.more (To n ∷ []) (Err f) (shown s.deck s.explored s.reductions) now old
+      later
+      → (result : Result A QueryFault) → result ≡ Err f
+      → IsAsked (AsksKey key) (key_fault (table s.deck) key) Given result (shown s.deck s.start s.reductions) now old
+      later
+  key_explored_fault {A} Given now old later right f a result e =
+      subst (λ (r : Result A QueryFault). IsAsked (AsksKey key) (key_fault (table s.deck) key) Given r
+      (shown s.deck s.start s.reductions) now old later) (sym e)
+      (subst (λ (p : Shown × Key). IsAsked (AsksKey p.1) (key_fault (table s.deck) p.1) Given (Err f) p.0 now old later)
+      (λ i. (same_start s are.stages i, key_is s are.stages key n number i))
+      (known_fault s are n (number_known s are.stages key n number) Given now old later right f a))
+
+  -- or what it reaches is settled, and it is
+  pub key_explored_settled : (now : Listed) (count old later : ℕ) → IsSettledAfter s (To n ∷ []) now count old later
+      → IsAsked (AsksKey key) (key_fault (table s.deck) key) (IsSettledKey now key) (Ok n)
+      (shown s.deck s.start s.reductions) (shown s.deck now count) old later
+  key_explored_settled now count old later after =
+      subst (λ (p : Shown × Key). IsAsked (AsksKey p.1) (key_fault (table s.deck) p.1) (IsSettledKey now p.1) (Ok n) p.0
+      (shown s.deck now count) old later)
+      (λ i. (same_start s are.stages i, key_is s are.stages key n number i))
+      (known_settled s are n (number_known s are.stages key n number) now count old later after)

@@ -1,5 +1,6 @@
 -- Exploring changes nothing that is shown.
 use Rattle.std.proofs.Common.{◌≡◌, ◌∷◌, [], ℕ, List, Option, is_none, sym, ap, subst}
+use Rattle.std.specs.Prelude.{Result, Err}
 use Rattle.expr_tree.specs.declared.word_list.WordUse.{WordUse}
 use Rattle.def_entry.specs.declared.key.Key.{Key}
 use Rattle.def_entry.specs.Tables.{Table}
@@ -10,6 +11,9 @@ use Rattle.deck.specs.Decks.{Contents}
 use Rattle.deck.specs.Tables.{table}
 use Rattle.name_edges.specs.NameGraphs.{NameGraph}
 use Rattle.live_table.specs.declared.dead_end.DeadEnd.{DeadEnd}
+use Rattle.live_table.specs.declared.fault.QueryFault.{QueryFault}
+use Rattle.live_table.specs.declared.fault.QueryFault.TheVariants.{OutOfMemory}
+use Rattle.live_table.specs.Asked.{IsAsked}
 use Rattle.live_table.specs.Edged.{IsLive}
 use Rattle.live_table.specs.Exploring.{AreGrown}
 use Rattle.live_table.specs.Shown.{IsCutOff, IsRightTable, Shown}
@@ -55,12 +59,14 @@ key_query t k =
     record { after = λ s e. ap (λ (x : Table). after_query (is_none (key_fault x k)) (k ∷ key_reach x k) s) e }
 
 -- ---- want of memory before the walk
-pub cut_short : (event : Event) (fault : Option NameFault) (reached : List Key) (deck : Contents) (l m : Listed)
-    (before here there : List ℕ) (ends more : List DeadEnd) (r old : ℕ)
+pub cut_short : {A : Type 0} (Given : A → Type 0) (event : Event) (fault : Option NameFault) (reached : List Key)
+    (deck : Contents) (l m : Listed) (before here there : List ℕ) (ends more : List DeadEnd) (r old : ℕ)
     → AreGrown (table deck) l m before here there ends more → IsSound deck l r
     → IsQueryOf event (table deck) fault reached
-    → IsCutOff (event ∷ []) (shown deck l r) (shown deck m r) old old
-cut_short event fault reached deck l m before here there ends more r old g s is =
-    subst (λ (now : Shown). IsCutOff (event ∷ []) (shown deck l r) now old old)
+    → (result : Result A QueryFault) → result ≡ Err OutOfMemory
+    → IsAsked event fault Given result (shown deck l r) (shown deck m r) old old
+cut_short {A} Given event fault reached deck l m before here there ends more r old g s is result e =
+    subst (λ (x : Result A QueryFault). IsAsked event fault Given x (shown deck l r) (shown deck m r) old old) (sym e)
+    (subst (λ (now : Shown). IsCutOff (event ∷ []) (shown deck l r) now old old)
     (sym (same_shown deck l m before here there ends more r g))
-    (cut_off event fault reached (shown deck l r) old s.right is)
+    (cut_off event fault reached (shown deck l r) old s.right is))

@@ -42,6 +42,7 @@ pub mod Reached
 pub mod Runs
 pub mod SettleAll
 pub mod SettleOne
+pub mod Stages
 pub mod Starting
 pub mod StillExplored
 pub mod Targets

@@ -10,17 +10,16 @@ use Rattle.def_entry.specs.Tables.{Table}
 use Rattle.name_walk.specs.declared.step.Step.{Step}
 use Rattle.name_walk.specs.Closed.{IsSettled}
 use Rattle.name_walk.specs.Faults as walk
-use Rattle.name_walk.specs.Lists.{In}
 use Rattle.name_walk.specs.NewlyClosed.{AreNewlyClosed, IsReached}
 use Rattle.name_walk.proofs.Settled.{settled_law_holds}
 use Rattle.tree_eval.specs.declared.outcome.Outcome.{Outcome}
 use Rattle.table_names.specs.declared.fault.NameFault.{NameFault}
 use Rattle.table_names.specs.Meanings.{outcome}
-use Rattle.table_names.proofs.Members.{member_first, member_later}
 use Rattle.deck.specs.Decks.{Contents}
 use Rattle.deck.specs.Tables.{table}
 use Rattle.name_numbers.specs.Numbered.{named}
 use Rattle.name_numbers.specs.SettlingLaws.{AreMarks, AreNewKeys}
+use Rattle.name_numbers.proofs.NewKeys.{key_in}
 use Rattle.live_table.specs.declared.dead_end.DeadEnd.{DeadEnd}
 use Rattle.live_table.specs.declared.fault.QueryFault.{QueryFault}
 use Rattle.live_table.specs.declared.fault.QueryFault.TheVariants.{Name, Value, OutOfMemory}
@@ -174,12 +173,6 @@ module _ (event : Event) (fault : Option NameFault) (reached : List Key) (Asked 
           (new_names old order c) now then all right_now,
     )
 
--- ---- what is reached is settled afterwards
-in_map : (f : ℕ → Key) (ns : List ℕ) (n : ℕ) → In n ns → Contains (map f ns) (f n)
-in_map f [] n i = absurd i
-in_map f (m ∷ ns) n (inl e) = member_first (f n) (f m) (map f ns) (ap f e)
-in_map f (m ∷ ns) n (inr i) = member_later (f n) (f m) (map f ns) (in_map f ns n i)
-
 -- what a query reaches is settled behind it
 pub reached_settled : (deck : Contents) (l now : Listed) (r count old then : ℕ) (query : List Step) (order : List ℕ)
     → IsSound deck l r → AreNodes (table deck) now
@@ -195,7 +188,7 @@ reached_settled deck l now r count old then query order sound nodes keys closing
     place = elim (settled_law_holds.asked l.graph l.settled query order closing n reached) [
       | inl e ↦ inr (some_of (map_of.get (shown deck l r).kept (key_at l.keys n))
           (key_settled deck l r sound.numbers n e) (sound.right.right (key_at l.keys n)))
-      | inr i ↦ inl (in_map (key_at l.keys) order n i)
+      | inr i ↦ inl (key_in (key_at l.keys) order n i)
     ]
       where
         some_of : (o : Option Outcome) → is_some o ≡ true

@@ -36,21 +36,27 @@ stepping_start t l before list us xs nodes right e = record {
   written = written_none t l before list [] xs e;
 }
 
--- one more word was looked up, and its targets were put on the agenda
-module _ (t : Table) (old now m : Listed) (before here list there : List ℕ) (us : List WordUse) (xs : List Step)
-    (i : ℕ) (u : WordUse)
-    (at : slice_get us i ≡ Some u) (s : IsStepping t old now before here list us xs i)
-    (led : (ends : List DeadEnd) → AreAdded t now m before list list ends ends)
-    (put : (ends : List DeadEnd) → AreAdded t m m before list there ends ends) where
-  then : (ends : List DeadEnd) → AreAdded t now m before list there ends ends
-  then ends = added_both t now m m before list list there ends ends ends (led ends) (put ends)
+-- a turn of the loop: one more word was looked up, and its targets were put on the agenda
+pub record IsTurn (t : Table) (old now m : Listed) (before here list there : List ℕ) (us : List WordUse)
+    (xs : List Step) (i : ℕ) (u : WordUse) : Type 0 where
+  pub word : slice_get us i ≡ Some u
+  pub start : IsStepping t old now before here list us xs i
+  pub led : (ends : List DeadEnd) → AreAdded t now m before list list ends ends
+  pub put : (ends : List DeadEnd) → AreAdded t m m before list there ends ends
 
+module _ (t : Table) (old now m : Listed) (before here list there : List ℕ) (us : List WordUse) (xs : List Step)
+    (i : ℕ) (u : WordUse) (turn : IsTurn t old now m before here list there us xs i u) where
+  then : (ends : List DeadEnd) → AreAdded t now m before list there ends ends
+  then ends = added_both t now m m before list list there ends ends ends (turn.led ends) (turn.put ends)
+
+  -- names are added to those before the loop
   pub stepped_added : (ends : List DeadEnd) → AreAdded t old m before here there ends ends
-  stepped_added ends = added_both t old now m before here list there ends ends ends (s.added ends) (then ends)
+  stepped_added ends = added_both t old now m before here list there ends ends ends (turn.start.added ends) (then ends)
 
   front : AreWritten t m before there [] (take i us) xs
-  front = written_more t now m before list there [] [] (s.added []).grown.nodes (s.added []).grown.listed
-      (then []).grown (take i us) xs s.written
+  front =
+      written_more t now m before list there [] [] (turn.start.added []).grown.nodes
+      (turn.start.added []).grown.listed (then []).grown (take i us) xs turn.start.written
 
   module _ (lead : Lead) (is : IsQueryLead t m.keys u lead) where
     -- its steps go behind those before it
@@ -60,7 +66,7 @@ module _ (t : Table) (old now m : Listed) (before here list there : List ℕ) (u
     stepping_next known w e ys zs a b = record {
       added = stepped_added;
       written = subst (λ (p : List WordUse × List Step). AreWritten t m before there [] p.0 p.1)
-          (λ j. (sym (take_at us i u at) j, sym all j))
+          (λ j. (sym (take_at us i u turn.word) j, sym all j))
           (written_behind t m before there [] (take i us) (u ∷ []) xs (w.first ∷ w.second ∷ []) front
           (steps_written t m before there [] u lead w is known e));
     }
@@ -75,7 +81,7 @@ module _ (t : Table) (old now m : Listed) (before here list there : List ℕ) (u
       front = take i us;
       word = u;
       rest = drop (suc i) us;
-      words = parts us i at;
+      words = parts us i turn.word;
       written = front;
       ends = dead lead is none e;
     }

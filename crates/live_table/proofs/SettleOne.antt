@@ -122,6 +122,13 @@ module _ (s : Shown) (k : Key) (right : IsRightTable s) (there : is_present (tab
       let h = subst IsRight (new_law before reached (k ∷ []) right is_new) settles in
       record { present = h.present; closed = h.closed; below = h.below; right = h.right }
 
+-- the outcome of a name was put in with its rank, and one more was counted
+pub record IsPut (deck : Contents) (l : Listed) (r n : ℕ) (o : Outcome) (rank now : ℕ) (later : Listed) : Type 0 where
+  pub outcome_is : o ≡ outcome (table deck) (key_at l.keys n)
+  pub rank_is : rank ≡ rank_of_meaning (key_meaning (table deck) (key_at l.keys n))
+  pub counted : now ≡ min (2 ^ 64 - 1) (r + 1)
+  pub put : (c : Callee) → slice_get l.callees n ≡ Some c → later ≡ with_outcome n o (ranked rank c) l
+
 -- ---- what is due, by number
 module _ (deck : Contents) (l : Listed) (r n : ℕ) (sound : IsSound deck l r) (due : IsDue (table deck) l n) where
   abbrev the_key : Key
@@ -273,27 +280,24 @@ module _ (deck : Contents) (l : Listed) (r n : ℕ) (sound : IsSound deck l r) (
     }
 
   -- with what was kept of a function, and its rank
-  module _ (o : Outcome) (is : o ≡ outcome (table deck) the_key) (rank : ℕ)
-      (rank_is : rank ≡ rank_of_meaning (key_meaning (table deck) the_key))
-      (now : ℕ) (count : now ≡ min (2 ^ 64 - 1) (r + 1)) (later : Listed)
-      (put : (c : Callee) → slice_get l.callees n ≡ Some c → later ≡ with_outcome n o (ranked rank c) l) where
+  module _ (o : Outcome) (rank now : ℕ) (later : Listed) (is : IsPut deck l r n o rank now later) where
     old_callee : (c : Callee) × (slice_get l.callees n ≡ Some c)
     old_callee = element l.callees n (let a : n < length l.keys = due.within in let b : length l.callees ≡ length
         l.keys = sound.numbers.callee_count in omega arith)
 
     later_is : later ≡ with_outcome n o (ranked rank old_callee.0) l
-    later_is = put old_callee.0 old_callee.1
+    later_is = is.put old_callee.0 old_callee.1
 
     starts_are : (e : Entry) → entry_at (table deck) the_key ≡ Some e → HasStarts e.what (ranked rank old_callee.0)
     starts_are e entry = due.starts e old_callee.0 entry old_callee.1
 
     pub settled_sound : IsSound deck later now
     settled_sound = subst (λ (x : Listed). IsSound deck x now) (sym later_is)
-        (sound_after o (ranked rank old_callee.0) now is starts_are rank_is count)
+        (sound_after o (ranked rank old_callee.0) now is.outcome_is starts_are is.rank_is is.counted)
 
     pub settled_nodes : (p : Outcome) × (c : Callee) × (later ≡ with_outcome n p c l)
     settled_nodes = (o, ranked rank old_callee.0, later_is)
 
     pub settled_shown : shown deck later now ≡ put_in (shown deck l r) (the_key ∷ [])
     settled_shown = ap (λ (x : Listed). shown deck x now) later_is
-        ∙ shown_after o (ranked rank old_callee.0) now is starts_are rank_is count
+        ∙ shown_after o (ranked rank old_callee.0) now is.outcome_is starts_are is.rank_is is.counted

@@ -1,6 +1,6 @@
 -- What a search found, by number.
-use Rattle.std.proofs.Common.{◌≡◌, ◌⊎◌, ◌↔◌, ◌<◌, ◌≤◌, ◌-◌, ◌++◌, ◌∷◌, [], ℕ, false, List, length, map, take}
-use Rattle.std.proofs.Common.{drop, Contains, refl, sym, ◌∙◌, ap, subst, inl, inr, arith}
+use Rattle.std.proofs.Common.{◌≡◌, ◌⊎◌, ◌↔◌, ◌<◌, ◌≤◌, ◌-◌, ◌++◌, [], ℕ, false, List, length, map, take}
+use Rattle.std.proofs.Common.{drop, Contains, sym, ◌∙◌, ap, subst, inl, inr, arith}
 use Rattle.std.proofs.lemmas.List.{drop-map, length-drop, length-map, take-append-drop}
 use Rattle.expr_tree.specs.declared.word_list.WordUse.{WordUse}
 use Rattle.def_entry.specs.declared.key.Key.{Key}
@@ -11,7 +11,7 @@ use Rattle.name_lookup.specs.Targets.{AreFound, count}
 use Rattle.name_walk.specs.Lists.{In}
 use Rattle.name_walk.proofs.Lists.{In-left, In-right}
 use Rattle.table_names.specs.Leads.{looked_keys, targets, word_lookup}
-use Rattle.table_names.proofs.Members.{member_cases, member_first, member_later, no_member}
+use Rattle.name_numbers.proofs.NewKeys.{key_in, number_in}
 use Rattle.expr_tree.specs.Names.{is_refused}
 use Rattle.live_table.specs.declared.leading.Lead.{Lead}
 use Rattle.live_table.specs.declared.leading.Lead.TheVariants.{Refused, Nowhere, One, Two}
@@ -24,20 +24,6 @@ pub count_few : (w : Targets) → count w ≤ 2
 count_few which.Nowhere = omega arith
 count_few which.Last = omega arith
 count_few which.LastTwo = omega arith
-
--- a member of a list that is made from numbers is that of one of them
-numbered : (f : ℕ → Key) (ns : List ℕ) (k : Key) → Contains (map f ns) k → (m : ℕ) × In m ns × (k ≡ f m)
-numbered f [] k i = absurd (no_member k i)
-numbered f (n ∷ ns) k i = elim (member_cases k (f n) (map f ns) i) [
-  | inl e ↦ (n, inl refl, e)
-  | inr j ↦ let r = numbered f ns k j in (r.0, inr r.1, r.2)
-]
-
--- the image of a member is one of the images
-member : (f : ℕ → Key) (ns : List ℕ) (m : ℕ) → In m ns → Contains (map f ns) (f m)
-member f [] m i = absurd i
-member f (n ∷ ns) m (inl e) = member_first (f m) (f n) (map f ns) (ap f e)
-member f (n ∷ ns) m (inr i) = member_later (f m) (f n) (map f ns) (member f ns m i)
 
 -- a search began with no number that was looked at
 module _ (t : Table) (keys : List Key) (u : WordUse) (w : Targets) (looked : List ℕ)
@@ -92,18 +78,18 @@ module _ (t : Table) (keys : List Key) (u : WordUse) (w : Targets) (looked : Lis
       where
         to : (k : Key) → Contains (looked_keys t u) k → (m : ℕ) × (In m ns ⊎ In m others) × (k ≡ key_at keys m)
         to k i =
-            let r = numbered (key_at keys) looked k (subst (λ (ks : List Key). Contains ks k) (sym all_looked) i) in (
+            let r = number_in (key_at keys) looked k (subst (λ (ks : List Key). Contains ks k) (sym all_looked) i) in (
               r.0,
-              elim (in_both others ns r.0 (subst (λ (xs : List ℕ). In r.0 xs) (sym parts) r.1))
+              elim (in_both others ns r.0 (subst (λ (xs : List ℕ). In r.0 xs) (sym parts) r.2))
                   [ inl a ↦ inr a | inr b ↦ inl b ],
-              r.2,
+              r.1,
             )
 
         from : (k : Key) → ((m : ℕ) × (In m ns ⊎ In m others) × (k ≡ key_at keys m)) → Contains (looked_keys t u) k
         from k (m, i, e) =
             subst (λ (ks : List Key). Contains ks k) all_looked
             (subst (λ (q : Key). Contains (map (key_at keys) looked) q) (sym e)
-            (member (key_at keys) looked m (in_looked m i)))
+            (key_in (key_at keys) looked m (in_looked m i)))
 
 -- the targets of a word are where it leads
 pub is_lead : (t : Table) (keys : List Key) (u : WordUse) (ns old new : List ℕ) (lead : Lead)

@@ -1,28 +1,55 @@
 //! Forgetting what an edit affects.
 
-ghost use Rattle.std.specs.Prelude.{◌≡◌, ◌<◌, ◌∷◌, []};
+ghost use Rattle.std.specs.Prelude.{◌≡◌, ◌<◌, ◌∷◌, [], ℕ};
+ghost use Rattle.deck.specs.Changes.{IsChange};
+ghost use Rattle.deck.specs.Decks.{Contents};
 ghost use Rattle.deck.specs.Tables.{table};
 ghost use Rattle.edge_links.specs.Reach.{IsCleared};
 ghost use Rattle.name_edges.specs.Affected.{Forgets, IsAffected};
-ghost use Rattle.live_table.specs.Edged.{is_flagged};
+ghost use Rattle.live_table.specs.Calls.{IsEdit};
+ghost use Rattle.live_table.specs.Edged.{IsLive, is_flagged};
+ghost use Rattle.live_table.specs.Exploring.{WereExplored};
 ghost use Rattle.live_table.specs.Forgotten.{AreForgotten, CanForget};
 ghost use Rattle.live_table.specs.Keeping.{IsLeft};
-ghost use Rattle.live_table.specs.Stored.{listed};
+ghost use Rattle.live_table.specs.Stored.{listed, shown};
 
 use crate::deck_table::DeckTable;
 use crate::explored::Explored;
 use crate::keeping::Kept;
 use crate::nodes::Nodes;
-use deck::Deck;
-use def_entry::Key;
+use deck::{Deck, changes_are_computed};
+use def_entry::{Key, Keys};
 use name_edges::NameEdges;
 use name_lookup::Present;
 use std::alloc::Global;
 use std::mem;
 
-/// Forgets the settled names that a change of keys affects, and all that was explored without being settled, and finds
-/// anew whether each of these keys has an entry. It takes no memory.
-pub(crate) fn forget(
+/// Forgets what a change of keys of the deck affects: a table that was live over the deck before is live over this one,
+/// and what is shown of it follows the edit. It takes no memory.
+pub(crate) fn forget_changed(
+    alloc: Global,
+    deck: &Deck,
+    nodes: &mut Nodes,
+    edges: &mut NameEdges,
+    explored: &mut Explored,
+    keys: &Keys,
+)
+    requires { CanForget (listed nodes.old) edges.old }
+    ensures live { (before : Contents) (reductions : ℕ) → IsLive before (listed nodes.old) edges.old reductions
+        → IsChange before deck.now keys.now → IsLive deck.now (listed nodes.new) edges.new reductions }
+    ensures edit { (before : Contents) (reductions : ℕ) → IsLive before (listed nodes.old) edges.old reductions
+        → IsChange before deck.now keys.now
+        → IsEdit (shown before (listed nodes.old) reductions) (shown deck.now (listed nodes.new) reductions) }
+    ensures explored { WereExplored (table deck.now) (listed nodes.new) explored.new.names
+        explored.new.dead_ends.items }
+{
+    changes_are_computed();
+    forget(alloc, deck, nodes, edges, explored, keys.as_slice());
+}
+
+// Forgets the settled names that a change of keys affects, and all that was explored without being settled, and finds
+// anew whether each of these keys has an entry.
+fn forget(
     alloc: Global,
     deck: &Deck,
     nodes: &mut Nodes,

@@ -38,8 +38,7 @@ impl History {
         ensures noted { calls.IsNoted self.old self.new table.old.deck table.new.deck result }
     {
         self.done.reserve(1)?;
-        // The lines of each deck are closed and within the limits.
-        let _ = table.deck().lines();
+        table.deck().lines_closed();
         let uncovered = table.define_over(alloc, line)?;
         stack::put(&mut self.done, Step::Undefine(uncovered));
         self.undone.clear();
@@ -61,8 +60,7 @@ impl History {
     {
         splices_are_undone();
         self.done.reserve(1)?;
-        // The lines of each deck are closed and within the limits.
-        let _ = table.deck().lines();
+        table.deck().lines_closed();
         let Some(at) = table.deck().last_place(key) else {
             return Err(DeckFault::NoSuchKey);
         };
@@ -87,8 +85,7 @@ impl History {
         ensures noted { calls.IsNoted self.old self.new table.old.deck table.new.deck result }
     {
         self.done.reserve(1)?;
-        // The lines of each deck are closed and within the limits.
-        let _ = table.deck().lines();
+        table.deck().lines_closed();
         let Ok(back) = switch_settings(alloc, table, settings) else {
             return Err(DeckFault::OutOfMemory);
         };

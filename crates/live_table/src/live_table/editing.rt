@@ -11,8 +11,8 @@ ghost use Rattle.live_table.specs.Calls.{IsEdit};
 ghost use Rattle.live_table.specs.Edits as edit;
 
 use super::LiveTable;
-use crate::forgetting::forget;
-use deck::{DeckFault, Settings, Splice, changes_are_computed};
+use crate::forgetting::forget_changed;
+use deck::{DeckFault, Settings, Splice};
 use def_entry::Key;
 use std::alloc::{AllocError, Global};
 use units_io::{Files, Text};
@@ -34,15 +34,14 @@ impl LiveTable {
         ensures { edit.IsDefinedOver (deck_edit.after_define (trimmed line.now) self.old.deck) (trimmed line.now)
             self.old self.new result }
     {
-        changes_are_computed();
         let (keys, covered) = self.deck.define_over(alloc, line)?;
-        forget(
+        forget_changed(
             alloc,
             &self.deck,
             &mut self.nodes,
             &mut self.edges,
             &mut self.explored,
-            keys.as_slice(),
+            &keys,
         );
         Ok(covered)
     }
@@ -53,15 +52,14 @@ impl LiveTable {
         requires { CanUndefine uncovered self.old.deck }
         ensures { edit.IsUndefined self.old self.new result }
     {
-        changes_are_computed();
         let (keys, text) = self.deck.undefine(alloc, uncovered)?;
-        forget(
+        forget_changed(
             alloc,
             &self.deck,
             &mut self.nodes,
             &mut self.edges,
             &mut self.explored,
-            keys.as_slice(),
+            &keys,
         );
         Ok(text)
     }
@@ -71,15 +69,14 @@ impl LiveTable {
     pub fn drop_last(&mut self, alloc: Global, key: &Key) -> Result<(), DeckFault>
         ensures { edit.IsEditOf (deck_edit.after_drop key.now self.old.deck) self.old self.new result }
     {
-        changes_are_computed();
         let keys = self.deck.drop_last(alloc, key)?;
-        forget(
+        forget_changed(
             alloc,
             &self.deck,
             &mut self.nodes,
             &mut self.edges,
             &mut self.explored,
-            keys.as_slice(),
+            &keys,
         );
         Ok(())
     }
@@ -89,15 +86,14 @@ impl LiveTable {
     pub fn switch(&mut self, alloc: Global, settings: Settings) -> Result<(), DeckFault>
         ensures { edit.IsEditOf (Ok (deck_edit.after_switch settings self.old.deck)) self.old self.new result }
     {
-        changes_are_computed();
         let keys = self.deck.switch(alloc, settings)?;
-        forget(
+        forget_changed(
             alloc,
             &self.deck,
             &mut self.nodes,
             &mut self.edges,
             &mut self.explored,
-            keys.as_slice(),
+            &keys,
         );
         Ok(())
     }
@@ -124,15 +120,14 @@ impl LiveTable {
             (loading.MayFailBy (F.files files.old) name.now (loading.lines_alone self.old.deck.lines)) }
         ensures counted { F.faults files.new ≡ loading.faults_after_load (F.faults files.old) result }
     {
-        changes_are_computed();
         let keys = self.deck.append(alloc, files, name)?;
-        forget(
+        forget_changed(
             alloc,
             &self.deck,
             &mut self.nodes,
             &mut self.edges,
             &mut self.explored,
-            keys.as_slice(),
+            &keys,
         );
         Ok(())
     }
@@ -144,15 +139,14 @@ impl LiveTable {
         requires { CanSplice change self.old.deck }
         ensures { edit.IsSpliceOf change self.old self.new result }
     {
-        changes_are_computed();
         let (keys, undo) = self.deck.splice(alloc, change)?;
-        forget(
+        forget_changed(
             alloc,
             &self.deck,
             &mut self.nodes,
             &mut self.edges,
             &mut self.explored,
-            keys.as_slice(),
+            &keys,
         );
         Ok(undo)
     }

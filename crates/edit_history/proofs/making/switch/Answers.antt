@@ -19,8 +19,8 @@ returns-in-Ok-switch_settings c =
     let new = c.switch_settings.new.table.deck in
     let leads = switched c.in-Ok-switch_settings.back c.in-Ok.settings old new c.in-Ok-switch_settings.ensures.0
     c.in-Ok-switch_settings.ensures.1 c.in-Ok-switch_settings.ensures.2
-    (subst (λ (d : Contents). IsClosed d.lines) c.deck.ensures.deck c.lines.ensures.closed)
-    (subst (λ (d : Contents). pass_limit d.lines ≡ false) c.deck.ensures.deck c.lines.ensures.within) in
+    (subst (λ (d : Contents). IsClosed d.lines) c.deck.ensures.deck c.lines_closed.ensures.closed)
+    (subst (λ (d : Contents). pass_limit d.lines ≡ false) c.deck.ensures.deck c.lines_closed.ensures.within) in
     let made = changed c.args.change c.in-Ok-switch_settings.back c.in-Ok.settings old new
     (c.in-Ok.ensures ∙ ap (after_change c.args.change)
     (c.settings.ensures ∙ ap (λ (d : Contents). d.settings) c.deck-2.ensures.deck))

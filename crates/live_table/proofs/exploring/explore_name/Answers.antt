@@ -1,40 +1,57 @@
-use Rattle.std.proofs.Common.{List, ℕ, nat_eq, arith, subst, sym}
+use Rattle.std.proofs.Common.{◌≤◌, ◌<◌, length, List, ℕ, nat_eq, arith, subst, sym}
 use Rattle.std.specs.List.{IsDistinct}
-use Rattle.live_table.specs.Looks.{AllLead, AreLooks}
 use Rattle.expr_tree.specs.declared.word_list.WordUse.{WordUse}
 use Rattle.deck.specs.Tables.{table}
+use Rattle.table_names.specs.Words.{key_words}
 use Rattle.live_table.specs.Exploring.{AreWritten}
-use Rattle.live_table.specs.Stored.{listed}
+use Rattle.live_table.specs.Looks.{AllLead, AreLooks}
+use Rattle.live_table.specs.Stored.{key_at, listed}
 use Rattle.live_table.proofs.Growing.{more_length}
 use Rattle.live_table.proofs.Reached.{stepped_grown, stepped_same, stepped_written}
 use Rattle.live_table.proofs.exploring.explore_name.Goals as goal
+use Rattle.live_table.proofs.exploring.explore_name.Goals.{After-put_words, In_ok-steps}
 
 pub words_of_key-requires-clause-within : goal.words_of_key-requires-clause-within
 words_of_key-requires-clause-within c = c.requires.listed.within c.args.n c.requires.name
 
+-- the name has its number still
+within : (c : After-put_words) → c.args.n < length c.put_words.new.nodes.keys
+within c =
+    let longer : length c.args.nodes.now.keys ≤ length c.put_words.new.nodes.keys =
+    more_length c.args.nodes.now.keys c.put_words.new.nodes.keys c.put_words.ensures.added.grown.keys_more in
+    let before = c.requires.listed.within c.args.n c.requires.name in
+    omega arith
+
 pub index_mut-requires : goal.index_mut-requires
 index_mut-requires c =
-    let s = c.put_words.new.nodes.callees.ok.0 in
-    let a = c.put_words.ensures.added.grown.nodes.callee_count in
-    let b = more_length c.args.nodes.now.keys c.put_words.new.nodes.keys c.put_words.ensures.added.grown.keys_more in
-    let h = c.requires.listed.within c.args.n c.requires.name in
+    let size = c.put_words.new.nodes.callees.ok.0 in
+    let count = c.put_words.ensures.added.grown.nodes.callee_count in
+    let inside = within (goal.at.index_mut-requires c).After-put_words in
     omega arith
 
 pub index_mut-requires-2 : goal.index_mut-requires-2
 index_mut-requires-2 c =
-    let s = c.put_words.new.nodes.steps.ok.0 in
-    let a = c.put_words.ensures.added.grown.nodes.step_count in
-    let b = more_length c.args.nodes.now.keys c.put_words.new.nodes.keys c.put_words.ensures.added.grown.keys_more in
-    let h = c.requires.listed.within c.args.n c.requires.name in
+    let size = c.put_words.new.nodes.steps.ok.0 in
+    let count = c.put_words.ensures.added.grown.nodes.step_count in
+    let inside = within (goal.at.index_mut-requires-2 c).After-put_words in
     omega arith
 
 pub index_mut-requires-3 : goal.index_mut-requires-3
 index_mut-requires-3 c =
-    let s = c.put_words.new.nodes.looks.ok.0 in
-    let a = c.put_words.ensures.added.grown.nodes.look_count in
-    let b = more_length c.args.nodes.now.keys c.put_words.new.nodes.keys c.put_words.ensures.added.grown.keys_more in
-    let h = c.requires.listed.within c.args.n c.requires.name in
+    let size = c.put_words.new.nodes.looks.ok.0 in
+    let count = c.put_words.ensures.added.grown.nodes.look_count in
+    let inside = within (goal.at.index_mut-requires-3 c).After-put_words in
     omega arith
+
+-- the steps are those of the words of its key
+written : (c : In_ok-steps)
+    → AreWritten (table c.args.deck.now) (listed c.put_words.new.nodes) c.args.explored.now c.put_words.new.agenda
+    c.put_words.new.dead_ends.items (key_words (table c.args.deck.now) (key_at c.args.nodes.now.keys c.args.n))
+    c.in_ok-steps.steps.items
+written c =
+    subst (λ (us : List WordUse). AreWritten (table c.args.deck.now) (listed c.put_words.new.nodes)
+    c.args.explored.now c.put_words.new.agenda c.put_words.new.dead_ends.items us c.in_ok-steps.steps.items)
+    c.in_ok-entry.ensures.words c.in_ok-steps.ensures.written
 
 pub returns-clause-grown : goal.returns-clause-grown
 returns-clause-grown c =
@@ -42,9 +59,7 @@ returns-clause-grown c =
     c.args.agenda.now c.put_words.new.agenda c.args.dead_ends.now.items c.put_words.new.dead_ends.items
     c.args.n (record { rank = c.index_mut.result.now.rank; starts = c.in_ok-entry.entry.starts }) c.in_ok-steps.steps
     c.in_ok-looks.looks c.put_words.ensures.added c.requires.listed c.requires.name
-    (subst (λ (us : List WordUse). AreWritten (table c.args.deck.now) (listed c.put_words.new.nodes)
-    c.args.explored.now c.put_words.new.agenda c.put_words.new.dead_ends.items us c.in_ok-steps.steps.items)
-    c.in_ok-entry.ensures.words c.in_ok-steps.ensures.written)
+    (written (goal.at.returns-clause-grown c).In_ok-steps)
 
 pub returns-clause-same : goal.returns-clause-same
 returns-clause-same c =
@@ -52,9 +67,7 @@ returns-clause-same c =
     c.args.agenda.now c.put_words.new.agenda c.args.dead_ends.now.items c.put_words.new.dead_ends.items
     c.args.n (record { rank = c.index_mut.result.now.rank; starts = c.in_ok-entry.entry.starts }) c.in_ok-steps.steps
     c.in_ok-looks.looks c.put_words.ensures.added c.requires.listed c.requires.name
-    (subst (λ (us : List WordUse). AreWritten (table c.args.deck.now) (listed c.put_words.new.nodes)
-    c.args.explored.now c.put_words.new.agenda c.put_words.new.dead_ends.items us c.in_ok-steps.steps.items)
-    c.in_ok-entry.ensures.words c.in_ok-steps.ensures.written)
+    (written (goal.at.returns-clause-same c).In_ok-steps)
 
 pub returns-clause-written : goal.returns-clause-written
 returns-clause-written c =
@@ -62,10 +75,7 @@ returns-clause-written c =
     c.args.agenda.now c.put_words.new.agenda c.args.dead_ends.now.items c.put_words.new.dead_ends.items
     c.args.n (record { rank = c.index_mut.result.now.rank; starts = c.in_ok-entry.entry.starts }) c.in_ok-steps.steps
     c.in_ok-looks.looks c.put_words.ensures.added c.requires.listed c.requires.name
-    (subst (λ (us : List WordUse). AreWritten (table c.args.deck.now) (listed c.put_words.new.nodes)
-    c.args.explored.now c.put_words.new.agenda c.put_words.new.dead_ends.items us c.in_ok-steps.steps.items)
-    c.in_ok-entry.ensures.words c.in_ok-steps.ensures.written)
-    c.in_ok-entry.ensures.starts
+    (written (goal.at.returns-clause-written c).In_ok-steps) c.in_ok-entry.ensures.starts
     (subst (λ (p : List WordUse × List ℕ). AllLead c.in_ok-steps.steps.items
     → AreLooks (table c.args.deck.now) c.put_words.new.nodes.keys p.0 c.in_ok-steps.steps.items p.1)
     (λ i. (c.in_ok-entry.ensures.words i, sym c.in_ok-looks.ensures.copy i)) c.in_ok-steps.ensures.looks)

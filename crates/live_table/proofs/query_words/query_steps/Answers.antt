@@ -3,136 +3,98 @@ use Rattle.std.specs.List.{slice_get}
 use Rattle.std.proofs.lemmas.Option.{slice_get-get_or}
 use Rattle.expr_tree.specs.declared.word_list.WordUse.{WordUse}
 use Rattle.deck.specs.Tables.{table}
+use Rattle.live_table.specs.declared.dead_end.DeadEnd.{DeadEnd}
+use Rattle.live_table.specs.Exploring.{AreAdded}
 use Rattle.live_table.specs.Stored.{listed}
 use Rattle.live_table.proofs.Growing.{added_both}
 use Rattle.live_table.proofs.LeadSteps.{lead_present, lead_within}
-use Rattle.live_table.proofs.QuerySteps.{stepping_cut, stepping_next}
+use Rattle.live_table.proofs.QuerySteps.{IsTurn, stepped_added, stepping_cut, stepping_next}
 use Rattle.live_table.proofs.query_words.query_steps.Goals as goal
+use Rattle.live_table.proofs.query_words.query_steps.Goals.{After-query_lead, After-target_steps}
+
+-- what the lead of a word adds to the names of this turn
+led : (c : After-query_lead) (ends : List DeadEnd)
+    → AreAdded (table c.args.deck.now) (listed c.loop-u.nodes) (listed c.query_lead.new.nodes) c.args.explored.now
+    c.loop-u.agenda c.loop-u.agenda ends ends
+led c ends =
+    c.query_lead.ensures.added c.args.explored.now c.loop-u.agenda ends (c.loop-u.invariant.added ends).grown.listed
 
 pub query_lead-requires : goal.query_lead-requires
 query_lead-requires c = (c.loop-u.invariant.added []).grown.nodes
 
 pub returns-in_err-lead-clause-added : goal.returns-in_err-lead-clause-added
 returns-in_err-lead-clause-added c ends =
-    let a = c.loop-u.invariant.added ends in
     added_both (table c.args.deck.now) (listed c.args.nodes.now) (listed c.loop-u.nodes) (listed c.query_lead.new.nodes)
-    c.args.explored.now c.args.agenda.now c.loop-u.agenda c.loop-u.agenda ends ends ends a
-    (c.query_lead.ensures.added c.args.explored.now c.loop-u.agenda ends a.grown.listed)
+    c.args.explored.now c.args.agenda.now c.loop-u.agenda c.loop-u.agenda ends ends ends
+    (c.loop-u.invariant.added ends) (led (goal.at.returns-in_err-lead-clause-added c).After-query_lead ends)
 
 pub target_steps-requires-clause-nodes : goal.target_steps-requires-clause-nodes
-target_steps-requires-clause-nodes c = (
-  table c.args.deck.now,
-  (c.query_lead.ensures.added c.args.explored.now c.loop-u.agenda []
-      (c.loop-u.invariant.added []).grown.listed).grown.nodes,
-)
+target_steps-requires-clause-nodes c =
+    (table c.args.deck.now, (led (goal.at.target_steps-requires-clause-nodes c).After-query_lead []).grown.nodes)
 
 pub target_steps-requires-clause-within : goal.target_steps-requires-clause-within
 target_steps-requires-clause-within c =
     lead_within (table c.args.deck.now) c.query_lead.new.nodes.keys c.u-item.result c.in_ok-lead.lead
     c.in_ok-lead.ensures.lead
 
+-- this turn, with the word at its place
+turn : (c : After-target_steps)
+    → IsTurn (table c.args.deck.now) (listed c.args.nodes.now) (listed c.loop-u.nodes) (listed c.query_lead.new.nodes)
+    c.args.explored.now c.args.agenda.now c.loop-u.agenda c.target_steps.new.agenda c.args.words.now
+    c.loop-u.steps.items c.loop-u.u-index c.u-item.result
+turn c = record {
+  word = ap (λ (xs : List WordUse). slice_get xs c.loop-u.u-index) (sym c.as_slice-u-items.ensures)
+      ∙ (slice_get-get_or c.as_slice-u-items.result.now c.loop-u.u-index c.u-item.result (omega arith)
+      ∙ ap Some (sym c.u-item.is));
+  start = c.loop-u.invariant;
+  led = λ ends.
+      c.query_lead.ensures.added c.args.explored.now c.loop-u.agenda ends
+      (c.loop-u.invariant.added ends).grown.listed;
+  put = λ ends.
+      let added = c.query_lead.ensures.added c.args.explored.now c.loop-u.agenda ends
+      (c.loop-u.invariant.added ends).grown.listed in
+      c.target_steps.ensures.added (table c.args.deck.now) ends added.grown.nodes added.grown.listed
+      (lead_present (table c.args.deck.now) c.query_lead.new.nodes.keys c.u-item.result c.in_ok-lead.lead
+      c.in_ok-lead.ensures.lead);
+}
+
+-- the names that it adds
+added : (c : After-target_steps) (ends : List DeadEnd)
+    → AreAdded (table c.args.deck.now) (listed c.args.nodes.now) (listed c.query_lead.new.nodes) c.args.explored.now
+    c.args.agenda.now c.target_steps.new.agenda ends ends
+added c ends =
+    stepped_added (table c.args.deck.now) (listed c.args.nodes.now) (listed c.loop-u.nodes)
+    (listed c.query_lead.new.nodes) c.args.explored.now c.args.agenda.now c.loop-u.agenda c.target_steps.new.agenda
+    c.args.words.now c.loop-u.steps.items c.loop-u.u-index c.u-item.result (turn c) ends
+
 pub returns-in_err-word-clause-added : goal.returns-in_err-word-clause-added
-returns-in_err-word-clause-added c ends =
-    let t = table c.args.deck.now in
-    let m = listed c.query_lead.new.nodes in
-    let a = c.loop-u.invariant.added ends in
-    let b = c.query_lead.ensures.added c.args.explored.now c.loop-u.agenda ends a.grown.listed in
-    added_both t (listed c.args.nodes.now) m m c.args.explored.now c.args.agenda.now c.loop-u.agenda
-    c.target_steps.new.agenda ends ends ends
-    (added_both t (listed c.args.nodes.now) (listed c.loop-u.nodes) m c.args.explored.now c.args.agenda.now
-    c.loop-u.agenda c.loop-u.agenda ends ends ends a b)
-    (c.target_steps.ensures.added t ends b.grown.nodes b.grown.listed
-    (lead_present t c.query_lead.new.nodes.keys c.u-item.result c.in_ok-lead.lead c.in_ok-lead.ensures.lead))
+returns-in_err-word-clause-added c = added (goal.at.returns-in_err-word-clause-added c).After-target_steps
 
 pub returns-in_err-new-clause-added : goal.returns-in_err-new-clause-added
-returns-in_err-new-clause-added c ends =
-    let t = table c.args.deck.now in
-    let m = listed c.query_lead.new.nodes in
-    let a = c.loop-u.invariant.added ends in
-    let b = c.query_lead.ensures.added c.args.explored.now c.loop-u.agenda ends a.grown.listed in
-    added_both t (listed c.args.nodes.now) m m c.args.explored.now c.args.agenda.now c.loop-u.agenda
-    c.target_steps.new.agenda ends ends ends
-    (added_both t (listed c.args.nodes.now) (listed c.loop-u.nodes) m c.args.explored.now c.args.agenda.now
-    c.loop-u.agenda c.loop-u.agenda ends ends ends a b)
-    (c.target_steps.ensures.added t ends b.grown.nodes b.grown.listed
-    (lead_present t c.query_lead.new.nodes.keys c.u-item.result c.in_ok-lead.lead c.in_ok-lead.ensures.lead))
+returns-in_err-new-clause-added c = added (goal.at.returns-in_err-new-clause-added c).After-target_steps
 
 pub returns-in_default-clause-added : goal.returns-in_default-clause-added
-returns-in_default-clause-added c ends =
-    let t = table c.args.deck.now in
-    let m = listed c.query_lead.new.nodes in
-    let a = c.loop-u.invariant.added ends in
-    let b = c.query_lead.ensures.added c.args.explored.now c.loop-u.agenda ends a.grown.listed in
-    added_both t (listed c.args.nodes.now) m m c.args.explored.now c.args.agenda.now c.loop-u.agenda
-    c.target_steps.new.agenda ends ends ends
-    (added_both t (listed c.args.nodes.now) (listed c.loop-u.nodes) m c.args.explored.now c.args.agenda.now
-    c.loop-u.agenda c.loop-u.agenda ends ends ends a b)
-    (c.target_steps.ensures.added t ends b.grown.nodes b.grown.listed
-    (lead_present t c.query_lead.new.nodes.keys c.u-item.result c.in_ok-lead.lead c.in_ok-lead.ensures.lead))
+returns-in_default-clause-added c = added (goal.at.returns-in_default-clause-added c).After-target_steps
 
 pub returns-in_err-push-clause-added : goal.returns-in_err-push-clause-added
-returns-in_err-push-clause-added c ends =
-    let t = table c.args.deck.now in
-    let m = listed c.query_lead.new.nodes in
-    let a = c.loop-u.invariant.added ends in
-    let b = c.query_lead.ensures.added c.args.explored.now c.loop-u.agenda ends a.grown.listed in
-    added_both t (listed c.args.nodes.now) m m c.args.explored.now c.args.agenda.now c.loop-u.agenda
-    c.target_steps.new.agenda ends ends ends
-    (added_both t (listed c.args.nodes.now) (listed c.loop-u.nodes) m c.args.explored.now c.args.agenda.now
-    c.loop-u.agenda c.loop-u.agenda ends ends ends a b)
-    (c.target_steps.ensures.added t ends b.grown.nodes b.grown.listed
-    (lead_present t c.query_lead.new.nodes.keys c.u-item.result c.in_ok-lead.lead c.in_ok-lead.ensures.lead))
+returns-in_err-push-clause-added c = added (goal.at.returns-in_err-push-clause-added c).After-target_steps
 
 pub returns-in_err-push-2-clause-added : goal.returns-in_err-push-2-clause-added
-returns-in_err-push-2-clause-added c ends =
-    let t = table c.args.deck.now in
-    let m = listed c.query_lead.new.nodes in
-    let a = c.loop-u.invariant.added ends in
-    let b = c.query_lead.ensures.added c.args.explored.now c.loop-u.agenda ends a.grown.listed in
-    added_both t (listed c.args.nodes.now) m m c.args.explored.now c.args.agenda.now c.loop-u.agenda
-    c.target_steps.new.agenda ends ends ends
-    (added_both t (listed c.args.nodes.now) (listed c.loop-u.nodes) m c.args.explored.now c.args.agenda.now
-    c.loop-u.agenda c.loop-u.agenda ends ends ends a b)
-    (c.target_steps.ensures.added t ends b.grown.nodes b.grown.listed
-    (lead_present t c.query_lead.new.nodes.keys c.u-item.result c.in_ok-lead.lead c.in_ok-lead.ensures.lead))
+returns-in_err-push-2-clause-added c = added (goal.at.returns-in_err-push-2-clause-added c).After-target_steps
 
 pub returns-in_default-clause-steps : goal.returns-in_default-clause-steps
 returns-in_default-clause-steps c =
-    let t = table c.args.deck.now in
-    stepping_cut t (listed c.args.nodes.now) (listed c.loop-u.nodes) (listed c.query_lead.new.nodes)
-    c.args.explored.now c.args.agenda.now c.loop-u.agenda c.target_steps.new.agenda c.args.words.now
-    c.loop-u.steps.items c.loop-u.u-index c.u-item.result
-    (ap (λ (xs : List WordUse). slice_get xs c.loop-u.u-index) (sym c.as_slice-u-items.ensures)
-    ∙ (slice_get-get_or c.as_slice-u-items.result.now c.loop-u.u-index c.u-item.result (omega arith)
-    ∙ ap Some (sym c.u-item.is)))
-    c.loop-u.invariant
-    (λ ends. c.query_lead.ensures.added c.args.explored.now c.loop-u.agenda ends
-    (c.loop-u.invariant.added ends).grown.listed)
-    (λ ends.
-    let b = c.query_lead.ensures.added c.args.explored.now c.loop-u.agenda ends
-    (c.loop-u.invariant.added ends).grown.listed in
-    c.target_steps.ensures.added t ends b.grown.nodes b.grown.listed
-    (lead_present t c.query_lead.new.nodes.keys c.u-item.result c.in_ok-lead.lead c.in_ok-lead.ensures.lead))
-    c.in_ok-lead.lead c.in_ok-lead.ensures.lead
+    stepping_cut (table c.args.deck.now) (listed c.args.nodes.now) (listed c.loop-u.nodes)
+    (listed c.query_lead.new.nodes) c.args.explored.now c.args.agenda.now c.loop-u.agenda c.target_steps.new.agenda
+    c.args.words.now c.loop-u.steps.items c.loop-u.u-index c.u-item.result
+    (turn (goal.at.returns-in_default-clause-steps c).After-target_steps) c.in_ok-lead.lead c.in_ok-lead.ensures.lead
     (sym c.in_default.is ∙ c.in_ok-word.ensures.steps) c.in_ok-new.field-0 c.in_ok-new.ensures
 
 pub loop-u-preserved : goal.loop-u-preserved
 loop-u-preserved c =
-    let t = table c.args.deck.now in
-    stepping_next t (listed c.args.nodes.now) (listed c.loop-u.nodes) (listed c.query_lead.new.nodes)
-    c.args.explored.now c.args.agenda.now c.loop-u.agenda c.target_steps.new.agenda c.args.words.now
-    c.loop-u.steps.items c.loop-u.u-index c.u-item.result
-    (ap (λ (xs : List WordUse). slice_get xs c.loop-u.u-index) (sym c.as_slice-u-items.ensures)
-    ∙ (slice_get-get_or c.as_slice-u-items.result.now c.loop-u.u-index c.u-item.result (omega arith)
-    ∙ ap Some (sym c.u-item.is)))
-    c.loop-u.invariant
-    (λ ends. c.query_lead.ensures.added c.args.explored.now c.loop-u.agenda ends
-    (c.loop-u.invariant.added ends).grown.listed)
-    (λ ends.
-    let b = c.query_lead.ensures.added c.args.explored.now c.loop-u.agenda ends
-    (c.loop-u.invariant.added ends).grown.listed in
-    c.target_steps.ensures.added t ends b.grown.nodes b.grown.listed
-    (lead_present t c.query_lead.new.nodes.keys c.u-item.result c.in_ok-lead.lead c.in_ok-lead.ensures.lead))
-    c.in_ok-lead.lead c.in_ok-lead.ensures.lead
+    stepping_next (table c.args.deck.now) (listed c.args.nodes.now) (listed c.loop-u.nodes)
+    (listed c.query_lead.new.nodes) c.args.explored.now c.args.agenda.now c.loop-u.agenda c.target_steps.new.agenda
+    c.args.words.now c.loop-u.steps.items c.loop-u.u-index c.u-item.result
+    (turn (goal.at.loop-u-preserved c).After-target_steps) c.in_ok-lead.lead c.in_ok-lead.ensures.lead
     c.in_ok-word.ensures.known c.in-Some.word (sym c.in-Some.is ∙ c.in_ok-word.ensures.steps) c.push.new.self.items
     c.push-in-loop-u.new.self.items c.in_ok-push.ensures.ok c.in_ok-push-2.ensures.ok

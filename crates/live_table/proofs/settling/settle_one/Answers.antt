@@ -5,9 +5,10 @@ use Rattle.live_table.specs.Edged.{HasEdges}
 use Rattle.live_table.specs.Stored.{Listed, listed}
 use Rattle.live_table.proofs.Flags.{count_room}
 use Rattle.live_table.proofs.Kept.{settled_count}
-use Rattle.live_table.proofs.SettleOne.{settled_nodes, settled_shown, settled_sound}
+use Rattle.live_table.proofs.SettleOne.{IsPut, settled_nodes, settled_shown, settled_sound}
 use Rattle.live_table.proofs.StillExplored.{settled_explored}
 use Rattle.live_table.proofs.settling.settle_one.Goals as goal
+use Rattle.live_table.proofs.settling.settle_one.Goals.{After-saturating_add}
 
 pub put-requires-clause-callees : goal.put-requires-clause-callees
 put-requires-clause-callees g c =
@@ -37,26 +38,34 @@ put-requires-clause-room g c =
     let s = c.args.nodes.now.settled.ok.0 in
     omega (arith, a, b)
 
+-- its outcome is put in
+is_put : (g : _) (c : After-saturating_add g)
+    → IsPut c.args.deck.now (listed c.args.nodes.now) c.args.reductions.now c.args.n c.in_ok-outcome.outcome
+    c.rank_of-rank.result c.saturating_add.result (listed c.put.new.nodes)
+is_put g c = record {
+  outcome_is = c.in_ok-outcome.ensures.outcome;
+  rank_is = c.rank_of-rank.ensures;
+  counted = omega (arith, c.saturating_add.ensures);
+  put = c.put.ensures;
+}
+
 pub returns-clause-sound : goal.returns-clause-sound
 returns-clause-sound g c =
     settled_sound c.args.deck.now (listed c.args.nodes.now) c.args.reductions.now c.args.n c.requires.sound
-    c.requires.due c.in_ok-outcome.outcome c.in_ok-outcome.ensures.outcome c.rank_of-rank.result
-    c.rank_of-rank.ensures
-    c.saturating_add.result (omega (arith, c.saturating_add.ensures)) (listed c.put.new.nodes) c.put.ensures
+    c.requires.due c.in_ok-outcome.outcome c.rank_of-rank.result c.saturating_add.result (listed c.put.new.nodes)
+    (is_put g (goal.at.returns-clause-sound g c).After-saturating_add)
 
 pub returns-clause-nodes : goal.returns-clause-nodes
 returns-clause-nodes g c =
     settled_nodes c.args.deck.now (listed c.args.nodes.now) c.args.reductions.now c.args.n c.requires.sound
-    c.requires.due c.in_ok-outcome.outcome c.in_ok-outcome.ensures.outcome c.rank_of-rank.result
-    c.rank_of-rank.ensures
-    c.saturating_add.result (omega (arith, c.saturating_add.ensures)) (listed c.put.new.nodes) c.put.ensures
+    c.requires.due c.in_ok-outcome.outcome c.rank_of-rank.result c.saturating_add.result (listed c.put.new.nodes)
+    (is_put g (goal.at.returns-clause-nodes g c).After-saturating_add)
 
 pub returns-clause-ok : goal.returns-clause-ok
 returns-clause-ok g c =
     settled_shown c.args.deck.now (listed c.args.nodes.now) c.args.reductions.now c.args.n c.requires.sound
-    c.requires.due c.in_ok-outcome.outcome c.in_ok-outcome.ensures.outcome c.rank_of-rank.result
-    c.rank_of-rank.ensures
-    c.saturating_add.result (omega (arith, c.saturating_add.ensures)) (listed c.put.new.nodes) c.put.ensures
+    c.requires.due c.in_ok-outcome.outcome c.rank_of-rank.result c.saturating_add.result (listed c.put.new.nodes)
+    (is_put g (goal.at.returns-clause-ok g c).After-saturating_add)
 
 pub link-requires-clause-sound : goal.link-requires-clause-sound
 link-requires-clause-sound g c = (c.args.reductions.now, c.requires.sound)
@@ -64,9 +73,8 @@ link-requires-clause-sound g c = (c.args.reductions.now, c.requires.sound)
 pub returns-clause-edges : goal.returns-clause-edges
 returns-clause-edges g c =
     let s = settled_nodes c.args.deck.now (listed c.args.nodes.now) c.args.reductions.now c.args.n c.requires.sound
-    c.requires.due c.in_ok-outcome.outcome c.in_ok-outcome.ensures.outcome c.rank_of-rank.result
-    c.rank_of-rank.ensures
-    c.saturating_add.result (omega (arith, c.saturating_add.ensures)) (listed c.put.new.nodes) c.put.ensures in
+    c.requires.due c.in_ok-outcome.outcome c.rank_of-rank.result c.saturating_add.result (listed c.put.new.nodes)
+    (is_put g (goal.at.returns-clause-edges g c).After-saturating_add) in
     subst (λ (x : Listed). HasEdges c.args.deck.now x c.link.new.edges) (sym s.2) (c.in_ok-link.ensures.ok s.0 s.1)
 
 pub returns-clause-explored : goal.returns-clause-explored

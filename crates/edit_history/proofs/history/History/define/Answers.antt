@@ -17,8 +17,9 @@ returns-clause-follows c =
     let new = c.define_over.new.self.deck in
     let text = trimmed c.args.line.now in
     let s = Undefine c.in_ok-uncovered.uncovered in
-    let closed = subst (λ (d : Contents). IsClosed d.lines) c.deck.ensures.deck c.lines.ensures.closed in
-    let within = subst (λ (d : Contents). pass_limit d.lines ≡ false) c.deck.ensures.deck c.lines.ensures.within in
+    let closed = subst (λ (d : Contents). IsClosed d.lines) c.deck.ensures.deck c.lines_closed.ensures.closed in
+    let within = subst (λ (d : Contents). pass_limit d.lines ≡ false) c.deck.ensures.deck c.lines_closed.ensures.within
+    in
     let is = course_is s (reverse c.put.new.steps.items) c.clear.new.self.items c.args.self.now.done
     (c.put.ensures ∙ ap (λ xs. s ∷ reverse xs) c.reserve.ensures.items ∙ ap (λ (h : Course). s ∷ h.done) c.self.view_is)
     c.clear.ensures.items in
@@ -35,8 +36,9 @@ returns-clause-noted c =
     let new = c.define_over.new.self.deck in
     let text = trimmed c.args.line.now in
     let s = Undefine c.in_ok-uncovered.uncovered in
-    let closed = subst (λ (d : Contents). IsClosed d.lines) c.deck.ensures.deck c.lines.ensures.closed in
-    let within = subst (λ (d : Contents). pass_limit d.lines ≡ false) c.deck.ensures.deck c.lines.ensures.within in
+    let closed = subst (λ (d : Contents). IsClosed d.lines) c.deck.ensures.deck c.lines_closed.ensures.closed in
+    let within = subst (λ (d : Contents). pass_limit d.lines ≡ false) c.deck.ensures.deck c.lines_closed.ensures.within
+    in
     let is = course_is s (reverse c.put.new.steps.items) c.clear.new.self.items c.args.self.now.done
     (c.put.ensures ∙ ap (λ xs. s ∷ reverse xs) c.reserve.ensures.items ∙ ap (λ (h : Course). s ∷ h.done) c.self.view_is)
     c.clear.ensures.items in (

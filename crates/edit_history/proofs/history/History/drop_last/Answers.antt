@@ -31,8 +31,8 @@ returns-clause-follows c =
     c.drop_last.new.self.deck last
     c.in_ok-drop_last.ensures.0
     (c.in_ok-put.ensures ∙ ap (λ (d : Contents). lines_from c.in-Some.at 1 d.lines) c.deck-3.ensures.deck)
-    (subst (λ (d : Contents). IsClosed d.lines) c.deck.ensures.deck c.lines.ensures.closed)
-    (subst (λ (d : Contents). pass_limit d.lines ≡ false) c.deck.ensures.deck c.lines.ensures.within) in
+    (subst (λ (d : Contents). IsClosed d.lines) c.deck.ensures.deck c.lines_closed.ensures.closed)
+    (subst (λ (d : Contents). pass_limit d.lines ≡ false) c.deck.ensures.deck c.lines_closed.ensures.within) in
     let is = course_is s (reverse c.put-2.new.steps.items) c.clear.new.self.items c.args.self.now.done
     (c.put-2.ensures ∙ ap (λ xs. s ∷ reverse xs) c.reserve.ensures.items
     ∙ ap (λ (h : Course). s ∷ h.done) c.self.view_is) c.clear.ensures.items in
@@ -49,8 +49,8 @@ returns-clause-noted c =
     c.drop_last.new.self.deck last
     c.in_ok-drop_last.ensures.0
     (c.in_ok-put.ensures ∙ ap (λ (d : Contents). lines_from c.in-Some.at 1 d.lines) c.deck-3.ensures.deck)
-    (subst (λ (d : Contents). IsClosed d.lines) c.deck.ensures.deck c.lines.ensures.closed)
-    (subst (λ (d : Contents). pass_limit d.lines ≡ false) c.deck.ensures.deck c.lines.ensures.within) in
+    (subst (λ (d : Contents). IsClosed d.lines) c.deck.ensures.deck c.lines_closed.ensures.closed)
+    (subst (λ (d : Contents). pass_limit d.lines ≡ false) c.deck.ensures.deck c.lines_closed.ensures.within) in
     let is = course_is s (reverse c.put-2.new.steps.items) c.clear.new.self.items c.args.self.now.done
     (c.put-2.ensures ∙ ap (λ xs. s ∷ reverse xs) c.reserve.ensures.items
     ∙ ap (λ (h : Course). s ∷ h.done) c.self.view_is) c.clear.ensures.items in

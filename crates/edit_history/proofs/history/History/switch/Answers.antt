@@ -14,8 +14,8 @@ returns-clause-follows c =
     let s = Switch c.in-Ok.back in
     let back = switched c.in-Ok.back c.args.settings c.args.table.now.deck c.switch_settings.new.table.deck
     c.in-Ok.ensures.0 c.in-Ok.ensures.1 c.in-Ok.ensures.2
-    (subst (λ (d : Contents). IsClosed d.lines) c.deck.ensures.deck c.lines.ensures.closed)
-    (subst (λ (d : Contents). pass_limit d.lines ≡ false) c.deck.ensures.deck c.lines.ensures.within) in
+    (subst (λ (d : Contents). IsClosed d.lines) c.deck.ensures.deck c.lines_closed.ensures.closed)
+    (subst (λ (d : Contents). pass_limit d.lines ≡ false) c.deck.ensures.deck c.lines_closed.ensures.within) in
     let is = course_is s (reverse c.put.new.steps.items) c.clear.new.self.items c.args.self.now.done
     (c.put.ensures ∙ ap (λ xs. s ∷ reverse xs) c.reserve.ensures.items ∙ ap (λ (h : Course). s ∷ h.done) c.self.view_is)
     c.clear.ensures.items in
@@ -27,8 +27,8 @@ returns-clause-noted c =
     let s = Switch c.in-Ok.back in
     let back = switched c.in-Ok.back c.args.settings c.args.table.now.deck c.switch_settings.new.table.deck
     c.in-Ok.ensures.0 c.in-Ok.ensures.1 c.in-Ok.ensures.2
-    (subst (λ (d : Contents). IsClosed d.lines) c.deck.ensures.deck c.lines.ensures.closed)
-    (subst (λ (d : Contents). pass_limit d.lines ≡ false) c.deck.ensures.deck c.lines.ensures.within) in
+    (subst (λ (d : Contents). IsClosed d.lines) c.deck.ensures.deck c.lines_closed.ensures.closed)
+    (subst (λ (d : Contents). pass_limit d.lines ≡ false) c.deck.ensures.deck c.lines_closed.ensures.within) in
     let is = course_is s (reverse c.put.new.steps.items) c.clear.new.self.items c.args.self.now.done
     (c.put.ensures ∙ ap (λ xs. s ∷ reverse xs) c.reserve.ensures.items ∙ ap (λ (h : Course). s ∷ h.done) c.self.view_is)
     c.clear.ensures.items in

@@ -3,31 +3,30 @@ use Rattle.def_lines.specs.Blanks.{trimmed}
 use Rattle.deck.specs.Edits as deck_edit
 use Rattle.deck.specs.Undefining.{place_of_key}
 use Rattle.live_table.specs.Shown.{Shown}
-use Rattle.live_table.specs.Stored.{listed}
-use Rattle.live_table.proofs.Edited.{edit_done, live_can, live_edited, same_outcome}
+use Rattle.live_table.specs.Stored.{listed, shown}
+use Rattle.live_table.proofs.Edited.{live_can, same_edit, same_outcome}
 use Rattle.live_table.proofs.live_table.LiveTable.define_over.Goals as goal
 
-pub forget-requires : goal.forget-requires
-forget-requires c =
+pub forget_changed-requires : goal.forget_changed-requires
+forget_changed-requires c =
     live_can c.self.inside.deck (listed c.self.inside.nodes) c.self.inside.edges c.self.inside.reductions
     c.self.invariant.0
 
 pub invariant_of-self-2 : goal.invariant_of-self-2
-invariant_of-self-2 c =
-    live_edited c.changes_are_computed.ensures c.self.inside.deck c.define_over.new.self (listed c.self.inside.nodes)
-    (listed c.forget.new.nodes) c.self.inside.edges c.forget.new.edges c.self.inside.reductions c.in_ok-keys.keys
-    c.as_slice.result.now c.as_slice.ensures c.self.invariant.0 c.in_ok-keys.ensures.1 c.forget.ensures.forgotten
-    c.forget.new.explored.names c.forget.new.explored.dead_ends.items c.forget.ensures.names
+invariant_of-self-2 c = (
+  c.forget_changed.ensures.live c.self.inside.deck c.self.inside.reductions c.self.invariant.0 c.in_ok-keys.ensures.1,
+  c.forget_changed.ensures.explored,
+)
 
 pub returns : goal.returns
 returns c = (
   same_outcome (λ d. deck_edit.after_define (trimmed c.args.line.now) d) c.self.inside.deck c.define_over.new.self
       (listed c.self.inside.nodes)
       c.self.inside.reductions c.args.self.now c.self.view_is c.in_ok-keys.ensures.0,
-  edit_done c.changes_are_computed.ensures c.self.inside.deck c.define_over.new.self (listed c.self.inside.nodes)
-      (listed c.forget.new.nodes) c.self.inside.edges c.forget.new.edges c.self.inside.reductions c.in_ok-keys.keys
-      c.as_slice.result.now c.as_slice.ensures c.self.invariant.0 c.in_ok-keys.ensures.1 c.forget.ensures.forgotten
-      c.args.self.now c.self.view_is,
+  same_edit c.args.self.now (shown c.define_over.new.self (listed c.forget_changed.new.nodes) c.self.inside.reductions)
+      c.self.inside.deck (listed c.self.inside.nodes) c.self.inside.reductions c.self.view_is
+      (c.forget_changed.ensures.edit c.self.inside.deck c.self.inside.reductions c.self.invariant.0
+      c.in_ok-keys.ensures.1),
   subst (λ (s : Shown). c.in_ok-keys.covered ≡ place_of_key (trimmed c.args.line.now) s.deck) c.self.view_is
       c.in_ok-keys.ensures.2,
 )

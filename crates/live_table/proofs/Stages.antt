@@ -1,0 +1,122 @@
+-- The stages of a query: the names before it, then with those that it leads to, and then with all below them.
+use Rattle.std.proofs.Common.{◌≡◌, ℕ, Bool, List, Option, map}
+use Rattle.std.specs.Prelude.{Result, Err}
+use Rattle.def_entry.specs.declared.key.Key.{Key}
+use Rattle.name_walk.specs.declared.step.Step.{Step}
+use Rattle.table_names.specs.declared.fault.NameFault.{NameFault}
+use Rattle.deck.specs.Decks.{Contents}
+use Rattle.deck.specs.Tables.{table}
+use Rattle.name_edges.specs.NameGraphs.{NameGraph}
+use Rattle.name_numbers.specs.FaultLaws.{NumberedFaultLaw}
+use Rattle.name_numbers.specs.SettlingLaws.{SettlingLaw}
+use Rattle.live_table.specs.declared.dead_end.DeadEnd.{DeadEnd}
+use Rattle.live_table.specs.declared.explored.Explored.{Explored}
+use Rattle.live_table.specs.declared.fault.QueryFault.{QueryFault}
+use Rattle.live_table.specs.declared.fault.QueryFault.TheVariants.{OutOfMemory}
+use Rattle.live_table.specs.declared.nodes.Nodes.{Nodes}
+use Rattle.live_table.specs.Asked.{AreAllSettled, IsAsked, IsClosing}
+use Rattle.live_table.specs.Edged.{IsLive}
+use Rattle.live_table.specs.Explored.{AreExplored}
+use Rattle.live_table.specs.Exploring.{AreAllExplored, AreGrown, is_known}
+use Rattle.live_table.specs.Sound.{IsSound}
+use Rattle.live_table.specs.States.{Event}
+use Rattle.live_table.specs.Stored.{Listed, key_at, listed, shown}
+use Rattle.live_table.proofs.AllExplored.{explored_all}
+use Rattle.live_table.proofs.Growing.{grown_both}
+use Rattle.live_table.proofs.GrownLive.{cut_short, grown_live, grown_sound, same_shown}
+use Rattle.live_table.proofs.Queries.{IsQueryOf}
+
+-- the names, the agenda and the dead ends of each stage, over names that were explored before
+pub record Stages : Type 0 where
+  pub deck : Contents
+  pub reductions : ℕ
+  pub before : List ℕ
+  pub start : Listed
+  pub here : List ℕ
+  pub led : Listed
+  pub list : List ℕ
+  pub ends : List DeadEnd
+  pub explored : Listed
+  pub there : List ℕ
+  pub more : List DeadEnd
+
+-- those of a query over nodes
+abbrev pub stages_of :
+    Contents → ℕ → Explored → (start led explored : Nodes) (here list there : List ℕ) → List DeadEnd → Stages
+stages_of deck reductions before start led explored here list there more = record {
+  deck = deck;
+  reductions = reductions;
+  before = before.names;
+  start = listed start;
+  here = here;
+  led = listed led;
+  list = list;
+  ends = before.dead_ends.items;
+  explored = listed explored;
+  there = there;
+  more = more;
+}
+
+-- the first is sound, and each adds to the one before it
+pub record AreStages (s : Stages) : Type 0 where
+  pub sound : IsSound s.deck s.start s.reductions
+  pub first : AreGrown (table s.deck) s.start s.led s.before s.here s.list s.ends s.ends
+  pub second : AreGrown (table s.deck) s.led s.explored s.before s.list s.there s.ends s.more
+
+-- the last has all names below the query, and the laws of numbers hold
+pub record AreAllStages (s : Stages) : Type 0 where
+  pub stages : AreStages s
+  pub all : AreAllExplored (table s.deck) s.explored s.before s.there s.more
+  pub faults : NumberedFaultLaw
+  pub settles : SettlingLaw
+
+-- behind the last, the names that a query newly closes were settled
+pub record IsSettledAfter (s : Stages) (query : List Step) (now : Listed) (count old later : ℕ) : Type 0 where
+  pub sound : IsSound s.deck now count
+  pub keys : now.keys ≡ s.explored.keys
+  pub order : List ℕ
+  pub closing : IsClosing s.explored query order
+  pub all :
+      AreAllSettled (map (key_at s.explored.keys) order) (shown s.deck s.explored s.reductions) (shown s.deck now count)
+      old later
+
+-- what is known in the last
+abbrev pub known_there : Stages → ℕ → Bool
+known_there s = is_known s.explored.settled s.before s.there
+
+module _ (s : Stages) (are : AreStages s) where
+  -- the last adds to the first
+  added : AreGrown (table s.deck) s.start s.explored s.before s.here s.there s.ends s.more
+  added =
+      grown_both (table s.deck) s.start s.led s.explored s.before s.here s.list s.there s.ends s.ends s.more are.first
+      are.second
+
+  -- the same is shown of it
+  pub same_start : shown s.deck s.explored s.reductions ≡ shown s.deck s.start s.reductions
+  same_start = same_shown s.deck s.start s.explored s.before s.here s.there s.ends s.more s.reductions added
+
+  -- it is sound
+  pub sound_there : IsSound s.deck s.explored s.reductions
+  sound_there =
+      grown_sound s.deck s.start s.explored s.before s.here s.there s.ends s.more s.reductions added are.sound
+
+  -- and it has its edges
+  pub live_there : (g : NameGraph) → IsLive s.deck s.start g s.reductions → IsLive s.deck s.explored g s.reductions
+  live_there g live =
+      grown_live s.deck s.start s.explored s.before s.here s.there s.ends s.more s.reductions added g live
+
+  -- want of memory there cuts the query short
+  pub cut_there : {A : Type 0} (Given : A → Type 0) (event : Event) (fault : Option NameFault) (reached : List Key)
+      (old : ℕ) → IsQueryOf event (table s.deck) fault reached
+      → (result : Result A QueryFault) → result ≡ Err OutOfMemory
+      → IsAsked event fault Given result (shown s.deck s.start s.reductions) (shown s.deck s.explored s.reductions) old
+      old
+  cut_there Given event fault reached old is result e =
+      cut_short Given event fault reached s.deck s.start s.explored s.before s.here s.there s.ends s.more s.reductions
+      old added are.sound is result e
+
+-- where all is explored, what is known by number is so by name
+pub explored_there : (s : Stages) → AreAllStages s
+    → AreExplored (table s.deck) s.explored s.more (is_known s.explored.settled s.before s.there)
+explored_there s are =
+    explored_all (table s.deck) s.explored s.before s.there s.more are.stages.second.nodes are.all
