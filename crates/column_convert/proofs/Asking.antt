@@ -1,17 +1,11 @@
--- Queries that were made, whether or not there was memory afterwards.
-use Rattle.std.proofs.Common.{◌≡◌, ℕ, List}
+-- Queries that want of memory cut off.
+use Rattle.std.proofs.Common.{ℕ, List}
 use Rattle.std.specs.Prelude.{IsErrAnd, Result, Ok, Err}
 use Rattle.std.specs.declared.alloc.AllocError.{AllocError}
-use Rattle.live_table.specs.Shown.{Follows, IsCutOff, IsRightTable, Shown}
+use Rattle.live_table.specs.Shown.{IsCutOff, IsRightTable, Shown}
 use Rattle.live_table.specs.States.{Event}
 use Rattle.live_table.proofs.NameQueries.{cut_at_once}
 use Rattle.reply.specs.Calls.{AreMade}
-use Rattle.reply.proofs.Runs.{cut_after}
-
-pub made : {A : Type 0} (r : Result A AllocError) (es : List Event) (a b : Shown) (n m : ℕ) → b.deck ≡ a.deck
-    → Follows es a b n m → AreMade es r a b n m
-made (Ok x) es a b n m deck p = p
-made (Err e) es a b n m deck p = cut_after es a b n m deck p
 
 -- want of memory before anything is asked
 pub not_yet : {A : Type 0} (Q : AllocError → Type 0) (r : Result A AllocError) (es : List Event) (a : Shown) (n : ℕ)

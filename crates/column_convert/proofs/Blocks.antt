@@ -13,8 +13,8 @@ use Rattle.def_entry.specs.Tables.{Table}
 use Rattle.live_table.specs.Shown.{Follows, IsCutOff, IsRightTable, Shown}
 use Rattle.live_table.specs.States.{Event}
 use Rattle.live_table.proofs.Following.{cut_both, follows_both, follows_none}
+use Rattle.live_table.proofs.Runs.{run_law}
 use Rattle.reply.specs.declared.options.Options.{Options}
-use Rattle.reply.proofs.Runs.{cut_between}
 use Rattle.column_convert.specs.Blocks.{BlocksLaw, behind_first, block_of, first, is_refused, text_of}
 use Rattle.column_convert.specs.Inputs.{Input, behind}
 use Rattle.column_convert.specs.Records.{Fields}
@@ -172,9 +172,8 @@ module _ (options : Options) (from to : List ℕ) (whole : Input) (most : ℕ) (
     pub stopped : IsCutOff (queries (table before.deck) options from to (first most whole)) before now old new
     stopped =
         subst (λ (es : List Event). IsCutOff es before now old new) (sym u.asks)
-        (cut_between u.events (queries (table before.deck) options from to (first (most - count) left)) before now old
-        new
-        u.deck u.follows)
+        (run_law.cut_between u.events (queries (table before.deck) options from to (first (most - count) left)) before
+        now old new u.deck u.follows)
 
     -- so many rows as are wanted
     pub full : most ≤ count → (rows (table before.deck) options from to (first most whole) ≡ u.done)

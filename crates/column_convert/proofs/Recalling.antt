@@ -13,9 +13,9 @@ use Rattle.live_table.specs.Shown.{Follows, IsCutOff, IsRightTable, Shown}
 use Rattle.live_table.specs.States.{AsksWords, Event}
 use Rattle.live_table.proofs.Following.{cut_both, follows_both}
 use Rattle.live_table.proofs.NameQueries.{cut_at_once}
+use Rattle.live_table.proofs.Runs.{run_law}
 use Rattle.reply.specs.declared.options.Options.{Options}
 use Rattle.reply.specs.Calls.{AreMade}
-use Rattle.reply.proofs.Runs.{cut_before}
 use Rattle.column_convert.specs.declared.cell.Cell.{Cell}
 use Rattle.column_convert.specs.declared.memory.Memory.{Memory}
 use Rattle.column_convert.specs.declared.signed.Signed.{Signed}
@@ -58,7 +58,7 @@ module _ (from to : List ℕ) (n : Signed) (f g : Syntax) (a : Shown) (plain : A
   from_cut Q (Err e) failed cut = λ options number s.
       let rest = from_first (table a.deck) options from to number n f g plain s in
       subst (λ (es : List Event). IsCutOff es a b o m) (sym rest.1)
-      (cut_before (AsksWords (words_in f) ∷ []) rest.0 a b o m cut)
+      (run_law.cut_before (AsksWords (words_in f) ∷ []) rest.0 a b o m cut)
 
   module _ (few : b.reductions ≤ 2 ^ 64 - 1) (asked : Follows (AsksWords (words_in f) ∷ []) a b o m) where
     -- FROM is asked for, and no more

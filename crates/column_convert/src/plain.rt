@@ -1,9 +1,7 @@
 //! FROM and TO as trees, where they are no functions and TO is no list.
 
 ghost use Rattle.std.specs.Prelude.{◌≡◌, IfOk, IfSome, IsTrue, codes};
-ghost use Rattle.std.specs.List.{list_any};
 ghost use Rattle.deck.specs.Tables as tables;
-ghost use Rattle.def_entry.specs.Reading.{is_semicolon};
 ghost use Rattle.expr_tree.specs.Trees.{syntax};
 ghost use Rattle.column_convert.specs.Known as spec;
 ghost use Rattle.column_convert.specs.Products.{signed_text};
@@ -13,6 +11,7 @@ use deck::Deck;
 use def_entry::Kind;
 use def_lines::trim;
 use expr_tree::{ParseFault, Tree, parse_expr};
+use reply::has_semicolon;
 use std::alloc::{AllocError, Global};
 
 /// The trees of FROM and TO.
@@ -63,13 +62,6 @@ fn are_plain(deck: &Deck, from: &[u8], to: &[u8]) -> bool
         return false;
     }
     !has_semicolon(to)
-}
-
-// Whether a `;` stands in the text.
-fn has_semicolon(text: &[u8]) -> bool
-    ensures { result ≡ list_any is_semicolon text.now }
-{
-    text.iter().any(|byte| *byte == b';')
 }
 
 // Whether a number above and one below 0 times an expression are expressions.

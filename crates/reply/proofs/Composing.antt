@@ -10,29 +10,21 @@ use Rattle.live_table.specs.Shown.{Follows, IsCutOff, IsRightTable, Shown}
 use Rattle.live_table.specs.States.{Event}
 use Rattle.live_table.proofs.Following.{follows_both, follows_none}
 use Rattle.live_table.proofs.NameQueries.{cut_at_once}
+use Rattle.live_table.proofs.Runs.{run_law}
 use Rattle.reply.specs.declared.failure.Failure.{Failure}
 use Rattle.reply.specs.declared.failure.Failure.TheVariants.{Fault, OutOfMemory}
 use Rattle.reply.specs.declared.fault.ReplyFault.{ReplyFault}
-use Rattle.reply.specs.Calls.{IsFailureOf, IsInquired, IsRead, same}
+use Rattle.reply.specs.Calls.{IsInquired, IsRead, as_inquired, same}
 use Rattle.reply.specs.Inquiries.{◌>>=◌, Inquiry, as_answer, asking, followed, given}
-use Rattle.reply.proofs.Runs.{cut_before, cut_behind, cut_between}
 
 -- a query that was answered is an inquiry
 module _ (e : Event) (said : Result Amount QueryFault) (a b : Shown) (n m : ℕ) where
-  pub asked-ok : (x : Amount) → Answers (Ok x) said → IsQuery e (Ok x) a b n m
-      → IsInquired same (asking e said) (Ok x) a b n m
-  asked-ok x h q = elim h [ inl p ↦ cc | inr p ↦ (ap as_answer (sym p), q) ]
-
-  pub asked-err : (fault : QueryFault) (failure : Failure) → IsFailureOf fault failure → Answers (Err fault) said
-      → IsQuery e (Err fault) a b n m → IsInquired same (asking e said) (Err failure) a b n m
-  asked-err (query.Name f) failure is h q =
-      subst (λ (x : Failure). IsInquired same (asking e said) (Err x) a b n m) (sym is)
-      (elim h [ inl p ↦ cc | inr p ↦ (ap as_answer (sym p), q) ])
-  asked-err (query.Value f) failure is h q =
-      subst (λ (x : Failure). IsInquired same (asking e said) (Err x) a b n m) (sym is)
-      (elim h [ inl p ↦ cc | inr p ↦ (ap as_answer (sym p), q) ])
-  asked-err query.OutOfMemory failure is h q =
-      subst (λ (x : Failure). IsInquired same (asking e said) (Err x) a b n m) (sym is) q
+  pub asked : (r : Result Amount QueryFault) → Answers r said → IsQuery e r a b n m
+      → IsInquired same (asking e said) (as_inquired r) a b n m
+  asked (Ok x) h q = elim h [ inl p ↦ cc | inr p ↦ (ap as_answer (sym p), q) ]
+  asked (Err (query.Name f)) h q = elim h [ inl p ↦ cc | inr p ↦ (ap as_answer (sym p), q) ]
+  asked (Err (query.Value f)) h q = elim h [ inl p ↦ cc | inr p ↦ (ap as_answer (sym p), q) ]
+  asked (Err query.OutOfMemory) h q = q
 
 -- what is read is an inquiry that asks nothing
 module _ {A B : Type 0} (seen : A → B) (said : Result B ReplyFault) (a : Shown) (n : ℕ) where
@@ -54,12 +46,12 @@ module _ {A B C : Type 0} (seen : C → B) (m : Inquiry A) (next : A → Inquiry
       go : (r : Result C Failure) → IsInquired seen (next x) r b c k l → IsInquired seen (both (Ok x)) r a c n l
       go (Ok y) h = (h.0, follows_both m.events (next x).events a b c n k l p h.1)
       go (Err (Fault fault)) h = (h.0, follows_both m.events (next x).events a b c n k l p h.1)
-      go (Err OutOfMemory) h = cut_behind m.events (next x).events a b c n k l deck p h
+      go (Err OutOfMemory) h = run_law.cut_behind m.events (next x).events a b c n k l deck p h
 
   -- want of memory cuts it off
   cut : (said : Result A ReplyFault) (a b : Shown) (n k : ℕ) → IsCutOff m.events a b n k
       → IsInquired seen (both said) (Err OutOfMemory) a b n k
-  cut (Ok x) a b n k p = cut_before m.events (next x).events a b n k p
+  cut (Ok x) a b n k p = run_law.cut_before m.events (next x).events a b n k p
   cut (Err fault) a b n k p = p
 
   -- what a failure of the first says of both
@@ -74,7 +66,7 @@ module _ {A B C : Type 0} (seen : C → B) (m : Inquiry A) (next : A → Inquiry
       → IsInquired seen (m >>= next) (Err OutOfMemory) a b n k
   then-stopped x a b n k deck is p =
       subst (λ (s : Result A ReplyFault). IsInquired seen (both s) (Err OutOfMemory) a b n k) (sym is)
-      (cut_between m.events (next x).events a b n k deck p)
+      (run_law.cut_between m.events (next x).events a b n k deck p)
 
 -- what is read behind an inquiry that has an answer
 pub read-behind : {A B C D : Type 0} (seen : C → B) (m : Inquiry A) (to : D → A) (said : A → Result B ReplyFault)

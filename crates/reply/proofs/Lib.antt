@@ -1,4 +1,4 @@
-mod Composing
+pub mod Composing
 mod Converting
 mod Examples
 pub mod Fronts
@@ -8,6 +8,6 @@ mod Replying
 pub mod Runs
 mod Targets
 mod ToldFaults
+mod TreeWorths
 mod UnitCounts
 mod UnlikeUnits
-mod Worths

@@ -26,14 +26,8 @@ use Rattle.reply.specs.Options.{form_of, style_of}
 use Rattle.reply.specs.Replies.{as_conversion, as_definition, as_value, body_of, conversion_as, conversion_queries}
 use Rattle.reply.specs.Replies.{conversion_reply, definition_as, definition_reply, from_value, refusal, value_queries}
 use Rattle.reply.specs.declared.reply.FromValue.TheVariants.{Good, Bad}
-use Rattle.reply.proofs.Runs.{cut_after}
+use Rattle.reply.proofs.Runs.{made}
 use Rattle.reply.proofs.ToldFaults.{IsTold, conversion-told, text-told}
-
--- queries that were made, whether or not there was memory afterwards
-made : {A : Type 0} (r : Result A AllocError) (es : List Event) (a b : Shown) (n m : ℕ) → b.deck ≡ a.deck
-    → Follows es a b n m → AreMade es r a b n m
-made (Ok x) es a b n m deck p = p
-made (Err e) es a b n m deck p = cut_after es a b n m deck p
 
 -- a fault that an inquiry answers can be told
 told : {A : Type 0} (said : Result A ReplyFault) (fault : ReplyFault) → IsTold said → said ≡ Err fault

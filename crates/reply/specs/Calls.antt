@@ -34,10 +34,15 @@ IsRead seen said (Err (Fault fault)) = said ≡ Err fault
 IsRead seen said (Err OutOfMemory) = ⊤
 
 -- why a query has no answer, as why an inquiry has none
-abbrev pub IsFailureOf : QueryFault → Failure → Type 0
-IsFailureOf (query.Name fault) failure = failure ≡ Fault (Name fault)
-IsFailureOf (query.Value fault) failure = failure ≡ Fault (Value fault)
-IsFailureOf query.OutOfMemory failure = failure ≡ OutOfMemory
+abbrev pub failure_of : QueryFault → Failure
+failure_of (query.Name fault) = Fault (Name fault)
+failure_of (query.Value fault) = Fault (Value fault)
+failure_of query.OutOfMemory = OutOfMemory
+
+-- what queries alone give, as what an inquiry gives
+abbrev pub as_inquired : {A : Type 0} → Result A QueryFault → Result A Failure
+as_inquired (Ok x) = Ok x
+as_inquired (Err fault) = Err (failure_of fault)
 
 -- trees that were made, as what they say
 abbrev pub syntaxes_of : List Tree → List Syntax

@@ -1,9 +1,8 @@
 //! What texts are worth.
 
-ghost use Rattle.std.specs.Prelude.{◌≡◌};
+ghost use Rattle.std.specs.Prelude.{◌≡◌, ◌++◌, ◌∷◌, [], OnOk};
 ghost use Rattle.deck.specs.Tables as tables;
 ghost use Rattle.expr_tree.specs.Trees.{syntax};
-ghost use Rattle.live_table.specs.Shown.{IsRightTable};
 ghost use Rattle.reply.specs.Calls as call;
 ghost use Rattle.reply.specs.Inquiries as spec;
 ghost use Rattle.reply.specs.Targets.{parts_of};
@@ -13,9 +12,9 @@ use crate::failure::Failure;
 use crate::fault::ReplyFault;
 use crate::parts::cut_part;
 use expr_tree::{ParseFault, Tree, parse_expr};
-use live_table::LiveTable;
+use live_table::{LiveTable, QueryFault};
 use quantity::Quantity;
-use std::alloc::Global;
+use std::alloc::{AllocError, Global};
 use std::sync::ledger::Ledger;
 use units_io::Steps;
 
@@ -51,34 +50,43 @@ fn worth<L: Ledger>(
     table: &mut LiveTable,
     tree: &Tree,
     steps: &mut Steps<L>,
-) -> Result<Quantity, Failure>
+) -> Result<Quantity, QueryFault>
     ensures deck { table.new.deck ≡ table.old.deck }
-    ensures inquired { call.IsInquired call.same (spec.worth (tables.table table.old.deck) (syntax tree.now)) result
-        table.old table.new steps.old steps.new }
+    ensures inquired { call.IsInquired call.same (spec.worth (tables.table table.old.deck) (syntax tree.now))
+        (call.as_inquired result) table.old table.new steps.old steps.new }
 {
-    let value = table.value(alloc, tree, steps)?;
-    Ok(value)
+    table.value(alloc, tree, steps)
 }
 
-/// What trees are worth, one after another.
-pub(crate) fn worths<L: Ledger>(
+/// What trees are worth, one after another, or the first fault. It makes the query of each tree up to that, and leaves
+/// the deck as it is.
+pub fn worths<L: Ledger>(
     alloc: Global,
     table: &mut LiveTable,
     trees: &[Tree],
     steps: &mut Steps<L>,
-) -> Result<Vec<Quantity>, Failure>
-    requires { IsRightTable table.old }
+) -> Result<Vec<Quantity>, QueryFault>
     ensures deck { table.new.deck ≡ table.old.deck }
     ensures inquired { call.IsInquired (λ values. values.items)
-        (spec.worths (tables.table table.old.deck) (call.syntaxes_of trees.now)) result
+        (spec.worths (tables.table table.old.deck) (call.syntaxes_of trees.now)) (call.as_inquired result)
         table.old table.new steps.old steps.new }
 {
+    // What is kept is right also where nothing is asked.
+    table.kept_right();
     let mut values = Vec::new(alloc);
     for tree in trees {
         let value = worth(alloc, table, tree, steps)?;
-        values.push(value)?;
+        put_value(&mut values, value)?;
     }
     Ok(values)
+}
+
+// Puts a value behind others.
+fn put_value(values: &mut Vec<Quantity>, value: Quantity) -> Result<(), AllocError>
+    ensures { OnOk result (values.new.items ≡ values.old.items ++ value ∷ []) }
+{
+    values.push(value)?;
+    Ok(())
 }
 
 /// What a text is worth.
@@ -93,7 +101,8 @@ pub(crate) fn text_worth<L: Ledger>(
         table.old table.new steps.old steps.new }
 {
     // What is kept is right also where nothing is asked.
-    let _right = table.deck();
+    table.kept_right();
     let tree = tree_in(alloc, text)?;
-    worth(alloc, table, &tree, steps)
+    let value = worth(alloc, table, &tree, steps)?;
+    Ok(value)
 }

@@ -129,7 +129,7 @@ fn split_into<L: Ledger>(
         table.old table.new steps.old steps.new }
 {
     // What is kept is right also where nothing is asked.
-    let _right = table.deck();
+    table.kept_right();
     let trees = part_trees(alloc, list.as_bytes())?;
     let units = worths(alloc, table, trees.as_slice(), steps)?;
     counted(alloc, options.round, list, x, units)

@@ -51,9 +51,10 @@ impl From<FracFault> for Failure {
 }
 
 impl From<QueryFault> for Failure {
-    ghost use Rattle.reply.specs.Calls.{IsFailureOf};
+    ghost use Rattle.std.specs.Prelude.{◌≡◌};
+    ghost use Rattle.reply.specs.Calls.{failure_of};
 
-    ghost from_gives = { λ fault failure. IsFailureOf fault failure };
+    ghost from_gives = { λ fault failure. failure ≡ failure_of fault };
 
     fn from(fault: QueryFault) -> Failure {
         match fault {

@@ -18,8 +18,10 @@ mod split_lines;
 mod target;
 mod telling;
 
+pub use asking::worths;
 pub use fault::ReplyFault;
 pub use laws::examples_law;
 pub use options::Options;
 pub use reply::{FromValue, Reply, comparison_reply, convert_reply, definition_reply, from_value};
+pub use target::has_semicolon;
 pub use telling::fault_text;

@@ -81,7 +81,8 @@ pub fn convert_reply<L: Ledger>(
 }
 
 /// The reply to the conversion of a text to another whose values are at hand, as `convert_reply` gives it where the
-/// second is a unit. It asks for nothing, and copies no value where the two conform. The only error is want of memory.
+/// second is a unit; but the texts stand as they are given. It asks for nothing, and copies no value where the two
+/// conform. The only error is want of memory.
 pub fn comparison_reply(
     alloc: Global,
     options: &Options,

@@ -38,8 +38,8 @@ pub(crate) fn target_of(alloc: Global, deck: &Deck, to: &[u8]) -> Result<Target,
     Ok(Target::Unit)
 }
 
-// Whether a `;` stands in the text.
-fn has_semicolon(text: &[u8]) -> bool
+/// Whether a `;` stands in the text, so that it is a list of units where it is no name. It takes no memory.
+pub fn has_semicolon(text: &[u8]) -> bool
     ensures { result ≡ list_any is_semicolon text.now }
 {
     text.iter().any(|byte| *byte == b';')

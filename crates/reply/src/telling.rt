@@ -44,7 +44,7 @@ pub(crate) fn put_fault(
             text.extend_from_slice(parse.as_bytes())?;
             Ok(())
         }
-        ReplyFault::Name(fault) => put_name_fault(alloc, text, fault),
+        ReplyFault::Name(fault) => put_name_fault(text, fault),
         ReplyFault::Value(fault) => put_value_fault(alloc, text, fault, style),
         ReplyFault::List(place) => put_list_fault(alloc, text, *place),
     }

@@ -4,20 +4,18 @@ use Rattle.std.specs.Prelude.{Result, Ok, Err, OnOk}
 use Rattle.std.specs.declared.alloc.AllocError.{AllocError}
 use Rattle.live_table.specs.declared.fault.QueryFault.{QueryFault}
 use Rattle.live_table.specs.declared.fault.QueryFault.TheVariants.{Name, Value, OutOfMemory}
-use Rattle.live_table.specs.Shown.{Follows, Shown}
-use Rattle.live_table.specs.States.{Event}
+use Rattle.live_table.specs.Shown.{Shown}
 use Rattle.def_entry.specs.declared.key.Key.{Key}
 use Rattle.digits_print.specs.declared.style.Style.{Style}
 use Rattle.survey.specs.declared.finding.Finding.{Finding}
 use Rattle.survey.specs.Checks.{finding_line}
-use Rattle.reply.specs.Calls.{AreMade, same}
+use Rattle.reply.specs.Calls.{AreMade, IsInquired, as_inquired, same}
 use Rattle.reply.specs.Inquiries.{Inquiry, as_answer}
-use Rattle.reply.proofs.Runs.{cut_after}
-use Rattle.survey.specs.Calls.{IsInquired}
+use Rattle.reply.proofs.Runs.{made}
 
 module _ {A : Type 0} (m : Inquiry A) (a b : Shown) (n l : ℕ) where
   -- where it is no want of memory, it is the answer
-  pub is-answer : (r : Result A QueryFault) → (r ≡ Err OutOfMemory → ⊥) → IsInquired same m r a b n l
+  pub is-answer : (r : Result A QueryFault) → (r ≡ Err OutOfMemory → ⊥) → IsInquired same m (as_inquired r) a b n l
       → m.answer ≡ as_answer r
   is-answer (Ok x) memory h = h.0
   is-answer (Err (Name fault)) memory h = h.0
@@ -25,26 +23,17 @@ module _ {A : Type 0} (m : Inquiry A) (a b : Shown) (n l : ℕ) where
   is-answer (Err OutOfMemory) memory h = absurd (memory refl)
 
   -- and all was asked, whether or not there was memory afterwards
-  pub are-made : (r : Result A QueryFault) → b.deck ≡ a.deck → IsInquired same m r a b n l
+  pub are-made : (r : Result A QueryFault) → b.deck ≡ a.deck → IsInquired same m (as_inquired r) a b n l
       → (q : Result (Unit {0}) AllocError) → OnOk q (r ≡ Err OutOfMemory → ⊥) → AreMade m.events q a b n l
-  are-made (Ok x) deck h (Ok u) memory = h.1
-  are-made (Err (Name fault)) deck h (Ok u) memory = h.1
-  are-made (Err (Value fault)) deck h (Ok u) memory = h.1
+  are-made (Ok x) deck h q memory = made q m.events a b n l deck h.1
+  are-made (Err (Name fault)) deck h q memory = made q m.events a b n l deck h.1
+  are-made (Err (Value fault)) deck h q memory = made q m.events a b n l deck h.1
   are-made (Err OutOfMemory) deck h (Ok u) memory = absurd (memory refl)
-  are-made (Ok x) deck h (Err e) memory = cut_after m.events a b n l deck h.1
-  are-made (Err (Name fault)) deck h (Err e) memory = cut_after m.events a b n l deck h.1
-  are-made (Err (Value fault)) deck h (Err e) memory = cut_after m.events a b n l deck h.1
   are-made (Err OutOfMemory) deck h (Err e) memory = h
-
--- queries that were made, whether or not there was memory afterwards
-pub made : {A : Type 0} (es : List Event) (a b : Shown) (n l : ℕ) → b.deck ≡ a.deck → Follows es a b n l
-    → (r : Result A AllocError) → AreMade es r a b n l
-made es a b n l deck h (Ok x) = h
-made es a b n l deck h (Err e) = cut_after es a b n l deck h
 
 -- a line for what is found is one for what the inquiry answers
 pub line-told : (style : Style) (k : Key) (m : Inquiry Finding) (a b : Shown) (n l : ℕ) (before after : List ℕ)
-    (r : Result Finding QueryFault) → IsInquired same m r a b n l → (q : Result (Unit {0}) AllocError)
+    (r : Result Finding QueryFault) → IsInquired same m (as_inquired r) a b n l → (q : Result (Unit {0}) AllocError)
     → OnOk q (after ≡ before ++ finding_line style k (as_answer r)) → OnOk q (r ≡ Err OutOfMemory → ⊥)
     → OnOk q (after ≡ before ++ finding_line style k m.answer)
 line-told style k m a b n l before after r h (Ok u) line memory =

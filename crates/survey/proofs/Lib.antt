@@ -1,7 +1,5 @@
 mod Examples
 mod Findings
-mod Holding
-mod Inquiring
 mod Opening
 mod Places
 mod PrefixAnswers
@@ -10,4 +8,3 @@ mod Questions
 mod Surveying
 mod Turning
 mod UnitRows
-mod Values

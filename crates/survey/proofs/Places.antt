@@ -10,7 +10,7 @@ use Rattle.deck.specs.Tables.{table}
 use Rattle.live_table.specs.States.{Event}
 use Rattle.survey.specs.Checks.{check_line, checked}
 use Rattle.survey.specs.Conformable.{conforming_row, unit_worth}
-use Rattle.survey.specs.Places.{given_by, if_unit}
+use Rattle.survey.specs.Places.{given_by, unit_there}
 
 -- what the keys at places give is what each place gives
 pub each-place : {A : Type 0} (f : Key → List A) (deck : Contents) (places : List ℕ)
@@ -36,7 +36,7 @@ module _ (deck : Contents) where
 
   -- the row of the unit at a place, and what is asked for it
   abbrev pub row_at : Amount → ℕ → List ℕ
-  row_at from place = given_by (if_unit (conforming_row (table deck) from)) (key_there deck.lines place)
+  row_at from place = given_by (conforming_row (table deck) from) (unit_there deck place)
 
   abbrev pub unit_queries_at : ℕ → List Event
-  unit_queries_at place = given_by (if_unit (λ k. (unit_worth (table deck) k).events)) (key_there deck.lines place)
+  unit_queries_at place = given_by (λ k. (unit_worth (table deck) k).events) (unit_there deck place)

@@ -7,44 +7,44 @@ use Rattle.table_names.specs.declared.fault.NameFault.{NameFault}
 use Rattle.live_table.specs.declared.fault.QueryFault.{QueryFault}
 use Rattle.live_table.specs.declared.fault.QueryFault.TheVariants as query
 use Rattle.live_table.specs.Shown.{Shown}
-use Rattle.reply.specs.Calls.{same}
+use Rattle.reply.specs.Calls.{IsInquired, failure_of, same}
 use Rattle.reply.specs.Inquiries.{Inquiry, given}
+use Rattle.reply.proofs.Composing.{read-behind, then-failed}
 use Rattle.reply.proofs.Runs.{cut_after}
 use Rattle.survey.specs.declared.finding.Finding.TheVariants.{Sound}
-use Rattle.survey.specs.Calls.{IsInquired}
 use Rattle.survey.specs.Checks.{of_prefix, prefix_answer, sound}
 use Rattle.survey.specs.PrefixFaults.{prefix_fault}
-use Rattle.survey.proofs.Inquiring.{then-failed, then-given}
 
 module _ {A : Type 0} (seen : A → List Amount) (k : Key) (m : Inquiry (List Amount)) (a b : Shown) (n l : ℕ) where
   -- it has a value
   pub prefix-sound : (x : A) → b.deck ≡ a.deck → IsInquired seen m (Ok x) a b n l
       → IsInquired same (sound (of_prefix k m)) (Ok Sound) a b n l
   prefix-sound x deck h =
-      then-given same (of_prefix k m) seen (λ _. Ok Sound) x Sound a b n l deck (ap (prefix_answer k) h.0, h.1) refl
+      read-behind same (of_prefix k m) seen (λ _. Ok Sound) x (Ok Sound) a b n l deck (ap (prefix_answer k) h.0, h.1)
+      refl
 
   -- its names have a fault
-  pub prefix-named : (fault : NameFault) → IsInquired seen m (Err (query.Name fault)) a b n l
-      → IsInquired same (sound (of_prefix k m)) (Err (query.Name (prefix_fault k fault))) a b n l
+  pub prefix-named : (fault : NameFault) → IsInquired seen m (Err (failure_of (query.Name fault))) a b n l
+      → IsInquired same (sound (of_prefix k m)) (Err (failure_of (query.Name (prefix_fault k fault)))) a b n l
   prefix-named fault h =
-      then-failed same (of_prefix k m) (λ _. given (Ok Sound)) seen (query.Name (prefix_fault k fault)) a b n l
-      (ap (prefix_answer k) h.0, h.1)
+      then-failed same (of_prefix k m) (λ _. given (Ok Sound)) seen (failure_of (query.Name (prefix_fault k fault)))
+      a b n l (ap (prefix_answer k) h.0, h.1)
 
   -- and there is no memory to tell it
   pub prefix-untold : (fault : NameFault) → b.deck ≡ a.deck
-      → IsInquired seen m (Err (query.Name fault)) a b n l
-      → IsInquired same (sound (of_prefix k m)) (Err query.OutOfMemory) a b n l
+      → IsInquired seen m (Err (failure_of (query.Name fault))) a b n l
+      → IsInquired same (sound (of_prefix k m)) (Err (failure_of query.OutOfMemory)) a b n l
   prefix-untold fault deck h =
-      then-failed same (of_prefix k m) (λ _. given (Ok Sound)) seen query.OutOfMemory a b n l
+      then-failed same (of_prefix k m) (λ _. given (Ok Sound)) seen (failure_of query.OutOfMemory) a b n l
       (cut_after m.events a b n l deck h.1)
 
   -- it has any other fault
   pub prefix-failed : (fault : QueryFault) → ((f : NameFault) → fault ≡ query.Name f → ⊥)
-      → IsInquired seen m (Err fault) a b n l
-      → IsInquired same (sound (of_prefix k m)) (Err fault) a b n l
+      → IsInquired seen m (Err (failure_of fault)) a b n l
+      → IsInquired same (sound (of_prefix k m)) (Err (failure_of fault)) a b n l
   prefix-failed (query.Name f) other h = absurd (other f refl)
   prefix-failed (query.Value f) other h =
-      then-failed same (of_prefix k m) (λ _. given (Ok Sound)) seen (query.Value f) a b n l
+      then-failed same (of_prefix k m) (λ _. given (Ok Sound)) seen (failure_of (query.Value f)) a b n l
       (ap (prefix_answer k) h.0, h.1)
   prefix-failed query.OutOfMemory other h =
-      then-failed same (of_prefix k m) (λ _. given (Ok Sound)) seen query.OutOfMemory a b n l h
+      then-failed same (of_prefix k m) (λ _. given (Ok Sound)) seen (failure_of query.OutOfMemory) a b n l h

@@ -10,9 +10,9 @@ use Rattle.live_table.specs.Answers.{Answers, by_names}
 use Rattle.live_table.specs.Calls.{IsQuery}
 use Rattle.live_table.specs.Shown.{Follows, Shown}
 use Rattle.live_table.specs.States.{Event}
-use Rattle.reply.specs.Calls.{same}
+use Rattle.reply.specs.Calls.{IsInquired, as_inquired, same}
 use Rattle.reply.specs.Inquiries.{Inquiry}
-use Rattle.survey.specs.Calls.{IsInquired, names_alone}
+use Rattle.survey.specs.Calls.{names_alone}
 use Rattle.survey.specs.Checks.{names_answer}
 
 -- what is asked
@@ -22,7 +22,7 @@ names-asked e fault = record { events = e ∷ []; answer = names_answer fault }
 module _ (e : Event) (fault : Option NameFault) (w : Worth) (a b : Shown) (n m : ℕ) where
   -- by what the query answers
   abbrev answers-names : Result Amount QueryFault → Type 0
-  answers-names r = IsInquired same (names-asked e fault) (names_alone r) a b n m
+  answers-names r = IsInquired same (names-asked e fault) (as_inquired (names_alone r)) a b n m
 
   answered : Follows (e ∷ []) a b n m → (f : Option NameFault) (w : Worth) → f ≡ fault → answers-names (by_names f w)
   answered h (Some f) w is = (ap names_answer (sym is), h)

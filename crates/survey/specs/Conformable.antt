@@ -5,12 +5,12 @@ use Rattle.expr_tree.specs.Syntax.{Word}
 use Rattle.quantity.specs.Amount.{Amount, conform}
 use Rattle.def_entry.specs.declared.key.Key.{Key}
 use Rattle.def_entry.specs.declared.key.Kind.TheVariants as kind
-use Rattle.def_entry.specs.Tables.{Table, entry_at}
+use Rattle.def_entry.specs.Tables.{Table}
 use Rattle.deck.specs.KeyLists.{of_kind, table_keys}
 use Rattle.live_table.specs.States.{Event}
 use Rattle.reply.specs.declared.fault.ReplyFault.{ReplyFault}
 use Rattle.reply.specs.Inquiries.{Inquiry, worth}
-use Rattle.survey.specs.Rows.{entry_row, or_none}
+use Rattle.survey.specs.Rows.{key_row, or_none}
 
 -- there is a value, and it conforms
 abbrev pub is_conforming : (from : Amount) → Result Amount ReplyFault → Bool
@@ -24,8 +24,7 @@ module _ (table : Table) where
 
   -- the row of a unit that has a value which conforms
   abbrev pub conforming_row : (from : Amount) → Key → List ℕ
-  conforming_row from k =
-      if is_conforming from (unit_worth k).answer then entry_row k.name (entry_at table k) else []
+  conforming_row from k = if is_conforming from (unit_worth k).answer then key_row table k else []
 
   -- those of the units among some keys
   abbrev pub conformable_among : (from : Amount) → List Key → List ℕ

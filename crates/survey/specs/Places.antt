@@ -1,16 +1,21 @@
--- What keys give.
-use Rattle.std.specs.Prelude.{List, [], ◌∷◌, Option, Some, None}
-use Rattle.std.specs.List.{flat_map}
+-- What keys give, by the places of the lines that define them.
+use Rattle.std.specs.Prelude.{ℕ, List, [], Option, Some, None, if◌then◌else◌}
 use Rattle.def_entry.specs.declared.key.Key.{Key}
 use Rattle.def_entry.specs.declared.key.Kind.TheVariants as kind
-use Rattle.deck.specs.KeyLists.{of_kind}
+use Rattle.def_entry.specs.SameKeys.{is_same_kind}
+use Rattle.deck.specs.Decks.{Contents}
+use Rattle.deck.specs.PlacedKeys.{key_there}
 
-module _ {A : Type 0} (f : Key → List A) where
-  -- what a key gives, where there is one
-  abbrev pub given_by : Option Key → List A
-  given_by None = []
-  given_by (Some k) = f k
+-- what a key gives, where there is one
+abbrev pub given_by : {A : Type 0} → (Key → List A) → Option Key → List A
+given_by f None = []
+given_by f (Some k) = f k
 
-  -- what a key gives, where it is a unit
-  abbrev pub if_unit : Key → List A
-  if_unit k = flat_map f (of_kind kind.Unit (k ∷ []))
+-- a key, where it is a unit
+abbrev pub unit_only : Option Key → Option Key
+unit_only None = None
+unit_only (Some k) = if is_same_kind kind.Unit k.kind then Some k else None
+
+-- the unit that the line at a place defines, if it defines one
+abbrev pub unit_there : Contents → ℕ → Option Key
+unit_there deck place = unit_only (key_there deck.lines place)

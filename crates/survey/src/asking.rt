@@ -1,13 +1,12 @@
 //! What is asked of a live table.
 
-ghost use Rattle.std.specs.Prelude.{◌≡◌, ◌++◌, ◌∷◌, [], IfOk, OnOk};
+ghost use Rattle.std.specs.Prelude.{◌≡◌, ◌∷◌, [], IfOk};
 ghost use Rattle.deck.specs.Tables as tables;
 ghost use Rattle.expr_tree.specs.Trees.{syntax};
 ghost use Rattle.expr_tree.specs.Words.{words_in};
 ghost use Rattle.tree_eval.specs.Expansion.{called_word};
 ghost use Rattle.live_table.specs.Shown.{IsRightTable};
 ghost use Rattle.reply.specs.Calls as call;
-ghost use Rattle.reply.specs.Inquiries as inquiries;
 ghost use Rattle.survey.specs.Calls as calls;
 ghost use Rattle.survey.specs.Checks as spec;
 
@@ -20,35 +19,6 @@ use std::alloc::{AllocError, Global};
 use std::sync::ledger::Ledger;
 use units_io::{Steps, Text};
 
-/// What trees are worth, one after another, up to the first fault.
-pub(crate) fn worths<L: Ledger>(
-    alloc: Global,
-    table: &mut LiveTable,
-    trees: &[Tree],
-    steps: &mut Steps<L>,
-) -> Result<Vec<Quantity>, QueryFault>
-    requires { IsRightTable table.old }
-    ensures inquired { calls.IsInquired (λ values. values.items)
-        (inquiries.worths (tables.table table.old.deck) (call.syntaxes_of trees.now)) result
-        table.old table.new steps.old steps.new }
-    ensures deck { table.new.deck ≡ table.old.deck }
-{
-    let mut values = Vec::new(alloc);
-    for tree in trees {
-        let value = table.value(alloc, tree, steps)?;
-        put_value(&mut values, value)?;
-    }
-    Ok(values)
-}
-
-// Puts a value behind others.
-fn put_value(values: &mut Vec<Quantity>, value: Quantity) -> Result<(), AllocError>
-    ensures { OnOk result (values.new.items ≡ values.old.items ++ value ∷ []) }
-{
-    values.push(value)?;
-    Ok(())
-}
-
 /// The fault of the names of a function, where it has one.
 pub(crate) fn ask_function<L: Ledger>(
     alloc: Global,
@@ -57,8 +27,8 @@ pub(crate) fn ask_function<L: Ledger>(
     steps: &mut Steps<L>,
 ) -> Result<(), QueryFault>
     requires { IsRightTable table.old }
-    ensures inquired { calls.IsInquired call.same (spec.names_of (tables.table table.old.deck) key.now) result
-        table.old table.new steps.old steps.new }
+    ensures inquired { call.IsInquired call.same (spec.names_of (tables.table table.old.deck) key.now)
+        (call.as_inquired result) table.old table.new steps.old steps.new }
     ensures deck { table.new.deck ≡ table.old.deck }
 {
     let call = faulty_call(alloc, key.name.as_bytes())?;

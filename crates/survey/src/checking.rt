@@ -8,11 +8,10 @@ ghost use Rattle.live_table.specs.Shown.{IsRightTable};
 ghost use Rattle.reply.specs.Calls as call;
 ghost use Rattle.reply.specs.Inquiries as inquiries;
 ghost use Rattle.reply.specs.Options.{IsPrintable, style_of};
-ghost use Rattle.survey.specs.Calls as calls;
 ghost use Rattle.survey.specs.Checks as spec;
 ghost use Rattle.survey.specs.Places.{given_by};
 
-use crate::asking::{ask_function, worths};
+use crate::asking::ask_function;
 use crate::finding::{Finding, parts_finding};
 use crate::finding_lines::put_finding;
 use crate::keys::copied;
@@ -22,7 +21,7 @@ use deck::key_lists_are_one;
 use def_entry::{Key, Kind};
 use expr_tree::Tree;
 use live_table::{LiveTable, QueryFault};
-use reply::Options;
+use reply::{Options, worths};
 use std::alloc::{AllocError, Global};
 use std::sync::ledger::Ledger;
 use units_io::{Steps, Text};
@@ -129,8 +128,8 @@ fn checked<L: Ledger>(
     steps: &mut Steps<L>,
 ) -> Result<Finding, QueryFault>
     requires { IsRightTable table.old }
-    ensures inquired { calls.IsInquired call.same (spec.checked (tables.table table.old.deck) key.now) result
-        table.old table.new steps.old steps.new }
+    ensures inquired { call.IsInquired call.same (spec.checked (tables.table table.old.deck) key.now)
+        (call.as_inquired result) table.old table.new steps.old steps.new }
     ensures deck { table.new.deck ≡ table.old.deck }
 {
     let trees = valued_trees(alloc, table.deck(), key)?;
@@ -150,9 +149,8 @@ fn unit_checked<L: Ledger>(
     trees: &[Tree],
     steps: &mut Steps<L>,
 ) -> Result<Finding, QueryFault>
-    requires { IsRightTable table.old }
-    ensures inquired { calls.IsInquired call.same (spec.sound
-        (inquiries.worths (tables.table table.old.deck) (call.syntaxes_of trees.now))) result
+    ensures inquired { call.IsInquired call.same (spec.sound
+        (inquiries.worths (tables.table table.old.deck) (call.syntaxes_of trees.now))) (call.as_inquired result)
         table.old table.new steps.old steps.new }
     ensures deck { table.new.deck ≡ table.old.deck }
 {
@@ -168,9 +166,8 @@ fn prefix_checked<L: Ledger>(
     trees: &[Tree],
     steps: &mut Steps<L>,
 ) -> Result<Finding, QueryFault>
-    requires { IsRightTable table.old }
-    ensures inquired { calls.IsInquired call.same (spec.checked_by (tables.table table.old.deck) kinds.Prefix key.now
-        (inquiries.worths (tables.table table.old.deck) (call.syntaxes_of trees.now))) result
+    ensures inquired { call.IsInquired call.same (spec.checked_by (tables.table table.old.deck) kinds.Prefix key.now
+        (inquiries.worths (tables.table table.old.deck) (call.syntaxes_of trees.now))) (call.as_inquired result)
         table.old table.new steps.old steps.new }
     ensures deck { table.new.deck ≡ table.old.deck }
 {
@@ -190,8 +187,8 @@ fn function_checked<L: Ledger>(
     steps: &mut Steps<L>,
 ) -> Result<Finding, QueryFault>
     requires { IsRightTable table.old }
-    ensures inquired { calls.IsInquired call.same (spec.checked_by (tables.table table.old.deck) kinds.Func key.now
-        (inquiries.worths (tables.table table.old.deck) (call.syntaxes_of trees.now))) result
+    ensures inquired { call.IsInquired call.same (spec.checked_by (tables.table table.old.deck) kinds.Func key.now
+        (inquiries.worths (tables.table table.old.deck) (call.syntaxes_of trees.now))) (call.as_inquired result)
         table.old table.new steps.old steps.new }
     ensures deck { table.new.deck ≡ table.old.deck }
 {
@@ -207,9 +204,8 @@ fn list_checked<L: Ledger>(
     trees: &[Tree],
     steps: &mut Steps<L>,
 ) -> Result<Finding, QueryFault>
-    requires { IsRightTable table.old }
-    ensures inquired { calls.IsInquired call.same (spec.parted
-        (inquiries.worths (tables.table table.old.deck) (call.syntaxes_of trees.now))) result
+    ensures inquired { call.IsInquired call.same (spec.parted
+        (inquiries.worths (tables.table table.old.deck) (call.syntaxes_of trees.now))) (call.as_inquired result)
         table.old table.new steps.old steps.new }
     ensures deck { table.new.deck ≡ table.old.deck }
 {

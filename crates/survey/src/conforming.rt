@@ -1,25 +1,25 @@
 //! The report of what conforms to a quantity.
 
-ghost use Rattle.std.specs.Prelude.{◌≡◌, ◌++◌, ◌∷◌, [], Err, IfOk, OnOk, if◌then◌else◌};
+ghost use Rattle.std.specs.Prelude.{◌≡◌, ◌++◌, [], Err, IfOk, OnOk, if◌then◌else◌};
 ghost use Rattle.std.specs.List.{flat_map};
+ghost use Rattle.std.specs.Option.{option_map};
 ghost use Rattle.def_entry.specs.declared.key.Kind.TheVariants as kinds;
-ghost use Rattle.def_entry.specs.Tables.{entry_at};
 ghost use Rattle.deck.specs.KeyLists.{of_kind};
 ghost use Rattle.deck.specs.PlacedKeys.{key_there, keys_there};
 ghost use Rattle.deck.specs.Tables as tables;
+ghost use Rattle.expr_tree.specs.Syntax.{Word};
+ghost use Rattle.expr_tree.specs.Trees.{syntax};
 ghost use Rattle.live_table.specs.Shown.{IsRightTable};
 ghost use Rattle.live_table.specs.declared.fault.QueryFault.TheVariants.{OutOfMemory};
 ghost use Rattle.reply.specs.Calls as call;
 ghost use Rattle.reply.specs.Inquiries.{as_answer};
-ghost use Rattle.survey.specs.Calls as calls;
 ghost use Rattle.survey.specs.Conformable as spec;
-ghost use Rattle.survey.specs.Places.{given_by, if_unit};
-ghost use Rattle.survey.specs.Rows.{entry_row};
+ghost use Rattle.survey.specs.Places.{given_by, unit_there};
+ghost use Rattle.survey.specs.Rows.{key_row};
 
-use crate::keys::copied;
-use crate::rows::{put_entry_row, rows_or_none};
+use crate::rows::{put_row_there, rows_or_none};
 use deck::{Deck, key_lists_are_one};
-use def_entry::{Key, Kind};
+use def_entry::Kind;
 use expr_tree::Tree;
 use live_table::{LiveTable, QueryFault};
 use quantity::Quantity;
@@ -71,7 +71,7 @@ fn put_conforming_rows<L: Ledger>(
     Ok(())
 }
 
-// Puts the row of the key at a place, where it is a unit that has a value which conforms.
+// Puts the row of the unit at a place, where one is there and has a value which conforms.
 fn put_row_at<L: Ledger>(
     alloc: Global,
     rows: &mut Vec<u8>,
@@ -82,107 +82,62 @@ fn put_row_at<L: Ledger>(
 ) -> Result<(), AllocError>
     requires { IsRightTable table.old }
     ensures rows { OnOk result (rows.new.items ≡ rows.old.items
-        ++ given_by (if_unit (spec.conforming_row (tables.table table.old.deck) from.now))
-        (key_there table.old.deck.lines place)) }
-    ensures queries { call.AreMade (given_by (if_unit (λ k. (spec.unit_worth (tables.table table.old.deck) k).events))
-        (key_there table.old.deck.lines place)) result table.old table.new steps.old steps.new }
+        ++ given_by (spec.conforming_row (tables.table table.old.deck) from.now)
+        (unit_there table.old.deck place)) }
+    ensures queries { call.AreMade (given_by (λ k. (spec.unit_worth (tables.table table.old.deck) k).events)
+        (unit_there table.old.deck place)) result table.old table.new steps.old steps.new }
     ensures deck { table.new.deck ≡ table.old.deck }
 {
-    let Some(key) = table.deck().key_at(place) else {
+    let Some(word) = unit_word(alloc, table.deck(), place)? else {
         return Ok(());
     };
-    let key = copied(alloc, key.kind, key.name)?;
-    put_if_unit(alloc, rows, table, &key, from, steps)
+    let found = table.value(alloc, &word, steps);
+    put_if_conforming(rows, table.deck(), place, from, &found)
 }
 
-// Puts the row of a key, where it is a unit that has a value which conforms.
-fn put_if_unit<L: Ledger>(
-    alloc: Global,
-    rows: &mut Vec<u8>,
-    table: &mut LiveTable,
-    key: &Key,
-    from: &Quantity,
-    steps: &mut Steps<L>,
-) -> Result<(), AllocError>
-    requires { IsRightTable table.old }
-    ensures rows { OnOk result (rows.new.items ≡ rows.old.items
-        ++ if_unit (spec.conforming_row (tables.table table.old.deck) from.now) key.now) }
-    ensures queries { call.AreMade
-        (if_unit (λ k. (spec.unit_worth (tables.table table.old.deck) k).events) key.now) result
-        table.old table.new steps.old steps.new }
-    ensures deck { table.new.deck ≡ table.old.deck }
+// The word of the unit that the line at a place defines, where it defines one.
+fn unit_word(alloc: Global, deck: &Deck, place: usize) -> Result<Option<Tree>, AllocError>
+    ensures { IfOk result (λ word. option_map syntax word
+        ≡ option_map (λ k. Word k.name) (unit_there deck.now place)) }
 {
+    let Some(key) = deck.key_at(place) else {
+        return Ok(None);
+    };
     match key.kind {
-        Kind::Unit => put_unit(alloc, rows, table, key, from, steps),
-        _ => Ok(()),
+        Kind::Unit => Ok(Some(Tree::Word(Text::from_bytes(alloc, key.name)?))),
+        _ => Ok(None),
     }
 }
 
-// Puts the row of a unit, where it has a value which conforms.
-fn put_unit<L: Ledger>(
-    alloc: Global,
-    rows: &mut Vec<u8>,
-    table: &mut LiveTable,
-    key: &Key,
-    from: &Quantity,
-    steps: &mut Steps<L>,
-) -> Result<(), AllocError>
-    requires { IsRightTable table.old }
-    ensures rows { OnOk result (rows.new.items
-        ≡ rows.old.items ++ spec.conforming_row (tables.table table.old.deck) from.now key.now) }
-    ensures queries { call.AreMade (spec.unit_worth (tables.table table.old.deck) key.now).events result
-        table.old table.new steps.old steps.new }
-    ensures deck { table.new.deck ≡ table.old.deck }
-{
-    let found = unit_worth(alloc, table, key, steps);
-    put_if_conforming(rows, table.deck(), key, from, &found)
-}
-
-// What a unit is worth.
-fn unit_worth<L: Ledger>(
-    alloc: Global,
-    table: &mut LiveTable,
-    key: &Key,
-    steps: &mut Steps<L>,
-) -> Result<Quantity, QueryFault>
-    requires { IsRightTable table.old }
-    ensures inquired { calls.IsInquired call.same (spec.unit_worth (tables.table table.old.deck) key.now) result
-        table.old table.new steps.old steps.new }
-    ensures deck { table.new.deck ≡ table.old.deck }
-{
-    let word = Tree::Word(key.name.copy(alloc)?);
-    table.value(alloc, &word, steps)
-}
-
-// Puts the row of a unit that is worth so much, where that conforms. Want of memory there is want of memory here.
+// Puts the row of the key at a place that is worth so much, where that conforms. Want of memory there is want of memory
+// here.
 fn put_if_conforming(
     rows: &mut Vec<u8>,
     deck: &Deck,
-    key: &Key,
+    place: usize,
     from: &Quantity,
     found: &Result<Quantity, QueryFault>,
 ) -> Result<(), AllocError>
     ensures row { OnOk result (rows.new.items ≡ rows.old.items
         ++ (if spec.is_conforming from.now (as_answer found.now)
-        then entry_row key.now.name (entry_at (tables.table deck.now) key.now)
+        then given_by (key_row (tables.table deck.now)) (key_there deck.now.lines place)
         else [])) }
     ensures memory { OnOk result (found.now ≡ Err OutOfMemory → ⊥) }
 {
     match found {
-        Ok(x) => put_row_if(rows, x.conforms(from), deck, key),
+        Ok(x) => put_row_if(rows, x.conforms(from), deck, place),
         Err(QueryFault::OutOfMemory) => Err(AllocError),
         Err(QueryFault::Name(_) | QueryFault::Value(_)) => Ok(()),
     }
 }
 
-// Puts the row of a unit, where that is wanted.
-fn put_row_if(rows: &mut Vec<u8>, wanted: bool, deck: &Deck, key: &Key) -> Result<(), AllocError>
+// Puts the row of the key at a place, where that is wanted.
+fn put_row_if(rows: &mut Vec<u8>, wanted: bool, deck: &Deck, place: usize) -> Result<(), AllocError>
     ensures { OnOk result (rows.new.items ≡ rows.old.items
-        ++ (if wanted then entry_row key.now.name (entry_at (tables.table deck.now) key.now) else [])) }
+        ++ (if wanted then given_by (key_row (tables.table deck.now)) (key_there deck.now.lines place) else [])) }
 {
     if !wanted {
         return Ok(());
     }
-    let name = key.name.as_bytes();
-    put_entry_row(rows, deck, key.kind, name, name)
+    put_row_there(rows, deck, place)
 }

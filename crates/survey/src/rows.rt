@@ -1,39 +1,51 @@
 //! The rows of reports.
 
 ghost use Rattle.std.specs.Prelude.{◌≡◌, ◌++◌, IfOk, OnOk};
-ghost use Rattle.def_entry.specs.Keys as keys;
-ghost use Rattle.def_entry.specs.Tables.{entry_at};
+ghost use Rattle.def_entry.specs.Keys.{key_text};
+ghost use Rattle.deck.specs.PlacedKeys.{key_there, lent_key};
 ghost use Rattle.deck.specs.Tables as tables;
+ghost use Rattle.survey.specs.Places.{given_by};
 ghost use Rattle.survey.specs.Rows as spec;
 
-use deck::Deck;
-use def_entry::Kind;
+use crate::keys::put_key;
+use deck::{BorrowedKey, Deck};
 use std::alloc::AllocError;
 use units_io::Text;
 
-/// Puts the row of the entry of a key, where there is one, in which the key is shown so.
-pub(crate) fn put_entry_row(
+/// Puts the row of the key that the line at a place defines, where it defines one.
+pub(crate) fn put_row_there(text: &mut Vec<u8>, deck: &Deck, place: usize) -> Result<(), AllocError>
+    ensures { OnOk result (text.new.items ≡ text.old.items
+        ++ given_by (spec.key_row (tables.table deck.now)) (key_there deck.now.lines place)) }
+{
+    match deck.key_at(place) {
+        Some(key) => put_key_row(text, deck, place, key),
+        None => Ok(()),
+    }
+}
+
+// Puts the row of a key, where it has an entry. That is at hand where the last active line of the key stands at the
+// place `near`.
+fn put_key_row(
     text: &mut Vec<u8>,
     deck: &Deck,
-    kind: Kind,
-    name: &[u8],
-    shown: &[u8],
+    near: usize,
+    key: BorrowedKey<'_>,
 ) -> Result<(), AllocError>
     ensures { OnOk result (text.new.items
-        ≡ text.old.items ++ spec.entry_row shown.now (entry_at (tables.table deck.now) (keys.key kind name.now))) }
+        ≡ text.old.items ++ spec.key_row (tables.table deck.now) (lent_key key.entry)) }
 {
-    match deck.entry(kind, name) {
-        Some(entry) => put_row(text, shown, entry.text()),
+    match deck.entry_near(near, key.kind, key.name) {
+        Some(entry) => put_row(text, key, entry.text()),
         None => Ok(()),
     }
 }
 
 // Puts a row.
-fn put_row(text: &mut Vec<u8>, name: &[u8], entry: &[u8]) -> Result<(), AllocError>
-    ensures { OnOk result (text.new.items ≡ text.old.items ++ spec.row name.now entry.now) }
+fn put_row(text: &mut Vec<u8>, key: BorrowedKey<'_>, entry: &[u8]) -> Result<(), AllocError>
+    ensures { OnOk result (text.new.items ≡ text.old.items ++ spec.row (key_text (lent_key key.entry)) entry.now) }
 {
     text.extend_from_slice(b"\t".as_slice())?;
-    text.extend_from_slice(name)?;
+    put_key(text, key.kind, key.name)?;
     text.extend_from_slice(b"\t".as_slice())?;
     text.extend_from_slice(entry)?;
     text.extend_from_slice(b"\n".as_slice())?;

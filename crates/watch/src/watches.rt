@@ -109,7 +109,7 @@ impl Watches {
     /// Asks for the reply of each watch again, in order, and answers, for each whose bytes are others than those
     /// kept, the line `watch K` and the reply: after an edit these are exactly the watches whose replies in the table
     /// before and behind it differ. What is kept is then the reply in the present table. The only error is want of
-    /// memory; after it each watch keeps its last reply or has the present one, and no more is said of which.
+    /// memory; after it the first watches have the present reply, the others their last one.
     pub fn after_edit<L: Ledger>(
         &mut self,
         alloc: Global,

@@ -5,8 +5,9 @@ use Rattle.live_table.specs.States.{Event}
 use Rattle.reply.specs.Calls.{AreMade}
 use Rattle.reply.specs.Replies.{conversion_queries}
 use Rattle.reply.specs.declared.reply.Reply.{Reply}
+use Rattle.reply.proofs.Runs.{made}
 use Rattle.column_convert.specs.Cells as spec
-use Rattle.column_convert.proofs.Asking.{made, not_yet}
+use Rattle.column_convert.proofs.Asking.{not_yet}
 use Rattle.column_convert.proofs.Converting.{asked_queries, asked_reply}
 use Rattle.column_convert.proofs.cell.number_cell.Goals as goal
 

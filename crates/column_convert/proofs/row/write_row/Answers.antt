@@ -3,8 +3,8 @@ use Rattle.csv.specs.Records.{fields_of}
 use Rattle.deck.specs.Tables.{table as table_of}
 use Rattle.live_table.specs.States.{Event}
 use Rattle.reply.specs.Calls.{AreMade}
+use Rattle.reply.proofs.Runs.{made}
 use Rattle.column_convert.specs.Cells.{cell_queries}
-use Rattle.column_convert.proofs.Asking.{made}
 use Rattle.column_convert.proofs.Changing.{place_within}
 use Rattle.column_convert.proofs.Converting.{field_queries}
 use Rattle.column_convert.proofs.row.write_row.Goals as goal
@@ -17,11 +17,11 @@ pub returns-in_ok-cell-in-Some-clause-queries : goal.returns-in_ok-cell-in-Some-
 returns-in_ok-cell-in-Some-clause-queries g c =
     subst (λ (es : List Event).
     AreMade es c.write_cell.result c.args.table.now c.convert_cell.new.table c.args.steps.now c.convert_cell.new.steps)
-    (field_queries (table_of c.args.table.now.deck) c.args.conversion.now.options.now c.args.conversion.now.from.now c.args.conversion.now.to.now
-    (fields_of c.args.fields.now) c.args.place c.args.headed c.in-Some.field.now c.if-headed.false
-    c.in-Some.ensures.value)
+    (field_queries (table_of c.args.table.now.deck) c.args.conversion.now.options.now c.args.conversion.now.from.now
+    c.args.conversion.now.to.now (fields_of c.args.fields.now) c.args.place c.args.headed c.in-Some.field.now
+    c.if-headed.false c.in-Some.ensures.value)
     (made c.write_cell.result
-    (cell_queries (table_of c.args.table.now.deck) c.args.conversion.now.options.now c.args.conversion.now.from.now c.args.conversion.now.to.now
-    c.in-Some.field.now)
+    (cell_queries (table_of c.args.table.now.deck) c.args.conversion.now.options.now c.args.conversion.now.from.now
+    c.args.conversion.now.to.now c.in-Some.field.now)
     c.args.table.now c.convert_cell.new.table c.args.steps.now c.convert_cell.new.steps c.convert_cell.ensures.deck
     c.in_ok-cell-in-Some.ensures.queries)

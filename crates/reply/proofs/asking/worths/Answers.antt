@@ -8,9 +8,9 @@ use Rattle.deck.specs.Tables.{table}
 use Rattle.expr_tree.specs.declared.tree.Tree.{Tree}
 use Rattle.expr_tree.specs.Trees.{syntax}
 use Rattle.quantity.specs.Amount.{Amount}
-use Rattle.reply.specs.Calls.{IsInquired, same, syntaxes_of}
+use Rattle.reply.specs.Calls.{IsInquired, as_inquired, failure_of, same, syntaxes_of}
 use Rattle.reply.specs.Inquiries.{worth, worths}
-use Rattle.reply.proofs.Worths.{IsUnderway, underway-failed, underway-next, underway-start, underway-stopped}
+use Rattle.reply.proofs.TreeWorths.{IsUnderway, underway-failed, underway-next, underway-start, underway-stopped}
 use Rattle.reply.proofs.asking.worths.Goals as goal
 
 pub loop-tree-init : goal.loop-tree-init
@@ -19,7 +19,7 @@ loop-tree-init g c =
     (syntaxes_of c.args.trees.now) xs c.args.table.now c.args.table.now c.args.steps.now c.args.steps.now)
     (sym c.new-values.ensures.items)
     (underway-start (table c.args.table.now.deck) (syntaxes_of c.args.trees.now) c.args.table.now c.args.steps.now
-    c.requires)
+    c.kept_right.ensures)
 
 pub returns-in_err-value-clause-inquired : goal.returns-in_err-value-clause-inquired
 returns-in_err-value-clause-inquired g c =
@@ -27,7 +27,7 @@ returns-in_err-value-clause-inquired g c =
     let next = drop_more c.args.trees.now c.loop-tree.tree-index c.tree-item.result (omega arith)
     ∙ ap (λ (tree : Tree). tree ∷ drop (c.loop-tree.tree-index + 1) c.args.trees.now) (sym c.tree-item.is) in
     subst (λ r. IsInquired (λ (values : Vec Amount Global). values.items)
-    (worths (table c.args.table.now.deck) (syntaxes_of c.args.trees.now)) r
+    (worths (table c.args.table.now.deck) (syntaxes_of c.args.trees.now)) (as_inquired r)
     c.args.table.now c.worth.new.table c.args.steps.now c.worth.new.steps) (sym (p.1 ∙ ap Err p.2))
     (underway-failed (table c.args.table.now.deck) (syntaxes_of c.args.trees.now)
     (syntaxes_of (drop (c.loop-tree.tree-index + 1) c.args.trees.now)) (syntax c.tree-item.result)
@@ -38,18 +38,18 @@ returns-in_err-value-clause-inquired g c =
     c.loop-tree.values.items c.args.table.now c.loop-tree.table c.args.steps.now c.loop-tree.steps)
     next c.loop-tree.invariant)
     c.worth.new.table c.worth.new.steps c.worth.ensures.deck (λ (values : Vec Amount Global). values.items)
-    c.in_err-value.field-0.0
+    (failure_of c.in_err-value.field-0.0)
     (subst (λ (d : Contents). IsInquired same (worth (table d) (syntax c.tree-item.result))
-    (Err c.in_err-value.field-0.0) c.loop-tree.table
+    (Err (failure_of c.in_err-value.field-0.0)) c.loop-tree.table
     c.worth.new.table c.loop-tree.steps c.worth.new.steps) c.loop-tree.invariant.deck c.in_err-value.ensures.inquired))
 
-pub returns-in_err-push-clause-inquired : goal.returns-in_err-push-clause-inquired
-returns-in_err-push-clause-inquired g c =
-    let p = err_from_is_err_and c.from_residual-in_err-push.result c.from_residual-in_err-push.ensures.1 in
+pub returns-in_err-put_value-clause-inquired : goal.returns-in_err-put_value-clause-inquired
+returns-in_err-put_value-clause-inquired g c =
+    let p = err_from_is_err_and c.from_residual-in_err-put_value.result c.from_residual-in_err-put_value.ensures.1 in
     let next = drop_more c.args.trees.now c.loop-tree.tree-index c.tree-item.result (omega arith)
     ∙ ap (λ (tree : Tree). tree ∷ drop (c.loop-tree.tree-index + 1) c.args.trees.now) (sym c.tree-item.is) in
     subst (λ r. IsInquired (λ (values : Vec Amount Global). values.items)
-    (worths (table c.args.table.now.deck) (syntaxes_of c.args.trees.now)) r
+    (worths (table c.args.table.now.deck) (syntaxes_of c.args.trees.now)) (as_inquired r)
     c.args.table.now c.worth.new.table c.args.steps.now c.worth.new.steps) (sym (p.1 ∙ ap Err p.2))
     (underway-stopped (λ (values : Vec Amount Global). values.items) (table c.args.table.now.deck)
     (syntaxes_of c.args.trees.now) c.args.table.now c.worth.new.table c.args.steps.now c.worth.new.steps
@@ -76,7 +76,7 @@ loop-tree-preserved g c =
     (syntaxes_of (drop (c.loop-tree.tree-index + 1) c.args.trees.now)) xs c.args.table.now c.worth.new.table
     c.args.steps.now
     c.worth.new.steps)
-    (sym (c.in_ok-push.ensures {u = tt}).items)
+    (sym {A = List Amount} c.in_ok-put_value.ensures)
     (underway-next (table c.args.table.now.deck) (syntaxes_of c.args.trees.now)
     (syntaxes_of (drop (c.loop-tree.tree-index + 1) c.args.trees.now)) (syntax c.tree-item.result)
     c.loop-tree.values.items

@@ -1,7 +1,7 @@
 use Rattle.std.proofs.Common.{drop}
 use Rattle.deck.specs.Tables.{table}
 use Rattle.reply.specs.Calls.{syntaxes_of}
-use Rattle.reply.proofs.Worths.{IsUnderway}
+use Rattle.reply.proofs.TreeWorths.{IsUnderway}
 use Rattle.reply.proofs.asking.worths.Given as goal
 
 abbrev pub invariant-loop-tree : goal.invariant-loop-tree

@@ -1,4 +1,4 @@
-use Rattle.std.proofs.Common.{sym, subst, Ok}
+use Rattle.std.proofs.Common.{◌∙◌, Err, Ok, ap, subst, sym}
 use Rattle.std.proofs.lemmas.Result.{err_from_is_err_and}
 use Rattle.deck.specs.Tables.{table}
 use Rattle.def_entry.specs.declared.key.Kind.TheVariants as kinds
@@ -6,10 +6,10 @@ use Rattle.def_entry.specs.Keys.{key}
 use Rattle.live_table.specs.Answers.{inverse_answer}
 use Rattle.live_table.specs.States.{AsksKey}
 use Rattle.reply.specs.declared.conversion.Conversion.TheVariants.{Inverse}
-use Rattle.reply.specs.Calls.{IsInquired, same}
+use Rattle.reply.specs.Calls.{IsInquired, failure_of, same}
 use Rattle.reply.specs.Conversions.{inverted}
 use Rattle.reply.specs.Inquiries.{asking, given}
-use Rattle.reply.proofs.Composing.{asked-err, asked-ok, read-behind, then-failed}
+use Rattle.reply.proofs.Composing.{asked, read-behind, then-failed}
 use Rattle.reply.proofs.conversion.inverted.Goals as goal
 use Rattle.std.specs.Prelude.{refl}
 
@@ -19,11 +19,11 @@ returns-in_err-y-clause-inquired g c =
     let event = AsksKey (key kinds.Func c.args.name.now) in
     let said = inverse_answer (table c.args.table.now.deck) c.args.name.now c.args.x in
     subst (λ r. IsInquired same (inverted (table c.args.table.now.deck) c.args.name.now c.args.x) r
-    c.args.table.now c.unapply.new.self c.args.steps.now c.unapply.new.steps) (sym p.1)
-    (then-failed same (asking event said) (λ y. given (Ok (Inverse y))) same p.0
+    c.args.table.now c.unapply.new.self c.args.steps.now c.unapply.new.steps) (sym (p.1 ∙ ap Err p.2))
+    (then-failed same (asking event said) (λ y. given (Ok (Inverse y))) same (failure_of c.in_err-y.field-0.0)
     c.args.table.now c.unapply.new.self c.args.steps.now c.unapply.new.steps
-    (asked-err event said c.args.table.now c.unapply.new.self c.args.steps.now c.unapply.new.steps
-    c.in_err-y.field-0.0 p.0 p.2 c.in_err-y.ensures.answer c.in_err-y.ensures.after))
+    (asked event said c.args.table.now c.unapply.new.self c.args.steps.now c.unapply.new.steps
+    (Err c.in_err-y.field-0.0) c.in_err-y.ensures.answer c.in_err-y.ensures.after))
 
 pub returns-clause-inquired : goal.returns-clause-inquired
 returns-clause-inquired g c =
@@ -31,5 +31,5 @@ returns-clause-inquired g c =
     let said = inverse_answer (table c.args.table.now.deck) c.args.name.now c.args.x in
     read-behind same (asking event said) same (λ y. Ok (Inverse y)) c.in_ok-y.y (Ok (Inverse c.in_ok-y.y))
     c.args.table.now c.unapply.new.self c.args.steps.now c.unapply.new.steps c.unapply.ensures.deck
-    (asked-ok event said c.args.table.now c.unapply.new.self c.args.steps.now c.unapply.new.steps c.in_ok-y.y
+    (asked event said c.args.table.now c.unapply.new.self c.args.steps.now c.unapply.new.steps (Ok c.in_ok-y.y)
     c.in_ok-y.ensures.answer c.in_ok-y.ensures.after) refl

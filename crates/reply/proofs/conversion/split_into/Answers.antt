@@ -5,7 +5,7 @@ use Rattle.std.specs.declared.alloc.Global.{Global}
 use Rattle.deck.specs.Tables.{table}
 use Rattle.expr_tree.specs.declared.tree.Tree.{Tree}
 use Rattle.quantity.specs.Amount.{Amount}
-use Rattle.reply.specs.Calls.{IsInquired, IsRead, same, syntaxes_of}
+use Rattle.reply.specs.Calls.{IsInquired, IsRead, failure_of, same, syntaxes_of}
 use Rattle.reply.specs.Conversions.{split_into}
 use Rattle.reply.specs.Targets.{parts_of}
 use Rattle.reply.specs.Trees.{trees_in}
@@ -19,7 +19,7 @@ returns-in_err-trees-clause-inquired g c =
     subst (λ r. IsInquired same (split_into (table c.args.table.now.deck) c.args.options.now c.args.list c.args.x) r
     c.args.table.now c.args.table.now c.args.steps.now c.args.steps.now) (sym (p.1 ∙ ap Err p.2))
     (split-unparsed (table c.args.table.now.deck) c.args.options.now c.args.list c.args.x c.args.table.now
-    c.args.steps.now c.deck-right.ensures.right (λ (trees : Vec Tree Global). syntaxes_of trees.items)
+    c.args.steps.now c.kept_right.ensures (λ (trees : Vec Tree Global). syntaxes_of trees.items)
     c.in_err-trees.field-0.0
     (subst (λ (l : List ℕ). IsRead (λ (trees : Vec Tree Global). syntaxes_of trees.items) (trees_in (parts_of l))
     (Err c.in_err-trees.field-0.0)) c.as_bytes.ensures c.in_err-trees.ensures))
@@ -36,16 +36,16 @@ returns-in_err-units-clause-inquired g c =
     subst (λ r. IsInquired same (split_into (table c.args.table.now.deck) c.args.options.now c.args.list c.args.x) r
     c.args.table.now c.worths.new.table c.args.steps.now c.worths.new.steps) (sym (p.1 ∙ ap Err p.2))
     (split-unvalued (table c.args.table.now.deck) c.args.options.now c.args.list c.args.x c.args.table.now
-    c.args.steps.now c.deck-right.ensures.right (λ (units : Vec Amount Global). units.items)
+    c.args.steps.now c.kept_right.ensures (λ (units : Vec Amount Global). units.items)
     (syntaxes_of c.as_slice.result.now)
     ((λ i. trees_in (parts_of (sym c.as_bytes.ensures i))) ∙ c.in_ok-trees.ensures
     ∙ (λ i. Ok (syntaxes_of (sym c.as_slice.ensures.value i))))
-    c.worths.new.table c.worths.new.steps c.in_err-units.field-0.0 c.in_err-units.ensures.inquired)
+    c.worths.new.table c.worths.new.steps (failure_of c.in_err-units.field-0.0) c.in_err-units.ensures.inquired)
 
 pub returns-clause-inquired : goal.returns-clause-inquired
 returns-clause-inquired g c =
     split-counted (table c.args.table.now.deck) c.args.options.now c.args.list c.args.x c.args.table.now
-    c.args.steps.now c.deck-right.ensures.right (λ (units : Vec Amount Global). units.items)
+    c.args.steps.now c.kept_right.ensures (λ (units : Vec Amount Global). units.items)
     (syntaxes_of c.as_slice.result.now)
     ((λ i. trees_in (parts_of (sym c.as_bytes.ensures i))) ∙ c.in_ok-trees.ensures
     ∙ (λ i. Ok (syntaxes_of (sym c.as_slice.ensures.value i))))

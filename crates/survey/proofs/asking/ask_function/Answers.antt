@@ -8,8 +8,8 @@ use Rattle.table_names.specs.Meanings.{expansion}
 use Rattle.tree_eval.specs.Expansion.{called_word}
 use Rattle.tree_eval.specs.Value.{value}
 use Rattle.live_table.specs.States.{AsksWords}
-use Rattle.reply.specs.Calls.{same}
-use Rattle.survey.specs.Calls.{IsInquired, names_alone}
+use Rattle.reply.specs.Calls.{IsInquired, as_inquired, same}
+use Rattle.survey.specs.Calls.{names_alone}
 use Rattle.survey.specs.Checks.{names_of}
 use Rattle.survey.proofs.Questions.{names-asked, names-inquired}
 use Rattle.survey.proofs.asking.ask_function.Goals as goal
@@ -18,10 +18,11 @@ pub returns-clause-inquired : goal.returns-clause-inquired
 returns-clause-inquired g c =
     let called : words_in (syntax c.in_ok-call.call) ≡ called_word c.args.key.now.name ∷ [] =
     c.in_ok-call.ensures {u = tt} ∙ ap (λ (name : List ℕ). called_word name ∷ []) c.as_bytes.ensures in
-    subst (λ r. IsInquired same (names_of (table c.args.table.now.deck) c.args.key.now) r c.args.table.now
-    c.value.new.self c.args.steps.now c.value.new.steps) (sym c.names_alone.ensures)
+    subst (λ r. IsInquired same (names_of (table c.args.table.now.deck) c.args.key.now) (as_inquired r)
+    c.args.table.now c.value.new.self c.args.steps.now c.value.new.steps) (sym c.names_alone.ensures)
     (subst (λ (words : List WordUse). IsInquired same
-    (names-asked (AsksWords words) (name_fault (table c.args.table.now.deck) words)) (names_alone c.value.result)
+    (names-asked (AsksWords words) (name_fault (table c.args.table.now.deck) words))
+    (as_inquired (names_alone c.value.result))
     c.args.table.now c.value.new.self c.args.steps.now c.value.new.steps) called
     (names-inquired (AsksWords (words_in (syntax c.in_ok-call.call)))
     (name_fault (table c.args.table.now.deck) (words_in (syntax c.in_ok-call.call)))

@@ -11,8 +11,8 @@ use Rattle.live_table.specs.Calls.{all_names}
 use Rattle.live_table.specs.Shown.{Follows, IsCutOff}
 use Rattle.live_table.proofs.Following.{follows_both}
 use Rattle.live_table.proofs.NameQueries.{cut_at_once}
+use Rattle.live_table.proofs.Runs.{run_law}
 use Rattle.reply.specs.Calls.{AreMade}
-use Rattle.reply.proofs.Runs.{cut_before, cut_behind}
 use Rattle.survey.specs.Checks.{check_queries, queries_among}
 use Rattle.survey.proofs.checking.check_report.Goals as goal
 
@@ -29,7 +29,7 @@ returns-in_err-settle_all-clause-queries g c =
     let p = err_from_is_err_and c.from_residual-in_err-settle_all.result c.from_residual-in_err-settle_all.ensures.1 in
     subst (λ (r : Result (List ℕ) AllocError). AreMade (check_queries (table c.args.table.now.deck)) r
     c.args.table.now c.settle_all.new.self c.args.steps.now c.settle_all.new.steps) (sym p.1)
-    (cut_before (all_names (table c.args.table.now.deck))
+    (run_law.cut_before (all_names (table c.args.table.now.deck))
     (queries_among (table c.args.table.now.deck) (table_keys (table c.args.table.now.deck)))
     c.args.table.now c.settle_all.new.self c.args.steps.now c.settle_all.new.steps c.in_err-settle_all.ensures.after)
 
@@ -45,7 +45,7 @@ returns-in_err-put_checks-clause-queries g c =
     (c.in_ok-places.ensures {u = tt}).all) in
     subst (λ (r : Result (List ℕ) AllocError). AreMade (check_queries (table c.args.table.now.deck)) r
     c.args.table.now c.put_checks.new.table c.args.steps.now c.put_checks.new.steps) (sym p.1)
-    (cut_behind (all_names (table c.args.table.now.deck))
+    (run_law.cut_behind (all_names (table c.args.table.now.deck))
     (queries_among (table c.args.table.now.deck) (table_keys (table c.args.table.now.deck)))
     c.args.table.now c.settle_all.new.self c.put_checks.new.table c.args.steps.now c.settle_all.new.steps
     c.put_checks.new.steps c.settle_all.ensures.deck c.in_ok-settle_all.ensures.after

@@ -1,16 +1,15 @@
 use Rattle.std.proofs.Common.{◌∙◌, Err, ap, subst, sym}
 use Rattle.std.proofs.lemmas.Result.{err_from_is_err_and}
 use Rattle.deck.specs.Tables.{table}
-use Rattle.reply.specs.Calls.{same}
-use Rattle.survey.specs.Calls.{IsInquired}
+use Rattle.live_table.proofs.NameQueries.{cut_at_once}
+use Rattle.reply.specs.Calls.{IsInquired, as_inquired, same}
 use Rattle.survey.specs.Checks.{checked}
-use Rattle.survey.proofs.Inquiring.{cut-first}
 use Rattle.survey.proofs.checking.checked.Goals as goal
 
 pub returns-in_err-trees-clause-inquired : goal.returns-in_err-trees-clause-inquired
 returns-in_err-trees-clause-inquired g c =
     let p = err_from_is_err_and c.from_residual.result c.from_residual.ensures.1 in
-    subst (λ r. IsInquired same (checked (table c.args.table.now.deck) c.args.key.now) r
+    subst (λ r. IsInquired same (checked (table c.args.table.now.deck) c.args.key.now) (as_inquired r)
     c.args.table.now c.args.table.now c.args.steps.now c.args.steps.now) (sym (p.1 ∙ ap Err p.2))
-    (cut-first same (checked (table c.args.table.now.deck) c.args.key.now) c.args.table.now c.args.steps.now
+    (cut_at_once (checked (table c.args.table.now.deck) c.args.key.now).events c.args.table.now c.args.steps.now
     c.deck.ensures.right)

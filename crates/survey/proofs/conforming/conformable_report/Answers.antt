@@ -9,8 +9,8 @@ use Rattle.deck.specs.PlacedKeys.{keys_there}
 use Rattle.deck.specs.Tables.{table}
 use Rattle.live_table.proofs.NameQueries.{cut_at_once}
 use Rattle.reply.specs.Calls.{AreMade}
+use Rattle.reply.proofs.Runs.{made}
 use Rattle.survey.specs.Conformable.{conformable_queries, unit_queries}
-use Rattle.survey.proofs.Findings.{made}
 use Rattle.survey.proofs.conforming.conformable_report.Goals as goal
 
 pub returns-in_err-places-clause-queries : goal.returns-in_err-places-clause-queries
@@ -32,7 +32,7 @@ returns-clause-queries g c =
     (c.in_ok-places.ensures {u = tt}).all) in
     subst (λ (ks : List Key). AreMade (unit_queries (table c.args.table.now.deck) ks) c.rows_or_none.result
     c.args.table.now c.put_conforming_rows.new.table c.args.steps.now c.put_conforming_rows.new.steps) keys
-    (made (unit_queries (table c.args.table.now.deck) (keys_there c.args.table.now.deck.lines c.as_slice.result.now))
-    c.args.table.now
-    c.put_conforming_rows.new.table c.args.steps.now c.put_conforming_rows.new.steps c.put_conforming_rows.ensures.deck
-    c.in_ok-put_conforming_rows.ensures.queries c.rows_or_none.result)
+    (made c.rows_or_none.result
+    (unit_queries (table c.args.table.now.deck) (keys_there c.args.table.now.deck.lines c.as_slice.result.now))
+    c.args.table.now c.put_conforming_rows.new.table c.args.steps.now c.put_conforming_rows.new.steps
+    c.put_conforming_rows.ensures.deck c.in_ok-put_conforming_rows.ensures.queries)

@@ -1,21 +1,17 @@
 use Rattle.std.proofs.Common.{◌≡◌, ◌∙◌, ◌++◌, List, ap, arith, get_or, subst, sym, ℕ}
 use Rattle.std.specs.Prelude.{Result}
 use Rattle.std.specs.declared.alloc.AllocError.{AllocError}
-use Rattle.std.specs.List.{flat_map}
 use Rattle.std.proofs.lemmas.Option.{slice_get-get_or}
 use Rattle.std.proofs.lemmas.Result.{err_from_is_err_and}
 use Rattle.def_entry.specs.declared.key.Key.{Key}
-use Rattle.def_entry.specs.declared.key.Kind.TheVariants as kind
 use Rattle.deck.specs.Decks.{Contents}
-use Rattle.deck.specs.KeyLists.{of_kind}
-use Rattle.deck.specs.PlacedKeys.{key_there, keys_there}
+use Rattle.deck.specs.PlacedKeys.{keys_there}
 use Rattle.deck.specs.Tables.{table}
 use Rattle.live_table.specs.Shown.{Follows, IsCutOff}
 use Rattle.live_table.specs.States.{Event}
 use Rattle.reply.specs.Calls.{AreMade}
 use Rattle.survey.specs.Conformable.{conforming_row, unit_queries, unit_worth}
-use Rattle.survey.specs.Places.{given_by, if_unit}
-use Rattle.survey.proofs.Places.{each-place, row_at, unit_queries_at}
+use Rattle.survey.proofs.Places.{row_at, unit_queries_at}
 use Rattle.survey.proofs.Surveying.{underway-cut, underway-follows, underway-next, underway-text}
 use Rattle.survey.proofs.UnitRows.{units-each}
 use Rattle.survey.proofs.conforming.put_conforming_rows.Goals as goal
@@ -36,12 +32,6 @@ loop-place-preserved g c =
     c.loop-place.table c.put_row_at.new.table c.loop-place.steps c.put_row_at.new.steps)
     c.loop-place.invariant.deck c.in_ok-put_row_at.ensures.queries)
 
--- what units among the keys at places give is what each place gives
-each-unit : {A : Type 0} (f : Key → List A) (deck : Contents) (places : List ℕ)
-    → flat_map f (of_kind kind.Unit (keys_there deck.lines places))
-    ≡ flat_map (λ place. given_by (if_unit f) (key_there deck.lines place)) places
-each-unit f deck places = units-each f (keys_there deck.lines places) ∙ each-place (if_unit f) deck places
-
 pub returns-in_err-put_row_at-clause-queries : goal.returns-in_err-put_row_at-clause-queries
 returns-in_err-put_row_at-clause-queries g c =
     let place = get_or c.args.places.now c.loop-place.place-index 0 in
@@ -52,7 +42,7 @@ returns-in_err-put_row_at-clause-queries g c =
     c.put_row_at.new.table c.args.steps.now c.put_row_at.new.steps) (sym p.1)
     (subst (λ (es : List Event). IsCutOff es c.args.table.now c.put_row_at.new.table c.args.steps.now
     c.put_row_at.new.steps)
-    (sym (each-unit (λ (k : Key). (unit_worth (table deck) k).events) deck c.args.places.now))
+    (sym (units-each (λ (k : Key). (unit_worth (table deck) k).events) deck c.args.places.now))
     (underway-cut (row_at deck c.args.from.now) (unit_queries_at deck) c.args.places.now
     c.loop-place.place-index c.args.rows.now.items c.loop-place.rows.items c.args.table.now c.loop-place.table
     c.args.steps.now c.loop-place.steps c.loop-place.invariant place
@@ -69,13 +59,13 @@ returns-clause-rows g c =
     c.args.rows.now.items c.loop-place.rows.items c.args.table.now c.loop-place.table c.args.steps.now
     c.loop-place.steps c.loop-place.invariant (omega arith)
     ∙ ap (λ (xs : List ℕ). c.args.rows.now.items ++ xs)
-    (sym (each-unit (conforming_row (table deck) c.args.from.now) deck c.args.places.now))
+    (sym (units-each (conforming_row (table deck) c.args.from.now) deck c.args.places.now))
 
 pub returns-clause-queries : goal.returns-clause-queries
 returns-clause-queries g c =
     let deck = c.args.table.now.deck in
     subst (λ (es : List Event). Follows es c.args.table.now c.loop-place.table c.args.steps.now c.loop-place.steps)
-    (sym (each-unit (λ (k : Key). (unit_worth (table deck) k).events) deck c.args.places.now))
+    (sym (units-each (λ (k : Key). (unit_worth (table deck) k).events) deck c.args.places.now))
     (underway-follows (row_at deck c.args.from.now) (unit_queries_at deck) c.args.places.now
     c.loop-place.place-index c.args.rows.now.items c.loop-place.rows.items c.args.table.now c.loop-place.table
     c.args.steps.now c.loop-place.steps c.loop-place.invariant (omega arith))

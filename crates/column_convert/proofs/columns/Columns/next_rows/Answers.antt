@@ -5,12 +5,13 @@ use Rattle.def_lines.specs.Blanks.{trimmed}
 use Rattle.deck.specs.Tables.{table}
 use Rattle.live_table.specs.States.{Event}
 use Rattle.live_table.specs.Shown.{Follows}
+use Rattle.reply.proofs.Runs.{made}
 use Rattle.column_convert.specs.Inputs.{Input}
 use Rattle.column_convert.specs.Blocks.{block_of}
 use Rattle.column_convert.specs.Rows.{ColumnRow, next_row}
 use Rattle.column_convert.specs.Written.{IsNextWritten, text_in}
 use Rattle.column_convert.proofs.AnyLength.{appended}
-use Rattle.column_convert.proofs.Asking.{made, not_all}
+use Rattle.column_convert.proofs.Asking.{not_all}
 use Rattle.column_convert.proofs.Blocks.{IsUnderway, block_is, ended, failed, follows_ended, full, none_there}
 use Rattle.column_convert.proofs.Blocks.{row_there}
 use Rattle.column_convert.proofs.Blocks.{underway_next, underway_start, whatever}
@@ -89,7 +90,8 @@ loop-count-preserved g c =
           c.write_next.ensures.deck c.in_ok-refused.ensures.queries one.0 one.1 c.either-any.result
           (c.either-any.ensures ∙ ap (λ (b : Bool). c.loop-count.any || b) one.2.refused_is)
           (text_in c.write_next.new.draft.writer)
-          (appended (text_in c.loop-count.draft.writer) (text_in c.write_next.new.draft.writer) _ one.0.text u.text_is one.2.text));
+          (appended (text_in c.loop-count.draft.writer) (text_in c.write_next.new.draft.writer) _ one.0.text u.text_is
+          one.2.text));
     }
 
 pub returns-clause-left : goal.returns-clause-left

@@ -3,14 +3,14 @@ use Rattle.std.specs.List.{flat_map}
 use Rattle.deck.specs.PlacedKeys.{key_there}
 use Rattle.deck.specs.Tables.{table}
 use Rattle.survey.specs.Places.{given_by}
-use Rattle.survey.specs.Searches.{found_row}
-use Rattle.survey.proofs.searching.put_found_rows.Given as goal
+use Rattle.survey.specs.Rows.{key_row}
+use Rattle.survey.proofs.searching.put_rows.Given as goal
 
 -- the rows with those of the places that are left are those of all
 abbrev pub invariant-loop-place : goal.invariant-loop-place
 invariant-loop-place l =
     l.rows.items
-    ++ flat_map (λ place. given_by (found_row (table l.deck) l.text) (key_there l.deck.lines place))
+    ++ flat_map (λ place. given_by (key_row (table l.deck)) (key_there l.deck.lines place))
     (drop l.place-index l.places)
     ≡ l.initial.rows.items
-    ++ flat_map (λ place. given_by (found_row (table l.deck) l.text) (key_there l.deck.lines place)) l.places
+    ++ flat_map (λ place. given_by (key_row (table l.deck)) (key_there l.deck.lines place)) l.places

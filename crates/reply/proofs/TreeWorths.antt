@@ -6,24 +6,23 @@ use Rattle.expr_tree.specs.Syntax.{Syntax}
 use Rattle.expr_tree.specs.Words.{words_in}
 use Rattle.quantity.specs.Amount.{Amount}
 use Rattle.def_entry.specs.Tables.{Table}
-use Rattle.live_table.specs.declared.fault.QueryFault.{QueryFault}
-use Rattle.live_table.specs.declared.fault.QueryFault.TheVariants as query
 use Rattle.live_table.specs.Shown.{Follows, IsCutOff, IsRightTable, Shown}
 use Rattle.live_table.specs.States.{AsksWords, Event}
 use Rattle.live_table.proofs.Following.{cut_both, follows_both, follows_none}
+use Rattle.live_table.proofs.Runs.{run_law}
+use Rattle.reply.specs.declared.failure.Failure.{Failure}
+use Rattle.reply.specs.declared.failure.Failure.TheVariants.{Fault, OutOfMemory}
 use Rattle.reply.specs.declared.fault.ReplyFault.{ReplyFault}
-use Rattle.reply.specs.Calls.{same}
+use Rattle.reply.specs.Calls.{IsInquired, same}
 use Rattle.reply.specs.Inquiries.{Inquiry, followed, given, worth, worths}
 use Rattle.reply.proofs.Fronts.{with_front, with_front-none}
-use Rattle.reply.proofs.Runs.{cut_behind, cut_between}
-use Rattle.survey.specs.Calls.{IsInquired}
 
 -- an inquiry behind these queries, whose answer stands behind these values
 abbrev pub behind : List Event → List Amount → Inquiry (List Amount) → Inquiry (List Amount)
 behind es xs m = record { events = es ++ m.events; answer = with_front xs m.answer }
 
 -- some trees have these values, the rest is to be asked
-pub record IsValuing (t : Table) (trees rest : List Syntax) (values : List Amount) (a b : Shown) (n m : ℕ) : Type 0
+pub record IsUnderway (t : Table) (trees rest : List Syntax) (values : List Amount) (a b : Shown) (n m : ℕ) : Type 0
   where
     pub events : List Event
     pub whole : worths t trees ≡ behind events values (worths t rest)
@@ -31,9 +30,9 @@ pub record IsValuing (t : Table) (trees rest : List Syntax) (values : List Amoun
     pub follows : Follows events a b n m
 
 -- at the start nothing is asked yet, and all trees are left
-pub valuing-start : (t : Table) (trees : List Syntax) (a : Shown) (n : ℕ) → IsRightTable a
-    → IsValuing t trees trees [] a a n n
-valuing-start t trees a n right = record {
+pub underway-start : (t : Table) (trees : List Syntax) (a : Shown) (n : ℕ) → IsRightTable a
+    → IsUnderway t trees trees [] a a n n
+underway-start t trees a n right = record {
   events = [];
   whole = λ i. record { events = (worths t trees).events; answer = sym (with_front-none (worths t trees).answer) i };
   deck = refl;
@@ -55,7 +54,7 @@ module _ (es : List Event) (xs : List Amount) (e : Event) (x : Amount) (gs : Lis
   more (Err fault) = λ i. record { events = sym (append_assoc es (e ∷ []) gs) i; answer = Err fault }
 
 module _ (t : Table) (trees rest : List Syntax) (tree : Syntax) (values : List Amount) (a b : Shown) (n m : ℕ)
-    (u : IsValuing t trees (tree ∷ rest) values a b n m) (c : Shown) (k : ℕ) (same_deck : c.deck ≡ b.deck) where
+    (u : IsUnderway t trees (tree ∷ rest) values a b n m) (c : Shown) (k : ℕ) (same_deck : c.deck ≡ b.deck) where
   abbrev event : Event
   event = AsksWords (words_in tree)
 
@@ -64,9 +63,9 @@ module _ (t : Table) (trees rest : List Syntax) (tree : Syntax) (values : List A
   whole_by said = behind u.events values (followed (event ∷ []) said (onto (worths t rest)))
 
   -- it has a value
-  pub valuing-next : (x : Amount) → IsInquired same (worth t tree) (Ok x) b c m k
-      → IsValuing t trees rest (values ++ x ∷ []) a c n k
-  valuing-next x h = record {
+  pub underway-next : (x : Amount) → IsInquired same (worth t tree) (Ok x) b c m k
+      → IsUnderway t trees rest (values ++ x ∷ []) a c n k
+  underway-next x h = record {
     events = u.events ++ event ∷ [];
     whole =
         u.whole
@@ -76,37 +75,34 @@ module _ (t : Table) (trees rest : List Syntax) (tree : Syntax) (values : List A
   }
 
   -- it has none
-  pub valuing-failed : {A : Type 0} (seen : A → List Amount) (fault : QueryFault)
-      → IsInquired same (worth t tree) (Err fault) b c m k → IsInquired seen (worths t trees) (Err fault) a c n k
-  valuing-failed seen fault h =
-      subst (λ (w : Inquiry (List Amount)). IsInquired seen w (Err fault) a c n k) (sym u.whole) (go fault h)
+  pub underway-failed : {A : Type 0} (seen : A → List Amount) (failure : Failure)
+      → IsInquired same (worth t tree) (Err failure) b c m k → IsInquired seen (worths t trees) (Err failure) a c n k
+  underway-failed seen failure h =
+      subst (λ (w : Inquiry (List Amount)). IsInquired seen w (Err failure) a c n k) (sym u.whole) (go failure h)
     where
       cut : (said : Result Amount ReplyFault) → IsCutOff (event ∷ []) b c m k → IsCutOff (whole_by said).events a c n k
       cut (Ok x) q =
           cut_both u.events (event ∷ []) (onto (worths t rest) x).events a b c n m k u.deck u.follows q
-      cut (Err fault) q = cut_behind u.events (event ∷ []) a b c n m k u.deck u.follows q
+      cut (Err fault) q = run_law.cut_behind u.events (event ∷ []) a b c n m k u.deck u.follows q
 
-      go : (fault : QueryFault) → IsInquired same (worth t tree) (Err fault) b c m k
-          → IsInquired seen (whole_by (worth t tree).answer) (Err fault) a c n k
-      go (query.Name f) h =
-          subst (λ (s : Result Amount ReplyFault). IsInquired seen (whole_by s) (Err (query.Name f)) a c n k) (sym h.0)
+      go : (failure : Failure) → IsInquired same (worth t tree) (Err failure) b c m k
+          → IsInquired seen (whole_by (worth t tree).answer) (Err failure) a c n k
+      go (Fault fault) h =
+          subst (λ (s : Result Amount ReplyFault). IsInquired seen (whole_by s) (Err (Fault fault)) a c n k) (sym h.0)
           (refl, follows_both u.events (event ∷ []) a b c n m k u.follows h.1)
-      go (query.Value f) h =
-          subst (λ (s : Result Amount ReplyFault). IsInquired seen (whole_by s) (Err (query.Value f)) a c n k) (sym h.0)
-          (refl, follows_both u.events (event ∷ []) a b c n m k u.follows h.1)
-      go query.OutOfMemory h = cut (worth t tree).answer h
+      go OutOfMemory h = cut (worth t tree).answer h
 
 module _ {A : Type 0} (seen : A → List Amount) (t : Table) (trees : List Syntax) (a b : Shown) (n m : ℕ) where
   -- want of memory between two of them
-  pub valuing-stopped : (rest : List Syntax) (values : List Amount) → IsValuing t trees rest values a b n m
-      → IsInquired seen (worths t trees) (Err query.OutOfMemory) a b n m
-  valuing-stopped rest values u =
+  pub underway-stopped : (rest : List Syntax) (values : List Amount) → IsUnderway t trees rest values a b n m
+      → IsInquired seen (worths t trees) (Err OutOfMemory) a b n m
+  underway-stopped rest values u =
       subst (λ (w : Inquiry (List Amount)). IsCutOff w.events a b n m) (sym u.whole)
-      (cut_between u.events (worths t rest).events a b n m u.deck u.follows)
+      (run_law.cut_between u.events (worths t rest).events a b n m u.deck u.follows)
 
   -- all have values
-  pub valuing-done : (v : A) → IsValuing t trees [] (seen v) a b n m → IsInquired seen (worths t trees) (Ok v) a b n m
-  valuing-done v u =
+  pub underway-done : (v : A) → IsUnderway t trees [] (seen v) a b n m → IsInquired seen (worths t trees) (Ok v) a b n m
+  underway-done v u =
       subst (λ (w : Inquiry (List Amount)). IsInquired seen w (Ok v) a b n m) (sym u.whole) (
         ap Ok (append-nil (seen v)),
         subst (λ (es : List Event). Follows es a b n m) (sym (append-nil u.events))

@@ -4,18 +4,18 @@ use Rattle.std.specs.List.{flat_map}
 use Rattle.deck.specs.PlacedKeys.{key_there}
 use Rattle.deck.specs.Tables.{table}
 use Rattle.survey.specs.Places.{given_by}
-use Rattle.survey.specs.Searches.{found_row}
+use Rattle.survey.specs.Rows.{key_row}
 use Rattle.survey.proofs.Places.{each-place}
-use Rattle.survey.proofs.searching.put_found_rows.Goals as goal
+use Rattle.survey.proofs.searching.put_rows.Goals as goal
 
 pub returns : goal.returns
 returns c =
     let deck = c.args.deck.now in
     let rows : List ℕ → List ℕ =
-    flat_map (λ place. given_by (found_row (table deck) c.args.text.now) (key_there deck.lines place)) in
+    flat_map (λ place. given_by (key_row (table deck)) (key_there deck.lines place)) in
     sym (append-nil c.loop-place.rows.items)
     ∙ ap (λ places. c.loop-place.rows.items ++ rows places)
     (sym (drop_all c.loop-place.place-index c.args.places.now (omega arith)))
     ∙ c.loop-place.invariant
     ∙ ap (λ xs. c.args.rows.now.items ++ xs)
-    (sym (each-place (found_row (table deck) c.args.text.now) deck c.args.places.now))
+    (sym (each-place (key_row (table deck)) deck c.args.places.now))
