@@ -15,7 +15,7 @@ use Rattle.session.specs.Hearing.{readable}
 use Rattle.session.specs.Telling.{when_told}
 use Rattle.session.specs.Outside.{Outside, taken_of, IsReadToEnd, TookMoreThan}
 use Rattle.session.specs.Written.{IsAll, IsFront, IsCut, IsCutShort, IsPart, IsPartBut, output_of, session_course}
-use Rattle.session.specs.Standing.{Base, Now, IsAt, Begins, IsBefore, IsBroken, Stands, IsOver, Fed}
+use Rattle.session.specs.Standing.{Base, Now, IsAt, Begins, IsBefore, IsBroken, Stands, Fed}
 use Rattle.session.specs.Waiting.{Opens, Waits, TookAtLeast}
 use Rattle.session.specs.Sessions.{Known}
 use Rattle.session.specs.declared.fault.SessionFault.{SessionFault}
@@ -59,6 +59,10 @@ front_behind o mid out xs ys e f = (
       ∙ grown_twice o xs (take f.0 ys) ∙ ap (grown o) (sym (take-append-add xs ys f.0)),
 )
 
+-- a count that has not fallen since a later time has not since an earlier one
+pub later_than : (a b c : ℕ) → a ≤ b → b ≤ c → a ≤ c
+later_than a b c h k = omega (arith, h, k)
+
 -- a count that rose since a later time rose since an earlier one
 pub rose_since : (a b c : ℕ) → a ≤ b → Rose b c → Rose a c
 rose_since a b c h r = omega (arith, h, r)
@@ -73,6 +77,13 @@ any_rose a b c x y z p q h k (inr (inr r)) = inr (inr r)
 pub either_rose : (a b c x y z : ℕ) → a ≤ b → x ≤ y → Rose b c ⊎ Rose y z → Rose a c ⊎ Rose x z
 either_rose a b c x y z h k (inl r) = inl (rose_since a b c h r)
 either_rose a b c x y z h k (inr r) = inr (rose_since x y z k r)
+
+-- so did one of three
+pub any_since : (a b c x y z p q r : ℕ) → a ≤ b → x ≤ y → p ≤ q → Rose b c ⊎ Rose y z ⊎ Rose q r
+    → Rose a c ⊎ Rose x z ⊎ Rose p r
+any_since a b c x y z p q r h k l (inl s) = inl (rose_since a b c h s)
+any_since a b c x y z p q r h k l (inr (inl s)) = inr (inl (rose_since x y z k s))
+any_since a b c x y z p q r h k l (inr (inr s)) = inr (inr (rose_since p q r l s))
 
 -- one of two is one of three
 pub of_two : {A B C : Type 0} → A ⊎ B → A ⊎ B ⊎ C
@@ -97,16 +108,32 @@ pub taken_is : (input taken rest : List ℕ) (left : Option (List ℕ)) → inpu
 taken_is input taken rest left e h = ap (taken_of input) h ∙ ap (λ i. take (length i - length rest) i) e
     ∙ take-front taken rest
 
+-- bytes that are taken up in part, and then what is left of them
+pub both_taken : (taken bytes done left : List ℕ) → bytes ≡ done ++ left → (taken ++ done) ++ left ≡ taken ++ bytes
+both_taken taken bytes done left e = append_assoc taken done left ∙ ap (λ t. taken ++ t) (sym e)
+
+pub same_input : (taken bytes done left more : List ℕ) → bytes ≡ done ++ left
+    → ((taken ++ done) ++ left) ++ more ≡ (taken ++ bytes) ++ more
+same_input taken bytes done left more e = ap (λ t. t ++ more) (both_taken taken bytes done left e)
+
+pub left_and_more : (taken bytes done left more : List ℕ) → bytes ≡ done ++ left
+    → (taken ++ done) ++ (left ++ more) ≡ (taken ++ bytes) ++ more
+left_and_more taken bytes done left more e =
+    sym (append_assoc (taken ++ done) left more) ∙ same_input taken bytes done left more e
+
 -- what is before the talk over the whole input, whether it goes on, has ended, or failed
-pub fed_before : (result : Result Bool SessionFault) (base : Base) (first : Talk) (taken more : List ℕ)
-    (held : Option (List ℕ)) (now : Now) → Fed result base first taken more held now
-    → IsBefore base (talk_on first (taken ++ more)) now.said
-fed_before (Ok false) base first taken more held now s =
-    let rest = talk_more first taken s.going more in
-    at_before base (talk_over first (whole_lines taken)) (talk_on first (taken ++ more)) rest.0 now s.at rest.1
-fed_before (Ok true) base first taken more held now o = at_before base (talk_on first (taken ++ more))
-    (talk_on first (taken ++ more)) [] now o.at refl
-fed_before (Err fault) base first taken more held now b = b.before
+pub fed_before : (result : Result Bool SessionFault) (base : Base) (first : Talk) (taken bytes left more : List ℕ)
+    (held : Option (List ℕ)) (now : Now) → Fed result base first taken bytes left more held now
+    → IsBefore base (talk_on first ((taken ++ bytes) ++ more)) now.said
+fed_before (Ok false) base first taken bytes left more held now fed =
+    let lines = talk_more first (taken ++ fed.0) fed.2.going (left ++ more) in
+    subst (λ i. IsBefore base (talk_on first i) now.said) (left_and_more taken bytes fed.0 left more fed.1)
+    (at_before base (talk_over first (whole_lines (taken ++ fed.0)))
+    (talk_on first ((taken ++ fed.0) ++ (left ++ more))) lines.0 now fed.2.at lines.1)
+fed_before (Ok true) base first taken bytes left more held now over =
+    at_before base (talk_on first ((taken ++ bytes) ++ more)) (talk_on first ((taken ++ bytes) ++ more)) [] now over.at
+    refl
+fed_before (Err fault) base first taken bytes left more held now broken = broken.before
 
 -- once the opening is written, the session waits for its first line
 pub opens : (first : Talk) (held : Option (List ℕ)) (said : Said) (session : Known) (before opening now : Outside)
@@ -319,11 +346,15 @@ module _ (first : Talk) (taken : List ℕ) (held : Option (List ℕ)) (session :
   whole_at i input said new after old p h at o e = subst (λ t. IsAll (output_of (talk_on first t)) before after) p
       (whole first taken held session before now w (talk_on first i) said new after old h at o e)
 
-pub heard_over : (base : Base) (first : Talk) (taken input whole : List ℕ) (now : Now) (left : Option (List ℕ))
-    (rest : List ℕ) → IsOver base first taken input now → whole ≡ taken ++ rest → left ≡ Some rest
-    → IsReadToEnd whole left
-heard_over base first taken input whole now left rest o p q =
-    inr (ap (λ t. list_any is_last (whole_lines t)) (taken_is whole taken rest left p q) ∙ o.last)
+-- an input is read to a line that ends the session
+pub heard_by : (input taken bytes more : List ℕ) (left : Option (List ℕ)) → (taken ++ bytes) ++ more ≡ input
+    → left ≡ Some more → list_any is_last (whole_lines (taken ++ bytes)) ≡ true → IsReadToEnd input left
+heard_by input taken bytes more left all q last =
+    inr (ap (λ t. list_any is_last (whole_lines t)) (taken_is input (taken ++ bytes) more left (sym all) q) ∙ last)
+
+-- or to its end
+pub all_heard : (input taken rest : List ℕ) → input ≡ taken ++ rest → rest ≡ [] → taken ≡ input
+all_heard input taken rest p z = sym (p ∙ ap (λ t. taken ++ t) z ∙ append-nil taken)
 
 pub ended_before : {A : Type 0} (result : Result A SessionFault) (base : Base) (first : Talk) (input : List ℕ)
     (now : Now)
@@ -337,6 +368,7 @@ ended_before (Err fault) base first input now b = b.before
 pub rose_from : (first a b c : ℕ) → first ≤ a → a ≤ b → Rose b c → Rose first c
 rose_from first a b c e h r = omega (arith, e, h, r)
 
+-- nothing is left behind some bytes where nothing was left
 pub no_rest : (rest bytes more : List ℕ) → rest ≡ bytes ++ more → rest ≡ [] → more ≡ []
 no_rest rest [] more e z = sym e ∙ z
 no_rest rest (b ∷ bytes) more e z = absurd (omega (arith, ap length (sym e ∙ z)))

@@ -1,23 +1,23 @@
 -- How a session over a source ends.
-use Rattle.std.proofs.Common.{MatchResult, IfOk, inl, inr, ◌≡◌, ◌++◌, ◌∷◌, ◌==◌, ◌≤◌, ◌⊎◌, [], ℕ, zero, suc, List, Bool}
-use Rattle.std.proofs.Common.{true, false, length, take, refl, sym, ap, subst, ◌∙◌, arith, append_assoc, true≢false}
+use Rattle.std.proofs.Common.{inl, inr, ◌≡◌, ◌≤◌, ◌⊎◌, [], ℕ, List, Bool}
+use Rattle.std.proofs.Common.{true, false, refl, sym, ap, subst, ◌∙◌, arith}
 use Rattle.std.proofs.Common.{Some, None, Result, Ok, Err}
 use Rattle.std.specs.Prelude.{IsErrOf}
 use Rattle.std.specs.declared.option.Option.{Option}
 use Rattle.std.proofs.lemmas.List.{append-nil}
-use Rattle.units_io.specs.Bytes.{grown, GrowsByFront}
+use Rattle.units_io.specs.Bytes.{GrowsByFront}
 use Rattle.units_io.specs.Faults.{Rose}
 use Rattle.units_io.specs.FileMap.{FileMap}
 use Rattle.session.specs.Hearing.{heard}
-use Rattle.session.specs.Input.{lines_of, whole_lines}
+use Rattle.session.specs.Input.{lines_of}
 use Rattle.session.specs.Keeping.{AreLeft}
-use Rattle.session.specs.Outside.{IsReadToEnd, Outside, TookMoreThan}
-use Rattle.session.specs.Runs.{HasItsCause, end_of}
+use Rattle.session.specs.Outside.{Outside, TookMoreThan}
+use Rattle.session.specs.Runs.{HasItsCause, end_of, fault_end, last_end}
 use Rattle.session.specs.Sessions.{Known}
-use Rattle.session.specs.Standing.{Base, Fed, IsAt, IsBefore, IsBroken, IsTakenUp, Now, Stands, now_of}
-use Rattle.session.specs.Talks.{Talk, files_behind, talk_on, talk_over}
-use Rattle.session.specs.Waiting.{Opens, Waits}
-use Rattle.session.specs.Worlds.{World}
+use Rattle.session.specs.Standing.{Base, IsAt, IsBroken, Now}
+use Rattle.session.specs.Talks.{Talk, files_behind, talk_on}
+use Rattle.session.specs.Waiting.{Opens}
+use Rattle.session.specs.Worlds.{FilesSeen, SinkSeen, SourceSeen, World, world_of}
 use Rattle.session.specs.Written.{Course, IsAll, IsEnded, IsFront, IsPart, IsPartBut, output_of, session_course}
 use Rattle.session.specs.declared.fault.SessionFault.{SessionFault}
 use Rattle.session.specs.declared.fault.SessionFault.TheVariants.{OutOfMemory, ReadFailed, WriteFailed}
@@ -25,54 +25,17 @@ use Rattle.session.specs.declared.over_source.SessionEnd.{SessionEnd}
 use Rattle.session.specs.declared.over_source.SessionEnd.TheVariants.{Done, NoMemory, ReadFault, WriteFault}
 use Rattle.session.specs.declared.over_source.SessionEnd.TheVariants.{InputTooLong}
 use Rattle.session.specs.declared.said.Said.{Said}
-use Rattle.session.proofs.Blocks.{ended_before, fed_before, front_all, fronts_at, heard_over, of_two, opened_files}
-use Rattle.session.proofs.Blocks.{stay_told, waits, whole_at, written}
+use Rattle.session.proofs.Blocks.{any_since, either_rose, of_two, opened_files, stay_told}
 use Rattle.session.proofs.Breaking.{all_answered, left_by, left_whole}
-use Rattle.session.proofs.Talking.{heard_more}
-
--- a block has bytes
-pub a_byte : (block : List ℕ) → (length block == 0) ≡ false → block ≡ [] → ⊥
-a_byte block some none = true≢false (sym (ap (λ (b : List ℕ). length b == 0) none) ∙ some)
-
--- a block that has bytes is taken up as they are
-pub bytes_taken : (block : List ℕ) (result : Result Bool SessionFault) (base : Base) (first : Talk)
-    (taken more : List ℕ) (held : Option (List ℕ)) (now : Now) → (block ≡ [] → ⊥)
-    → Fed result base first (taken ++ block) more held now → IsTakenUp block result base first taken more held now
-bytes_taken [] result base first taken more held now some fed = absurd (some refl)
-bytes_taken (b ∷ block) result base first taken more held now some fed = fed
-
--- and one that has none as the end of the input
-pub end_taken : (block : List ℕ) (result : Result Bool SessionFault) (base : Base) (first : Talk)
-    (taken more : List ℕ) (held : Option (List ℕ)) (now : Now) → block ≡ []
-    → MatchResult result (λ _. IsAt base (talk_on first taken) now)
-    (λ fault. IsBroken fault base first (heard (lines_of taken)) now)
-    → IsTakenUp block result base first taken more held now
-end_taken block result base first taken more held now none ended =
-    subst (λ (b : List ℕ). IsTakenUp b result base first taken more held now) (sym none) ended
-
--- no byte is left behind a block that has none
-nothing_more : (taken more : List ℕ) → more ≡ [] → (taken ++ []) ++ more ≡ taken
-nothing_more taken more e = append_assoc taken [] more ∙ ap (λ t. taken ++ t) e ∙ append-nil taken
-
--- what is said of a block is a front of the talk over the whole input
-up_before : (block : List ℕ) (result : Result Bool SessionFault) (base : Base) (first : Talk) (taken more : List ℕ)
-    (held : Option (List ℕ)) (now : Now) → (block ≡ [] → more ≡ [])
-    → IsTakenUp block result base first taken more held now
-    → IsBefore base (talk_on first ((taken ++ block) ++ more)) now.said
-up_before [] result base first taken more held now none up =
-    subst (λ i. IsBefore base (talk_on first i) now.said) (sym (nothing_more taken more (none refl)))
-    (ended_before result base first taken now up)
-up_before (b ∷ block) result base first taken more held now none up =
-    fed_before result base first (taken ++ b ∷ block) more held now up
 
 -- the files that a store which failed may have spoilt, by what was answered
-abbrev pub Left : Result Bool SessionFault → Talk → (input : List ℕ) → Option FileMap → Type 0
+abbrev pub Left : {A : Type 0} → Result A SessionFault → Talk → (input : List ℕ) → Option FileMap → Type 0
 Left result first input files =
     (m : FileMap) × (files ≡ Some m)
     × AreLeft (result ≡ Err WriteFailed) (files_behind first) (heard (lines_of input)) m
 
-broken_left : (result : Result Bool SessionFault) (fault : SessionFault) → result ≡ Err fault → (base : Base)
-    (first : Talk) (input : List ℕ) (now : Now) → IsBroken fault base first (heard (lines_of input)) now
+pub broken_left : {A : Type 0} (result : Result A SessionFault) (fault : SessionFault) → result ≡ Err fault
+    → (base : Base) (first : Talk) (input : List ℕ) (now : Now) → IsBroken fault base first (heard (lines_of input)) now
     → Left result first input now.files
 broken_left result fault e base first input now b = (
   b.left.0,
@@ -81,7 +44,7 @@ broken_left result fault e base first input now b = (
       (λ is. e ∙ ap Err is) b.left.2,
 )
 
-whole_left : (result : Result Bool SessionFault) (base : Base) (first : Talk) (input : List ℕ) (now : Now)
+pub whole_left : {A : Type 0} (result : Result A SessionFault) (base : Base) (first : Talk) (input : List ℕ) (now : Now)
     → IsAt base (talk_on first input) now → Left result first input now.files
 whole_left result base first input now at = (
   (talk_on first input).state.files,
@@ -89,75 +52,12 @@ whole_left result base first input now at = (
   all_answered (result ≡ Err WriteFailed) (files_behind first) (heard (lines_of input)),
 )
 
--- the files behind a block, whether the session goes on, is over, or broke off
-up_left : (block : List ℕ) (result : Result Bool SessionFault) (base : Base) (first : Talk) (taken more : List ℕ)
-    (held : Option (List ℕ)) (now : Now) → (block ≡ [] → more ≡ [])
-    → IsTakenUp block result base first taken more held now → Left result first ((taken ++ block) ++ more) now.files
-up_left [] result base first taken more held now none up =
-    subst (λ i. Left result first i now.files) (sym (nothing_more taken more (none refl))) (by result up)
-  where
-    by : (r : Result Bool SessionFault) → IsTakenUp [] r base first taken more held now
-        → Left r first taken now.files
-    by (Ok over) at = whole_left (Ok over) base first taken now at
-    by (Err fault) b = broken_left (Err fault) fault refl base first taken now b
-up_left (b ∷ block) result base first taken more held now none up = by result up
-  where
-    by : (r : Result Bool SessionFault) → IsTakenUp (b ∷ block) r base first taken more held now
-        → Left r first ((taken ++ b ∷ block) ++ more) now.files
-    by (Ok false) s =
-        let rest = heard_more first (taken ++ b ∷ block) s.going more in (
-          (talk_over first (whole_lines (taken ++ b ∷ block))).state.files,
-          s.at.files,
-          inl (record {
-            answered = whole_lines (taken ++ b ∷ block);
-            rest = rest.0;
-            front = rest.1;
-            reached = refl;
-          }),
-        )
-    by (Ok true) o = whole_left (Ok true) base first ((taken ++ b ∷ block) ++ more) now o.at
-    by (Err fault) broken = broken_left (Err fault) fault refl base first ((taken ++ b ∷ block) ++ more) now broken
-
--- where it ends the session it is all of that talk
-up_over : (block : List ℕ) (base : Base) (first : Talk) (taken more : List ℕ) (held : Option (List ℕ)) (now : Now)
-    → (block ≡ [] → more ≡ []) → IsTakenUp block (Ok true) base first taken more held now
-    → IsAt base (talk_on first ((taken ++ block) ++ more)) now
-up_over [] base first taken more held now none up =
-    subst (λ i. IsAt base (talk_on first i) now) (sym (nothing_more taken more (none refl))) up
-up_over (b ∷ block) base first taken more held now none up = up.at
-
--- and the input is read to its end, or to the last line
-up_heard : (block : List ℕ) (base : Base) (first : Talk) (taken more : List ℕ) (held : Option (List ℕ)) (now : Now)
-    (left : Option (List ℕ)) → (block ≡ [] → more ≡ []) → left ≡ Some more
-    → IsTakenUp block (Ok true) base first taken more held now → IsReadToEnd ((taken ++ block) ++ more) left
-up_heard [] base first taken more held now left none q up = inl (q ∙ ap Some (none refl))
-up_heard (b ∷ block) base first taken more held now left none q up =
-    heard_over base first (taken ++ b ∷ block) ((taken ++ b ∷ block) ++ more) ((taken ++ b ∷ block) ++ more) now left
-    more up refl q
-
--- the same by what was answered
-pub last_heard : (block : List ℕ) (fed : Result Bool SessionFault) (base : Base) (first : Talk)
-    (taken more input : List ℕ) (held : Option (List ℕ)) (now : Now) (left : Option (List ℕ))
-    → (taken ++ block) ++ more ≡ input → (block ≡ [] → more ≡ []) → left ≡ Some more → fed ≡ Ok true
-    → IsTakenUp block fed base first taken more held now → IsReadToEnd input left
-last_heard block fed base first taken more input held now left all none q is up =
-    subst (λ i. IsReadToEnd i left) all
-    (up_heard block base first taken more held now left none q
-    (subst (λ (r : Result Bool SessionFault). IsTakenUp block r base first taken more held now) is up))
-
--- or the session goes on
-up_stands : (block : List ℕ) (base : Base) (first : Talk) (taken more : List ℕ) (held : Option (List ℕ)) (now : Now)
-    → (block ≡ [] → ⊥) → IsTakenUp block (Ok false) base first taken more held now
-    → Stands base first (taken ++ block) held now
-up_stands [] base first taken more held now some up = absurd (some refl)
-up_stands (b ∷ block) base first taken more held now some up = up
-
 same_end : (x y : SessionEnd) → Some x ≡ Some y → y ≡ x
 same_end x y e = cc
 
 -- a part, where no store failed, and where one may have failed
-module _ (fed : Result Bool SessionFault) (first : Talk) (input : List ℕ) (start after : Outside) (old : FileMap)
-    (told : start.files ≡ Some old) (front : IsFront (output_of (talk_on first input)) start after)
+module _ (A : Type 0) (fed : Result A SessionFault) (first : Talk) (input : List ℕ) (start after : Outside)
+    (old : FileMap) (told : start.files ≡ Some old) (front : IsFront (output_of (talk_on first input)) start after)
     (left : Left fed first input after.files) where
   part_whole : (fed ≡ Err WriteFailed → ⊥) → IsPart (session_course first input) start after
   part_whole calm = record {
@@ -169,7 +69,7 @@ module _ (fed : Result Bool SessionFault) (first : Talk) (input : List ℕ) (sta
     );
   }
 
-  part_but : (fed ≡ Err WriteFailed → Rose start.store_faults after.store_faults)
+  pub part_but : (fed ≡ Err WriteFailed → Rose start.store_faults after.store_faults)
       → IsPartBut (session_course first input) start after
   part_but rose = record {
     front = front;
@@ -181,8 +81,17 @@ module _ (fed : Result Bool SessionFault) (first : Talk) (input : List ℕ) (sta
     );
   }
 
+  -- what is left of a session that a fault ended
+  pub by_fault : (fault : SessionFault) → fed ≡ Err fault
+      → (fed ≡ Err ReadFailed → Rose start.fetch_faults after.fetch_faults)
+      → (fed ≡ Err WriteFailed → Rose start.store_faults after.store_faults)
+      → IsEnded (session_course first input) (fault_end fault) start after
+  by_fault ReadFailed is rose stored = (part_whole (λ other. cc), λ rests. absurd (rests (rose is)))
+  by_fault WriteFailed is rose stored = part_but stored
+  by_fault OutOfMemory is rose stored = part_whole (λ other. cc)
+
 -- what is left of a session that a block ended
-ended_by : (fed : Result Bool SessionFault) (ending : SessionEnd) (first : Talk) (input : List ℕ)
+pub ended_by : (fed : Result Bool SessionFault) (ending : SessionEnd) (first : Talk) (input : List ℕ)
     (start after : Outside) (old : FileMap) → start.files ≡ Some old → Some ending ≡ end_of fed
     → IsFront (output_of (talk_on first input)) start after → Left fed first input after.files
     → (fed ≡ Ok true → IsAll (output_of (talk_on first input)) start after)
@@ -201,99 +110,21 @@ ended_by fed ending first input start after old told e front left all rose store
     by (Ok false) q l w r s = cc
     by (Ok true) q l w r s =
         subst (λ (x : SessionEnd). IsEnded course x start after) (same_end ending Done q) (w refl)
-    by (Err ReadFailed) q l w r s =
-        subst (λ (x : SessionEnd). IsEnded course x start after) (same_end ending ReadFault q) (
-          part_whole (Err ReadFailed) first input start after old told front l (λ is. cc),
-          λ rests. absurd (rests (r refl)),
-        )
-    by (Err WriteFailed) q l w r s =
-        subst (λ (x : SessionEnd). IsEnded course x start after) (same_end ending WriteFault q)
-        (part_but (Err WriteFailed) first input start after old told front l s)
-    by (Err OutOfMemory) q l w r s =
-        subst (λ (x : SessionEnd). IsEnded course x start after) (same_end ending NoMemory q)
-        (part_whole (Err OutOfMemory) first input start after old told front l (λ is. cc))
+    by (Err fault) q l w r s =
+        subst (λ (x : SessionEnd). IsEnded course x start after) (same_end ending (fault_end fault) q)
+        (by_fault Bool (Err fault) first input start after old told front l fault refl r s)
 
--- a session that waits takes up a block of its input, and what that gave is written
-module _ (first : Talk) (taken : List ℕ) (held : Option (List ℕ)) (session : Known) (start now : Outside)
-    (w : Waits first taken held session start now) (block more input : List ℕ) (all : (taken ++ block) ++ more ≡ input)
-    (fed : Result Bool SessionFault) (held_now : Option (List ℕ)) (said : Said) (new : Known) (after : Outside)
-    (up : IsTakenUp block fed (written first taken held session start now w) first taken more held_now
-    (now_of said new after.files after.steps)) where
-  abbrev stood : Base
-  stood = written first taken held session start now w
-
-  abbrev stands_now : Now
-  stands_now = now_of said new after.files after.steps
-
-  -- in part
-  front_written : (block ≡ [] → more ≡ []) → GrowsByFront now.out after.out said.out.items
-      → GrowsByFront now.err after.err said.err.items → IsFront (output_of (talk_on first input)) start after
-  front_written none o e =
-      fronts_at first taken held session start now w ((taken ++ block) ++ more) input said after all
-      (up_before block fed stood first taken more held_now stands_now none up) o e
-
-  -- and the files are those behind some lines
-  files_left : (block ≡ [] → more ≡ []) → Left fed first input after.files
-  files_left none =
-      subst (λ i. Left fed first i after.files) all
-      (up_left block fed stood first taken more held_now stands_now none up)
-
-  pub part_written : (block ≡ [] → more ≡ []) → (old : FileMap) → start.files ≡ Some old
-      → GrowsByFront now.out after.out said.out.items → GrowsByFront now.err after.err said.err.items
-      → (fed ≡ Err WriteFailed → Rose start.store_faults after.store_faults)
-      → IsPartBut (session_course first input) start after
-  part_written none old told o e rose =
-      part_but fed first input start after old told (front_written none o e) (files_left none) rose
-
-  -- in full, and it is the last
-  whole_written : (block ≡ [] → more ≡ []) → (files : FileMap) → start.files ≡ Some files
-      → after.out ≡ grown now.out said.out.items → after.err ≡ grown now.err said.err.items → fed ≡ Ok true
-      → IsAll (output_of (talk_on first input)) start after
-  whole_written none files m o e is =
-      whole_at first taken held session start now w ((taken ++ block) ++ more) input said new after files all m
-      (up_over block stood first taken more held_now stands_now none
-      (subst (λ (r : Result Bool SessionFault). IsTakenUp block r stood first taken more held_now stands_now) is up))
-      o e
-
-  -- by how the session ends
-  pub ended_written : (ending : SessionEnd) → Some ending ≡ end_of fed → (block ≡ [] → more ≡ []) → (old : FileMap)
-      → start.files ≡ Some old → after.out ≡ grown now.out said.out.items → after.err ≡ grown now.err said.err.items
-      → (fed ≡ Err ReadFailed → Rose start.fetch_faults after.fetch_faults)
-      → (fed ≡ Err WriteFailed → Rose start.store_faults after.store_faults)
-      → IsEnded (session_course first input) ending start after
-  ended_written ending q none old told o e rose stored =
-      ended_by fed ending first input start after old told q
-      (front_written none (front_all now.out after.out said.out.items o) (front_all now.err after.err said.err.items e))
-      (files_left none) (whole_written none old told o e) rose stored
-
-  -- in full, and the session goes on
-  pub waits_on : (block ≡ [] → ⊥) → after.out ≡ grown now.out said.out.items
-      → after.err ≡ grown now.err said.err.items → fed ≡ Ok false
-      → Waits first (taken ++ block) held_now new start after
-  waits_on some o e is =
-      waits first taken held session start now w (taken ++ block) held_now said new after
-      (up_stands block stood first taken more held_now stands_now some
-      (subst (λ (r : Result Bool SessionFault). IsTakenUp block r stood first taken more held_now stands_now) is up))
-      o e
+-- the same of the whole input
+pub ended_at : (first : Talk) (i input : List ℕ) (ending : SessionEnd) (start after : Outside) → i ≡ input
+    → IsEnded (session_course first i) ending start after → IsEnded (session_course first input) ending start after
+ended_at first i input ending start after p ended =
+    subst (λ t. IsEnded (session_course first t) ending start after) p ended
 
 -- where the session goes on
 pub goes_on : (fed : Result Bool SessionFault) → None ≡ end_of fed → fed ≡ Ok false
 goes_on (Ok false) e = refl
 goes_on (Ok true) e = cc
-goes_on (Err ReadFailed) e = cc
-goes_on (Err WriteFailed) e = cc
-goes_on (Err OutOfMemory) e = cc
-
--- a block had bytes
-pub had_bytes : (fed : Result Bool SessionFault) (block : List ℕ) → fed ≡ Ok false
-    → (block ≡ [] → IfOk fed (λ over. over ≡ true)) → block ≡ [] → ⊥
-had_bytes fed block is ends z =
-    true≢false (sym (subst (λ (r : Result Bool SessionFault). IfOk r (λ over. over ≡ true)) is (ends z)))
-
-pub took_none : (n : ℕ) (bytes : List ℕ) → n ≤ length bytes → take n bytes ≡ [] → n ≡ 0
-took_none zero bytes within e = refl
-took_none (suc n) [] within e = absurd (omega (arith, within))
-took_none (suc n) (b ∷ bytes) within e = cc
+goes_on (Err fault) e = cc
 
 -- and where it is done
 pub done_by : (fed : Result Bool SessionFault) (ending : SessionEnd) → Some ending ≡ end_of fed → ending ≡ Done
@@ -332,6 +163,36 @@ module _ (before after : World) where
       record { read = λ q. cc; write = λ q. inr (inr (stored refl)); too_long = λ q. cc }
   fed_cause (Err OutOfMemory) ending e read stored =
       record { read = λ q. cc; write = λ q. cc; too_long = λ q. cc }
+
+  -- at the end of the input
+  pub end_cause : {A : Type 0} (fed : Result A SessionFault) (ending : SessionEnd) → ending ≡ last_end fed
+      → (IsErrOf fed ReadFailed → Rose before.files.fetch_faults after.files.fetch_faults)
+      → (IsErrOf fed WriteFailed → Rose before.files.store_faults after.files.store_faults)
+      → HasItsCause ending before after
+  end_cause (Ok done) ending e read stored = record { read = λ q. cc; write = λ q. cc; too_long = λ q. cc }
+  end_cause (Err ReadFailed) ending e read stored =
+      record { read = λ q. inr (read refl); write = λ q. cc; too_long = λ q. cc }
+  end_cause (Err WriteFailed) ending e read stored =
+      record { read = λ q. cc; write = λ q. inr (inr (stored refl)); too_long = λ q. cc }
+  end_cause (Err OutOfMemory) ending e read stored =
+      record { read = λ q. cc; write = λ q. cc; too_long = λ q. cc }
+
+-- a cause since a later time is one since an earlier time
+pub cause_since : (ending : SessionEnd) (source : SourceSeen) (out err out_mid err_mid : SinkSeen)
+    (files files_mid : FilesSeen) (steps steps_mid : ℕ) (after : World)
+    → out.faults ≤ out_mid.faults → err.faults ≤ err_mid.faults
+    → files.fetch_faults ≤ files_mid.fetch_faults → files.store_faults ≤ files_mid.store_faults
+    → HasItsCause ending (world_of source out_mid err_mid files_mid steps_mid) after
+    → HasItsCause ending (world_of source out err files steps) after
+cause_since ending source out err out_mid err_mid files files_mid steps steps_mid after o e f s cause = record {
+  read = λ is.
+      either_rose source.faults source.faults after.source.faults files.fetch_faults files_mid.fetch_faults
+      after.files.fetch_faults (omega arith) f (cause.read is);
+  write = λ is.
+      any_since out.faults out_mid.faults after.out.faults err.faults err_mid.faults after.err.faults
+      files.store_faults files_mid.store_faults after.files.store_faults o e s (cause.write is);
+  too_long = cause.too_long;
+}
 
 -- nothing is a front of some bytes
 nothing_put : (o out : Option (List ℕ)) (bytes : List ℕ) → out ≡ o → GrowsByFront o out bytes

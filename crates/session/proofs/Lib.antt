@@ -13,6 +13,7 @@ pub mod Counted
 pub mod Faulting
 pub mod Blocks
 pub mod Ending
+pub mod Writing
 pub mod TalkedThrough
 pub mod LogicalSizes
 pub mod DeckSizes

@@ -1,15 +1,16 @@
 -- The session of a trial.
-use Rattle.std.proofs.Common.{◌≡◌, ◌++◌, [], ℕ, List, Result, Ok, Err, IfOk, Some, refl, sym, ap, subst, ◌∙◌, arith}
-use Rattle.std.proofs.Common.{length, codes}
+use Rattle.std.proofs.Common.{◌≡◌, ◌++◌, ◌==◌, [], ℕ, List, Bool, true, false, Result, Ok, Err, IfOk, Some, refl, sym}
+use Rattle.std.proofs.Common.{ap, subst, ◌∙◌, arith, append_assoc, length, codes}
 use Rattle.std.specs.declared.option.Option.{Option}
 use Rattle.std.proofs.lemmas.List.{append-nil}
+use Rattle.def_lines.proofs.Trimming.{empty-nil}
 use Rattle.units_io.specs.FileMap.{no_files}
 use Rattle.deck.specs.Decks.{Contents}
 use Rattle.deck.specs.declared.settings.Settings.{Settings}
 use Rattle.live_table.specs.Shown.{Shown}
 use Rattle.reply.specs.declared.options.Options.{Options}
 use Rattle.session.specs.Sessions.{Known}
-use Rattle.session.specs.Standing.{IsAt, IsOver, Now, Stands}
+use Rattle.session.specs.Standing.{Base, Fed, IsAt, IsOver, Now, Stands}
 use Rattle.session.specs.Talks.{Talk, talk_on}
 use Rattle.session.specs.Trialing.{IsTalked, Tells}
 use Rattle.session.specs.TextDecks.{text_deck}
@@ -18,6 +19,7 @@ use Rattle.session.specs.Trials.{Trial, quiet_session, silent, summary, trial, t
 use Rattle.session.specs.Waiting.{at_first}
 use Rattle.session.specs.declared.said.Said.{Said}
 use Rattle.session.proofs.Holding.{readable_short}
+use Rattle.session.proofs.Writing.{fed_on, fed_over}
 
 -- where nothing is said and nothing is held, a session stands at its beginning
 pub stands_first :
@@ -43,6 +45,31 @@ pub talked_over : (first : Talk) (lines : List ℕ) (now : Now) (steps : ℕ) �
 talked_over first lines now steps over =
     talked_at (talk_on first lines) now steps
     (subst (λ bytes. IsAt (at_first steps) (talk_on first bytes) now) (append-nil lines) over.at)
+
+-- lines of which some are taken up, and then more
+module _ (base : Base) (first : Talk) (lines done rest : List ℕ) (b : lines ≡ done ++ rest) where
+  pub lines_on : (over : Bool) (left : List ℕ) (held : Option (List ℕ)) (now : Now) → over ≡ false
+      → Fed (Ok over) base first done rest left [] held now
+      → (more : List ℕ) × (lines ≡ more ++ left) × Stands base first more held now
+  lines_on over left held now is fed =
+      let on = fed_on (Ok over) base first done rest left [] held now (ap Ok is) fed in (
+        done ++ on.0,
+        b ∙ ap (λ t. done ++ t) on.1 ∙ sym (append_assoc done on.0 left),
+        on.2,
+      )
+
+  pub lines_over : (over : Bool) (left : List ℕ) (held : Option (List ℕ)) (now : Now) → over ≡ true
+      → Fed (Ok over) base first done rest left [] held now → IsOver base first lines (lines ++ []) now
+  lines_over over left held now is fed =
+      subst (λ t. IsOver base first t (t ++ []) now) (sym b)
+      (fed_over (Ok over) base first done rest left [] held now (ap Ok is) fed)
+
+  -- nothing is left of them
+  pub lines_done : (held : Option (List ℕ)) (now : Now) → (length rest == 0) ≡ true → Stands base first done held now
+      → Stands base first lines held now
+  lines_done held now none s =
+      subst (λ t. Stands base first t held now)
+      (sym (b ∙ ap (λ t. done ++ t) (empty-nil rest none) ∙ append-nil done)) s
 
 -- what is told of a trial, where there is memory for it
 pub told_summary : {E : Type 0} (result : Result (List ℕ) E) (n bytes : ℕ) (table : Shown) (trial : Trial) (old new : ℕ)

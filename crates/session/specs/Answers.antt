@@ -54,8 +54,7 @@ replying asked pending state = record {
 }
 
 -- an edit that came to this, with the notices of a file that was loaded: of what is watched, all is asked for again,
--- and
--- what has changed is told
+-- and what has changed is told
 abbrev pub editing : EditResult → (notices : List ℕ) → State → Answer
 editing (Refused line) notices state = saying line state
 editing (Made deck versions) notices state =

@@ -1,8 +1,11 @@
 -- What a session over a source is.
-use Rattle.std.specs.Prelude.{◌≡◌, ◌⊎◌, ◌≤◌, ℕ, List, [], Bool, true, false, Result, Ok, Err, Some, None}
+use Rattle.std.specs.Prelude.{◌≡◌, ◌⊎◌, ◌≤◌, ◌++◌, ℕ, List, [], Bool, true, false, Result, Ok, Err, Some, None}
 use Rattle.std.specs.declared.option.Option.{Option}
+use Rattle.std.specs.List.{list_any}
 use Rattle.units_io.specs.Faults.{Rose}
 use Rattle.units_io.specs.FileMap.{FileMap}
+use Rattle.session.specs.Hearing.{is_last}
+use Rattle.session.specs.Input.{whole_lines}
 use Rattle.session.specs.Outside.{Outside, IsReadToEnd, TookMoreThan}
 use Rattle.session.specs.Sessions.{Known}
 use Rattle.session.specs.Talks.{Talk}
@@ -53,10 +56,63 @@ pub record AreAnswered (held : Option (List ℕ)) (session : Known) (ending : Se
         Waits first [] held session start (outside before) → ending ≡ Done → IsReadToEnd input after.source.left
     pub caused : HasItsCause ending before after
 
+-- no count of faults has fallen
+pub record AreLater (before now : World) : Type 0 where
+  pub fetches : before.files.fetch_faults ≤ now.files.fetch_faults
+  pub stores : before.files.store_faults ≤ now.files.store_faults
+  pub out : before.out.faults ≤ now.out.faults
+  pub err : before.err.faults ≤ now.err.faults
+
+-- a session that waits has answered a block of its input, all that this gave is written, and it waits again
+pub record GoesOn (block : List ℕ) (held : Option (List ℕ)) (session : Known) (held_now : Option (List ℕ))
+    (session_now : Known) (before after : World) : Type 0 where
+  pub waits : (first : Talk) (taken : List ℕ) (start : Outside) →
+      Waits first taken held session start (outside before) →
+      Waits first (taken ++ block) held_now session_now start (outside after)
+  pub later : AreLater before after
+
+-- a line of a block of its input, or a fault at it, has ended a session that waits so
+pub record EndsInBlock (ending : SessionEnd) (block : List ℕ) (held : Option (List ℕ)) (session : Known)
+    (before after : World) : Type 0 where
+  pub told : (first : Talk) (taken more : List ℕ) (start : Outside) (files : FileMap) → start.files ≡ Some files →
+      start.fetch_faults ≤ before.files.fetch_faults → start.store_faults ≤ before.files.store_faults →
+      Waits first taken held session start (outside before) →
+      IsEnded (session_course first ((taken ++ block) ++ more)) ending start (outside after)
+  pub heard : (first : Talk) (taken : List ℕ) (start : Outside) →
+      Waits first taken held session start (outside before) → ending ≡ Done →
+      list_any is_last (whole_lines (taken ++ block)) ≡ true
+  pub caused : HasItsCause ending before after
+
+-- a block was answered: the session goes on, or it has ended so
+abbrev pub IsBlockAnswered : Option SessionEnd → (block : List ℕ) → (held : Option (List ℕ)) → Known
+    → (held_now : Option (List ℕ)) → (session_now : Known) → (before after : World) → Type 0
+IsBlockAnswered None block held session held_now session_now before after =
+    GoesOn block held session held_now session_now before after
+IsBlockAnswered (Some ending) block held session held_now session_now before after =
+    EndsInBlock ending block held session before after
+
+-- a session that waits for more has ended so at the end of its input
+pub record IsEndAnswered (ending : SessionEnd) (held : Option (List ℕ)) (session : Known) (before after : World)
+    : Type 0 where
+  pub told : (first : Talk) (input : List ℕ) (start : Outside) (files : FileMap) → start.files ≡ Some files →
+      start.fetch_faults ≤ before.files.fetch_faults → start.store_faults ≤ before.files.store_faults →
+      Waits first input held session start (outside before) →
+      IsEnded (session_course first input) ending start (outside after)
+  pub caused : HasItsCause ending before after
+
+-- how a session ends by a fault
+abbrev pub fault_end : SessionFault → SessionEnd
+fault_end ReadFailed = ReadFault
+fault_end WriteFailed = WriteFault
+fault_end OutOfMemory = NoMemory
+
 -- how a session ends by what was taken up, unless it goes on
 abbrev pub end_of : Result Bool SessionFault → Option SessionEnd
 end_of (Ok false) = None
 end_of (Ok true) = Some Done
-end_of (Err ReadFailed) = Some ReadFault
-end_of (Err WriteFailed) = Some WriteFault
-end_of (Err OutOfMemory) = Some NoMemory
+end_of (Err fault) = Some (fault_end fault)
+
+-- how a session ends by the end of its input
+abbrev pub last_end : {A : Type 0} → Result A SessionFault → SessionEnd
+last_end (Ok _) = Done
+last_end (Err fault) = fault_end fault

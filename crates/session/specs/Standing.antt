@@ -1,6 +1,5 @@
 -- Where a session stands while its input comes.
-use Rattle.std.specs.Prelude.{◌≡◌, ◌+◌, ◌++◌, ◌∷◌, [], ℕ, List, Bool, true, false, Result, Ok, Err, Some}
-use Rattle.std.specs.Prelude.{MatchResult}
+use Rattle.std.specs.Prelude.{◌≡◌, ◌+◌, ◌++◌, ℕ, List, Bool, true, false, Result, Ok, Err, Some}
 use Rattle.std.specs.declared.option.Option.{Option}
 use Rattle.std.specs.List.{list_any}
 use Rattle.units_io.specs.FileMap.{FileMap}
@@ -65,17 +64,13 @@ pub record IsOver (base : Base) (first : Talk) (taken input : List ℕ) (now : N
   pub at : IsAt base (talk_on first input) now
   pub last : list_any is_last (whole_lines taken) ≡ true
 
--- bytes were taken up: the session goes on, or one of them ended it, or there was a fault
-abbrev pub Fed : Result Bool SessionFault → Base → Talk → (taken more : List ℕ) → (held : Option (List ℕ)) → Now
-    → Type 0
-Fed (Ok false) base first taken more held now = Stands base first taken held now
-Fed (Ok true) base first taken more held now = IsOver base first taken (taken ++ more) now
-Fed (Err fault) base first taken more held now = IsBroken fault base first (heard (lines_of (taken ++ more))) now
-
--- a block was taken up, or the end of the input where it is empty
-abbrev pub IsTakenUp : (block : List ℕ) → Result Bool SessionFault → Base → Talk → (taken more : List ℕ)
+-- bytes of an input were taken up: the session goes on behind some of them, and these are left; or a line of them
+-- ended it, or there was a fault
+abbrev pub Fed : Result Bool SessionFault → Base → Talk → (taken bytes left more : List ℕ)
     → (held : Option (List ℕ)) → Now → Type 0
-IsTakenUp [] result base first taken more held now =
-    MatchResult result (λ _. IsAt base (talk_on first taken) now)
-    (λ fault. IsBroken fault base first (heard (lines_of taken)) now)
-IsTakenUp (b ∷ block) result base first taken more held now = Fed result base first (taken ++ b ∷ block) more held now
+Fed (Ok false) base first taken bytes left more held now =
+    (done : List ℕ) × (bytes ≡ done ++ left) × Stands base first (taken ++ done) held now
+Fed (Ok true) base first taken bytes left more held now =
+    IsOver base first (taken ++ bytes) ((taken ++ bytes) ++ more) now
+Fed (Err fault) base first taken bytes left more held now =
+    IsBroken fault base first (heard (lines_of ((taken ++ bytes) ++ more))) now

@@ -1,4 +1,4 @@
--- Where a session stands between two blocks of its input.
+-- Where a session stands between two pieces of its input.
 use Rattle.std.specs.Prelude.{◌≡◌, ◌+◌, ◌-◌, ◌^◌, ◌≤◌, ◌⊎◌, [], ℕ, List, false, Some}
 use Rattle.std.specs.declared.option.Option.{Option}
 use Rattle.std.specs.List.{list_any}

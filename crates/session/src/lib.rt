@@ -30,6 +30,5 @@ pub use lines::notice_lines;
 pub use over_source::{SessionEnd, run_session};
 pub use said::Said;
 pub use session::Session;
-pub use talk::{feed, feed_end};
 pub use text_decks::text_deck;
 pub use trial::run_trial;

@@ -1,11 +1,8 @@
-//! A session over a source: blocks of input, and one put on each sink for what each of them gave.
+//! A session over a source: what a block of input gave is written in one piece, or in more where it is long.
 
-ghost use Rattle.std.specs.Prelude.{◌≡◌, ◌≤◌, ◌<◌, [], true, List, ℕ, length, IfOk};
-ghost use Rattle.session.specs.Answering.{AreCounted, file_faults};
+ghost use Rattle.std.specs.Prelude.{◌≡◌, ◌≤◌, ◌<◌, length};
 ghost use Rattle.session.specs.Runs as spec;
-ghost use Rattle.session.specs.Standing.{Base, IsTakenUp, Stands, now_of};
-ghost use Rattle.session.specs.Talks.{Talk};
-ghost use Rattle.session.specs.Worlds.{files_of, sink_of, source_of, world_of};
+ghost use Rattle.session.specs.Worlds.{SourceSeen, files_of, sink_of, source_of, world_of};
 
 use crate::fault::SessionFault;
 use crate::held::Held;
@@ -36,7 +33,7 @@ const BLOCK: usize = 65_536;
 const MOST_INPUT: u64 = 4_294_967_296;
 
 /// Writes what is to be said before the first line, and then answers the lines of a source, block by block. What one
-/// block gave is written before more is taken.
+/// block gave is written before more is taken, and as soon as it is long.
 ///
 /// `specs/Runs.antt` has all that holds of it: at the end all is written that the session says over its whole input;
 /// or a front of it, which where the input is too long, and where the source failed, is exactly what is shown for the
@@ -111,44 +108,74 @@ fn answer_blocks<S: Source, O: Sink, E: Sink, F: Files, L: Ledger>(
             Ok(n) => n,
             Err(_) => return SessionEnd::ReadFault,
         };
+        if n == 0 {
+            return answer_end(alloc, session, held, said, out, err, files, steps);
+        }
         total += n as u64;
-        said.clear();
-        let fed = feed_block(alloc, session, held, said, files, steps, &block[..n]);
-        let Ok(()) = said.write(out, err) else {
-            return SessionEnd::WriteFault;
-        };
-        if let Some(end) = end_of(fed) {
+        let taken = &block[..n];
+        if let Some(end) = answer_block(alloc, session, held, said, out, err, files, steps, taken) {
             return end;
         }
     }
     SessionEnd::InputTooLong
 }
 
-// Takes up the bytes of a block, or the end of the input where it has none, and tells whether the session ends by it.
-fn feed_block<F: Files, L: Ledger>(
+// Answers the lines of a block, and tells how the session ends by it, unless it goes on. What is said is written behind
+// each line that makes it long, and behind the block.
+fn answer_block<O: Sink, E: Sink, F: Files, L: Ledger>(
     alloc: Global,
     session: &mut Session,
     held: &mut Held,
     said: &mut Said,
+    out: &mut O,
+    err: &mut E,
     files: &mut F,
     steps: &mut Steps<L>,
     block: &[u8],
-) -> Result<bool, SessionFault>
-    ensures told { (base : Base) (first : Talk) (taken more : List ℕ) → Stands base first taken held.old
-        (now_of said.old session.old (F.files files.old) steps.old) →
-        IsTakenUp block.now result base first taken more held.new
-        (now_of said.new session.new (F.files files.new) steps.new) }
-    ensures ends { block.now ≡ [] → IfOk result (λ over. over ≡ true) }
-    ensures faults { AreCounted result (file_faults (F.faults files.old) (F.store_faults files.old))
-        (file_faults (F.faults files.new) (F.store_faults files.new)) }
+) -> Option<SessionEnd>
+    ensures { (was is : SourceSeen) → spec.IsBlockAnswered result block.now held.old session.old held.new session.new
+        (world_of was (sink_of (O.written out.old) (O.faults out.old)) (sink_of (E.written err.old) (E.faults err.old))
+        (files_of (F.files files.old) (F.faults files.old) (F.store_faults files.old)) steps.old)
+        (world_of is (sink_of (O.written out.new) (O.faults out.new)) (sink_of (E.written err.new) (E.faults err.new))
+        (files_of (F.files files.new) (F.faults files.new) (F.store_faults files.new)) steps.new) }
 {
-    if block.is_empty() {
-        return match feed_end(alloc, session, held, said, files, steps) {
-            Ok(()) => Ok(true),
-            Err(fault) => Err(fault),
+    let mut rest = block;
+    while !rest.is_empty() {
+        said.clear();
+        let fed = feed(alloc, session, held, said, files, steps, &mut rest);
+        let Ok(()) = said.write(out, err) else {
+            return Some(SessionEnd::WriteFault);
         };
+        if let Some(end) = end_of(fed) {
+            return Some(end);
+        }
     }
-    feed(alloc, session, held, said, files, steps, block)
+    None
+}
+
+// Answers the line that the end of the input ends, where one is held, and tells how the session ends.
+fn answer_end<O: Sink, E: Sink, F: Files, L: Ledger>(
+    alloc: Global,
+    session: &mut Session,
+    held: &Held,
+    said: &mut Said,
+    out: &mut O,
+    err: &mut E,
+    files: &mut F,
+    steps: &mut Steps<L>,
+) -> SessionEnd
+    ensures { (was is : SourceSeen) → spec.IsEndAnswered result held.now session.old
+        (world_of was (sink_of (O.written out.old) (O.faults out.old)) (sink_of (E.written err.old) (E.faults err.old))
+        (files_of (F.files files.old) (F.faults files.old) (F.store_faults files.old)) steps.old)
+        (world_of is (sink_of (O.written out.new) (O.faults out.new)) (sink_of (E.written err.new) (E.faults err.new))
+        (files_of (F.files files.new) (F.faults files.new) (F.store_faults files.new)) steps.new) }
+{
+    said.clear();
+    let fed = feed_end(alloc, session, held, said, files, steps);
+    let Ok(()) = said.write(out, err) else {
+        return SessionEnd::WriteFault;
+    };
+    last_end(fed)
 }
 
 // How a session ends by what was taken up, unless it goes on.
@@ -158,8 +185,27 @@ fn end_of(fed: Result<bool, SessionFault>) -> Option<SessionEnd>
     match fed {
         Ok(false) => None,
         Ok(true) => Some(SessionEnd::Done),
-        Err(SessionFault::ReadFailed) => Some(SessionEnd::ReadFault),
-        Err(SessionFault::WriteFailed) => Some(SessionEnd::WriteFault),
-        Err(SessionFault::OutOfMemory) => Some(SessionEnd::NoMemory),
+        Err(fault) => Some(fault_end(fault)),
+    }
+}
+
+// How a session ends at the end of its input.
+fn last_end(fed: Result<(), SessionFault>) -> SessionEnd
+    ensures { result ≡ spec.last_end fed }
+{
+    match fed {
+        Ok(()) => SessionEnd::Done,
+        Err(fault) => fault_end(fault),
+    }
+}
+
+// How a session ends by a fault.
+fn fault_end(fault: SessionFault) -> SessionEnd
+    ensures { result ≡ spec.fault_end fault }
+{
+    match fault {
+        SessionFault::ReadFailed => SessionEnd::ReadFault,
+        SessionFault::WriteFailed => SessionEnd::WriteFault,
+        SessionFault::OutOfMemory => SessionEnd::NoMemory,
     }
 }

@@ -15,6 +15,9 @@ use crate::session::Session;
 use std::alloc::{AllocError, Global};
 use units_io::{Failed, Sink, put_all};
 
+// As long as this, what is said is written before more is answered.
+const LONG: usize = 65_536;
+
 /// What is said and not yet written, on each sink.
 #[derive(Drop)]
 pub struct Said {
@@ -42,6 +45,11 @@ impl Said {
     {
         self.out.clear();
         self.err.clear();
+    }
+
+    // Whether it is so long, on a sink, that it is to be written.
+    pub(crate) fn is_long(&self) -> bool {
+        self.out.len() >= LONG || self.err.len() >= LONG
     }
 
     /// Writes it, on each sink in one piece. `Failed` comes only where a sink failed, which has counted it; then a

@@ -1,6 +1,6 @@
 //! A session that answers the bytes of an input, block by block.
 
-ghost use Rattle.std.specs.Prelude.{◌≡◌, ◌++◌, ◌∷◌, ◌≤◌, List, ℕ, Some, [], length, IfOk, IfSome, MatchResult};
+ghost use Rattle.std.specs.Prelude.{◌≡◌, ◌++◌, ◌∷◌, ◌≤◌, ◌<◌, List, ℕ, Some, [], length, IfOk, IfSome, MatchResult};
 ghost use Rattle.std.specs.Prelude.{codes, false};
 ghost use Rattle.std.specs.Option.{option_copied};
 ghost use Rattle.units_io.specs.FileMap.{FileMap};
@@ -25,40 +25,47 @@ use std::alloc::{AllocError, Global};
 use std::sync::ledger::Ledger;
 use units_io::{Files, Steps, Text};
 
-/// Takes up the bytes of a block, and tells whether a line of it ends the session. Lines that stand whole in the block
-/// are answered where they stand.
-pub fn feed<F: Files, L: Ledger>(
+// Takes up the bytes of a block, to its end or to that of a line behind which what is said is long, and tells whether a
+// line of it ends the session. Where none does, `rest` is then what is left of the block. Lines that stand whole in the
+// block are answered where they stand.
+pub(crate) fn feed<F: Files, L: Ledger>(
     alloc: Global,
     session: &mut Session,
     held: &mut Held,
     said: &mut Said,
     files: &mut F,
     steps: &mut Steps<L>,
-    block: &[u8],
+    rest: &mut &[u8],
 ) -> Result<bool, SessionFault>
     ensures told { (base : Base) (first : Talk) (taken more : List ℕ) → Stands base first taken held.old
         (now_of said.old session.old (F.files files.old) steps.old) →
-        Fed result base first (taken ++ block.now) more held.new
+        Fed result base first taken rest.old.now rest.new.now more held.new
         (now_of said.new session.new (F.files files.new) steps.new) }
     ensures faults { AreCounted result (file_faults (F.faults files.old) (F.store_faults files.old))
         (file_faults (F.faults files.new) (F.store_faults files.new)) }
+    ensures shorter { 0 < length rest.old.now → length rest.new.now < length rest.old.now }
 {
-    let mut rest = block;
-    while let Some((piece, behind)) = cut_at(rest, b'\n') {
+    while let Some((piece, behind)) = cut_at(*rest, b'\n') {
+        *rest = behind;
         match end_line(alloc, session, held, said, files, steps, piece) {
-            Ok(false) => rest = behind,
+            Ok(false) => {}
             Ok(true) => return Ok(true),
             Err(fault) => return Err(fault),
         }
+        if said.is_long() {
+            return Ok(false);
+        }
     }
-    match held.add(rest) {
+    let piece = *rest;
+    *rest = &[];
+    match held.add(piece) {
         Ok(()) => Ok(false),
         Err(_) => Err(SessionFault::OutOfMemory),
     }
 }
 
-/// Takes up the end of the input, which ends a line that is held.
-pub fn feed_end<F: Files, L: Ledger>(
+// Takes up the end of the input, which ends a line that is held.
+pub(crate) fn feed_end<F: Files, L: Ledger>(
     alloc: Global,
     session: &mut Session,
     held: &Held,

@@ -70,12 +70,15 @@ fn talked<L: Ledger>(
         out: Vec::new(alloc),
         err: Vec::new(alloc),
     };
-    match feed(
-        alloc, session, &mut held, &mut said, &mut files, steps, lines,
-    ) {
-        Ok(true) => return Ok(said),
-        Ok(false) => {}
-        Err(_) => return Err(AllocError),
+    let mut rest = lines;
+    while !rest.is_empty() {
+        match feed(
+            alloc, session, &mut held, &mut said, &mut files, steps, &mut rest,
+        ) {
+            Ok(true) => return Ok(said),
+            Ok(false) => {}
+            Err(_) => return Err(AllocError),
+        }
     }
     match feed_end(alloc, session, &held, &mut said, &mut files, steps) {
         Ok(()) => Ok(said),

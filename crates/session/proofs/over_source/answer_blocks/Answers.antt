@@ -1,9 +1,8 @@
-use Rattle.std.proofs.Common.{◌++◌, ◌≡◌, [], take, sym, refl, ◌∙◌, arith}
-use Rattle.session.proofs.Blocks.{cut, cut_part, either_rose, loses, no_rest, none_left, rose_from, rose_since, stands}
-use Rattle.session.proofs.Blocks.{took_enough, took_more, went}
-use Rattle.session.proofs.Ending.{done_by, ended_written, fed_cause, goes_on, had_bytes, last_heard, length_cause}
-use Rattle.session.proofs.Ending.{part_written, read_cause, took_none, waits_on, write_cause}
-use Rattle.session.proofs.Faulting.{still}
+use Rattle.std.proofs.Common.{◌++◌, inl, take, refl, sym, ap, arith, Some, ◌∙◌}
+use Rattle.session.specs.Worlds.{source_of}
+use Rattle.session.proofs.Blocks.{all_heard, cut, cut_part, heard_by, later_than, loses, no_rest, none_left}
+use Rattle.session.proofs.Blocks.{rose_since, took_enough, took_more, went}
+use Rattle.session.proofs.Ending.{cause_since, ended_at, length_cause, read_cause}
 use Rattle.session.proofs.over_source.answer_blocks.Goals as goal
 
 pub returns-in-Err : goal.returns-in-Err
@@ -17,52 +16,57 @@ returns-in-Err g c = record {
   caused = read_cause _ _ (rose_since _ _ _ c.loop-total.invariant.earlier c.in-Err.ensures.cause.failed);
 }
 
-pub returns-in_default : goal.returns-in_default
-returns-in_default g c = record {
-  told = λ first input start m q fm ff fs at.
-      let p = c.loop-total.invariant.stands first input start q at in
-      let lost = loses _ _ p.1 (take c.in-Ok.n c.take.new.buf) p.3 c.in-Ok.ensures.bytes in
-      let s = stands first p.0 _ _ _ _ p.4 c.clear.new.self c.clear.ensures.out c.clear.ensures.err in
-      let up = c.feed_block-fed.ensures.told _ first p.0 lost.0 s in
-      let all = went input p.0 p.1 _ lost.0 p.2 lost.2 in
-      let none = λ (z : take c.in-Ok.n c.take.new.buf ≡ []). no_rest _ _ _ lost.2
-      (none_left _ p.1 p.3 (c.in-Ok.ensures.end (took_none _ c.take.new.buf c.in-Ok.ensures.within z))) in
-      part_written first p.0 _ _ _ _ p.4 _ lost.0 input all c.feed_block-fed.result _ c.feed_block-fed.new.said _ _ up
-      none m fm c.write.ensures.out c.write.ensures.err
-      (λ is. rose_from _ _ _ _ fs c.loop-total.invariant.stores_later (c.feed_block-fed.ensures.faults.written is));
-  heard = λ first input start q at d. cc;
-  caused = write_cause _ _ (either_rose _ _ _ _ _ _ c.loop-total.invariant.out_later c.loop-total.invariant.err_later
-      c.in_default.ensures.cause);
-}
+pub returns-then-n-eq0 : goal.returns-then-n-eq0
+returns-then-n-eq0 g c =
+    let old = source_of (g.S.Source.left c.loop-total.src) (g.S.Source.taken c.loop-total.src)
+    (g.S.Source.faults c.loop-total.src) in
+    let new = source_of (g.S.Source.left c.take.new.self) (g.S.Source.taken c.take.new.self)
+    (g.S.Source.faults c.take.new.self) in
+    let first_seen = source_of (g.S.Source.left c.args.src.now) (g.S.Source.taken c.args.src.now)
+    (g.S.Source.faults c.args.src.now) in
+    record {
+      told = λ first input start m q fm ff fs at.
+          let p = c.loop-total.invariant.stands first input start q at in
+          ended_at first p.0 input c.answer_end.result start _
+          (all_heard input p.0 p.1 p.2 (none_left _ p.1 p.3 (c.in-Ok.ensures.end c.if-n-eq0.true)))
+          ((c.answer_end.ensures old new).told first p.0 start m fm
+          (later_than _ _ _ ff c.loop-total.invariant.later) (later_than _ _ _ fs c.loop-total.invariant.stores_later)
+          p.4);
+      heard = λ first input start q at d.
+          let p = c.loop-total.invariant.stands first input start q at in
+          let lost = loses _ _ p.1 (take c.in-Ok.n c.take.new.buf) p.3 c.in-Ok.ensures.bytes in
+          inl (lost.1
+          ∙ ap Some (no_rest _ _ _ lost.2 (none_left _ p.1 p.3 (c.in-Ok.ensures.end c.if-n-eq0.true))));
+      caused = cause_since c.answer_end.result first_seen _ _ _ _ _ _ _ _ _ c.loop-total.invariant.out_later
+          c.loop-total.invariant.err_later c.loop-total.invariant.later c.loop-total.invariant.stores_later
+          (c.answer_end.ensures first_seen new).caused;
+    }
 
 pub returns-in-Some : goal.returns-in-Some
-returns-in-Some g c = record {
-  told = λ first input start m q fm ff fs at.
-      let p = c.loop-total.invariant.stands first input start q at in
-      let lost = loses _ _ p.1 (take c.in-Ok.n c.take.new.buf) p.3 c.in-Ok.ensures.bytes in
-      let s = stands first p.0 _ _ _ _ p.4 c.clear.new.self c.clear.ensures.out c.clear.ensures.err in
-      let up = c.feed_block-fed.ensures.told _ first p.0 lost.0 s in
-      let all = went input p.0 p.1 _ lost.0 p.2 lost.2 in
-      let none = λ (z : take c.in-Ok.n c.take.new.buf ≡ []). no_rest _ _ _ lost.2
-      (none_left _ p.1 p.3 (c.in-Ok.ensures.end (took_none _ c.take.new.buf c.in-Ok.ensures.within z))) in
-      ended_written first p.0 _ _ _ _ p.4 _ lost.0 input all c.feed_block-fed.result _ c.feed_block-fed.new.said _ _ up
-      c.in-Some.end c.in-Some.ensures none m fm c.in-Ok-write.ensures.whole.0 c.in-Ok-write.ensures.whole.1
-      (λ is. rose_from _ _ _ _ ff c.loop-total.invariant.later (c.feed_block-fed.ensures.faults.cause is))
-      (λ is. rose_from _ _ _ _ fs c.loop-total.invariant.stores_later (c.feed_block-fed.ensures.faults.written is));
-  heard = λ first input start q at d.
-      let p = c.loop-total.invariant.stands first input start q at in
-      let lost = loses _ _ p.1 (take c.in-Ok.n c.take.new.buf) p.3 c.in-Ok.ensures.bytes in
-      let s = stands first p.0 _ _ _ _ p.4 c.clear.new.self c.clear.ensures.out c.clear.ensures.err in
-      last_heard (take c.in-Ok.n c.take.new.buf) c.feed_block-fed.result _ first p.0 lost.0 input _ _ _
-      (went input p.0 p.1 _ lost.0 p.2 lost.2)
-      (λ z. no_rest _ _ _ lost.2
-      (none_left _ p.1 p.3 (c.in-Ok.ensures.end (took_none _ c.take.new.buf c.in-Ok.ensures.within z))))
-      lost.1 (done_by c.feed_block-fed.result c.in-Some.end c.in-Some.ensures d)
-      (c.feed_block-fed.ensures.told _ first p.0 lost.0 s);
-  caused = fed_cause _ _ c.feed_block-fed.result c.in-Some.end c.in-Some.ensures
-      (λ is. rose_since _ _ _ c.loop-total.invariant.later (c.feed_block-fed.ensures.faults.cause is))
-      (λ is. rose_since _ _ _ c.loop-total.invariant.stores_later (c.feed_block-fed.ensures.faults.written is));
-}
+returns-in-Some g c =
+    let old = source_of (g.S.Source.left c.loop-total.src) (g.S.Source.taken c.loop-total.src)
+    (g.S.Source.faults c.loop-total.src) in
+    let new = source_of (g.S.Source.left c.take.new.self) (g.S.Source.taken c.take.new.self)
+    (g.S.Source.faults c.take.new.self) in
+    let first_seen = source_of (g.S.Source.left c.args.src.now) (g.S.Source.taken c.args.src.now)
+    (g.S.Source.faults c.args.src.now) in
+    record {
+      told = λ first input start m q fm ff fs at.
+          let p = c.loop-total.invariant.stands first input start q at in
+          let lost = loses _ _ p.1 (take c.in-Ok.n c.take.new.buf) p.3 c.in-Ok.ensures.bytes in
+          ended_at first _ input c.in-Some.end start _ (went input p.0 p.1 _ lost.0 p.2 lost.2)
+          ((c.in-Some.ensures old new).told first p.0 lost.0 start m fm
+          (later_than _ _ _ ff c.loop-total.invariant.later) (later_than _ _ _ fs c.loop-total.invariant.stores_later)
+          p.4);
+      heard = λ first input start q at d.
+          let p = c.loop-total.invariant.stands first input start q at in
+          let lost = loses _ _ p.1 (take c.in-Ok.n c.take.new.buf) p.3 c.in-Ok.ensures.bytes in
+          heard_by input p.0 (take c.in-Ok.n c.take.new.buf) lost.0 _ (went input p.0 p.1 _ lost.0 p.2 lost.2) lost.1
+          ((c.in-Some.ensures old new).heard first p.0 start p.4 d);
+      caused = cause_since c.in-Some.end first_seen _ _ _ _ _ _ _ _ _ c.loop-total.invariant.out_later
+          c.loop-total.invariant.err_later c.loop-total.invariant.later c.loop-total.invariant.stores_later
+          (c.in-Some.ensures first_seen new).caused;
+    }
 
 pub returns : goal.returns
 returns g c = record {
@@ -77,31 +81,27 @@ returns g c = record {
 }
 
 pub loop-total-preserved : goal.loop-total-preserved
-loop-total-preserved g c = record {
-  later = omega (
-    arith,
-    still _ _ c.feed_block-fed.result (goes_on _ c.in_default-end_of.ensures) c.feed_block-fed.ensures.faults.counted,
-    c.loop-total.invariant.later,
-  );
-  stores_later = omega (arith, c.feed_block-fed.ensures.faults.later, c.loop-total.invariant.stores_later);
-  earlier = omega (arith, c.in-Ok.ensures.cause.later, c.loop-total.invariant.earlier);
-  out_later = omega (arith, c.write.ensures.out_later, c.loop-total.invariant.out_later);
-  err_later = omega (arith, c.write.ensures.err_later, c.loop-total.invariant.err_later);
-  room = (omega (arith, c.loop-total.invariant.room.0), omega (arith, c.loop-total.invariant.room.1));
-  counted = took_more c.loop-total.total c.in-Ok.n _ _ _ c.loop-total.invariant.counted c.in-Ok.ensures.count;
-  stands = λ first input start q at.
-      let p = c.loop-total.invariant.stands first input start q at in
-      let lost = loses _ _ p.1 (take c.in-Ok.n c.take.new.buf) p.3 c.in-Ok.ensures.bytes in
-      let s = stands first p.0 _ _ _ _ p.4 c.clear.new.self c.clear.ensures.out c.clear.ensures.err in
-      let all = went input p.0 p.1 _ lost.0 p.2 lost.2 in
-      let is = goes_on c.feed_block-fed.result c.in_default-end_of.ensures in (
-        p.0 ++ take c.in-Ok.n c.take.new.buf,
-        lost.0,
-        sym all,
-        lost.1,
-        waits_on first p.0 _ _ _ _ p.4 _ lost.0 input all c.feed_block-fed.result _ c.feed_block-fed.new.said _ _
-            (c.feed_block-fed.ensures.told _ first p.0 lost.0 s)
-            (had_bytes c.feed_block-fed.result _ is c.feed_block-fed.ensures.ends) c.in-Ok-write.ensures.whole.0
-            c.in-Ok-write.ensures.whole.1 is,
-      );
-}
+loop-total-preserved g c =
+    let old = source_of (g.S.Source.left c.loop-total.src) (g.S.Source.taken c.loop-total.src)
+    (g.S.Source.faults c.loop-total.src) in
+    let new = source_of (g.S.Source.left c.take.new.self) (g.S.Source.taken c.take.new.self)
+    (g.S.Source.faults c.take.new.self) in
+    let behind = c.in_default.ensures old new in
+    record {
+      later = later_than _ _ _ c.loop-total.invariant.later behind.later.fetches;
+      stores_later = later_than _ _ _ c.loop-total.invariant.stores_later behind.later.stores;
+      earlier = omega (arith, c.in-Ok.ensures.cause.later, c.loop-total.invariant.earlier);
+      out_later = later_than _ _ _ c.loop-total.invariant.out_later behind.later.out;
+      err_later = later_than _ _ _ c.loop-total.invariant.err_later behind.later.err;
+      room = (omega (arith, c.loop-total.invariant.room.0), omega (arith, c.loop-total.invariant.room.1));
+      counted = took_more c.loop-total.total c.in-Ok.n _ _ _ c.loop-total.invariant.counted c.in-Ok.ensures.count;
+      stands = λ first input start q at.
+          let p = c.loop-total.invariant.stands first input start q at in
+          let lost = loses _ _ p.1 (take c.in-Ok.n c.take.new.buf) p.3 c.in-Ok.ensures.bytes in (
+            p.0 ++ take c.in-Ok.n c.take.new.buf,
+            lost.0,
+            sym (went input p.0 p.1 _ lost.0 p.2 lost.2),
+            lost.1,
+            behind.waits first p.0 start p.4,
+          );
+    }

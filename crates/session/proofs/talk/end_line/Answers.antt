@@ -12,8 +12,8 @@ returns-then-is_empty-clause-told g c = λ base talk part h at.
 
 pub returns-clause-told : goal.returns-clause-told
 returns-clause-told g c = λ base talk part h at.
-    line_ended base talk c.reply-done-2.result (part ++ c.args.piece.now) (part ++ c.args.piece.now) c.clear-2.new.self _
-    refl c.clear-2.ensures
+    line_ended base talk c.reply-done-2.result (part ++ c.args.piece.now) (part ++ c.args.piece.now) c.clear-2.new.self
+    _ refl c.clear-2.ensures
     (c.reply-done-2.ensures.told base talk (part ++ c.args.piece.now) (c.line.ensures.is ∙ c.in-Ok.ensures part h) at)
 
 pub returns-in-Err-clause-told : goal.returns-in-Err-clause-told

@@ -1,5 +1,7 @@
 use Rattle.std.proofs.Common.{◌++◌, arith, ap, sym, ◌∙◌, option_map}
+use Rattle.std.proofs.lemmas.List.{append-nil}
 use Rattle.def_entry.specs.Seen.{seen_pair}
+use Rattle.def_entry.proofs.CutParts.{shorter}
 use Rattle.session.specs.Input.{whole_lines, unfinished}
 use Rattle.session.specs.Standing.{now_of}
 use Rattle.session.specs.Talks.{talk_over}
@@ -12,33 +14,17 @@ returns-in-Ok-true-clause-told g c = λ base first taken more s.
     let p = c.loop-piece.invariant.fed base first taken s in
     let told = c.in-Ok-true.ensures.told base (talk_over first (whole_lines (taken ++ p.0)))
     (unfinished (taken ++ p.0)) p.2.part p.2.at in
-    line_over base first taken c.args.block.now p.0 c.loop-piece.rest.now c.loop-piece.held
+    line_over base first taken c.args.rest.now.now p.0 c.loop-piece.rest.now c.loop-piece.held
     (now_of c.loop-piece.said c.loop-piece.session (g.F.Files.files c.loop-piece.files) c.loop-piece.steps) p.1 p.2
     c.in-Some.piece.now
     c.in-Some.behind.now (sym c.in-Some.ensures) more
     (now_of c.end_line.new.said c.end_line.new.session (g.F.Files.files c.end_line.new.files) c.end_line.new.steps)
     (sym c.in-Ok-true.field-0-test ∙ told.0) told.2
 
-pub loop-piece-preserved : goal.loop-piece-preserved
-loop-piece-preserved g c = record {
-  counted = c.in-Ok-false.ensures.faults.counted ∙ c.loop-piece.invariant.counted;
-  later = omega (arith, c.in-Ok-false.ensures.faults.later, c.loop-piece.invariant.later);
-  fed = λ base first taken s.
-      let p = c.loop-piece.invariant.fed base first taken s in
-      let told = c.in-Ok-false.ensures.told base (talk_over first (whole_lines (taken ++ p.0)))
-      (unfinished (taken ++ p.0)) p.2.part p.2.at in
-      line_fed base first taken c.args.block.now p.0 c.loop-piece.rest.now c.loop-piece.held
-      (now_of c.loop-piece.said c.loop-piece.session (g.F.Files.files c.loop-piece.files) c.loop-piece.steps) p.1 p.2
-      c.in-Some.piece.now
-      c.in-Some.behind.now (sym c.in-Some.ensures) c.end_line.new.held
-      (now_of c.end_line.new.said c.end_line.new.session (g.F.Files.files c.end_line.new.files) c.end_line.new.steps)
-      (sym c.in-Ok-false.field-0-test ∙ told.0) told.1 told.2;
-}
-
 pub returns-in-Err-clause-told : goal.returns-in-Err-clause-told
 returns-in-Err-clause-told g c = λ base first taken more s.
     let p = c.loop-piece.invariant.fed base first taken s in
-    line_lost base first taken c.args.block.now p.0 c.loop-piece.rest.now c.loop-piece.held
+    line_lost base first taken c.args.rest.now.now p.0 c.loop-piece.rest.now c.loop-piece.held
     (now_of c.loop-piece.said c.loop-piece.session (g.F.Files.files c.loop-piece.files) c.loop-piece.steps) p.1 p.2
     c.in-Some.piece.now
     c.in-Some.behind.now (sym c.in-Some.ensures) c.in-Err.fault more
@@ -46,17 +32,54 @@ returns-in-Err-clause-told g c = λ base first taken more s.
     (c.in-Err.ensures.told base (talk_over first (whole_lines (taken ++ p.0))) (unfinished (taken ++ p.0)) p.2.part
     p.2.at)
 
+pub returns-then-is_long-clause-told : goal.returns-then-is_long-clause-told
+returns-then-is_long-clause-told g c = λ base first taken more s.
+    let p = c.loop-piece.invariant.fed base first taken s in
+    let told = c.in-Ok-false.ensures.told base (talk_over first (whole_lines (taken ++ p.0)))
+    (unfinished (taken ++ p.0)) p.2.part p.2.at in
+    line_fed base first taken c.args.rest.now.now p.0 c.loop-piece.rest.now c.loop-piece.held
+    (now_of c.loop-piece.said c.loop-piece.session (g.F.Files.files c.loop-piece.files) c.loop-piece.steps) p.1 p.2
+    c.in-Some.piece.now
+    c.in-Some.behind.now (sym c.in-Some.ensures) c.end_line.new.held
+    (now_of c.end_line.new.said c.end_line.new.session (g.F.Files.files c.end_line.new.files) c.end_line.new.steps)
+    (sym c.in-Ok-false.field-0-test ∙ told.0) told.1 told.2
+
+pub loop-piece-preserved : goal.loop-piece-preserved
+loop-piece-preserved g c = record {
+  counted = c.in-Ok-false.ensures.faults.counted ∙ c.loop-piece.invariant.counted;
+  later = omega (arith, c.in-Ok-false.ensures.faults.later, c.loop-piece.invariant.later);
+  within = omega (
+    arith,
+    shorter 10 c.loop-piece.rest.now c.in-Some.piece.now c.in-Some.behind.now (sym c.in-Some.ensures),
+    c.loop-piece.invariant.within,
+  );
+  fed = λ base first taken s.
+      let p = c.loop-piece.invariant.fed base first taken s in
+      let told = c.in-Ok-false.ensures.told base (talk_over first (whole_lines (taken ++ p.0)))
+      (unfinished (taken ++ p.0)) p.2.part p.2.at in
+      line_fed base first taken c.args.rest.now.now p.0 c.loop-piece.rest.now c.loop-piece.held
+      (now_of c.loop-piece.said c.loop-piece.session (g.F.Files.files c.loop-piece.files) c.loop-piece.steps) p.1 p.2
+      c.in-Some.piece.now
+      c.in-Some.behind.now (sym c.in-Some.ensures) c.end_line.new.held
+      (now_of c.end_line.new.said c.end_line.new.session (g.F.Files.files c.end_line.new.files) c.end_line.new.steps)
+      (sym c.in-Ok-false.field-0-test ∙ told.0) told.1 told.2;
+}
+
 pub returns-in-Ok-clause-told : goal.returns-in-Ok-clause-told
 returns-in-Ok-clause-told g c = λ base first taken more s.
-    let p = c.loop-piece.invariant.fed base first taken s in
-    rest_held base first taken c.args.block.now p.0 c.loop-piece.rest.now c.loop-piece.held
-    (now_of c.loop-piece.said c.loop-piece.session (g.F.Files.files c.loop-piece.files) c.loop-piece.steps) p.1 p.2
-    (sym c.cut_at.ensures ∙ ap (option_map seen_pair) c.in_default.is) c.add.new.self
-    (c.in-Ok.ensures (unfinished (taken ++ p.0)) p.2.part)
+    let p = c.loop-piece.invariant.fed base first taken s in (
+      c.args.rest.now.now,
+      sym (append-nil c.args.rest.now.now),
+      rest_held base first taken c.args.rest.now.now p.0 c.loop-piece.rest.now c.loop-piece.held
+          (now_of c.loop-piece.said c.loop-piece.session (g.F.Files.files c.loop-piece.files) c.loop-piece.steps) p.1
+          p.2
+          (sym c.cut_at.ensures ∙ ap (option_map seen_pair) c.in_default.is) c.add.new.self
+          (c.in-Ok.ensures (unfinished (taken ++ p.0)) p.2.part),
+    )
 
 pub returns-in-Err-add-clause-told : goal.returns-in-Err-add-clause-told
 returns-in-Err-add-clause-told g c = λ base first taken more s.
     let p = c.loop-piece.invariant.fed base first taken s in
-    rest_lost base first taken c.args.block.now p.0 c.loop-piece.rest.now c.loop-piece.held
+    rest_lost base first taken c.args.rest.now.now p.0 c.loop-piece.rest.now c.loop-piece.held
     (now_of c.loop-piece.said c.loop-piece.session (g.F.Files.files c.loop-piece.files) c.loop-piece.steps) p.1 p.2
     OutOfMemory more

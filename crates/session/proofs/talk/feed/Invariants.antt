@@ -7,11 +7,12 @@ abbrev pub invariant-loop-piece : goal.invariant-loop-piece
 invariant-loop-piece g l = record {
   counted : g.F.Files.faults l.files ≡ g.F.Files.faults l.initial.files;
   later : g.F.Files.store_faults l.initial.files ≤ g.F.Files.store_faults l.files;
+  within : length l.rest.now ≤ length l.initial.rest.now;
   fed : (base : Base) (first : Talk) (taken : List ℕ) → Stands base first taken l.initial.held
       (now_of l.initial.said l.initial.session (g.F.Files.files l.initial.files) l.initial.steps)
-      → (done : List ℕ) × (l.block ≡ done ++ l.rest) × Stands base first (taken ++ done) l.held
+      → (done : List ℕ) × (l.initial.rest.now ≡ done ++ l.rest.now) × Stands base first (taken ++ done) l.held
       (now_of l.said l.session (g.F.Files.files l.files) l.steps);
 }
 
 abbrev pub decreases-loop-piece : goal.decreases-loop-piece
-decreases-loop-piece g l = length l.rest
+decreases-loop-piece g l = length l.rest.now

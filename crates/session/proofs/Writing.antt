@@ -1,0 +1,227 @@
+-- What a piece of the input gave is written.
+use Rattle.std.proofs.Common.{MatchResult, inl, ◌≡◌, ◌++◌, [], ℕ, List, Bool, true, false, refl, sym, ap, subst, ◌∙◌}
+use Rattle.std.proofs.Common.{append_assoc, length, ◌==◌, Some, Result, Ok, Err}
+use Rattle.std.specs.declared.option.Option.{Option}
+use Rattle.std.specs.List.{list_any}
+use Rattle.std.proofs.lemmas.List.{append-nil}
+use Rattle.def_lines.proofs.Trimming.{empty-nil}
+use Rattle.units_io.specs.Bytes.{grown, GrowsByFront}
+use Rattle.units_io.specs.Faults.{Rose}
+use Rattle.units_io.specs.FileMap.{FileMap}
+use Rattle.session.specs.Hearing.{heard, is_last}
+use Rattle.session.specs.Input.{lines_of, whole_lines}
+use Rattle.session.specs.Outside.{Outside, outside_of}
+use Rattle.session.specs.Runs.{end_of, last_end}
+use Rattle.session.specs.Sessions.{Known}
+use Rattle.session.specs.Standing.{Base, Fed, IsAt, IsBroken, IsOver, Now, Stands, now_of}
+use Rattle.session.specs.Talks.{Talk, talk_on, talk_over}
+use Rattle.session.specs.Waiting.{Waits}
+use Rattle.session.specs.Written.{IsAll, IsEnded, IsFront, IsPartBut, output_of, session_course}
+use Rattle.session.specs.declared.fault.SessionFault.{SessionFault}
+use Rattle.session.specs.declared.fault.SessionFault.TheVariants.{ReadFailed, WriteFailed}
+use Rattle.session.specs.declared.over_source.SessionEnd.{SessionEnd}
+use Rattle.session.specs.declared.said.Said.{Said}
+use Rattle.session.proofs.Blocks.{both_taken, ended_before, fed_before, front_all, fronts, fronts_at, left_and_more}
+use Rattle.session.proofs.Blocks.{same_input, waits, whole, whole_at, written}
+use Rattle.session.proofs.Ending.{Left, broken_left, by_fault, ended_by, part_but, whole_left}
+use Rattle.session.proofs.Talking.{heard_more}
+
+-- the files behind what was taken up, whether the session goes on, is over, or broke off
+fed_left : (result : Result Bool SessionFault) (base : Base) (first : Talk) (taken bytes left more : List ℕ)
+    (held : Option (List ℕ)) (now : Now) → Fed result base first taken bytes left more held now
+    → Left result first ((taken ++ bytes) ++ more) now.files
+fed_left (Ok false) base first taken bytes left more held now fed =
+    let lines = heard_more first (taken ++ fed.0) fed.2.going (left ++ more) in (
+      (talk_over first (whole_lines (taken ++ fed.0))).state.files,
+      fed.2.at.files,
+      inl (record {
+        answered = whole_lines (taken ++ fed.0);
+        rest = lines.0;
+        front = ap (λ i. heard (lines_of i)) (sym (left_and_more taken bytes fed.0 left more fed.1)) ∙ lines.1;
+        reached = refl;
+      }),
+    )
+fed_left (Ok true) base first taken bytes left more held now over =
+    whole_left (Ok true) base first ((taken ++ bytes) ++ more) now over.at
+fed_left (Err fault) base first taken bytes left more held now broken =
+    broken_left (Err fault) fault refl base first ((taken ++ bytes) ++ more) now broken
+
+-- where a line ended the session, and where it goes on
+pub fed_over : (fed : Result Bool SessionFault) (base : Base) (first : Talk) (taken bytes left more : List ℕ)
+    (held : Option (List ℕ)) (now : Now) → fed ≡ Ok true → Fed fed base first taken bytes left more held now
+    → IsOver base first (taken ++ bytes) ((taken ++ bytes) ++ more) now
+fed_over fed base first taken bytes left more held now is up =
+    subst (λ (r : Result Bool SessionFault). Fed r base first taken bytes left more held now) is up
+
+pub fed_on : (fed : Result Bool SessionFault) (base : Base) (first : Talk) (taken bytes left more : List ℕ)
+    (held : Option (List ℕ)) (now : Now) → fed ≡ Ok false → Fed fed base first taken bytes left more held now
+    → (done : List ℕ) × (bytes ≡ done ++ left) × Stands base first (taken ++ done) held now
+fed_on fed base first taken bytes left more held now is up =
+    subst (λ (r : Result Bool SessionFault). Fed r base first taken bytes left more held now) is up
+
+-- a block has its last line where it ended the session
+pub last_heard : (taken block ready rest : List ℕ) → block ≡ ready ++ rest → (fed : Result Bool SessionFault)
+    (base : Base) (first : Talk) (left more : List ℕ) (held : Option (List ℕ)) (now : Now) → fed ≡ Ok true
+    → Fed fed base first (taken ++ ready) rest left more held now
+    → list_any is_last (whole_lines (taken ++ block)) ≡ true
+last_heard taken block ready rest b fed base first left more held now is up =
+    ap (λ t. list_any is_last (whole_lines t)) (sym (both_taken taken block ready rest b))
+    ∙ (fed_over fed base first (taken ++ ready) rest left more held now is up).last
+
+-- a session that waits within a block of its input takes up bytes of the rest, and what that gave is written
+module _ (first : Talk) (taken block ready rest left more : List ℕ) (b : block ≡ ready ++ rest)
+    (held : Option (List ℕ)) (session : Known) (start now : Outside)
+    (w : Waits first (taken ++ ready) held session start now) (fed : Result Bool SessionFault)
+    (held_now : Option (List ℕ)) (said : Said) (new : Known) (after : Outside)
+    (up : Fed fed (written first (taken ++ ready) held session start now w) first (taken ++ ready) rest left more
+    held_now (now_of said new after.files after.steps)) where
+  abbrev stood : Base
+  stood = written first (taken ++ ready) held session start now w
+
+  abbrev stands_now : Now
+  stands_now = now_of said new after.files after.steps
+
+  abbrev all_input : List ℕ
+  all_input = (taken ++ block) ++ more
+
+  -- in part
+  front_written : GrowsByFront now.out after.out said.out.items → GrowsByFront now.err after.err said.err.items
+      → IsFront (output_of (talk_on first all_input)) start after
+  front_written o e =
+      fronts_at first (taken ++ ready) held session start now w (((taken ++ ready) ++ rest) ++ more) all_input said
+      after (same_input taken block ready rest more b)
+      (fed_before fed stood first (taken ++ ready) rest left more held_now stands_now up) o e
+
+  -- and the files are those behind some lines
+  files_left : Left fed first all_input after.files
+  files_left =
+      subst (λ i. Left fed first i after.files) (same_input taken block ready rest more b)
+      (fed_left fed stood first (taken ++ ready) rest left more held_now stands_now up)
+
+  pub part_written : (old : FileMap) → start.files ≡ Some old → GrowsByFront now.out after.out said.out.items
+      → GrowsByFront now.err after.err said.err.items
+      → (fed ≡ Err WriteFailed → Rose start.store_faults after.store_faults)
+      → IsPartBut (session_course first all_input) start after
+  part_written old told o e rose =
+      part_but Bool fed first all_input start after old told (front_written o e) files_left rose
+
+  -- in full, and it is the last
+  whole_written : (old : FileMap) → start.files ≡ Some old → after.out ≡ grown now.out said.out.items
+      → after.err ≡ grown now.err said.err.items → fed ≡ Ok true
+      → IsAll (output_of (talk_on first all_input)) start after
+  whole_written old told o e is =
+      whole_at first (taken ++ ready) held session start now w (((taken ++ ready) ++ rest) ++ more) all_input said new
+      after old (same_input taken block ready rest more b) told
+      (fed_over fed stood first (taken ++ ready) rest left more held_now stands_now is up).at o e
+
+  -- by how the session ends
+  pub ended_written : (ending : SessionEnd) → Some ending ≡ end_of fed → (old : FileMap) → start.files ≡ Some old
+      → after.out ≡ grown now.out said.out.items → after.err ≡ grown now.err said.err.items
+      → (fed ≡ Err ReadFailed → Rose start.fetch_faults after.fetch_faults)
+      → (fed ≡ Err WriteFailed → Rose start.store_faults after.store_faults)
+      → IsEnded (session_course first all_input) ending start after
+  ended_written ending q old told o e rose stored =
+      ended_by fed ending first all_input start after old told q
+      (front_written (front_all now.out after.out said.out.items o) (front_all now.err after.err said.err.items e))
+      files_left (whole_written old told o e) rose stored
+
+  -- in full, and the session goes on behind more of the block
+  pub waits_on : after.out ≡ grown now.out said.out.items → after.err ≡ grown now.err said.err.items → fed ≡ Ok false
+      → (done : List ℕ) × (block ≡ done ++ left) × Waits first (taken ++ done) held_now new start after
+  waits_on o e is =
+      let on = fed_on fed stood first (taken ++ ready) rest left more held_now stands_now is up in (
+        ready ++ on.0,
+        b ∙ ap (λ t. ready ++ t) on.1 ∙ sym (append_assoc ready on.0 left),
+        subst (λ t. Waits first t held_now new start after) (append_assoc taken ready on.0)
+            (waits first (taken ++ ready) held session start now w ((taken ++ ready) ++ on.0) held_now said new after
+            on.2 o e),
+      )
+
+-- a session waits before a block, whatever is left of the source
+pub waits_at_first : (first : Talk) (taken block : List ℕ) (held : Option (List ℕ)) (session : Known) (start : Outside)
+    (was is out err : Option (List ℕ)) (files : Option FileMap) (fetches stores steps : ℕ)
+    → Waits first taken held session start (outside_of was out err files fetches stores steps)
+    → (done : List ℕ) × (block ≡ done ++ block)
+    × Waits first (taken ++ done) held session start (outside_of is out err files fetches stores steps)
+waits_at_first first taken block held session start was is out err files fetches stores steps w = (
+  [],
+  refl,
+  subst (λ t. Waits first t held session start (outside_of is out err files fetches stores steps))
+      (sym (append-nil taken))
+      (record {
+        out = w.out;
+        err = w.err;
+        files = w.files;
+        steps = w.steps;
+        session = w.session;
+        going = w.going;
+        part = w.part;
+      }),
+)
+
+-- and behind one of which nothing is left
+pub waits_behind : (first : Talk) (taken block ready rest : List ℕ) (held : Option (List ℕ)) (session : Known)
+    (start now : Outside) → block ≡ ready ++ rest → (length rest == 0) ≡ true
+    → Waits first (taken ++ ready) held session start now → Waits first (taken ++ block) held session start now
+waits_behind first taken block ready rest held session start now b none w =
+    subst (λ t. Waits first (taken ++ t) held session start now)
+    (sym (b ∙ ap (λ t. ready ++ t) (empty-nil rest none) ∙ append-nil ready)) w
+
+-- a session that waits takes up the end of its input, and what that gave is written
+module _ (first : Talk) (input : List ℕ) (held : Option (List ℕ)) (session : Known) (start now : Outside)
+    (w : Waits first input held session start now) (A : Type 0) (fed : Result A SessionFault) (said : Said)
+    (new : Known) (after : Outside)
+    (up : MatchResult fed
+    (λ _. IsAt (written first input held session start now w) (talk_on first input)
+    (now_of said new after.files after.steps))
+    (λ fault. IsBroken fault (written first input held session start now w) first (heard (lines_of input))
+    (now_of said new after.files after.steps))) where
+  abbrev stood_last : Base
+  stood_last = written first input held session start now w
+
+  abbrev stands_last : Now
+  stands_last = now_of said new after.files after.steps
+
+  last_front : GrowsByFront now.out after.out said.out.items → GrowsByFront now.err after.err said.err.items
+      → IsFront (output_of (talk_on first input)) start after
+  last_front o e =
+      fronts first input held session start now w (talk_on first input) said after
+      (ended_before fed stood_last first input stands_last up) o e
+
+  last_left : Left fed first input after.files
+  last_left = by fed up
+    where
+      by : (r : Result A SessionFault)
+          → MatchResult r (λ _. IsAt stood_last (talk_on first input) stands_last)
+          (λ fault. IsBroken fault stood_last first (heard (lines_of input)) stands_last)
+          → Left r first input after.files
+      by (Ok done) at = whole_left (Ok done) stood_last first input stands_last at
+      by (Err fault) broken = broken_left (Err fault) fault refl stood_last first input stands_last broken
+
+  pub last_part : (old : FileMap) → start.files ≡ Some old → GrowsByFront now.out after.out said.out.items
+      → GrowsByFront now.err after.err said.err.items
+      → (fed ≡ Err WriteFailed → Rose start.store_faults after.store_faults)
+      → IsPartBut (session_course first input) start after
+  last_part old told o e rose = part_but A fed first input start after old told (last_front o e) last_left rose
+
+  pub last_written : (ending : SessionEnd) → ending ≡ last_end fed → (old : FileMap) → start.files ≡ Some old
+      → after.out ≡ grown now.out said.out.items → after.err ≡ grown now.err said.err.items
+      → (fed ≡ Err ReadFailed → Rose start.fetch_faults after.fetch_faults)
+      → (fed ≡ Err WriteFailed → Rose start.store_faults after.store_faults)
+      → IsEnded (session_course first input) ending start after
+  last_written ending q old told o e rose stored =
+      subst (λ (x : SessionEnd). IsEnded (session_course first input) x start after) (sym q)
+      (by fed up last_left rose stored)
+    where
+      by : (r : Result A SessionFault)
+          → MatchResult r (λ _. IsAt stood_last (talk_on first input) stands_last)
+          (λ fault. IsBroken fault stood_last first (heard (lines_of input)) stands_last)
+          → Left r first input after.files → (r ≡ Err ReadFailed → Rose start.fetch_faults after.fetch_faults)
+          → (r ≡ Err WriteFailed → Rose start.store_faults after.store_faults)
+          → IsEnded (session_course first input) (last_end r) start after
+      by (Ok done) at l f s =
+          whole first input held session start now w (talk_on first input) said new after old told at o e
+      by (Err fault) broken l f s =
+          by_fault A (Err fault) first input start after old told
+          (last_front (front_all now.out after.out said.out.items o) (front_all now.err after.err said.err.items e)) l
+          fault refl f s

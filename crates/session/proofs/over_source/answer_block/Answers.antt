@@ -1,0 +1,85 @@
+use Rattle.std.proofs.Common.{◌++◌, [], sym, ◌∙◌, arith}
+use Rattle.session.proofs.Blocks.{either_rose, later_than, rose_from, rose_since, stands}
+use Rattle.session.proofs.Ending.{done_by, fed_cause, goes_on, write_cause}
+use Rattle.session.proofs.Faulting.{still}
+use Rattle.session.proofs.Writing.{ended_written, last_heard, part_written, waits_at_first, waits_behind, waits_on}
+use Rattle.session.proofs.over_source.answer_block.Goals as goal
+
+pub loop-rest-init : goal.loop-rest-init
+loop-rest-init g c = record {
+  fetches_later = omega arith;
+  stores_later = omega arith;
+  out_later = omega arith;
+  err_later = omega arith;
+  waits = λ first taken start was is w. waits_at_first first taken c.args.block.now _ _ start was is _ _ _ _ _ _ w;
+}
+
+pub returns-in_default : goal.returns-in_default
+returns-in_default g c = λ was is. record {
+  told = λ first taken more start files told fetches stores w.
+      let p = c.loop-rest.invariant.waits first taken start was.left is.left w in
+      let s = stands first (taken ++ p.0) _ _ _ _ p.2 c.clear.new.self c.clear.ensures.out c.clear.ensures.err in
+      part_written first taken c.args.block.now p.0 c.loop-rest.rest.now c.feed-fed.new.rest.now more p.1 _ _ _ _ p.2
+      c.feed-fed.result _ c.feed-fed.new.said _ _ (c.feed-fed.ensures.told _ first (taken ++ p.0) more s) files told
+      c.write.ensures.out c.write.ensures.err
+      (λ failed. rose_from _ _ _ _ stores c.loop-rest.invariant.stores_later
+      (c.feed-fed.ensures.faults.written failed));
+  heard = λ first taken start w done. cc;
+  caused = write_cause _ _ (either_rose _ _ _ _ _ _ c.loop-rest.invariant.out_later c.loop-rest.invariant.err_later
+      c.in_default.ensures.cause);
+}
+
+pub returns-in-Some : goal.returns-in-Some
+returns-in-Some g c = λ was is. record {
+  told = λ first taken more start files told fetches stores w.
+      let p = c.loop-rest.invariant.waits first taken start was.left is.left w in
+      let s = stands first (taken ++ p.0) _ _ _ _ p.2 c.clear.new.self c.clear.ensures.out c.clear.ensures.err in
+      ended_written first taken c.args.block.now p.0 c.loop-rest.rest.now c.feed-fed.new.rest.now more p.1 _ _ _ _ p.2
+      c.feed-fed.result _ c.feed-fed.new.said _ _ (c.feed-fed.ensures.told _ first (taken ++ p.0) more s) c.in-Some.end
+      c.in-Some.ensures files told c.in-Ok.ensures.whole.0 c.in-Ok.ensures.whole.1
+      (λ failed. rose_from _ _ _ _ fetches c.loop-rest.invariant.fetches_later
+      (c.feed-fed.ensures.faults.cause failed))
+      (λ failed. rose_from _ _ _ _ stores c.loop-rest.invariant.stores_later
+      (c.feed-fed.ensures.faults.written failed));
+  heard = λ first taken start w done.
+      let p = c.loop-rest.invariant.waits first taken start was.left is.left w in
+      let s = stands first (taken ++ p.0) _ _ _ _ p.2 c.clear.new.self c.clear.ensures.out c.clear.ensures.err in
+      last_heard taken c.args.block.now p.0 c.loop-rest.rest.now p.1 c.feed-fed.result _ first c.feed-fed.new.rest.now
+      [] _ _ (done_by c.feed-fed.result c.in-Some.end c.in-Some.ensures done)
+      (c.feed-fed.ensures.told _ first (taken ++ p.0) [] s);
+  caused = fed_cause _ _ c.feed-fed.result c.in-Some.end c.in-Some.ensures
+      (λ failed. rose_since _ _ _ c.loop-rest.invariant.fetches_later (c.feed-fed.ensures.faults.cause failed))
+      (λ failed. rose_since _ _ _ c.loop-rest.invariant.stores_later (c.feed-fed.ensures.faults.written failed));
+}
+
+pub loop-rest-preserved : goal.loop-rest-preserved
+loop-rest-preserved g c = record {
+  fetches_later = omega (
+    arith,
+    still _ _ c.feed-fed.result (goes_on _ c.in_default-end_of.ensures) c.feed-fed.ensures.faults.counted,
+    c.loop-rest.invariant.fetches_later,
+  );
+  stores_later = later_than _ _ _ c.loop-rest.invariant.stores_later c.feed-fed.ensures.faults.later;
+  out_later = later_than _ _ _ c.loop-rest.invariant.out_later c.write.ensures.out_later;
+  err_later = later_than _ _ _ c.loop-rest.invariant.err_later c.write.ensures.err_later;
+  waits = λ first taken start was is w.
+      let p = c.loop-rest.invariant.waits first taken start was is w in
+      let s = stands first (taken ++ p.0) _ _ _ _ p.2 c.clear.new.self c.clear.ensures.out c.clear.ensures.err in
+      waits_on first taken c.args.block.now p.0 c.loop-rest.rest.now c.feed-fed.new.rest.now [] p.1 _ _ _ _ p.2
+      c.feed-fed.result _ c.feed-fed.new.said _ _ (c.feed-fed.ensures.told _ first (taken ++ p.0) [] s)
+      c.in-Ok.ensures.whole.0 c.in-Ok.ensures.whole.1 (goes_on c.feed-fed.result c.in_default-end_of.ensures);
+}
+
+pub returns : goal.returns
+returns g c = λ was is. record {
+  waits = λ first taken start w.
+      let p = c.loop-rest.invariant.waits first taken start was.left is.left w in
+      waits_behind first taken c.args.block.now p.0 c.loop-rest.rest.now _ _ start _ p.1
+      (sym c.is_empty.ensures ∙ c.loop-rest-test.false) p.2;
+  later = record {
+    fetches = c.loop-rest.invariant.fetches_later;
+    stores = c.loop-rest.invariant.stores_later;
+    out = c.loop-rest.invariant.out_later;
+    err = c.loop-rest.invariant.err_later;
+  };
+}

@@ -1,0 +1,26 @@
+use Rattle.std.proofs.Common.{◌≡◌, ◌++◌, ◌≤◌, ℕ, List, length}
+use Rattle.std.specs.declared.option.Option.{Option}
+use Rattle.session.specs.Outside.{Outside, outside_of}
+use Rattle.session.specs.Talks.{Talk}
+use Rattle.session.specs.Waiting.{Waits}
+use Rattle.session.proofs.over_source.answer_block.Given as goal
+
+abbrev pub invariant-loop-rest : goal.invariant-loop-rest
+invariant-loop-rest g l = record {
+  fetches_later : g.F.Files.faults l.initial.files ≤ g.F.Files.faults l.files;
+  stores_later : g.F.Files.store_faults l.initial.files ≤ g.F.Files.store_faults l.files;
+  out_later : g.O.Sink.faults l.initial.out ≤ g.O.Sink.faults l.out;
+  err_later : g.E.Sink.faults l.initial.err ≤ g.E.Sink.faults l.err;
+  waits : (first : Talk) (taken : List ℕ) (start : Outside) (was is : Option (List ℕ)) →
+      Waits first taken l.initial.held l.initial.session start
+      (outside_of was (g.O.Sink.written l.initial.out) (g.E.Sink.written l.initial.err)
+      (g.F.Files.files l.initial.files) (g.F.Files.faults l.initial.files)
+      (g.F.Files.store_faults l.initial.files) l.initial.steps) →
+      (done : List ℕ) × (l.block ≡ done ++ l.rest)
+      × Waits first (taken ++ done) l.held l.session start
+      (outside_of is (g.O.Sink.written l.out) (g.E.Sink.written l.err)
+      (g.F.Files.files l.files) (g.F.Files.faults l.files) (g.F.Files.store_faults l.files) l.steps);
+}
+
+abbrev pub decreases-loop-rest : goal.decreases-loop-rest
+decreases-loop-rest g l = length l.rest
