@@ -1,6 +1,6 @@
 #!/usr/bin/env bash
-# Times `units --column` over rows of two fields beside awk, which multiplies the same column and prints the rows. Prints the
-# seconds of the processor, the lowest of some runs.
+# Times `units --column` over rows of two fields beside awk, which multiplies the same column and prints the rows.
+# Prints the seconds of the processor, the lowest of some runs.
 #   bench/columns.sh [ROWS]
 # ROWS is 1,000,000 where no number is given; a run takes 16,777,216 bytes at most.
 set -u

@@ -1,7 +1,7 @@
 #!/usr/bin/env bash
-# Times conversions beside GNU units, in one run: over GNU's own definitions, over the example, the check of GNU's definitions,
-# and one query of the last of a chain of 60,000 names. Prints the milliseconds of a run, those of the processor and those
-# that passed, each the lowest of some rounds, and the part of GNU's time.
+# Times conversions beside GNU units, in one run: over GNU's own definitions, over the example, the check of GNU's
+# definitions, and one query of the last of a chain of 60,000 names. Prints the milliseconds of a run, those of the
+# processor and those that passed, each the lowest of some rounds, and the part of GNU's time.
 #   bench/conversions.sh [GNU [DEFINITIONS]]
 # GNU is the command of GNU units, and DEFINITIONS its file; without them the command `units` and Debian's file.
 set -u

@@ -1,8 +1,9 @@
 #!/usr/bin/env bash
-# Times the program of crates/deck_calls: on the definitions of GNU units with their includes, where they are there; on
-# decks of 25,000, 50,000 and 100,000 lines `u_i C u_j`, which are loaded, made by as many calls of `define`, switched to
-# another locale, and lose and gain lines; and on a file of 16 MiB of line feeds that includes itself. Prints the lowest of a
-# few runs, each of the whole process or of the calls alone, by the clock and by the processor's time, and the memory.
+# Times the program of crates/deck_calls: on the definitions of GNU units with their includes, where they are there;
+# on decks of 25,000, 50,000 and 100,000 lines `u_i C u_j`, which are loaded, made by as many calls of `define`,
+# switched to another locale, and lose and gain lines; and on a file of 16 MiB of line feeds that includes itself.
+# Prints the lowest of a few runs, each of the whole process or of the calls alone, by the clock and by the
+# processor's time, and the memory.
 #   bench/decks.sh [DEFINITIONS]
 # DEFINITIONS are those of Debian's package units where none are given.
 set -u

@@ -1,8 +1,9 @@
 #!/usr/bin/env bash
-# Times the program of crates/live_calls. Over a chain of 60,000 names, each of which is a multiple of the one before it: the
-# first query of the last one, later ones, queries of all names from the first on and from the last on, and the memory of a
-# settled name. Over a ring of as many names: a query, which ends in a cycle of all. Over the definitions of GNU units with their
-# includes, where they are there: all names settled. Prints the lowest of a few runs, less what the load takes.
+# Times the program of crates/live_calls. Over a chain of 60,000 names, each of which is a multiple of the one before
+# it: the first query of the last one, later ones, queries of all names from the first on and from the last on, and
+# the memory of a settled name. Over a ring of as many names: a query, which ends in a cycle of all. Over the
+# definitions of GNU units with their includes, where they are there: all names settled. Prints the lowest of a few
+# runs, less what the load takes.
 #   bench/live.sh [DEFINITIONS]
 # DEFINITIONS are those of Debian's package units where none are given.
 set -u

@@ -1,8 +1,8 @@
 #!/usr/bin/env bash
-# Times reports by the program of crates/answer_calls, over 20,000 names of which each is a multiple of the one at half its
-# number: checks, searches and lists of what conforms, the first one and later ones, and a check where each name leads to an
-# unknown one. Over the definitions of GNU units with their includes, where they are there: a check. Prints the lowest of a
-# few runs, less what the load takes.
+# Times reports by the program of crates/answer_calls, over 20,000 names of which each is a multiple of the one at
+# half its number: checks, searches and lists of what conforms, the first one and later ones, and a check where each
+# name leads to an unknown one. Over the definitions of GNU units with their includes, where they are there: a check.
+# Prints the lowest of a few runs, less what the load takes.
 #   bench/reports.sh [DEFINITIONS]
 # DEFINITIONS are those of Debian's package units where none are given.
 set -u

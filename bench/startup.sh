@@ -1,7 +1,8 @@
 #!/usr/bin/env bash
-# Times the start of the program over the example: the program itself, bin/units, and the program among 30,000 variables of
-# the environment; beside /bin/true and, where it is installed, GNU units. Prints the milliseconds of a run, those of the
-# processor and those that passed, each the lowest of five rounds of 100 runs, or of 3 among the variables.
+# Times the start of the program over the example: the program itself, bin/units, and the program among 30,000
+# variables of the environment; beside /bin/true and, where it is installed, GNU units. Prints the milliseconds of a
+# run, those of the processor and those that passed, each the lowest of five rounds of 100 runs, or of 3 among the
+# variables.
 set -u
 root=$(cd "$(dirname "${BASH_SOURCE[0]}")/.." && pwd)
 program=$("$root/tools/built.sh" units) || exit

@@ -5,8 +5,8 @@ import sys
 import tempfile
 from typing import NamedTuple
 
-# Runs a program in a process of its own, small enough to hide none of its memory, and tells its status, its seconds by the
-# clock and by the processor, and its greatest memory in KiB.
+# Runs a program in a process of its own, small enough to hide none of its memory, and tells its status, its seconds
+# by the clock and by the processor, and its greatest memory in KiB.
 TIMER = """
 import os, sys, time
 start = time.perf_counter()

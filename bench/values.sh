@@ -1,7 +1,8 @@
 #!/usr/bin/env bash
-# Times the program of crates/eval_calls on expressions of 10,000 numerals and names: products and sums of plain numbers, of
-# a name with one dimension, and of one with three. Prints the milliseconds of one evaluation: what 50 lines take, less what
-# they take with a last word that is not known, so that they are read and their words are looked up but they have no value.
+# Times the program of crates/eval_calls on expressions of 10,000 numerals and names: products and sums of plain
+# numbers, of a name with one dimension, and of one with three. Prints the milliseconds of one evaluation: what 50
+# lines take, less what they take with a last word that is not known, so that they are read and their words are looked
+# up but they have no value.
 set -u
 root=$(cd "$(dirname "${BASH_SOURCE[0]}")/.." && pwd)
 program=$("$root/tools/built.sh" eval_calls) || exit

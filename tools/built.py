@@ -8,7 +8,7 @@ from pathlib import Path
 
 @functools.cache
 def program(name):
-    """The path of a program, which tools/built.sh proves and builds first where it is missing or older than its sources."""
+    """The path of a program, which tools/built.sh proves and builds first where it is missing or old."""
     run = subprocess.run([Path(__file__).with_name("built.sh"), name], stdout=subprocess.PIPE, check=False)
     if run.returncode != 0:
         sys.exit(run.returncode)

@@ -1,7 +1,7 @@
 #!/usr/bin/env bash
-# Prints the path of a proved program. That is the released one where it is of the present sources (of `units` alone, and
-# not with --here), else the one that was built here, which is proved and built first where it is missing or older than
-# its sources.
+# Prints the path of a proved program. That is the released one where it is of the present sources (of `units` alone,
+# and not with --here), else the one that was built here, which is proved and built first where it is missing or older
+# than its sources.
 #   tools/built.sh [--here] NAME
 set -u
 script=$(readlink -f "${BASH_SOURCE[0]}") || exit
@@ -18,8 +18,8 @@ since=$(($(date +%s) - 1))
 
 say() { echo "$name: $*" >&2; }
 
-# note PROGRAM: has bin/units run this program at once, as long as nothing changes. Where that cannot be written down, it
-# asks again each time.
+# note PROGRAM: has bin/units run this program at once, as long as nothing changes. Where that cannot be written down,
+# it asks again each time.
 note() {
     local sources
     mapfile -t sources < <(echo crates.txt; if [ -d "$root/release" ]; then echo release; fi; folders_of units)
@@ -51,8 +51,8 @@ look_ahead() {
     say "$why; it is proved and built now"
 }
 
-# prove CRATE: proves and builds a library, or the program. What the run of the program ends with does not count: rt leaves a
-# stamp beside one that it built.
+# prove CRATE: proves and builds a library, or the program. What the run of the program ends with does not count: rt
+# leaves a stamp beside one that it built.
 prove() {
     cd "$root/crates/$1" || return
     if [ "$1" != "$name" ]; then rt lib < /dev/null >> "$log" 2>&1; return; fi

@@ -1,13 +1,13 @@
 #!/usr/bin/env python3
-"""Refuses each allocation of the programs of crates/live_calls and crates/history_calls in turn, over each edit of a live table,
-and over each kind of edit that a history takes back and makes again.
+"""Refuses each allocation of the programs of crates/live_calls and crates/history_calls in turn, over each edit of a
+live table, and over each kind of edit that a history takes back and makes again.
 
     tools/check_edits.py
 
-An edit, an undo or a redo that says `out of memory` has to leave the counts, the lines, what each name is worth, and all that can be
-undone and redone, as they were; and it has to be made when it is asked for again, with the answers that it has where memory is
-found. A run whose other calls want memory ends without an answer. Needs gcc, for the allocator that it puts before the C
-library's. A case is an edit; the last line is `N passed, M failed`.
+An edit, an undo or a redo that says `out of memory` has to leave the counts, the lines, what each name is worth, and
+all that can be undone and redone, as they were; and it has to be made when it is asked for again, with the answers that
+it has where memory is found. A run whose other calls want memory ends without an answer. Needs gcc, for the allocator
+that it puts before the C library's. A case is an edit; the last line is `N passed, M failed`.
 """
 
 import os
@@ -87,14 +87,15 @@ def run(path, calls, refused=0):
     settings = {"LD_PRELOAD": str(Path("refuse.so").resolve()), "REFUSED": str(refused)}
     with open("refused", "w+b") as told:
         os.dup2(told.fileno(), 9)
-        done = subprocess.run([path], input=given, stdout=subprocess.PIPE, stderr=subprocess.DEVNULL, env=settings, pass_fds=[9])
+        streams = {"stdout": subprocess.PIPE, "stderr": subprocess.DEVNULL, "pass_fds": [9]}
+        done = subprocess.run([path], input=given, env=settings, check=False, **streams)
         os.close(9)
         return done.returncode, done.stdout.decode().split("\n")[:-1], os.fstat(told.fileno()).st_size > 0
 
 
 def refusals(path, calls, at, wanted):
-    """How often the call at this place says `out of memory`, with each allocation refused in turn: then the answers have to be the
-    wanted ones. None where a run is wrong."""
+    """How often the call at this place says `out of memory`, with each allocation refused in turn: then the answers
+    have to be the wanted ones. None where a run is wrong."""
     status, usual, _ = run(path, calls)
     if status != 0 or len(usual) != len(calls) or usual[at] != "ok":
         return None
@@ -136,7 +137,8 @@ def main():
         os.chdir(folder)
         Path("deck.units").write_text("".join(line + "\n" for line in DECK))
         Path("more.units").write_text("".join(line + "\n" for line in MORE))
-        made = subprocess.run(["gcc", "-O1", "-shared", "-fPIC", "-o", "refuse.so", ROOT / "tools/refuse.c"], check=False)
+        gcc = ["gcc", "-O1", "-shared", "-fPIC", "-o", "refuse.so", ROOT / "tools/refuse.c"]
+        made = subprocess.run(gcc, check=False)
         if made.returncode != 0:
             give_up("gcc did not build the allocator")
         for path, program in programs:

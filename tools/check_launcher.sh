@@ -1,6 +1,6 @@
 #!/usr/bin/env bash
-# Tries bin/units in scratch copies of the repository: which program it runs, and what it says where it has none. The built
-# program stands in for a released one. The last line is `N passed, M failed`.
+# Tries bin/units in scratch copies of the repository: which program it runs, and what it says where it has none. The
+# built program stands in for a released one. The last line is `N passed, M failed`.
 set -u
 script=$(readlink -f "${BASH_SOURCE[0]}") || exit
 root=${script%/*/*}

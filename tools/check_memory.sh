@@ -1,8 +1,8 @@
 #!/usr/bin/env bash
-# Refuses each allocation of the built program in turn, and all from each one on, over command lines and sessions: each
-# such run ends with status 6, each stream has a front of what it has otherwise, and a file that is saved is as it was or
-# whole, with no other beside it. Needs gcc, for the allocator that it puts before the C library's. A case is a command line;
-# the last line is `N passed, M failed`.
+# Refuses each allocation of the built program in turn, and all from each one on, over command lines and sessions:
+# each such run ends with status 6, each stream has a front of what it has otherwise, and a file that is saved is as
+# it was or whole, with no other beside it. Needs gcc, for the allocator that it puts before the C library's. A case
+# is a command line; the last line is `N passed, M failed`.
 set -u
 script=$(readlink -f "${BASH_SOURCE[0]}") || exit
 root=${script%/*/*}

@@ -1,6 +1,6 @@
 #!/usr/bin/env bash
-# Tries the built program from outside: each ending that words, files and sinks can make, by its status and by what stands on
-# each stream. The last line is `N passed, M failed`. Want of memory is tried by tools/check_memory.sh.
+# Tries the built program from outside: each ending that words, files and sinks can make, by its status and by what
+# stands on each stream. The last line is `N passed, M failed`. Want of memory is tried by tools/check_memory.sh.
 set -u
 script=$(readlink -f "${BASH_SOURCE[0]}") || exit
 root=${script%/*/*}
@@ -121,6 +121,23 @@ expect 4 '' '' "units -q -f first.units < ."
 for name in . gone/s.units /proc/s.units /dev/full; do
     expect 5 $'\t* 72\n\t/ 0.013888889\n' '' "printf '2 yd\\nin\\n:save $name\\nm\\n\\n' | units -q -f first.units"
 done
+
+# A save through links writes the file behind them, and the links stay.
+printf 'm !\n' > kept.units
+ln -s kept.units near.units
+ln -s near.units nearer.units
+expect 0 $'m !\ng 3 m\n' '' "printf ':define g 3 m\\n:save nearer.units\\n' | units -q -f kept.units \
+    && [ -L nearer.units ] && [ -L near.units ] && cat kept.units"
+
+# A save to what the run writes to is refused by whatever name, and what stands there is not lost.
+ln -s /dev/stdout stream
+for name in out.txt ./err.txt /proc/self/fd/1 //dev/stdout stream; do
+    expect 5 $'\t* 72\n\t/ 0.013888889\n' '' "printf '2 yd\\nin\\n:save $name\\nm\\n' | units -q -f first.units"
+done
+
+# Definitions of several blocks that come by a pipe.
+expect 0 $'\t* 3\n\t/ 0.33333333\n' '' \
+    "{ echo 'm !'; seq -f 'u_%.0f 2 m' 30000; echo 'last 3 m'; } | units -f /dev/stdin last m"
 
 # Sinks that are closed, and one that is full.
 expect 5 '' '' "$yard >&-"

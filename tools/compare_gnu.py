@@ -3,8 +3,8 @@
 
     tools/compare_gnu.py GNU DEFINITIONS [PROGRAM]
 
-GNU is the command of GNU units, DEFINITIONS its definition file (with the files that it includes beside it), PROGRAM the
-program, bin/units where none is named. Of each unit that GNU units answers as a number with dimensions, the program
+GNU is the command of GNU units, DEFINITIONS its definition file (with the files that it includes beside it), PROGRAM
+the program, bin/units where none is named. Of each unit that GNU units answers as a number with dimensions, the program
 answers the same, by 12 digits, or refuses by name: what it refuses is listed by fault. By hand; it proves nothing.
 """
 
@@ -23,7 +23,8 @@ MARK = "8675309 kg"  # asked between two names, so that each has its own lines
 
 
 def names_in(file):
-    """The names of units that a definition file and its includes define, each once, in order, with the first words behind it."""
+    """The names of units that a definition file and its includes define, each once, in order, with the first words
+    behind it."""
     names = {}
     text = file.read_text(encoding="utf-8", errors="surrogateescape").replace("\\\n", " ")
     for line in text.split("\n"):

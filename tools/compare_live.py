@@ -88,7 +88,7 @@ class Board:
 
 
 def answers_by_recursion(calls):
-    """The board of the first of some calls, and the answers to all; where there is no table, the first is the only one."""
+    """The board of the first of some calls, and the answers to all; where there is no table, the first alone."""
     board = Board(calls[0] if calls else "")
     return board, [board.refusal, *(board.answer(call) for call in calls[1:] if board.live)]
 

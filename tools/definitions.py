@@ -3,11 +3,11 @@
 
     tools/definitions.py [CRATE..]
 
-A public clause is a `requires` or an `ensures` of a function, a method or a trait that a library lets out by `pub use`, and
-its words are cited through the imports of its file. A definition is named in the section of its crate, in the first column
-of a row or in the text below the rows. The last column of a row says in which files the names stand: of `specs/`, or of the
-sources for a type that clauses see. Each shortcoming is told on a line, then how many definitions and names stand, and the
-last line is `1 passed, 0 failed` or counts what is missing.
+A public clause is a `requires` or an `ensures` of a function, a method or a trait that a library lets out by
+`pub use`, and its words are cited through the imports of its file. A definition is named in the section of its crate, in
+the first column of a row or in the text below the rows. The last column of a row says in which files the names
+stand: of `specs/`, or of the sources for a type that clauses see. Each shortcoming is told on a line, then how many
+definitions and names stand, and the last line is `1 passed, 0 failed` or counts what is missing.
 """
 
 import re
@@ -75,7 +75,8 @@ def home_of(crate, subject, word):
 
 def items_of(path):
     """The types and traits of a source file."""
-    return re.findall(r"^pub(?:\(crate\))? (?:struct|enum|trait) (\w+)", path.read_text(), re.M) if path.exists() else []
+    pattern = r"^pub(?:\(crate\))? (?:struct|enum|trait) (\w+)"
+    return re.findall(pattern, path.read_text(), re.M) if path.exists() else []
 
 
 def imports_of(text):

@@ -1,8 +1,8 @@
 #!/usr/bin/env bash
 # Has the program of crates/entry_calls read the definitions of GNU units, and prints each line that it refuses.
 #   tools/read_definitions.sh [FILE]
-# FILE is that of Debian's package units where none is given. For the definitions of GNU units 2.22 it ends with status 1
-# where other lines are refused than those below; with any other file it only prints them.
+# FILE is that of Debian's package units where none is given. For the definitions of GNU units 2.22 it ends with
+# status 1 where other lines are refused than those below; with any other file it only prints them.
 set -u
 root=$(cd "$(dirname "${BASH_SOURCE[0]}")/.." && pwd)
 file=${1:-/usr/share/units/definitions.units}

@@ -1,5 +1,6 @@
-// Refuses allocations of a program before which it is put by LD_PRELOAD. Each allocation gets a number from 1. The one of the
-// number REFUSED is refused, and where LATER is set each behind it too. A byte on stream 9 tells each that is.
+// Refuses allocations of a program before which it is put by LD_PRELOAD. Each allocation gets a number from 1. The
+// one of the number REFUSED is refused, and where LATER is set each behind it too. A byte on stream 9 tells each that
+// is.
 #include <errno.h>
 #include <stddef.h>
 #include <stdlib.h>

@@ -1,6 +1,6 @@
 #!/usr/bin/env bash
-# The released program, release/units-x86_64-linux, and release/MADE_FROM, which has its checksum, that of its sources and
-# the toolchain.
+# The released program, release/units-x86_64-linux, and release/MADE_FROM, which has its checksum, that of its sources
+# and the toolchain.
 #   tools/release.sh             makes both from what `rt ci` proved and built
 #   tools/release.sh --check     whether they are whole and of the present sources, by its status; it builds nothing
 #   tools/release.sh --compare   after `rt ci`: whether the program is byte for byte what that built
@@ -20,7 +20,8 @@ named() { sed -n "s/^$1 //p" "$made_from" 2> /dev/null; }
 
 is_whole() { [ -x "$released" ] && [ "$(sum_of "$released")" = "$(named program)" ]; }
 
-# is_proved: whether what stands in out/ is what `rt ci` leaves: the program as two compilers build it, and what it wrote.
+# is_proved: whether what stands in out/ is what `rt ci` leaves: the program as two compilers build it, and what it
+# wrote.
 is_proved() {
     [ -x "$out/units" ] && [ -x "$out/units.by-rattle" ] && cmp -s "$out/stdout" "$root/crates/units/stdout" \
         && ! [ "$out/units" -nt "$out/stdout" ] && ! is_outdated "$out/units" units

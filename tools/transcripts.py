@@ -148,7 +148,7 @@ def put_programs(folder):
 
 
 def built_in():
-    """The definitions that are built in: the one literal of the file that has them, in which a backslash stands twice."""
+    """The definitions that are built in: the one literal of its file, in which a backslash stands twice."""
     literal = re.search(rb' = b"(.*?)^";$', BUILT_IN.read_bytes(), re.DOTALL | re.MULTILINE)
     return literal.group(1).replace(rb"\\", b"\\")
 

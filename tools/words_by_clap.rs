@@ -1,5 +1,5 @@
-//! Reads lists of words by the real clap: a line of standard input is a list, each word in hexadecimal behind an `x`, and
-//! a line of standard output has its fields, or `refused`.
+//! Reads lists of words by the real clap: a line of standard input is a list, each word in hexadecimal behind an `x`,
+//! and a line of standard output has its fields, or `refused`.
 
 use clap::{value_parser, Arg, ArgAction, Command};
 use std::ffi::OsString;
