@@ -771,6 +771,19 @@ and end at each place where the input is cut into blocks. Comments, blanks and c
   \t/ 0.083333333 (esc)
   line too long
 
+Replies that are longer together than what is held unwritten, with short ones between and behind them in the same block,
+and a last line that does not end.
+
+  $ { echo 'm !'; for i in $(seq 4000); do echo "u_$i $i m"; done; } > long.units
+  $ session -q -f long.units -- 'search u_' > one
+  $ wc -c < one
+  57786
+  $ { printf 'search u_\nsearch u_\n2 m\nu_4\n'; for i in 1 2 3; do printf 'search u_\n'; done; printf '3 m\nu_6'; } \
+  >   | apart units -q -f long.units > said
+  $ { cat one one; printf '\t* 0.5\n\t/ 2\n'; cat one one one; printf '\t* 0.5\n\t/ 2\n'; } | cmp - said
+  $ session -q -f long.units -- 'search u_' 'search u_' quit 'search u_' > said
+  $ cat one one | cmp - said
+
 The trial.
 
   $ units --trial 3
