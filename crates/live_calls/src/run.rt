@@ -10,6 +10,7 @@ use deck::{Deck, DeckFault, Settings, Splice};
 use def_entry::cut_at;
 use live_table::LiveTable;
 use std::alloc::{AllocError, Global};
+use std::mem;
 use units_io::{Files, Text, Vars};
 
 // The answers to lines, one a line. The first line, `load FILE`, loads a deck; where it does not,
@@ -55,7 +56,10 @@ fn table_answers<F: Files>(
     let mut live = LiveTable::new(alloc, deck);
     let mut back = None;
     let mut answers = line_of(alloc, b"ok\n")?;
-    add_answers(alloc, files, &mut live, &mut back, calls, &mut answers)?;
+    let added = add_answers(alloc, files, &mut live, &mut back, calls, &mut answers);
+    // The process ends next, and taking a table apart costs more than its last query.
+    mem::forget(live);
+    added?;
     Ok(answers)
 }
 

@@ -39,7 +39,7 @@ use Rattle.table_names.proofs.KeyLists.{among_member, member_among}
 use Rattle.table_names.proofs.Members.{member_first, member_later}
 use Rattle.live_table.specs.Callees.{HasRank}
 use Rattle.live_table.specs.Calls.{IsEdit}
-use Rattle.live_table.specs.Edged.{HasEdges, IsLive, is_flagged}
+use Rattle.live_table.specs.Edged.{HasEdges, IsLinked, is_flagged}
 use Rattle.live_table.specs.Forgotten.{AreForgotten}
 use Rattle.live_table.specs.Right as right_of
 use Rattle.live_table.specs.Shown.{IsRightTable, Shown, state}
@@ -100,7 +100,7 @@ module _ (before after : Table) (key : ℕ → Key) (dead_end : ℕ → Option K
       (same_word u x y (h u (member_first u u us refl)) w.0, same_steps us xs (λ v i. h v (member_later v u us i)) w.1)
 
 module _ (before after : Contents) (l m : Listed) (g h : NameGraph) (r : ℕ) (keys : List Key)
-    (live : IsLive before l g r) (change : IsChange before after keys) (f : AreForgotten (table after) keys l m g h)
+    (live : IsLinked before l g r) (change : IsChange before after keys) (f : AreForgotten (table after) keys l m g h)
   where
     abbrev nodes : AreNodes (table before) l
     nodes = live.sound.numbers
@@ -319,7 +319,7 @@ module _ (before after : Contents) (l m : Listed) (g h : NameGraph) (r : ℕ) (k
           (users_affected g f.numbers) as_before);
     }
 
-    pub live_after : ChangedLaw → IsLive after m h r
+    pub live_after : ChangedLaw → IsLinked after m h r
     live_after law = record {
       sound = record {
         numbers = subst (AreNodes (table after)) later_is nodes_later;

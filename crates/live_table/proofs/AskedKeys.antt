@@ -69,6 +69,7 @@ module _ (s : Stages) (are : AreStages s) (key : Key) (n : ℕ) (number : IsNumb
   key_is = key_same s.led.keys s.explored.keys n are.second.keys_more (known_within (table s.deck) s.led s.before s.list
       are.first.nodes are.first.listed n number.known) ∙ sym number.is
 
+  -- so a query of it leads to what is known
   pub one_known : LeadToKnown (known_there s) (To n ∷ [])
   one_known p (inl e) = subst (λ (x : ℕ). known_there s x ≡ true) (sym (ap number_of e)) number_known
   one_known p (inr i) = absurd i

@@ -6,20 +6,25 @@ use Rattle.def_entry.specs.Tables.{is_present}
 use Rattle.deck.specs.Decks.{Contents}
 use Rattle.deck.specs.Tables.{table}
 use Rattle.deck.specs.declared.fault.DeckFault.{DeckFault}
-use Rattle.name_edges.specs.NameGraphs.{NameGraph}
+use Rattle.live_table.specs.declared.late_edges.LateEdges.{LateEdges}
 use Rattle.live_table.specs.Calls.{IsEdit}
-use Rattle.live_table.specs.Edged.{IsLive}
+use Rattle.live_table.specs.Edged.{HasLateEdges, IsLive}
 use Rattle.live_table.specs.Forgotten.{CanForget}
 use Rattle.live_table.specs.Shown.{Shown}
 use Rattle.live_table.specs.Stored.{Listed, shown}
 
 -- a live table may forget
-pub live_can : (deck : Contents) (l : Listed) (g : NameGraph) (r : ℕ) → IsLive deck l g r → CanForget l g
-live_can deck l g r live = record {
+pub live_can : (deck : Contents) (l : Listed) (e : LateEdges) (r : ℕ) → IsLive deck l e r → CanForget l e.made
+live_can deck l e r live = record {
   apart = live.sound.numbers.apart;
   flags = ap length live.sound.numbers.flagged ∙ length-map l.keys (is_present (table deck));
   names = live.edges.names;
 }
+
+-- with other edges a live table is live
+pub live_as : (deck : Contents) (l : Listed) (e f : LateEdges) (r : ℕ) → IsLive deck l e r
+    → HasLateEdges deck l f.waiting.items f.made → IsLive deck l f r
+live_as deck l e f r live edges = record { sound = live.sound; edges = edges }
 
 -- an edit of the deck that is shown has its outcome
 pub same_outcome : (outcome : Contents → Result Contents DeckFault) (before after : Contents) (l : Listed) (r : ℕ)

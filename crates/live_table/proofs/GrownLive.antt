@@ -9,10 +9,10 @@ use Rattle.table_names.specs.Faults.{key_fault, name_fault}
 use Rattle.table_names.specs.Reach.{key_reach, reach}
 use Rattle.deck.specs.Decks.{Contents}
 use Rattle.deck.specs.Tables.{table}
-use Rattle.name_edges.specs.NameGraphs.{NameGraph}
 use Rattle.live_table.specs.declared.dead_end.DeadEnd.{DeadEnd}
 use Rattle.live_table.specs.declared.fault.QueryFault.{QueryFault}
 use Rattle.live_table.specs.declared.fault.QueryFault.TheVariants.{OutOfMemory}
+use Rattle.live_table.specs.declared.late_edges.LateEdges.{LateEdges}
 use Rattle.live_table.specs.Asked.{IsAsked}
 use Rattle.live_table.specs.Edged.{IsLive}
 use Rattle.live_table.specs.Exploring.{AreGrown}
@@ -20,7 +20,7 @@ use Rattle.live_table.specs.Shown.{IsCutOff, IsRightTable, Shown}
 use Rattle.live_table.specs.Sound.{IsSound}
 use Rattle.live_table.specs.States.{AsksKey, AsksWords, Event, after_query}
 use Rattle.live_table.specs.Stored.{Listed, shown}
-use Rattle.live_table.proofs.LinkedNames.{grown_edges}
+use Rattle.live_table.proofs.WaitingNames.{grown_edges}
 use Rattle.live_table.proofs.Queries.{IsQueryOf, cut_off}
 
 -- the same is shown of a table that has grown
@@ -41,11 +41,12 @@ grown_sound deck l m before here there ends more r g s = record {
 
 -- and has its edges
 pub grown_live : (deck : Contents) (l m : Listed) (before here there : List ℕ) (ends more : List DeadEnd) (r : ℕ)
-    → AreGrown (table deck) l m before here there ends more → (g : NameGraph)
-    → IsLive deck l g r → IsLive deck m g r
-grown_live deck l m before here there ends more r grown g live = record {
+    → AreGrown (table deck) l m before here there ends more → (e : LateEdges)
+    → IsLive deck l e r → IsLive deck m e r
+grown_live deck l m before here there ends more r grown e live = record {
   sound = grown_sound deck l m before here there ends more r grown live.sound;
-  edges = grown_edges deck l m before here there ends more r grown live.sound g live.edges;
+  edges = grown_edges deck l m before here there ends more r grown live.sound e.waiting.items e.made
+      live.edges;
 }
 
 -- ---- a query of words, and of a key

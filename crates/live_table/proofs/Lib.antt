@@ -50,4 +50,5 @@ pub mod Telling
 pub mod ToldWords
 pub mod Trying
 pub mod UsedNames
+pub mod WaitingNames
 pub mod Written

@@ -6,13 +6,13 @@ use Rattle.name_walk.specs.declared.step.Step.{Step}
 use Rattle.table_names.specs.declared.fault.NameFault.{NameFault}
 use Rattle.deck.specs.Decks.{Contents}
 use Rattle.deck.specs.Tables.{table}
-use Rattle.name_edges.specs.NameGraphs.{NameGraph}
 use Rattle.name_numbers.specs.FaultLaws.{NumberedFaultLaw}
 use Rattle.name_numbers.specs.SettlingLaws.{SettlingLaw}
 use Rattle.live_table.specs.declared.dead_end.DeadEnd.{DeadEnd}
 use Rattle.live_table.specs.declared.explored.Explored.{Explored}
 use Rattle.live_table.specs.declared.fault.QueryFault.{QueryFault}
 use Rattle.live_table.specs.declared.fault.QueryFault.TheVariants.{OutOfMemory}
+use Rattle.live_table.specs.declared.late_edges.LateEdges.{LateEdges}
 use Rattle.live_table.specs.declared.nodes.Nodes.{Nodes}
 use Rattle.live_table.specs.Asked.{AreAllSettled, IsAsked, IsClosing}
 use Rattle.live_table.specs.Edged.{IsLive}
@@ -101,9 +101,9 @@ module _ (s : Stages) (are : AreStages s) where
       grown_sound s.deck s.start s.explored s.before s.here s.there s.ends s.more s.reductions added are.sound
 
   -- and it has its edges
-  pub live_there : (g : NameGraph) → IsLive s.deck s.start g s.reductions → IsLive s.deck s.explored g s.reductions
-  live_there g live =
-      grown_live s.deck s.start s.explored s.before s.here s.there s.ends s.more s.reductions added g live
+  pub live_there : (e : LateEdges) → IsLive s.deck s.start e s.reductions → IsLive s.deck s.explored e s.reductions
+  live_there e live =
+      grown_live s.deck s.start s.explored s.before s.here s.there s.ends s.more s.reductions added e live
 
   -- want of memory there cuts the query short
   pub cut_there : {A : Type 0} (Given : A → Type 0) (event : Event) (fault : Option NameFault) (reached : List Key)

@@ -1,9 +1,17 @@
 -- The edges of a live table.
-use Rattle.std.specs.Prelude.{◌≤◌, ℕ, List, Bool, false, length, slice_index_or}
+use Rattle.std.specs.Prelude.{◌≤◌, ℕ, List, [], ◌∷◌, Bool, false, ⊤, length, slice_index_or, if◌then◌else◌}
+use Rattle.def_entry.specs.declared.key.Key.{Key}
+use Rattle.def_entry.specs.Tables.{Table}
 use Rattle.deck.specs.Decks.{Contents}
 use Rattle.deck.specs.Tables.{table}
 use Rattle.name_edges.specs.NameGraphs.{NameGraph}
 use Rattle.name_numbers.specs.EdgeLaws.{AreEdges}
+use Rattle.name_walk.specs.Closed.{IsSettled}
+use Rattle.name_walk.specs.Faults.{on}
+use Rattle.name_walk.specs.Lists.{In}
+use Rattle.table_names.specs.Leads.{WordsLeadTo}
+use Rattle.table_names.specs.Words.{key_words}
+use Rattle.live_table.specs.declared.late_edges.LateEdges.{LateEdges}
 use Rattle.live_table.specs.Sound.{IsSound}
 use Rattle.live_table.specs.Stored.{Listed, key_at}
 
@@ -16,7 +24,30 @@ pub record HasEdges (deck : Contents) (l : Listed) (g : NameGraph) : Type 0 wher
   pub names : g.names ≤ length l.keys
   pub are : AreEdges (table deck) (key_at l.keys) g.names (is_flagged l.settled) g
 
--- a live table is sound, and has its edges
-pub record IsLive (deck : Contents) (l : Listed) (g : NameGraph) (reductions : ℕ) : Type 0 where
+-- nodes are sound, and each settled name has its edges
+pub record IsLinked (deck : Contents) (l : Listed) (g : NameGraph) (reductions : ℕ) : Type 0 where
   pub sound : IsSound deck l reductions
   pub edges : HasEdges deck l g
+
+-- whether a number is settled and does not wait for its edges
+abbrev pub is_linked : List Bool → List ℕ → ℕ → Bool
+is_linked settled waiting n = if on waiting n then false else is_flagged settled n
+
+-- names in an order in which each stands once, behind the others to which its words lead
+abbrev pub AreInOrder : Table → (ℕ → Key) → List ℕ → Type 0
+AreInOrder t key [] = ⊤
+AreInOrder t key (n ∷ rest) =
+    ((m : ℕ) → In m (n ∷ rest) → WordsLeadTo t (key_words t (key n)) (key m) → ⊥) × (In n rest → ⊥)
+    × AreInOrder t key rest
+
+-- the edges are those of the settled names that do not wait for theirs
+pub record HasLateEdges (deck : Contents) (l : Listed) (waiting : List ℕ) (g : NameGraph) : Type 0 where
+  pub names : g.names ≤ length l.keys
+  pub are : AreEdges (table deck) (key_at l.keys) g.names (is_linked l.settled waiting) g
+  pub settled : (n : ℕ) → In n waiting → IsSettled l.settled n
+  pub order : AreInOrder (table deck) (key_at l.keys) waiting
+
+-- a live table is sound, and has its edges but for those that wait
+pub record IsLive (deck : Contents) (l : Listed) (e : LateEdges) (reductions : ℕ) : Type 0 where
+  pub sound : IsSound deck l reductions
+  pub edges : HasLateEdges deck l e.waiting.items e.made

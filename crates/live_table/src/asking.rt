@@ -21,6 +21,7 @@ use crate::dead_end::DeadEnd;
 use crate::explored::Explored;
 use crate::exploring::explore;
 use crate::fault::QueryFault;
+use crate::late_edges::LateEdges;
 use crate::naming::named_fault;
 use crate::nodes::Nodes;
 use crate::numbering::put_key;
@@ -30,7 +31,6 @@ use crate::settling::settle;
 use deck::Deck;
 use def_entry::Kind;
 use expr_tree::Words;
-use name_edges::NameEdges;
 use name_numbers::{numbered_fault_law, settling_law};
 use name_walk::{Net, Step, StepList, Walker};
 use std::alloc::{AllocError, Global};
@@ -44,7 +44,7 @@ pub(crate) fn ask_words<L: Ledger>(
     alloc: Global,
     deck: &Deck,
     nodes: &mut Nodes,
-    edges: &mut NameEdges,
+    edges: &mut LateEdges,
     explored: &mut Explored,
     scratch: &mut Scratch,
     reductions: &mut u64,
@@ -86,7 +86,7 @@ pub(crate) fn ask_key<L: Ledger>(
     alloc: Global,
     deck: &Deck,
     nodes: &mut Nodes,
-    edges: &mut NameEdges,
+    edges: &mut LateEdges,
     explored: &mut Explored,
     scratch: &mut Scratch,
     reductions: &mut u64,
@@ -125,7 +125,7 @@ fn settle_query<L: Ledger>(
     alloc: Global,
     deck: &Deck,
     nodes: &mut Nodes,
-    edges: &mut NameEdges,
+    edges: &mut LateEdges,
     explored: &mut Explored,
     scratch: &mut Scratch,
     reductions: &mut u64,
@@ -151,9 +151,8 @@ fn settle_query<L: Ledger>(
         explored.put_all(&scratch.agenda, nodes.keys.len())?;
         return Err(QueryFault::Name(fault));
     }
-    let agenda = &mut scratch.agenda;
     let order = walker.order();
-    settle(alloc, deck, nodes, edges, agenda, reductions, order, steps)?;
+    settle(alloc, deck, nodes, edges, reductions, order, steps)?;
     Ok(())
 }
 

@@ -16,6 +16,7 @@ ghost use Rattle.live_table.specs.Stored.{listed, shown};
 use crate::deck_table::DeckTable;
 use crate::explored::Explored;
 use crate::keeping::Kept;
+use crate::late_edges::LateEdges;
 use crate::nodes::Nodes;
 use deck::{Deck, changes_are_computed};
 use def_entry::{Key, Keys};
@@ -30,11 +31,12 @@ pub(crate) fn forget_changed(
     alloc: Global,
     deck: &Deck,
     nodes: &mut Nodes,
-    edges: &mut NameEdges,
+    edges: &mut LateEdges,
     explored: &mut Explored,
     keys: &Keys,
 )
-    requires { CanForget (listed nodes.old) edges.old }
+    requires can { CanForget (listed nodes.old) edges.old.made }
+    requires all { edges.old.waiting.items ≡ [] }
     ensures live { (before : Contents) (reductions : ℕ) → IsLive before (listed nodes.old) edges.old reductions
         → IsChange before deck.now keys.now → IsLive deck.now (listed nodes.new) edges.new reductions }
     ensures edit { (before : Contents) (reductions : ℕ) → IsLive before (listed nodes.old) edges.old reductions
@@ -44,7 +46,14 @@ pub(crate) fn forget_changed(
         explored.new.dead_ends.items }
 {
     changes_are_computed();
-    forget(alloc, deck, nodes, edges, explored, keys.as_slice());
+    forget(
+        alloc,
+        deck,
+        nodes,
+        &mut edges.made,
+        explored,
+        keys.as_slice(),
+    );
 }
 
 // Forgets the settled names that a change of keys affects, and all that was explored without being settled, and finds

@@ -15,6 +15,7 @@ mod fault;
 mod forgetting;
 mod keeping;
 mod key_index;
+mod late_edges;
 mod laws;
 mod leading;
 mod linking;

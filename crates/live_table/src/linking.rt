@@ -1,16 +1,14 @@
-//! The edges of a name that is to be settled.
+//! The edges of settled names, when an edit asks for them.
 
-ghost use Rattle.std.specs.Prelude.{◌≡◌, ◌⊎◌, ◌↔◌, ◌<◌, ℕ, OnErr, OnOk};
-ghost use Rattle.deck.specs.Tables.{table};
+ghost use Rattle.std.specs.Prelude.{◌≡◌, ◌⊎◌, ◌↔◌, ◌<◌, ◌∷◌, [], ℕ, List, OnErr, OnOk};
+ghost use Rattle.name_walk.specs.Closed.{IsSettled};
 ghost use Rattle.name_walk.specs.Lists.{In};
-ghost use Rattle.tree_eval.specs.declared.outcome.Outcome.{Outcome};
-ghost use Rattle.live_table.specs.declared.callee.Callee.{Callee};
-ghost use Rattle.live_table.specs.Due.{IsDue, with_outcome};
-ghost use Rattle.live_table.specs.Edged.{HasEdges};
+ghost use Rattle.live_table.specs.Edged.{HasLateEdges};
 ghost use Rattle.live_table.specs.Sound.{IsSound};
 ghost use Rattle.live_table.specs.Stored.{listed};
 
 use crate::agenda::Agenda;
+use crate::late_edges::LateEdges;
 use crate::nodes::Nodes;
 use crate::surroundings::steps_of;
 use deck::Deck;
@@ -18,28 +16,47 @@ use name_edges::{NameEdges, linking_law};
 use name_walk::Step;
 use std::alloc::{AllocError, Global};
 
-/// Adds the edges of a name that is due: to each name to which its words lead, which are gathered in `targets`, and to
-/// each other key at which they look. Want of memory adds none.
-pub(crate) fn link(
+/// Makes the edges of the names that wait for them. After want of memory those that have none yet wait still.
+pub(crate) fn link_waiting(
     alloc: Global,
     deck: &Deck,
     nodes: &Nodes,
-    edges: &mut NameEdges,
+    edges: &mut LateEdges,
+) -> Result<(), AllocError>
+    requires sound { (reductions : ℕ) × IsSound deck.now (listed nodes.now) reductions }
+    requires edges { HasLateEdges deck.now (listed nodes.now) edges.old.waiting.items edges.old.made }
+    ensures edges { HasLateEdges deck.now (listed nodes.now) edges.new.waiting.items edges.new.made }
+    ensures all { OnOk result (edges.new.waiting.items ≡ []) }
+{
+    while let Some(n) = edges.waiting.front() {
+        link(alloc, deck, nodes, &mut edges.made, &mut edges.targets, *n)?;
+        edges.waiting.pop_front();
+    }
+    Ok(())
+}
+
+// Adds the edges of the name that waits first: to each name to which its words lead, which are gathered in `targets`,
+// and to each other key at which they look. Want of memory adds none.
+fn link(
+    alloc: Global,
+    deck: &Deck,
+    nodes: &Nodes,
+    made: &mut NameEdges,
     targets: &mut Agenda,
     n: usize,
 ) -> Result<(), AllocError>
     requires sound { (reductions : ℕ) × IsSound deck.now (listed nodes.now) reductions }
-    requires due { IsDue (table deck.now) (listed nodes.now) n }
-    requires edges { HasEdges deck.now (listed nodes.now) edges.old }
-    ensures ok { OnOk result ((o : Outcome) (c : Callee)
-        → HasEdges deck.now (with_outcome n o c (listed nodes.now)) edges.new) }
-    ensures err { OnErr result (HasEdges deck.now (listed nodes.now) edges.new) }
+    requires settled { IsSettled (listed nodes.now).settled n }
+    ensures ok { OnOk result ((rest : List ℕ) → HasLateEdges deck.now (listed nodes.now) (n ∷ rest) made.old
+        → HasLateEdges deck.now (listed nodes.now) rest made.new) }
+    ensures err { OnErr result ((waiting : List ℕ) → HasLateEdges deck.now (listed nodes.now) waiting made.old
+        → HasLateEdges deck.now (listed nodes.now) waiting made.new) }
 {
     linking_law();
     let count = nodes.keys.len();
     gather_targets(targets, steps_of(nodes, n), count)?;
-    edges.cover(alloc, count)?;
-    edges.link(alloc, n, targets.as_slice(), &nodes.looks[n])?;
+    made.cover(alloc, count)?;
+    made.link(alloc, n, targets.as_slice(), &nodes.looks[n])?;
     Ok(())
 }
 

@@ -21,12 +21,12 @@ use crate::counts::Counts;
 use crate::evaluating::{inverse_worth, worth};
 use crate::explored::Explored;
 use crate::fault::QueryFault;
+use crate::late_edges::LateEdges;
 use crate::nodes::Nodes;
 use crate::scratch::Scratch;
 use deck::{Deck, key_lists_are_one, table_keys_are_whole, tables_are_of_lines};
 use def_entry::{Key, Kind};
 use expr_tree::{Tree, words};
-use name_edges::NameEdges;
 use quantity::Quantity;
 use std::alloc::{AllocError, Global};
 use std::marker::Model;
@@ -38,7 +38,7 @@ use units_io::Steps;
 pub struct LiveTable {
     deck: Deck,
     nodes: Nodes,
-    edges: NameEdges,
+    edges: LateEdges,
     explored: Explored,
     scratch: Scratch,
     reductions: u64,
@@ -83,7 +83,7 @@ impl LiveTable {
         LiveTable {
             deck,
             nodes: Nodes::new(alloc),
-            edges: NameEdges::new(alloc),
+            edges: LateEdges::new(alloc),
             explored: Explored::new(alloc),
             scratch: Scratch::new(alloc),
             reductions: 0,

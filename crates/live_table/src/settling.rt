@@ -8,41 +8,38 @@ ghost use Rattle.tree_eval.specs.Entries.{rank_of_meaning};
 ghost use Rattle.table_names.specs.Meanings as names;
 ghost use Rattle.live_table.specs.Asked.{AreSettledBy, put_in};
 ghost use Rattle.live_table.specs.Due.{AreDue, IsDue, with_outcome};
-ghost use Rattle.live_table.specs.Edged.{HasEdges};
+ghost use Rattle.live_table.specs.Edged.{HasLateEdges};
 ghost use Rattle.live_table.specs.Exploring.{StayExplored};
 ghost use Rattle.live_table.specs.Ranks as ranks;
 ghost use Rattle.live_table.specs.Sound.{IsSound};
 ghost use Rattle.live_table.specs.Stored.{key_at, listed, shown};
 
-use crate::agenda::Agenda;
 use crate::callee::Callee;
-use crate::linking::link;
+use crate::late_edges::LateEdges;
 use crate::nodes::Nodes;
 use crate::surroundings::{Asked, Surroundings, entry, steps_of};
 use deck::{Deck, tables_are_of_lines};
-use name_edges::NameEdges;
 use name_walk::Step;
 use std::alloc::{AllocError, Global};
 use std::sync::ledger::Ledger;
 use tree_eval::{Outcome, reduce};
 use units_io::Steps;
 
-/// Settles the names of a walk, targets before users, each with one step. The agenda is one to gather in.
+/// Settles the names of a walk, targets before users, each with one step. Their edges wait.
 pub(crate) fn settle<L: Ledger>(
     alloc: Global,
     deck: &Deck,
     nodes: &mut Nodes,
-    edges: &mut NameEdges,
-    targets: &mut Agenda,
+    edges: &mut LateEdges,
     reductions: &mut u64,
     order: &[usize],
     steps: &mut Steps<L>,
 ) -> Result<(), AllocError>
     requires sound { IsSound deck.now (listed nodes.old) reductions.old }
-    requires edges { HasEdges deck.now (listed nodes.old) edges.old }
+    requires edges { HasLateEdges deck.now (listed nodes.old) edges.old.waiting.items edges.old.made }
     requires order { AreDue (table deck.now) (listed nodes.old) order.now }
     ensures sound { IsSound deck.now (listed nodes.new) reductions.new }
-    ensures edges { HasEdges deck.now (listed nodes.new) edges.new }
+    ensures edges { HasLateEdges deck.now (listed nodes.new) edges.new.waiting.items edges.new.made }
     ensures explored { StayExplored (table deck.now) (listed nodes.old) (listed nodes.new) }
     ensures settled { AreSettledBy (map (key_at nodes.old.keys) order.now) result
         (shown deck.now (listed nodes.old) reductions.old) (shown deck.now (listed nodes.new) reductions.new)
@@ -50,7 +47,7 @@ pub(crate) fn settle<L: Ledger>(
     ensures keys { OnOk result (nodes.new.keys ≡ nodes.old.keys) }
 {
     for n in order {
-        settle_one(alloc, deck, nodes, edges, targets, reductions, *n, steps)?;
+        settle_one(alloc, deck, nodes, edges, reductions, *n, steps)?;
     }
     Ok(())
 }
@@ -60,17 +57,16 @@ fn settle_one<L: Ledger>(
     alloc: Global,
     deck: &Deck,
     nodes: &mut Nodes,
-    edges: &mut NameEdges,
-    targets: &mut Agenda,
+    edges: &mut LateEdges,
     reductions: &mut u64,
     n: usize,
     steps: &mut Steps<L>,
 ) -> Result<(), AllocError>
     requires sound { IsSound deck.now (listed nodes.old) reductions.old }
-    requires edges { HasEdges deck.now (listed nodes.old) edges.old }
+    requires edges { HasLateEdges deck.now (listed nodes.old) edges.old.waiting.items edges.old.made }
     requires due { IsDue (table deck.now) (listed nodes.old) n }
     ensures sound { IsSound deck.now (listed nodes.new) reductions.new }
-    ensures edges { HasEdges deck.now (listed nodes.new) edges.new }
+    ensures edges { HasLateEdges deck.now (listed nodes.new) edges.new.waiting.items edges.new.made }
     ensures explored { StayExplored (table deck.now) (listed nodes.old) (listed nodes.new) }
     ensures nodes { OnOk result
         ((o : Outcome) × (c : Callee) × (listed nodes.new ≡ with_outcome n o c (listed nodes.old))) }
@@ -82,7 +78,7 @@ fn settle_one<L: Ledger>(
 {
     let outcome = outcome_of(alloc, deck, nodes, n, steps)?;
     let rank = rank_of(deck, nodes, n, &outcome);
-    link(alloc, deck, nodes, edges, targets, n)?;
+    edges.waiting.push_back(n)?;
     put(nodes, n, outcome, rank);
     *reductions = reductions.saturating_add(1);
     Ok(())

@@ -12,6 +12,7 @@ ghost use Rattle.live_table.specs.Edits as edit;
 
 use super::LiveTable;
 use crate::forgetting::forget_changed;
+use crate::linking::link_waiting;
 use deck::{DeckFault, Settings, Splice};
 use def_entry::Key;
 use std::alloc::{AllocError, Global};
@@ -34,6 +35,7 @@ impl LiveTable {
         ensures { edit.IsDefinedOver (deck_edit.after_define (trimmed line.now) self.old.deck) (trimmed line.now)
             self.old self.new result }
     {
+        link_waiting(alloc, &self.deck, &self.nodes, &mut self.edges)?;
         let (keys, covered) = self.deck.define_over(alloc, line)?;
         forget_changed(
             alloc,
@@ -52,6 +54,7 @@ impl LiveTable {
         requires { CanUndefine uncovered self.old.deck }
         ensures { edit.IsUndefined self.old self.new result }
     {
+        link_waiting(alloc, &self.deck, &self.nodes, &mut self.edges)?;
         let (keys, text) = self.deck.undefine(alloc, uncovered)?;
         forget_changed(
             alloc,
@@ -69,6 +72,7 @@ impl LiveTable {
     pub fn drop_last(&mut self, alloc: Global, key: &Key) -> Result<(), DeckFault>
         ensures { edit.IsEditOf (deck_edit.after_drop key.now self.old.deck) self.old self.new result }
     {
+        link_waiting(alloc, &self.deck, &self.nodes, &mut self.edges)?;
         let keys = self.deck.drop_last(alloc, key)?;
         forget_changed(
             alloc,
@@ -86,6 +90,7 @@ impl LiveTable {
     pub fn switch(&mut self, alloc: Global, settings: Settings) -> Result<(), DeckFault>
         ensures { edit.IsEditOf (Ok (deck_edit.after_switch settings self.old.deck)) self.old self.new result }
     {
+        link_waiting(alloc, &self.deck, &self.nodes, &mut self.edges)?;
         let keys = self.deck.switch(alloc, settings)?;
         forget_changed(
             alloc,
@@ -120,6 +125,7 @@ impl LiveTable {
             (loading.MayFailBy (F.files files.old) name.now (loading.lines_alone self.old.deck.lines)) }
         ensures counted { F.faults files.new ≡ loading.faults_after_load (F.faults files.old) result }
     {
+        link_waiting(alloc, &self.deck, &self.nodes, &mut self.edges)?;
         let keys = self.deck.append(alloc, files, name)?;
         forget_changed(
             alloc,
@@ -139,6 +145,9 @@ impl LiveTable {
         requires { CanSplice change self.old.deck }
         ensures { edit.IsSpliceOf change self.old self.new result }
     {
+        if let Err(fault) = link_waiting(alloc, &self.deck, &self.nodes, &mut self.edges) {
+            return Err((change, fault));
+        }
         let (keys, undo) = self.deck.splice(alloc, change)?;
         forget_changed(
             alloc,

@@ -5,29 +5,33 @@ use Rattle.live_table.specs.Forgotten.{AreForgotten}
 use Rattle.live_table.specs.Stored.{listed}
 use Rattle.live_table.proofs.AfterForgetting.{is_edit, live_after}
 use Rattle.live_table.proofs.StillExplored.{none_explored}
+use Rattle.live_table.proofs.WaitingNames.{linked_of, none_waits}
 use Rattle.live_table.proofs.forgetting.forget_changed.Goals as goal
 use Rattle.live_table.proofs.forgetting.forget_changed.Goals.{After-forget}
 
 -- what a change of the keys that were handed on affects is forgotten
 forgotten : (c : After-forget)
     → AreForgotten (table c.args.deck.now) c.args.keys.now (listed c.args.nodes.now) (listed c.forget.new.nodes)
-    c.args.edges.now c.forget.new.edges
+    c.args.edges.now.made c.forget.new.edges
 forgotten c =
     subst (λ (keys : List Key). AreForgotten (table c.args.deck.now) keys (listed c.args.nodes.now)
     (listed c.forget.new.nodes)
-    c.args.edges.now c.forget.new.edges) c.as_slice.ensures c.forget.ensures.forgotten
+    c.args.edges.now.made c.forget.new.edges) c.as_slice.ensures c.forget.ensures.forgotten
 
 pub returns-clause-live : goal.returns-clause-live
 returns-clause-live c before r live change =
-    live_after before c.args.deck.now (listed c.args.nodes.now) (listed c.forget.new.nodes) c.args.edges.now
-    c.forget.new.edges r c.args.keys.now live change (forgotten (goal.at.returns-clause-live c).After-forget)
-    c.changes_are_computed.ensures
+    let after = live_after before c.args.deck.now (listed c.args.nodes.now) (listed c.forget.new.nodes)
+    c.args.edges.now.made c.forget.new.edges r c.args.keys.now
+    (linked_of before (listed c.args.nodes.now) c.args.edges.now r c.requires.all live) change
+    (forgotten (goal.at.returns-clause-live c).After-forget) c.changes_are_computed.ensures in
+    record { sound = after.sound; edges = none_waits _ _ _ _ c.requires.all after.edges }
 
 pub returns-clause-edit : goal.returns-clause-edit
 returns-clause-edit c before r live change =
-    is_edit before c.args.deck.now (listed c.args.nodes.now) (listed c.forget.new.nodes) c.args.edges.now
-    c.forget.new.edges r c.args.keys.now live change (forgotten (goal.at.returns-clause-edit c).After-forget)
-    c.changes_are_computed.ensures
+    is_edit before c.args.deck.now (listed c.args.nodes.now) (listed c.forget.new.nodes) c.args.edges.now.made
+    c.forget.new.edges r c.args.keys.now
+    (linked_of before (listed c.args.nodes.now) c.args.edges.now r c.requires.all live) change
+    (forgotten (goal.at.returns-clause-edit c).After-forget) c.changes_are_computed.ensures
 
 pub returns-clause-explored : goal.returns-clause-explored
 returns-clause-explored c =

@@ -1,12 +1,12 @@
-use Rattle.std.proofs.Common.{◌≡◌, ◌<◌, length, arith}
-use Rattle.std.proofs.Common.{sym, subst}
+use Rattle.std.proofs.Common.{◌≡◌, ◌<◌, ℕ, List, length, arith, sym, subst}
 use Rattle.deck.specs.Tables.{table}
-use Rattle.live_table.specs.Edged.{HasEdges}
+use Rattle.live_table.specs.Edged.{HasLateEdges}
 use Rattle.live_table.specs.Stored.{Listed, listed}
 use Rattle.live_table.proofs.Flags.{count_room}
 use Rattle.live_table.proofs.Kept.{settled_count}
 use Rattle.live_table.proofs.SettleOne.{IsPut, settled_nodes, settled_shown, settled_sound}
 use Rattle.live_table.proofs.StillExplored.{settled_explored}
+use Rattle.live_table.proofs.WaitingNames.{waiting_edges}
 use Rattle.live_table.proofs.settling.settle_one.Goals as goal
 use Rattle.live_table.proofs.settling.settle_one.Goals.{After-saturating_add}
 
@@ -67,15 +67,15 @@ returns-clause-ok g c =
     c.requires.due c.in_ok-outcome.outcome c.rank_of-rank.result c.saturating_add.result (listed c.put.new.nodes)
     (is_put g (goal.at.returns-clause-ok g c).After-saturating_add)
 
-pub link-requires-clause-sound : goal.link-requires-clause-sound
-link-requires-clause-sound g c = (c.args.reductions.now, c.requires.sound)
-
 pub returns-clause-edges : goal.returns-clause-edges
 returns-clause-edges g c =
     let s = settled_nodes c.args.deck.now (listed c.args.nodes.now) c.args.reductions.now c.args.n c.requires.sound
     c.requires.due c.in_ok-outcome.outcome c.rank_of-rank.result c.saturating_add.result (listed c.put.new.nodes)
     (is_put g (goal.at.returns-clause-edges g c).After-saturating_add) in
-    subst (λ (x : Listed). HasEdges c.args.deck.now x c.link.new.edges) (sym s.2) (c.in_ok-link.ensures.ok s.0 s.1)
+    subst (λ (p : Listed × List ℕ). HasLateEdges c.args.deck.now p.0 p.1 c.args.edges.now.made)
+    (λ i. (sym s.2 i, sym c.in_ok-push_back.ensures.items i))
+    (waiting_edges c.args.deck.now (listed c.args.nodes.now) c.args.reductions.now c.args.n c.requires.sound
+    c.requires.due c.args.edges.now.waiting.items c.args.edges.now.made c.requires.edges s.0 s.1)
 
 pub returns-clause-explored : goal.returns-clause-explored
 returns-clause-explored g c =

@@ -1,6 +1,6 @@
 use Rattle.deck.specs.Tables.{table}
 use Rattle.live_table.specs.Stored.{listed}
-use Rattle.live_table.proofs.LinkedNames.{start_edges}
+use Rattle.live_table.proofs.WaitingNames.{start_edges}
 use Rattle.live_table.proofs.Starting.{start_sound}
 use Rattle.live_table.proofs.StillExplored.{none_explored}
 use Rattle.live_table.proofs.live_table.LiveTable.new.Goals as goal
@@ -9,7 +9,8 @@ pub invariant_of-result : goal.invariant_of-result
 invariant_of-result c = (
   record {
     sound = start_sound c.args.deck (listed c.new.result) c.new.ensures;
-    edges = start_edges c.args.deck (listed c.new.result) c.new-2.result c.new.ensures c.new-2.ensures;
+    edges = start_edges c.args.deck (listed c.new.result) c.new-2.result.waiting.items c.new-2.result.made c.new.ensures
+        c.new-2.ensures.waiting c.new-2.ensures.made;
   },
   none_explored (table c.args.deck) (listed c.new.result) c.new-3.result.names c.new-3.result.dead_ends.items
       c.new-3.ensures.names,

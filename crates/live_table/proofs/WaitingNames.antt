@@ -1,0 +1,278 @@
+-- Names that wait for their edges: where names are added, where one more is settled, and where none waits.
+use Rattle.std.proofs.Common.{◌≡◌, ◌⊎◌, ◌↔◌, ◌<◌, ◌≤◌, ℕ, Bool, true, false, List, [], ◌∷◌, ◌++◌, length, set}
+use Rattle.std.proofs.Common.{Option, Some, is_some, refl, sym, ◌∙◌, ap, subst, inl, inr, arith}
+use Rattle.std.specs.FinMap as map_of
+use Rattle.std.specs.Prelude.{if◌then◌else◌}
+use Rattle.std.proofs.lemmas.Bool.{cases_Bool, cases_lt, true≢false}
+use Rattle.expr_tree.specs.declared.word_list.WordUse.{WordUse}
+use Rattle.def_entry.specs.declared.key.Key.{Key}
+use Rattle.def_entry.specs.Tables.{Table}
+use Rattle.deck.specs.Decks.{Contents}
+use Rattle.deck.specs.Tables.{table}
+use Rattle.name_edges.specs.NameGraphs.{NameGraph}
+use Rattle.name_numbers.proofs.EdgeChanges.{edges_grown}
+use Rattle.name_numbers.proofs.Reached.{step_of_lead}
+use Rattle.name_walk.specs.declared.step.Step.TheVariants.{To}
+use Rattle.name_walk.specs.Closed.{IsSettled}
+use Rattle.name_walk.specs.Faults.{on}
+use Rattle.name_walk.specs.Lists.{In}
+use Rattle.name_walk.specs.Steps.{steps}
+use Rattle.name_walk.proofs.Lists.{In-last, In-left, In-on, In-push, on-In}
+use Rattle.name_walk.proofs.Marks.{get_set_other, get_set_same}
+use Rattle.table_names.specs.declared.fault.NameFault.{NameFault}
+use Rattle.table_names.specs.declared.fault.NameFault.TheVariants.{Unknown}
+use Rattle.table_names.specs.Closed.{IsClosed}
+use Rattle.table_names.specs.Leads.{WordsLeadTo}
+use Rattle.table_names.specs.Words.{key_words}
+use Rattle.table_names.proofs.Closing.{closed_law}
+use Rattle.tree_eval.specs.declared.outcome.Outcome.{Outcome}
+use Rattle.live_table.specs.declared.callee.Callee.{Callee}
+use Rattle.live_table.specs.declared.dead_end.DeadEnd.{DeadEnd}
+use Rattle.live_table.specs.declared.late_edges.LateEdges.{LateEdges}
+use Rattle.live_table.specs.Due.{IsDue, with_outcome}
+use Rattle.live_table.specs.Edged.{AreInOrder, HasEdges, HasLateEdges, IsLinked, IsLive, is_flagged, is_linked}
+use Rattle.live_table.specs.Exploring.{AreGrown}
+use Rattle.live_table.specs.Sound.{IsFaithful, IsSound}
+use Rattle.live_table.specs.States.{Kept}
+use Rattle.live_table.specs.Stored.{Listed, kept_of, key_at, no_names}
+use Rattle.live_table.proofs.AfterForgetting.{flag_settled, settled_flag}
+use Rattle.live_table.proofs.Growing.{key_same, more_length}
+use Rattle.live_table.proofs.Kept.{absent, key_settled, number_settled, settled_within}
+use Rattle.live_table.proofs.Places.{get_lt}
+
+-- ---- a name has its edges where it is settled and does not wait
+chosen : (b f : Bool) → (if b then false else f) ≡ true → (f ≡ true) × (b ≡ false)
+chosen true f e = absurd (true≢false (sym e))
+chosen false f e = (e, refl)
+
+-- it is settled, and not among those that wait
+pub linked_facts : (settled : List Bool) (waiting : List ℕ) (n : ℕ) → is_linked settled waiting n ≡ true
+    → (is_flagged settled n ≡ true) × (on waiting n ≡ false)
+linked_facts settled waiting n e = chosen (on waiting n) (is_flagged settled n) e
+
+-- a number that is not on a list is not in it
+pub not_waiting : (waiting : List ℕ) (n : ℕ) → on waiting n ≡ false → In n waiting → ⊥
+not_waiting waiting n e i = true≢false (sym (In-on waiting n i) ∙ e)
+
+-- a settled name that does not wait has its edges
+pub linked_where : (settled : List Bool) (waiting : List ℕ) (n : ℕ) → is_flagged settled n ≡ true → (In n waiting → ⊥)
+    → is_linked settled waiting n ≡ true
+linked_where settled waiting n e out = elim (cases_Bool (on waiting n)) [
+  | inl i ↦ absurd (out (on-In waiting n i))
+  | inr o ↦ ap (λ b. if b then false else is_flagged settled n) o ∙ e
+]
+
+-- ---- what the words of a closed name lead to is one of its steps
+pub dead_end : ℕ → Option Key → NameFault
+dead_end t holder = Unknown [] holder
+
+-- by number
+pub number_of_lead : (deck : Contents) (l : Listed) (n : ℕ) → IsClosed (table deck) (key_at l.keys n)
+    → IsFaithful (table deck) l n → (k : Key) → WordsLeadTo (table deck) (key_words (table deck) (key_at l.keys n)) k
+    → (m : ℕ) × (k ≡ key_at l.keys m) × In (To m) (steps l.graph n)
+number_of_lead deck l n closed faithful k w =
+    let us : List WordUse = key_words (table deck) (key_at l.keys n) in
+    let fine = ((closed_law.words (table deck) us).0
+    ((closed_law.key (table deck) (key_at l.keys n)).0 closed) w.0 w.1).accepted in
+    step_of_lead (table deck) (key_at l.keys) dead_end us (steps l.graph n) (faithful dead_end) w.0 w.1 fine k w.2
+
+-- ---- the order in which names wait
+module _ (t : Table) where
+  same_order : (key later : ℕ → Key) (ns : List ℕ) → ((n : ℕ) → In n ns → later n ≡ key n) → AreInOrder t key ns
+      → AreInOrder t later ns
+  same_order key later [] same o = o
+  same_order key later (n ∷ ns) same o = (
+    λ m i w. o.0 m i (subst (λ (p : Key × Key). WordsLeadTo t (key_words t p.0) p.1)
+        (λ j. (same n (inl refl) j, same m i j)) w),
+    o.1,
+    same_order key later ns (λ m i. same m (inr i)) o.2,
+  )
+
+  push_order : (key : ℕ → Key) (ns : List ℕ) (n : ℕ) → AreInOrder t key ns → (In n ns → ⊥)
+      → ((m : ℕ) → In m ns → WordsLeadTo t (key_words t (key m)) (key n) → ⊥)
+      → (WordsLeadTo t (key_words t (key n)) (key n) → ⊥) → AreInOrder t key (ns ++ n ∷ [])
+  push_order key [] n o out before own = (
+    λ m i w. elim i [
+      | inl e ↦ own (subst (λ x. WordsLeadTo t (key_words t (key n)) (key x)) e w)
+      | inr j ↦ j
+    ],
+    λ i. i,
+    tt,
+  )
+  push_order key (q ∷ ns) n o out before own = (
+    λ m i w. elim (In-push (q ∷ ns) n m i) [
+      | inl j ↦ o.0 m j w
+      | inr e ↦ before q (inl refl) (subst (λ x. WordsLeadTo t (key_words t (key q)) (key x)) e w)
+    ],
+    λ i. elim (In-push ns n q i) [ inl j ↦ o.1 j | inr e ↦ out (inl (sym e)) ],
+    push_order key ns n o.2 (λ i. out (inr i)) (λ m i. before m (inr i)) own,
+  )
+
+-- ---- names are added
+module _ (deck : Contents) (l m : Listed) (before here there : List ℕ) (ends more : List DeadEnd) (r : ℕ)
+    (grown : AreGrown (table deck) l m before here there ends more) (sound : IsSound deck l r) where
+  not_new : (n : ℕ) → IsSettled m.settled n → length l.keys ≤ n → ⊥
+  not_new n e s =
+      let now : is_some (map_of.get (kept_of m.keys m.outcomes) (key_at m.keys n)) ≡ true =
+      key_settled deck m r grown.nodes n e in
+      let none = absent l.keys l.outcomes (key_at m.keys n) other in
+      true≢false (sym now ∙ (ap (λ (k : Kept). is_some (map_of.get k (key_at m.keys n))) grown.kept ∙ ap is_some none))
+    where
+      inside : n < length m.keys
+      inside = settled_within deck m r grown.nodes n e
+
+      other : (i : ℕ) → i < length l.keys → key_at m.keys n ≡ key_at l.keys i → ⊥
+      other i t q =
+          let same : key_at m.keys i ≡ key_at l.keys i = key_same l.keys m.keys i grown.keys_more t in
+          let z : n ≡ i = grown.nodes.apart n i inside (omega (arith, t, s, inside)) (q ∙ sym same) in
+          omega (arith, t, s, z)
+
+  settled_before : (n : ℕ) → IsSettled m.settled n → IsSettled l.settled n
+  settled_before n e = elim (cases_lt n (length l.keys)) [
+    | inr s ↦ absurd (not_new n e s)
+    | inl t ↦ number_settled deck l r sound.numbers n t
+        (subst (λ (k : Key). is_some (map_of.get (kept_of l.keys l.outcomes) k) ≡ true)
+        (key_same l.keys m.keys n grown.keys_more t)
+        (ap (λ (k : Kept). is_some (map_of.get k (key_at m.keys n))) (sym grown.kept)
+        ∙ key_settled deck m r grown.nodes n e))
+  ]
+
+  module _ (waiting : List ℕ) where
+    linked_now : (n : ℕ) → (is_linked m.settled waiting n ≡ true) ↔ (is_linked l.settled waiting n ≡ true)
+    linked_now n = (
+      λ e.
+          let p = linked_facts m.settled waiting n e in
+          linked_where l.settled waiting n
+          (settled_flag l.settled n (settled_before n (flag_settled m.settled n p.0))) (not_waiting waiting n p.1),
+      λ e.
+          let p = linked_facts l.settled waiting n e in
+          linked_where m.settled waiting n
+          (settled_flag m.settled n (grown.settled_still n (flag_settled l.settled n p.0)))
+          (not_waiting waiting n p.1),
+    )
+
+    -- the edges are still theirs
+    pub grown_edges : (g : NameGraph) → HasLateEdges deck l waiting g → HasLateEdges deck m waiting g
+    grown_edges g edges = record {
+      names = let a = edges.names in let b = more_length l.keys m.keys grown.keys_more in omega (arith, a, b);
+      are = edges_grown (table deck) (key_at l.keys) (key_at m.keys) g.names g.names (is_linked l.settled waiting)
+          (is_linked m.settled waiting) g edges.are (omega arith)
+          (λ n t. key_same l.keys m.keys n grown.keys_more (let a = edges.names in omega (arith, t, a)))
+          linked_now;
+      settled = λ n i. grown.settled_still n (edges.settled n i);
+      order = same_order (table deck) (key_at l.keys) (key_at m.keys) waiting
+          (λ n i. key_same l.keys m.keys n grown.keys_more
+          (settled_within deck l r sound.numbers n (edges.settled n i)))
+          edges.order;
+    }
+
+-- ---- one more is settled, and waits
+module _ (deck : Contents) (l : Listed) (r n : ℕ) (sound : IsSound deck l r) (due : IsDue (table deck) l n) where
+  fresh : IsSettled l.settled n → ⊥
+  fresh s = let z : Some false ≡ Some true = sym due.fresh ∙ s in cc
+
+  -- a settled number whose key is its own is it
+  not_own : (m : ℕ) → IsSettled l.settled m → key_at l.keys n ≡ key_at l.keys m → ⊥
+  not_own m s e =
+      let same : n ≡ m = sound.numbers.apart n m due.within (settled_within deck l r sound.numbers m s) e in
+      fresh (subst (IsSettled l.settled) (sym same) s)
+
+  -- no settled name leads to it, nor does it itself
+  not_led : (m : ℕ) → IsSettled l.settled m
+      → WordsLeadTo (table deck) (key_words (table deck) (key_at l.keys m)) (key_at l.keys n) → ⊥
+  not_led m s w =
+      let closed = sound.right.closed (key_at l.keys m) (key_settled deck l r sound.numbers m s) in
+      let q = number_of_lead deck l m closed (sound.numbers.faithful m s) (key_at l.keys n) w in
+      not_own q.0 ((sound.numbers.net.settled m s).1 q.0 q.2) q.1
+
+  not_self : WordsLeadTo (table deck) (key_words (table deck) (key_at l.keys n)) (key_at l.keys n) → ⊥
+  not_self w =
+      let q = number_of_lead deck l n due.closed due.faithful (key_at l.keys n) w in
+      not_own q.0 (due.below q.0 q.2) q.1
+
+  module _ (waiting : List ℕ) (g : NameGraph) (edges : HasLateEdges deck l waiting g) where
+    abbrev now : List Bool
+    now = set l.settled n true
+
+    abbrev more : List ℕ
+    more = waiting ++ n ∷ []
+
+    out : In n waiting → ⊥
+    out i = fresh (edges.settled n i)
+
+    same_links : (m : ℕ) → (is_linked now more m ≡ true) ↔ (is_linked l.settled waiting m ≡ true)
+    same_links m = (from, to)
+      where
+        from : is_linked now more m ≡ true → is_linked l.settled waiting m ≡ true
+        from e =
+            let p = linked_facts now more m e in
+            let off : In m more → ⊥ = not_waiting more m p.1 in
+            let other : m ≡ n → ⊥ = λ q. off (subst (λ x. In x more) (sym q) (In-last waiting n)) in
+            linked_where l.settled waiting m
+            (settled_flag l.settled m (sym (get_set_other l.settled n m true other) ∙ flag_settled now m p.0))
+            (λ i. off (In-left waiting (n ∷ []) m i))
+
+        to : is_linked l.settled waiting m ≡ true → is_linked now more m ≡ true
+        to e =
+            let p = linked_facts l.settled waiting m e in
+            let was : IsSettled l.settled m = flag_settled l.settled m p.0 in
+            let other : m ≡ n → ⊥ = λ q. fresh (subst (IsSettled l.settled) q was) in
+            linked_where now more m (settled_flag now m (get_set_other l.settled n m true other ∙ was))
+            (λ i. elim (In-push waiting n m i) [ inl j ↦ not_waiting waiting m p.1 j | inr q ↦ other q ])
+
+    settled_more : (m : ℕ) → In m waiting ⊎ (m ≡ n) → IsSettled now m
+    settled_more m (inl i) =
+        let was : IsSettled l.settled m = edges.settled m i in
+        get_set_other l.settled n m true (λ q. fresh (subst (IsSettled l.settled) q was)) ∙ was
+    settled_more m (inr e) =
+        subst (IsSettled now) (sym e) (get_set_same l.settled n true (get_lt l.settled n false due.fresh))
+
+    -- the edges are still those of the others
+    pub waiting_edges : (o : Outcome) (c : Callee) → HasLateEdges deck (with_outcome n o c l) (waiting ++ n ∷ []) g
+    waiting_edges o c = record {
+      names = edges.names;
+      are = edges_grown (table deck) (key_at l.keys) (key_at l.keys) g.names g.names (is_linked l.settled waiting)
+          (is_linked now more) g edges.are (omega arith) (λ m t. refl) same_links;
+      settled = λ m i. settled_more m (In-push waiting n m i);
+      order = push_order (table deck) (key_at l.keys) waiting n edges.order out
+          (λ m i. not_led m (edges.settled m i)) not_self;
+    }
+
+-- ---- at first
+no_edges : (deck : Contents) → HasLateEdges deck no_names [] (record { names = 0; uses = []; looks = [] })
+no_edges deck = record {
+  names = omega arith;
+  are = record {
+    within = λ n e. absurd (none n e);
+    below = λ n m e. absurd (omega (arith, e));
+    beside = λ n m e. absurd (omega (arith, e));
+    used = λ n e k. absurd (none n e);
+    looked = λ n e k. absurd (none n e);
+  };
+  settled = λ n i. absurd i;
+  order = tt;
+}
+  where
+    none : (n : ℕ) → is_linked [] [] n ≡ true → ⊥
+    none n e = true≢false (sym e)
+
+-- without names there are the right edges
+pub start_edges : (deck : Contents) (l : Listed) (waiting : List ℕ) (g : NameGraph) → l ≡ no_names → waiting ≡ []
+    → g ≡ record { names = 0; uses = []; looks = [] } → HasLateEdges deck l waiting g
+start_edges deck l waiting g e w f =
+    subst (λ (p : Listed × List ℕ × NameGraph). HasLateEdges deck p.0 p.1 p.2) (λ i. (sym e i, sym w i, sym f i))
+    (no_edges deck)
+
+-- ---- where none waits, all have their edges
+pub linked_of : (deck : Contents) (l : Listed) (e : LateEdges) (r : ℕ) → e.waiting.items ≡ [] → IsLive deck l e r
+    → IsLinked deck l e.made r
+linked_of deck l e r none live =
+    let all = subst (λ (ns : List ℕ). HasLateEdges deck l ns e.made) none live.edges in
+    record { sound = live.sound; edges = record { names = all.names; are = all.are } }
+
+-- and where all have theirs, none waits
+pub none_waits : (deck : Contents) (l : Listed) (waiting : List ℕ) (g : NameGraph) → waiting ≡ []
+    → HasEdges deck l g → HasLateEdges deck l waiting g
+none_waits deck l waiting g none edges =
+    subst (λ (ns : List ℕ). HasLateEdges deck l ns g) (sym none)
+    (record { names = edges.names; are = edges.are; settled = λ n i. absurd i; order = tt })
