@@ -12,11 +12,15 @@ ghost use Rattle.live_table.specs.Stored.{key_at, listed};
 use crate::agenda::Agenda;
 use crate::dead_end::DeadEnd;
 use crate::entry_words::{EntryWords, entry_words};
-use crate::key_index::KeyIndex;
 use crate::nodes::Nodes;
 use crate::stepping::put_words;
+use crate::surroundings::entry;
 use deck::Deck;
+use def_entry::Kind;
 use std::alloc::{AllocError, Global};
+
+// Few queries go through so many names.
+const MANY: usize = 1024;
 
 /// Numbers all names that those on the agenda reach, but for those that are settled or were explored, and gives them
 /// their steps in the present table. Then all of them are on the agenda. The only error is want of memory.
@@ -39,6 +43,7 @@ pub(crate) fn explore(
 {
     let mut place = 0;
     while let Some(n) = agenda.get(place) {
+        make_room(deck, nodes, place)?;
         explore_name(alloc, deck, nodes, explored, agenda, dead_ends, n)?;
         place += 1;
     }
@@ -64,7 +69,7 @@ fn explore_name(
     ensures written { IfOk result (λ _. IsWritten (table deck.now) (listed nodes.new) explored.now agenda.new
         dead_ends.new.items n) }
 {
-    let entry = words_of_key(alloc, deck, &nodes.keys, &mut nodes.places, n)?;
+    let entry = words_of_key(alloc, deck, nodes, n)?;
     let steps = put_words(
         alloc,
         deck,
@@ -81,32 +86,30 @@ fn explore_name(
     Ok(())
 }
 
-// The words of the entry of a name. Where it stands is noted, so that it is not looked up again while it stands there.
+// Where a query has gone through many names it may well go through all that the deck has. So that these are not copied
+// again and again as they grow in number, room is made for all of them at once.
+fn make_room(deck: &Deck, nodes: &mut Nodes, gone: usize) -> Result<(), AllocError>
+    ensures { listed nodes.new ≡ listed nodes.old }
+{
+    if gone != MANY {
+        return Ok(());
+    }
+    let units = deck.key_count(Kind::Unit);
+    let prefixes = deck.key_count(Kind::Prefix);
+    let functions = deck.key_count(Kind::Func);
+    nodes.make_room(units.saturating_add(prefixes).saturating_add(functions))
+}
+
+// The words of the entry of a name.
 fn words_of_key<'a>(
     alloc: Global,
     deck: &'a Deck,
-    keys: &KeyIndex,
-    places: &mut [u32],
+    nodes: &Nodes,
     n: usize,
 ) -> Result<EntryWords<'a>, AllocError>
-    requires within { n < length keys.now }
-    requires present { is_present (table deck.now) (key_at keys.now n) ≡ true }
-    ensures { IfOk result (λ made. AreKeyWords (table deck.now) (key_at keys.now n) made) }
+    requires within { n < length nodes.now.keys }
+    requires present { is_present (table deck.now) (key_at nodes.now.keys n) ≡ true }
+    ensures { IfOk result (λ made. AreKeyWords (table deck.now) (key_at nodes.now.keys n) made) }
 {
-    match deck.placed_entry(keys.kind(n), keys.name(n)) {
-        Some(placed) => {
-            note_place(places, n, placed.place);
-            entry_words(alloc, placed.entry.what)
-        }
-        None => unreachable!(),
-    }
-}
-
-// Notes a place for a name.
-fn note_place(places: &mut [u32], n: usize, place: usize) {
-    if let Ok(place) = u32::try_from(place) {
-        if n < places.len() {
-            places[n] = place;
-        }
-    }
+    entry_words(alloc, entry(deck, nodes, n).what)
 }

@@ -57,7 +57,7 @@ pub(crate) fn forget_changed(
 }
 
 // Forgets the settled names that a change of keys affects, and all that was explored without being settled, and finds
-// anew whether each of these keys has an entry.
+// anew where each of these keys has its entry, if it has one.
 fn forget(
     alloc: Global,
     deck: &Deck,
@@ -86,7 +86,7 @@ fn forget_key(alloc: Global, deck: &Deck, nodes: &mut Nodes, edges: &mut NameEdg
     let Some(n) = nodes.keys.number_of(key.kind, key.name.as_bytes()) else {
         return;
     };
-    nodes.present[n] = DeckTable(deck).has(key.kind, key.name.as_bytes());
+    nodes.note(n, DeckTable(deck).find(key.kind, key.name.as_bytes()));
     if n < edges.names() {
         forget_number(alloc, nodes, edges, n);
     }

@@ -114,6 +114,14 @@ impl KeyIndex {
         Ok(Key { kind, name })
     }
 
+    /// Makes room for so many more keys, as if all of them were units.
+    pub(crate) fn reserve(&mut self, more: usize) -> Result<(), AllocError>
+        ensures { self.new ≡ self.old }
+    {
+        self.order.reserve(more)?;
+        self.numbers.reserve_units(more)
+    }
+
     /// Gives a new key the next number. A refusal changes nothing.
     pub(crate) fn push(&mut self, key: Key) -> Result<(), AllocError>
         requires { is_among self.old key ≡ false }
@@ -149,6 +157,13 @@ impl Numbers {
             Kind::Func => &self.functions,
             Kind::List => &self.lists,
         }
+    }
+
+    // Makes room for those of so many more units.
+    fn reserve_units(&mut self, more: usize) -> Result<(), AllocError>
+        ensures { AreSameNumbers self.old self.new }
+    {
+        self.units.reserve(more)
     }
 
     // One more of a kind. A refusal changes nothing.

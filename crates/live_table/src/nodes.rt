@@ -1,6 +1,7 @@
 //! Names by number.
 
-ghost use Rattle.std.specs.Prelude.{◌≡◌, false, OnOk, OnErr};
+ghost use Rattle.std.specs.Prelude.{◌≡◌, ◌<◌, false, OnOk, OnErr, length, slice_set};
+ghost use Rattle.std.specs.Option.{is_some};
 ghost use Rattle.def_entry.specs.SameKeys.{is_among};
 ghost use Rattle.live_table.specs.Exploring.{IsNamed};
 ghost use Rattle.live_table.specs.Stored.{listed, no_names};
@@ -26,7 +27,8 @@ pub(crate) struct Nodes {
     pub(crate) looks: Vec<Vec<usize>>,
     pub(crate) settled: Vec<bool>,
     pub(crate) settled_count: usize,
-    // near which the entry of each stood when it was last read. It may stand elsewhere by now
+    // near which the entry of each stands in the deck, as was found when the name was added or its key last changed. An
+    // edit of other lines may have moved it since
     pub(crate) places: Vec<u32>,
     // at which the word that is resolved has looked, in order
     pub(crate) looked: Vec<usize>,
@@ -54,15 +56,16 @@ impl Nodes {
         }
     }
 
-    /// One more name, which is not settled and has no steps yet. A refusal changes nothing.
+    /// One more name, which is not settled and has no steps yet, with where its key stands in the deck, if it does. A
+    /// refusal changes nothing.
     pub(crate) fn add(
         &mut self,
         alloc: Global,
         key: Key,
-        is_present: bool,
+        place: Option<usize>,
     ) -> Result<(), AllocError>
         requires { is_among self.old.keys key ≡ false }
-        ensures ok { OnOk result (IsNamed key is_present (listed self.old) (listed self.new)) }
+        ensures ok { OnOk result (IsNamed key (is_some place) (listed self.old) (listed self.new)) }
         ensures err { OnErr result (listed self.new ≡ listed self.old) }
         ensures looked { self.new.looked.items ≡ self.old.looked.items }
         ensures gathered { self.new.gathered ≡ self.old.gathered }
@@ -75,22 +78,59 @@ impl Nodes {
         self.settled.reserve(1)?;
         self.places.reserve(1)?;
         self.keys.push(key)?;
-        self.present.push(is_present)?;
+        self.present.push(place.is_some())?;
         self.callees.push(no_callee())?;
         self.outcomes.push(None)?;
         self.steps.push(StepList::new(alloc))?;
         self.looks.push(Vec::new(alloc))?;
         self.settled.push(false)?;
-        self.places.push(0)?;
+        self.places.push(short(place))?;
         Ok(())
     }
 
-    /// The place in the deck near which the entry of a name stood when it was last read.
+    /// Notes anew where the key of a name stands in the deck, and so whether it has an entry.
+    pub(crate) fn note(&mut self, n: usize, place: Option<usize>)
+        requires { n < length self.old.present.items }
+        ensures present { self.new.present.items ≡ slice_set self.old.present.items n (is_some place) }
+        ensures rest { listed self.new ≡ record (listed self.old) { present = self.new.present.items } }
+    {
+        self.present[n] = place.is_some();
+        if n < self.places.len() {
+            self.places[n] = short(place);
+        }
+    }
+
+    /// Makes room for so many names in all.
+    pub(crate) fn make_room(&mut self, count: usize) -> Result<(), AllocError>
+        ensures listed { listed self.new ≡ listed self.old }
+        ensures looked { self.new.looked.items ≡ self.old.looked.items }
+        ensures gathered { self.new.gathered ≡ self.old.gathered }
+    {
+        let more = count.saturating_sub(self.keys.len());
+        self.keys.reserve(more)?;
+        self.present.reserve(more)?;
+        self.callees.reserve(more)?;
+        self.outcomes.reserve(more)?;
+        self.steps.reserve(more)?;
+        self.looks.reserve(more)?;
+        self.settled.reserve(more)?;
+        self.places.reserve(more)
+    }
+
+    /// The place in the deck near which the entry of a name stood when it was last found.
     pub(crate) fn place(&self, n: usize) -> usize {
         match self.places.get(n) {
             Some(place) => *place as usize,
             None => 0,
         }
+    }
+}
+
+// A place as it is kept, 0 where there is none or it does not fit.
+fn short(place: Option<usize>) -> u32 {
+    match place {
+        Some(place) => u32::try_from(place).unwrap_or(0),
+        None => 0,
     }
 }
 

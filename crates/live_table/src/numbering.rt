@@ -90,7 +90,7 @@ pub(crate) fn put_target(
     Ok(())
 }
 
-/// The number of a key, a new one where it has none. Only for a new one the table is asked whether it is there.
+/// The number of a key, a new one where it has none. Only for a new one the table is asked where it stands.
 pub(crate) fn number<P: Present>(
     alloc: Global,
     table: &P,
@@ -109,9 +109,9 @@ pub(crate) fn number<P: Present>(
     if let Some(n) = nodes.keys.number_of(kind, name) {
         return Ok(n);
     }
-    let is_present = table.has(kind, name);
+    let place = table.find(kind, name);
     let name = Text::from_bytes(alloc, name)?;
     let n = nodes.keys.len();
-    nodes.add(alloc, Key { kind, name }, is_present)?;
+    nodes.add(alloc, Key { kind, name }, place)?;
     Ok(n)
 }

@@ -140,7 +140,7 @@ impl<'a, 'w> Surroundings<'a, 'w> {
 }
 
 /// The entry of the key of a number.
-pub(crate) fn entry<'a>(deck: &'a Deck, nodes: &'a Nodes, n: usize) -> Entry<'a>
+pub(crate) fn entry<'a>(deck: &'a Deck, nodes: &Nodes, n: usize) -> Entry<'a>
     requires within { n < length nodes.now.keys }
     requires present { is_present (table deck.now) (key_at nodes.now.keys n) ≡ true }
     ensures { entry_at (table deck.now) (key_at nodes.now.keys n) ≡ Some (entry_view result) }

@@ -55,7 +55,7 @@ impl Looking for TriedKeys {
         name: &[u8],
     ) -> Result<bool, AllocError> {
         self.push(kind, name)?;
-        Ok(table.has(kind, name))
+        Ok(table.find(kind, name).is_some())
     }
 }
 

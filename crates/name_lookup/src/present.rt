@@ -1,5 +1,6 @@
 //! Which keys are present.
 
+ghost use Rattle.std.specs.Option.{is_some};
 ghost use Rattle.std.specs.Prelude.{◌≡◌, List};
 ghost use Rattle.def_entry.specs.Keys.{key};
 ghost use Rattle.def_entry.specs.declared.key.Key.{Key};
@@ -12,7 +13,7 @@ pub trait Present {
     // The keys that are present.
     ghost keys: { Self → List Key };
 
-    /// Whether the key of this kind and name is present.
-    fn has(&self, kind: Kind, name: &[u8]) -> bool
-        ensures { result ≡ is_among (keys self.now) (key kind name.now) };
+    /// Where the key of this kind and name stands, as its table counts, or `None` where it is not present.
+    fn find(&self, kind: Kind, name: &[u8]) -> Option<usize>
+        ensures { is_some result ≡ is_among (keys self.now) (key kind name.now) };
 }

@@ -1,6 +1,7 @@
 //! What a word leads to in a table of a few keys.
 
 ghost use Rattle.std.specs.Prelude.{◌≡◌, ◌++◌, IfOk};
+ghost use Rattle.std.specs.List.{position};
 ghost use Rattle.def_entry.specs.Keys as key_spec;
 ghost use Rattle.def_entry.specs.SameKeys.{is_among, is_same, is_same_kind};
 ghost use Rattle.name_lookup.specs.Order.{plan};
@@ -39,12 +40,16 @@ impl Table {
 impl Present for Table {
     ghost keys = { λ table. table.keys };
 
-    fn has(&self, kind: Kind, name: &[u8]) -> bool {
-        self.keys
-            .as_slice()
-            .iter()
-            .any(|key| is_key(key, kind, name))
+    fn find(&self, kind: Kind, name: &[u8]) -> Option<usize> {
+        place_of(self.keys.as_slice(), kind, name)
     }
+}
+
+// Where the first key of this kind and name stands.
+fn place_of(keys: &[Key], kind: Kind, name: &[u8]) -> Option<usize>
+    ensures { result ≡ position (is_same (key_spec.key kind name.now)) keys.now }
+{
+    keys.iter().position(|key| is_key(key, kind, name))
 }
 
 // Whether the key is of this kind and name.
@@ -97,7 +102,7 @@ impl Looking for Looked {
     ) -> Result<bool, AllocError> {
         let text = Text::from_bytes(alloc, name)?;
         self.keys.push(alloc, Key { kind, name: text })?;
-        Ok(table.has(kind, name))
+        Ok(table.find(kind, name).is_some())
     }
 }
 

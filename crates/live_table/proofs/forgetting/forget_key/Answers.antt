@@ -1,13 +1,18 @@
-use Rattle.std.proofs.Common.{ℕ, List, Some, refl, sym, ◌∙◌, ap, arith}
+use Rattle.std.proofs.Common.{◌≡◌, ℕ, List, Some, is_some, sym, ◌∙◌, ap, subst, arith}
 use Rattle.std.proofs.lemmas.Map.Made.{is_some-lookup}
 use Rattle.def_entry.specs.Keys.{key as key_named}
 use Rattle.def_entry.specs.SameKeys.{is_among, is_same}
-use Rattle.def_entry.specs.Tables.{keys_of}
+use Rattle.def_entry.specs.Tables.{is_present, keys_of}
 use Rattle.deck.specs.Tables.{table}
+use Rattle.edge_links.specs.Reach.{IsCleared}
+use Rattle.name_edges.specs.Affected.{IsAffected}
+use Rattle.live_table.specs.Edged.{is_flagged}
+use Rattle.live_table.specs.Keeping.{IsLeft}
 use Rattle.live_table.specs.Stored.{Listed, listed}
 use Rattle.live_table.proofs.Forgets.{absent_forgotten, flag_forgotten, one_forgotten}
 use Rattle.live_table.proofs.Places.{get_lt}
 use Rattle.live_table.proofs.forgetting.forget_key.Goals as goal
+use Rattle.live_table.proofs.forgetting.forget_key.Goals.{After-note}
 
 pub returns-in_default : goal.returns-in_default
 returns-in_default c =
@@ -15,39 +20,58 @@ returns-in_default c =
     (ap (λ (w : List ℕ). is_among c.args.nodes.now.keys (key_named c.args.key.now.kind w)) (sym c.as_bytes.ensures)
     ∙ c.in_default.ensures)
 
-pub index_mut-requires : goal.index_mut-requires
-index_mut-requires c =
+pub note-requires : goal.note-requires
+note-requires c =
     let h = get_lt c.args.nodes.now.keys c.in-Some.n _ c.in-Some.ensures in
     let e = c.requires.flags in
     omega (arith, h, e)
 
+-- the key stands in the deck exactly where it has an entry
+flag : (c : After-note) → is_some c.find.result ≡ is_present (table c.args.deck.now) c.args.key.now
+flag c =
+    c.find.ensures
+    ∙ (ap (λ (w : List ℕ). is_among (keys_of (table c.args.deck.now)) (key_named c.args.key.now.kind w))
+    c.as_bytes-2.ensures
+    ∙ sym (is_some-lookup (is_same c.args.key.now) (table c.args.deck.now)))
+
 pub returns-then-n-names : goal.returns-then-n-names
 returns-then-n-names c =
+    let noted = c.note.ensures.rest in
     let rest = c.forget_number.ensures.rest in
     one_forgotten (table c.args.deck.now) c.args.key.now (listed c.args.nodes.now) c.in-Some.n
     (c.in-Some.ensures ∙ ap (λ (w : List ℕ). Some (key_named c.args.key.now.kind w)) c.as_bytes.ensures)
-    c.requires.apart c.requires.flags c.has.result
-    (c.has.ensures ∙ (ap (λ (w : List ℕ). is_among (keys_of (table c.args.deck.now)) (key_named c.args.key.now.kind w))
-    c.as_bytes-2.ensures
-    ∙ sym (is_some-lookup (is_same c.args.key.now) (table c.args.deck.now))))
-    (listed c.forget_number.new.nodes) (ap (λ (x : Listed). x.present) rest)
+    c.requires.apart c.requires.flags (is_some c.find.result)
+    (flag (goal.at.returns-then-n-names c).After-note)
+    (listed c.forget_number.new.nodes) (ap (λ (x : Listed). x.present) rest ∙ c.note.ensures.present)
     (record {
-      keys = ap (λ (x : Listed). x.keys) rest;
-      callees = ap (λ (x : Listed). x.callees) rest;
-      graph = ap (λ (x : Listed). x.graph) rest;
-      looks = ap (λ (x : Listed). x.looks) rest;
+      keys = ap (λ (x : Listed). x.keys) rest ∙ ap (λ (x : Listed). x.keys) noted;
+      callees = ap (λ (x : Listed). x.callees) rest ∙ ap (λ (x : Listed). x.callees) noted;
+      graph = ap (λ (x : Listed). x.graph) rest ∙ ap (λ (x : Listed). x.graph) noted;
+      looks = ap (λ (x : Listed). x.looks) rest ∙ ap (λ (x : Listed). x.looks) noted;
     })
     c.args.edges.now c.forget_number.new.edges
     (let a = c.if-n-names.true in let e = c.names.ensures in omega (arith, a, e)) c.requires.names
-    c.forget_number.ensures.edges c.forget_number.ensures.marks c.forget_number.ensures.left
+    c.forget_number.ensures.edges
+    (subst (λ (x : Listed). IsCleared (IsAffected c.args.edges.now c.in-Some.n) (is_flagged x.settled)
+    (is_flagged c.forget_number.new.nodes.settled.items)) noted c.forget_number.ensures.marks)
+    (subst (λ (x : Listed). IsLeft x.settled c.forget_number.new.nodes.settled.items x.count
+    c.forget_number.new.nodes.settled_count x.outcomes c.forget_number.new.nodes.outcomes.items) noted
+    c.forget_number.ensures.left)
 
 pub returns-else-n-names : goal.returns-else-n-names
 returns-else-n-names c =
+    let noted = c.note.ensures.rest in
     flag_forgotten (table c.args.deck.now) c.args.key.now (listed c.args.nodes.now) c.in-Some.n
     (c.in-Some.ensures ∙ ap (λ (w : List ℕ). Some (key_named c.args.key.now.kind w)) c.as_bytes.ensures)
-    c.requires.apart c.requires.flags c.has.result
-    (c.has.ensures ∙ (ap (λ (w : List ℕ). is_among (keys_of (table c.args.deck.now)) (key_named c.args.key.now.kind w))
-    c.as_bytes-2.ensures
-    ∙ sym (is_some-lookup (is_same c.args.key.now) (table c.args.deck.now))))
-    _ refl (record { keys = refl; callees = refl; graph = refl; looks = refl }) c.args.edges.now refl refl refl
+    c.requires.apart c.requires.flags (is_some c.find.result)
+    (flag (goal.at.returns-else-n-names c).After-note)
+    (listed c.note.new.self) c.note.ensures.present
+    (record {
+      keys = ap (λ (x : Listed). x.keys) noted;
+      callees = ap (λ (x : Listed). x.callees) noted;
+      graph = ap (λ (x : Listed). x.graph) noted;
+      looks = ap (λ (x : Listed). x.looks) noted;
+    })
+    c.args.edges.now (ap (λ (x : Listed). x.settled) noted) (ap (λ (x : Listed). x.count) noted)
+    (ap (λ (x : Listed). x.outcomes) noted)
     (λ a. let b = c.if-n-names.false in let e = c.names.ensures in omega (arith, a, b, e)) c.requires.names

@@ -4,7 +4,7 @@ use Rattle.live_table.proofs.nodes.Nodes.add.Goals as goal
 pub returns-clause-ok : goal.returns-clause-ok
 returns-clause-ok c =
     let keys = c.in_ok-push.ensures.ok in
-    let present = c.in_ok-push-2.ensures.items ∙ (λ i. c.reserve.ensures.items i ++ c.args.is_present ∷ []) in
+    let present = c.in_ok-push-2.ensures.items ∙ (λ i. c.reserve.ensures.items i ++ c.is_some.ensures i ∷ []) in
     let callees = c.in_ok-push-3.ensures.items ∙ (λ i. c.reserve-2.ensures.items i ++ c.no_callee.result ∷ []) in
     let outcomes = c.in_ok-push-4.ensures.items ∙ (λ i. c.reserve-3.ensures.items i ++ None ∷ []) in
     let steps = c.in_ok-push-5.ensures.items ∙ (λ i. c.reserve-4.ensures.items i ++ c.new.result ∷ []) in
