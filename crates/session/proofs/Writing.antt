@@ -46,13 +46,14 @@ fed_left (Ok true) base first taken bytes left more held now over =
 fed_left (Err fault) base first taken bytes left more held now broken =
     broken_left (Err fault) fault refl base first ((taken ++ bytes) ++ more) now broken
 
--- where a line ended the session, and where it goes on
+-- where a line ended the session
 pub fed_over : (fed : Result Bool SessionFault) (base : Base) (first : Talk) (taken bytes left more : List ℕ)
     (held : Option (List ℕ)) (now : Now) → fed ≡ Ok true → Fed fed base first taken bytes left more held now
     → IsOver base first (taken ++ bytes) ((taken ++ bytes) ++ more) now
 fed_over fed base first taken bytes left more held now is up =
     subst (λ (r : Result Bool SessionFault). Fed r base first taken bytes left more held now) is up
 
+-- and where it goes on
 pub fed_on : (fed : Result Bool SessionFault) (base : Base) (first : Talk) (taken bytes left more : List ℕ)
     (held : Option (List ℕ)) (now : Now) → fed ≡ Ok false → Fed fed base first taken bytes left more held now
     → (done : List ℕ) × (bytes ≡ done ++ left) × Stands base first (taken ++ done) held now
@@ -98,6 +99,7 @@ module _ (first : Talk) (taken block ready rest left more : List ℕ) (b : block
       subst (λ i. Left fed first i after.files) (same_input taken block ready rest more b)
       (fed_left fed stood first (taken ++ ready) rest left more held_now stands_now up)
 
+  -- a part of what was said is written
   pub part_written : (old : FileMap) → start.files ≡ Some old → GrowsByFront now.out after.out said.out.items
       → GrowsByFront now.err after.err said.err.items
       → (fed ≡ Err WriteFailed → Rose start.store_faults after.store_faults)
@@ -198,12 +200,14 @@ module _ (first : Talk) (input : List ℕ) (held : Option (List ℕ)) (session :
       by (Ok done) at = whole_left (Ok done) stood_last first input stands_last at
       by (Err fault) broken = broken_left (Err fault) fault refl stood_last first input stands_last broken
 
+  -- a part of what was said last is written
   pub last_part : (old : FileMap) → start.files ≡ Some old → GrowsByFront now.out after.out said.out.items
       → GrowsByFront now.err after.err said.err.items
       → (fed ≡ Err WriteFailed → Rose start.store_faults after.store_faults)
       → IsPartBut (session_course first input) start after
   last_part old told o e rose = part_but A fed first input start after old told (last_front o e) last_left rose
 
+  -- all of it is, and the session ends
   pub last_written : (ending : SessionEnd) → ending ≡ last_end fed → (old : FileMap) → start.files ≡ Some old
       → after.out ≡ grown now.out said.out.items → after.err ≡ grown now.err said.err.items
       → (fed ≡ Err ReadFailed → Rose start.fetch_faults after.fetch_faults)

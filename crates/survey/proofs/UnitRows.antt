@@ -92,14 +92,16 @@ no-unit : (o : Option Key) → None ≡ option_map (λ k. Word k.name) o → o �
 no-unit None e = refl
 no-unit (Some k) e = cc
 
--- where no word is there, there is no row, and nothing is asked
+-- where no word is there
 module _ (deck : Contents) (place : ℕ) (none : None ≡ option_map (λ k. Word k.name) (unit_there deck place)) where
+  -- there is no row
   pub no-row : (from : Amount) (rows : List ℕ) → rows ≡ rows ++ row_at deck from place
   no-row from rows =
       sym (append-nil rows)
       ∙ ap (λ (o : Option Key). rows ++ given_by (conforming_row (table deck) from) o)
       (sym (no-unit (unit_there deck place) none))
 
+  -- and nothing is asked
   pub no-query : (a : Shown) (n : ℕ) → IsRightTable a → Follows (unit_queries_at deck place) a a n n
   no-query a n right =
       subst (λ (o : Option Key). Follows (given_by (λ k. (unit_worth (table deck) k).events) o) a a n n)
