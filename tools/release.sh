@@ -3,7 +3,8 @@
 # and the toolchain.
 #   tools/release.sh             makes both from what `rt ci` proved and built
 #   tools/release.sh --check     whether they are whole and of the present sources, by its status; it builds nothing
-#   tools/release.sh --compare   after `rt ci`: whether the program is byte for byte what that built
+#   tools/release.sh --compare   after `rt ci`: whether the program is byte for byte what that built. Two kits may
+#                                compile the same sources otherwise, and then it says so
 #   tools/release.sh --sources   prints the checksum of the present sources
 set -u
 script=$(readlink -f "${BASH_SOURCE[0]}") || exit
@@ -58,12 +59,16 @@ compare() {
         echo "release: the released program is of other sources, so it is not compared with what was proved"
         echo "0 passed, 0 failed"
         exit
-    elif ! cmp "$released" "$out/units"; then
-        echo "release: the released program is not what was proved and built from its sources"
-    else
+    elif cmp "$released" "$out/units"; then
         echo "release: the released program is byte for byte what was proved and built here"
         echo "1 passed, 0 failed"
         exit
+    elif [ "$(rt version)" != "$(named toolchain)" ]; then
+        echo "release: the released program was built by the kit $(named toolchain), so it is not compared with this one's"
+        echo "0 passed, 0 failed"
+        exit
+    else
+        echo "release: the released program is not what was proved and built from its sources"
     fi
     echo "0 passed, 1 failed"
     exit 1
