@@ -63,7 +63,7 @@ compare() {
         echo "release: the released program is byte for byte what was proved and built here"
         echo "1 passed, 0 failed"
         exit
-    elif [ "$(rt version)" != "$(named toolchain)" ]; then
+    elif [ -x "$out/units" ] && kit=$(rt version) && [ "$kit" != "$(named toolchain)" ]; then
         echo "release: the released program was built by the kit $(named toolchain), so it is not compared with this one's"
         echo "0 passed, 0 failed"
         exit
