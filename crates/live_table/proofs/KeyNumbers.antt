@@ -11,7 +11,7 @@ use Rattle.name_walk.proofs.Lists.{In-push}
 use Rattle.table_names.proofs.Members.{map_same}
 use Rattle.live_table.specs.declared.nodes.Nodes.{Nodes}
 use Rattle.live_table.specs.Exploring.{AreAdded, IsMore, IsNamed}
-use Rattle.live_table.specs.Numbering.{AreFlagged, IsExtension}
+use Rattle.live_table.specs.Numbering.{AreFlagged, IsExtension, IsNumbered}
 use Rattle.live_table.specs.Stored.{Listed, key_at, listed}
 use Rattle.live_table.proofs.Growing.{added_both, added_none, key_same, more_length, push_more}
 use Rattle.live_table.proofs.Named.{named_added, not_there}
@@ -44,7 +44,7 @@ pub present_among : (t : Table) (keys : List Key) (k : Key) → keys_of t ≡ ke
 present_among t keys k e = ap (λ (ks : List Key). is_among ks k) (sym e) ∙ sym (is_some-lookup (is_same k) t)
 
 -- a new name is added
-pub kept_named : (keys : List Key) (a b : Nodes) (k : Key) (flag : Bool) → IsNamed k flag (listed a) (listed b)
+kept_named : (keys : List Key) (a b : Nodes) (k : Key) (flag : Bool) → IsNamed k flag (listed a) (listed b)
     → flag ≡ is_among keys k
     → is_among a.keys k ≡ false → b.gathered ≡ a.gathered → IsExtension keys a b
 kept_named keys a b k flag named is new e = record {
@@ -55,8 +55,22 @@ kept_named keys a b k flag named is new e = record {
   gathered = e;
 }
 
+-- a key has a number
+pub kept_numbered : (keys : List Key) (a b : Nodes) (k : Key) (flag : Bool) (n : ℕ)
+    → IsNumbered k flag n (listed a) (listed b) → flag ≡ is_among keys k → b.gathered ≡ a.gathered
+    → IsExtension keys a b
+kept_numbered keys a b k flag n numbered is e = elim numbered.names [
+  | inl same ↦ kept_same keys a b same e
+  | inr new ↦ kept_named keys a b k flag new.1 is new.0 e
+]
+
 -- ---- flags
-pub flagged_named : (keys : List Key) (a b : Nodes) (k : Key) (flag : Bool) → IsNamed k flag (listed a) (listed b)
+-- those of the same names
+pub flagged_same : (keys : List Key) (a b : Nodes) → listed b ≡ listed a → AreFlagged keys a → AreFlagged keys b
+flagged_same keys a b e f = subst (λ (l : Listed). l.present ≡ map (is_among keys) l.keys) (sym e) f
+
+-- those with a new name
+flagged_named : (keys : List Key) (a b : Nodes) (k : Key) (flag : Bool) → IsNamed k flag (listed a) (listed b)
     → flag ≡ is_among keys k
     → AreFlagged keys a → AreFlagged keys b
 flagged_named keys a b k flag named is f =
@@ -64,10 +78,30 @@ flagged_named keys a b k flag named is f =
     ∙ ((λ i. f i ++ is i ∷ []) ∙ (sym (map-append (is_among keys) a.keys (k ∷ []))
     ∙ ap (λ (l : Listed). map (is_among keys) l.keys) (sym named.named)))
 
--- so there are more keys
-pub more_named : (a b : Nodes) (k : Key) (flag : Bool) → IsNamed k flag (listed a) (listed b) → IsMore a.keys b.keys
+-- those where a key has a number
+pub flagged_numbered : (keys : List Key) (a b : Nodes) (k : Key) (flag : Bool) (n : ℕ)
+    → IsNumbered k flag n (listed a) (listed b) → flag ≡ is_among keys k → AreFlagged keys a → AreFlagged keys b
+flagged_numbered keys a b k flag n numbered is f = elim numbered.names [
+  | inl same ↦ flagged_same keys a b same f
+  | inr new ↦ flagged_named keys a b k flag new.1 is f
+]
+
+-- there are no fewer keys of the same names
+pub more_same : (a b : Nodes) → listed b ≡ listed a → IsMore a.keys b.keys
+more_same a b e = subst (λ (l : Listed). IsMore a.keys l.keys) (sym e) (λ i x q. q)
+
+-- with a new name there are more
+more_named : (a b : Nodes) (k : Key) (flag : Bool) → IsNamed k flag (listed a) (listed b) → IsMore a.keys b.keys
 more_named a b k flag named = subst (IsMore a.keys) (ap (λ (l : Listed). l.keys) (sym named.named))
     (push_more a.keys (k ∷ []))
+
+-- nor where a key has a number
+pub more_numbered : (a b : Nodes) (k : Key) (flag : Bool) (n : ℕ) → IsNumbered k flag n (listed a) (listed b)
+    → IsMore a.keys b.keys
+more_numbered a b k flag n numbered = elim numbered.names [
+  | inl same ↦ more_same a b same
+  | inr new ↦ more_named a b k flag new.1
+]
 
 -- the flag at a number is that of its key
 flag_in : (p : Key → Bool) (ks : List Key) (n : ℕ) (b : Bool) → n < length ks → get_or (map p ks) n b ≡ p (key_at ks n)

@@ -1,14 +1,14 @@
 -- Numbers for keys that are looked at.
-use Rattle.std.specs.Prelude.{◌≡◌, ◌<◌, ℕ, List, length, map}
+use Rattle.std.specs.Prelude.{◌≡◌, ◌<◌, ◌⊎◌, ℕ, Bool, false, Some, List, length, map, slice_get}
 use Rattle.def_entry.specs.declared.key.Key.{Key}
 use Rattle.def_entry.specs.SameKeys.{is_among}
 use Rattle.def_entry.specs.Tables.{Table, keys_of}
 use Rattle.name_walk.specs.Lists.{In}
 use Rattle.live_table.specs.declared.dead_end.DeadEnd.{DeadEnd}
 use Rattle.live_table.specs.declared.nodes.Nodes.{Nodes}
-use Rattle.live_table.specs.Exploring.{AreAdded, AreListed}
+use Rattle.live_table.specs.Exploring.{AreAdded, AreListed, IsNamed}
 use Rattle.live_table.specs.Sound.{AreNodes}
-use Rattle.live_table.specs.Stored.{key_at, listed}
+use Rattle.live_table.specs.Stored.{Listed, key_at, listed}
 
 -- the keys of the numbers that the last word looked at
 abbrev pub looked_by : Nodes → List Key
@@ -29,3 +29,8 @@ pub record IsExtension (keys : List Key) (start now : Nodes) : Type 0 where
       → (before list : List ℕ) (ends : List DeadEnd) → AreListed table (listed start) before list
       → AreAdded table (listed start) (listed now) before list list ends ends
   pub gathered : now.gathered ≡ start.gathered
+
+-- a key has a number: where it had none there is one more name, with this flag, and else nothing has changed
+pub record IsNumbered (k : Key) (flag : Bool) (n : ℕ) (l m : Listed) : Type 0 where
+  pub number : slice_get m.keys n ≡ Some k
+  pub names : (m ≡ l) ⊎ ((is_among l.keys k ≡ false) × IsNamed k flag l m)

@@ -1,47 +1,45 @@
 //! Keys by number, and numbers by key.
 
-ghost use Rattle.std.specs.Prelude.{◌≡◌, ◌<◌, ◌++◌, ◌∷◌, [], Some, false, length, slice_get};
-ghost use Rattle.std.specs.Prelude.{IfOk, MatchOption, OnOk, OnErr};
-ghost use Rattle.def_entry.specs.Keys as keys;
+ghost use Rattle.std.specs.Prelude.{◌≡◌, ◌<◌, [], Some, false, length, slice_get};
+ghost use Rattle.std.specs.Prelude.{IfOk, MatchOption, OnErr};
+ghost use Rattle.def_entry.specs.Keys.{key};
 ghost use Rattle.def_entry.specs.SameKeys.{is_among};
-ghost use Rattle.live_table.specs.Indexed.{AreSameNumbers, IsPushed, numbers_of};
+ghost use Rattle.live_table.specs.Indexed.{IsAdded, stored};
 ghost use Rattle.live_table.specs.Stored.{key_at};
 
-use deck_lines::{KeyNumber, KeyNumbers};
+use crate::stored_keys::{StoredKey, kind_told, overwrite, store};
 use def_entry::{Key, Kind};
+use indexmap::IndexSet;
 use std::alloc::{AllocError, Global};
 use std::marker::Model;
 use units_io::Text;
 
-// For each name of a kind, by its number within the kind, its number among all keys.
-#[derive(Drop)]
-struct Numbers {
-    units: Vec<usize>,
-    prefixes: Vec<usize>,
-    functions: Vec<usize>,
-    lists: Vec<usize>,
-}
-
-/// Keys, each with the number of keys that came before it. The text of each name is held once.
+/// Keys, each with the number of keys that came before it.
 #[derive(Drop)]
 pub(crate) struct KeyIndex {
-    names: KeyNumbers,
-    numbers: Numbers,
-    // for each number its kind, and its number within the kind
-    order: Vec<KeyNumber>,
+    keys: IndexSet<StoredKey>,
+    // the key that was looked up last, with room for the longest of all: so it takes no memory to look one up
+    wanted: StoredKey,
+}
+
+/// The number of a key, and whether it had none before.
+#[derive(Clone, Copy, Drop)]
+pub(crate) struct Added {
+    pub(crate) number: usize,
+    pub(crate) is_new: bool,
 }
 
 impl Model for KeyIndex {
     ghost use Rattle.std.specs.Prelude.{List};
+    ghost use Rattle.std.specs.List.{All};
     ghost use Rattle.def_entry.specs.declared.key.Key.{Key};
-    ghost use Rattle.deck_lines.specs.NumberedKeys.{names_in};
-    ghost use Rattle.live_table.specs.Indexed.{IsIndexed, keys_by};
+    ghost use Rattle.live_table.specs.Indexed.{IsStored, keys_in};
 
     ghost Value = { List Key };
 
-    ghost view = { λ x. keys_by (names_in x.names) x.order.items };
+    ghost view = { λ x. keys_in x.keys.keys };
 
-    ghost invariant = { λ x. IsIndexed (names_in x.names) x.numbers x.order.items };
+    ghost invariant = { λ x. All (IsStored x.wanted.capacity) x.keys.keys };
 }
 
 impl KeyIndex {
@@ -50,14 +48,8 @@ impl KeyIndex {
         ensures { result ≡ [] }
     {
         KeyIndex {
-            names: KeyNumbers::new(alloc),
-            numbers: Numbers {
-                units: Vec::new(alloc),
-                prefixes: Vec::new(alloc),
-                functions: Vec::new(alloc),
-                lists: Vec::new(alloc),
-            },
-            order: Vec::new(alloc),
+            keys: IndexSet::new(alloc),
+            wanted: StoredKey::new(alloc),
         }
     }
 
@@ -65,18 +57,20 @@ impl KeyIndex {
     pub(crate) fn len(&self) -> usize
         ensures { result ≡ length self.now }
     {
-        self.order.len()
+        self.keys.len()
     }
 
-    /// The number of a key.
-    pub(crate) fn number_of(&self, kind: Kind, name: &[u8]) -> Option<usize>
-        ensures { MatchOption result (is_among self.now (keys.key kind name.now) ≡ false)
-            (λ n. slice_get self.now n ≡ Some (keys.key kind name.now)) }
+    /// The number of a key. It takes no memory.
+    pub(crate) fn number_of(&mut self, kind: Kind, name: &[u8]) -> Option<usize>
+        ensures kept { self.new ≡ self.old }
+        ensures number { MatchOption result (is_among self.old (key kind name.now) ≡ false)
+            (λ n. slice_get self.old n ≡ Some (key kind name.now)) }
     {
-        let Some(place) = self.names.number_of(kind, name) else {
+        if self.wanted.capacity() <= name.len() {
             return None;
-        };
-        self.numbers.get(kind, place.number)
+        }
+        overwrite(&mut self.wanted, kind, name).unwrap();
+        self.keys.get_index_of(&self.wanted)
     }
 
     /// The kind of the key of a number.
@@ -84,7 +78,7 @@ impl KeyIndex {
         requires { n < length self.now }
         ensures { result ≡ (key_at self.now n).kind }
     {
-        self.order[n].kind
+        kind_told(self.bytes(n)[0])
     }
 
     /// Its name.
@@ -92,10 +86,15 @@ impl KeyIndex {
         requires { n < length self.now }
         ensures { result.now ≡ (key_at self.now n).name }
     {
-        match self.names.name(self.order[n]) {
-            Some(name) => name,
-            None => unreachable!(),
-        }
+        &self.bytes(n)[1..]
+    }
+
+    // Its bytes.
+    fn bytes(&self, n: usize) -> &[u8]
+        requires { n < length self.now }
+        ensures { result.now ≡ stored (key_at self.now n) }
+    {
+        self.keys.as_slice()[n].as_slice()
     }
 
     /// A copy of the key of a number, of an empty name beyond the last. The only error is want of memory.
@@ -114,69 +113,28 @@ impl KeyIndex {
         Ok(Key { kind, name })
     }
 
-    /// Makes room for so many more keys, as if all of them were units.
+    /// Makes room for so many more keys.
     pub(crate) fn reserve(&mut self, more: usize) -> Result<(), AllocError>
         ensures { self.new ≡ self.old }
     {
-        self.order.reserve(more)?;
-        self.numbers.reserve_units(more)
+        self.keys.reserve(more)
     }
 
-    /// Gives a new key the next number. A refusal changes nothing.
-    pub(crate) fn push(&mut self, key: Key) -> Result<(), AllocError>
-        requires { is_among self.old key ≡ false }
-        ensures ok { OnOk result (self.new ≡ self.old ++ key ∷ []) }
+    /// The number of a key, the next where it has none. A refusal changes nothing.
+    pub(crate) fn add(
+        &mut self,
+        alloc: Global,
+        kind: Kind,
+        name: &[u8],
+    ) -> Result<Added, AllocError>
+        ensures ok { IfOk result (λ added. IsAdded (key kind name.now) self.old self.new added.number added.is_new) }
         ensures err { OnErr result (self.new ≡ self.old) }
     {
-        let kind = key.kind;
-        let n = self.order.len();
-        self.order.reserve(1)?;
-        self.names.reserve_one(kind)?;
-        self.numbers.push(kind, n)?;
-        let number = self.names.put(key);
-        self.order.push(number)?;
-        Ok(())
-    }
-}
-
-impl Numbers {
-    // That of a name, by its number within its kind.
-    fn get(&self, kind: Kind, number: usize) -> Option<usize>
-        ensures { result ≡ slice_get (numbers_of self.now kind) number }
-    {
-        self.of_kind(kind).get(number).copied()
-    }
-
-    // Those of a kind.
-    fn of_kind(&self, kind: Kind) -> &[usize]
-        ensures { result.now ≡ numbers_of self.now kind }
-    {
-        match kind {
-            Kind::Unit => &self.units,
-            Kind::Prefix => &self.prefixes,
-            Kind::Func => &self.functions,
-            Kind::List => &self.lists,
-        }
-    }
-
-    // Makes room for those of so many more units.
-    fn reserve_units(&mut self, more: usize) -> Result<(), AllocError>
-        ensures { AreSameNumbers self.old self.new }
-    {
-        self.units.reserve(more)
-    }
-
-    // One more of a kind. A refusal changes nothing.
-    fn push(&mut self, kind: Kind, n: usize) -> Result<(), AllocError>
-        ensures ok { OnOk result (IsPushed kind n self.old self.new) }
-        ensures err { OnErr result (AreSameNumbers self.old self.new) }
-    {
-        match kind {
-            Kind::Unit => self.units.push(n)?,
-            Kind::Prefix => self.prefixes.push(n)?,
-            Kind::Func => self.functions.push(n)?,
-            Kind::List => self.lists.push(n)?,
-        }
-        Ok(())
+        let bytes = store(alloc, kind, name)?;
+        // Room to look it up, before it is there.
+        self.wanted.clear();
+        self.wanted.reserve(bytes.len())?;
+        let (number, is_new) = self.keys.insert_full(bytes)?;
+        Ok(Added { number, is_new })
     }
 }

@@ -27,6 +27,7 @@ mod query_words;
 mod scratch;
 mod settling;
 mod stepping;
+mod stored_keys;
 mod surroundings;
 mod tried_keys;
 

@@ -1,15 +1,17 @@
 //! Names by number.
 
-ghost use Rattle.std.specs.Prelude.{◌≡◌, ◌<◌, false, OnOk, OnErr, length, slice_set};
+ghost use Rattle.std.specs.Prelude.{◌≡◌, ◌<◌, IfOk, OnErr, length, slice_set};
 ghost use Rattle.std.specs.Option.{is_some};
+ghost use Rattle.def_entry.specs.Keys.{key};
 ghost use Rattle.def_entry.specs.SameKeys.{is_among};
-ghost use Rattle.live_table.specs.Exploring.{IsNamed};
+ghost use Rattle.live_table.specs.Numbering.{IsNumbered};
 ghost use Rattle.live_table.specs.Stored.{listed, no_names};
 
 use crate::agenda::Agenda;
 use crate::callee::{Callee, PartStarts};
 use crate::key_index::KeyIndex;
-use def_entry::Key;
+use def_entry::Kind;
+use name_lookup::Present;
 use name_walk::StepList;
 use std::alloc::{AllocError, Global};
 use tree_eval::Outcome;
@@ -56,16 +58,17 @@ impl Nodes {
         }
     }
 
-    /// One more name, which is not settled and has no steps yet, with where its key stands in the deck, if it does. A
-    /// refusal changes nothing.
-    pub(crate) fn add(
+    /// The number of a key. Where it has none, there is one more name, which is not settled and has no steps yet: then
+    /// alone the table is asked where the key stands in the deck. A refusal changes nothing.
+    pub(crate) fn add<P: Present>(
         &mut self,
         alloc: Global,
-        key: Key,
-        place: Option<usize>,
-    ) -> Result<(), AllocError>
-        requires { is_among self.old.keys key ≡ false }
-        ensures ok { OnOk result (IsNamed key (is_some place) (listed self.old) (listed self.new)) }
+        table: &P,
+        kind: Kind,
+        name: &[u8],
+    ) -> Result<usize, AllocError>
+        ensures ok { IfOk result (λ n. IsNumbered (key kind name.now) (is_among (P.keys table.now) (key kind name.now))
+            n (listed self.old) (listed self.new)) }
         ensures err { OnErr result (listed self.new ≡ listed self.old) }
         ensures looked { self.new.looked.items ≡ self.old.looked.items }
         ensures gathered { self.new.gathered ≡ self.old.gathered }
@@ -77,7 +80,11 @@ impl Nodes {
         self.looks.reserve(1)?;
         self.settled.reserve(1)?;
         self.places.reserve(1)?;
-        self.keys.push(key)?;
+        let added = self.keys.add(alloc, kind, name)?;
+        if !added.is_new {
+            return Ok(added.number);
+        }
+        let place = table.find(kind, name);
         self.present.push(place.is_some())?;
         self.callees.push(no_callee())?;
         self.outcomes.push(None)?;
@@ -85,7 +92,7 @@ impl Nodes {
         self.looks.push(Vec::new(alloc))?;
         self.settled.push(false)?;
         self.places.push(short(place))?;
-        Ok(())
+        Ok(added.number)
     }
 
     /// Notes anew where the key of a name stands in the deck, and so whether it has an entry.

@@ -1,6 +1,6 @@
 //! Numbers for keys.
 
-ghost use Rattle.std.specs.Prelude.{◌≡◌, ◌<◌, ℕ, true, List, IfOk, length};
+ghost use Rattle.std.specs.Prelude.{◌≡◌, ◌<◌, true, List, IfOk, length};
 ghost use Rattle.def_entry.specs.Keys as keys;
 ghost use Rattle.def_entry.specs.Tables.{Table, is_present};
 ghost use Rattle.deck.specs.Tables.{table};
@@ -14,10 +14,9 @@ use crate::agenda::Agenda;
 use crate::deck_table::DeckTable;
 use crate::nodes::Nodes;
 use deck::Deck;
-use def_entry::{Key, Kind};
+use def_entry::Kind;
 use name_lookup::{Looking, Present};
 use std::alloc::{AllocError, Global};
-use units_io::Text;
 
 impl Looking for Nodes {
     ghost use Rattle.live_table.specs.Numbering.{CanLook, IsExtension, looked_by};
@@ -106,12 +105,6 @@ pub(crate) fn number<P: Present>(
     ensures number { IfOk result (λ n. (n < length nodes.new.keys)
         × (keys.key kind name.now ≡ key_at nodes.new.keys n)) }
 {
-    if let Some(n) = nodes.keys.number_of(kind, name) {
-        return Ok(n);
-    }
-    let place = table.find(kind, name);
-    let name = Text::from_bytes(alloc, name)?;
-    let n = nodes.keys.len();
-    nodes.add(alloc, Key { kind, name }, place)?;
+    let n = nodes.add(alloc, table, kind, name)?;
     Ok(n)
 }

@@ -1,12 +1,14 @@
-use Rattle.std.proofs.Common.{◌≡◌, ℕ, List, Some, is_some, sym, ◌∙◌, ap, subst, arith}
+use Rattle.std.proofs.Common.{◌≡◌, ◌∷◌, [], ℕ, List, Some, is_some, sym, ◌∙◌, ap, subst, arith}
 use Rattle.std.proofs.lemmas.Map.Made.{is_some-lookup}
 use Rattle.def_entry.specs.Keys.{key as key_named}
 use Rattle.def_entry.specs.SameKeys.{is_among, is_same}
 use Rattle.def_entry.specs.Tables.{is_present, keys_of}
+use Rattle.def_entry.specs.declared.key.Key.{Key}
 use Rattle.deck.specs.Tables.{table}
 use Rattle.edge_links.specs.Reach.{IsCleared}
 use Rattle.name_edges.specs.Affected.{IsAffected}
 use Rattle.live_table.specs.Edged.{is_flagged}
+use Rattle.live_table.specs.Forgotten.{AreForgotten}
 use Rattle.live_table.specs.Keeping.{IsLeft}
 use Rattle.live_table.specs.Stored.{Listed, listed}
 use Rattle.live_table.proofs.Forgets.{absent_forgotten, flag_forgotten, one_forgotten}
@@ -16,13 +18,17 @@ use Rattle.live_table.proofs.forgetting.forget_key.Goals.{After-note}
 
 pub returns-in_default : goal.returns-in_default
 returns-in_default c =
-    absent_forgotten (table c.args.deck.now) c.args.key.now (listed c.args.nodes.now) c.args.edges.now c.requires.names
+    subst (λ (keys : List Key). AreForgotten (table c.args.deck.now) (c.args.key.now ∷ []) (listed c.args.nodes.now)
+    (record (listed c.args.nodes.now) { keys = keys }) c.args.edges.now c.args.edges.now)
+    (sym c.in_default.ensures.kept)
+    (absent_forgotten (table c.args.deck.now) c.args.key.now (listed c.args.nodes.now) c.args.edges.now
+    c.requires.names
     (ap (λ (w : List ℕ). is_among c.args.nodes.now.keys (key_named c.args.key.now.kind w)) (sym c.as_bytes.ensures)
-    ∙ c.in_default.ensures)
+    ∙ c.in_default.ensures.number))
 
 pub note-requires : goal.note-requires
 note-requires c =
-    let h = get_lt c.args.nodes.now.keys c.in-Some.n _ c.in-Some.ensures in
+    let h = get_lt c.args.nodes.now.keys c.in-Some.n _ c.in-Some.ensures.number in
     let e = c.requires.flags in
     omega (arith, h, e)
 
@@ -39,12 +45,12 @@ returns-then-n-names c =
     let noted = c.note.ensures.rest in
     let rest = c.forget_number.ensures.rest in
     one_forgotten (table c.args.deck.now) c.args.key.now (listed c.args.nodes.now) c.in-Some.n
-    (c.in-Some.ensures ∙ ap (λ (w : List ℕ). Some (key_named c.args.key.now.kind w)) c.as_bytes.ensures)
+    (c.in-Some.ensures.number ∙ ap (λ (w : List ℕ). Some (key_named c.args.key.now.kind w)) c.as_bytes.ensures)
     c.requires.apart c.requires.flags (is_some c.find.result)
     (flag (goal.at.returns-then-n-names c).After-note)
     (listed c.forget_number.new.nodes) (ap (λ (x : Listed). x.present) rest ∙ c.note.ensures.present)
     (record {
-      keys = ap (λ (x : Listed). x.keys) rest ∙ ap (λ (x : Listed). x.keys) noted;
+      keys = ap (λ (x : Listed). x.keys) rest ∙ (ap (λ (x : Listed). x.keys) noted ∙ c.in-Some.ensures.kept);
       callees = ap (λ (x : Listed). x.callees) rest ∙ ap (λ (x : Listed). x.callees) noted;
       graph = ap (λ (x : Listed). x.graph) rest ∙ ap (λ (x : Listed). x.graph) noted;
       looks = ap (λ (x : Listed). x.looks) rest ∙ ap (λ (x : Listed). x.looks) noted;
@@ -62,12 +68,12 @@ pub returns-else-n-names : goal.returns-else-n-names
 returns-else-n-names c =
     let noted = c.note.ensures.rest in
     flag_forgotten (table c.args.deck.now) c.args.key.now (listed c.args.nodes.now) c.in-Some.n
-    (c.in-Some.ensures ∙ ap (λ (w : List ℕ). Some (key_named c.args.key.now.kind w)) c.as_bytes.ensures)
+    (c.in-Some.ensures.number ∙ ap (λ (w : List ℕ). Some (key_named c.args.key.now.kind w)) c.as_bytes.ensures)
     c.requires.apart c.requires.flags (is_some c.find.result)
     (flag (goal.at.returns-else-n-names c).After-note)
     (listed c.note.new.self) c.note.ensures.present
     (record {
-      keys = ap (λ (x : Listed). x.keys) noted;
+      keys = ap (λ (x : Listed). x.keys) noted ∙ c.in-Some.ensures.kept;
       callees = ap (λ (x : Listed). x.callees) noted;
       graph = ap (λ (x : Listed). x.graph) noted;
       looks = ap (λ (x : Listed). x.looks) noted;

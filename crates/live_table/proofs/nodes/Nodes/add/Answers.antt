@@ -1,29 +1,39 @@
-use Rattle.std.proofs.Common.{◌++◌, ◌∷◌, [], None, false, ◌∙◌}
+use Rattle.std.proofs.Common.{◌≡◌, ◌++◌, ◌∷◌, [], List, refl, ◌∙◌, inr}
+use Rattle.def_entry.specs.Keys.{key}
+use Rattle.live_table.proofs.Indexing.{one_more}
 use Rattle.live_table.proofs.nodes.Nodes.add.Goals as goal
 
+-- one more behind what had room for it
+behind : {A : Type 0} (old room new : List A) (x y : A) → new ≡ room ++ x ∷ [] → room ≡ old → x ≡ y
+    → new ≡ old ++ y ∷ []
+behind old room new x y put kept is = put ∙ (λ i. kept i ++ is i ∷ [])
+
 pub returns-clause-ok : goal.returns-clause-ok
-returns-clause-ok c =
-    let keys = c.in_ok-push.ensures.ok in
-    let present = c.in_ok-push-2.ensures.items ∙ (λ i. c.reserve.ensures.items i ++ c.is_some.ensures i ∷ []) in
-    let callees = c.in_ok-push-3.ensures.items ∙ (λ i. c.reserve-2.ensures.items i ++ c.no_callee.result ∷ []) in
-    let outcomes = c.in_ok-push-4.ensures.items ∙ (λ i. c.reserve-3.ensures.items i ++ None ∷ []) in
-    let steps = c.in_ok-push-5.ensures.items ∙ (λ i. c.reserve-4.ensures.items i ++ c.new.result ∷ []) in
-    let looks = c.in_ok-push-6.ensures.items ∙ (λ i. c.reserve-5.ensures.items i ++ c.new-2.result ∷ []) in
-    let settled = c.in_ok-push-7.ensures.items ∙ (λ i. c.reserve-6.ensures.items i ++ false ∷ []) in
+returns-clause-ok g c =
+    let old = c.args.self.now in
+    let keys = one_more (key c.args.kind c.args.name.now) old.keys c.add.new.self c.in_ok-added.added.number
+    c.in_ok-added.added.is_new c.in_ok-added.ensures.ok c.if-not-added.false in
     record {
-      callee = c.no_callee.result;
-      steps = c.new.result;
-      looks = c.new-2.result;
-      no_steps = c.new.ensures.items;
-      no_looks = c.new-2.ensures.items;
-      named = λ i. record {
-        keys = keys i;
-        present = present i;
-        callees = callees i;
-        outcomes = outcomes i;
-        graph = steps i;
-        looks = looks i;
-        settled = settled i;
-        count = c.args.self.now.settled_count;
-      };
+      number = c.in_ok-added.ensures.ok.number;
+      names = inr (
+        keys.0,
+        record {
+          callee = c.no_callee.result;
+          steps = c.new.result;
+          looks = c.new-2.result;
+          no_steps = c.new.ensures.items;
+          no_looks = c.new-2.ensures.items;
+          named = λ i. record {
+            keys = keys.1 i;
+            present = behind old.present.items _ _ _ _ c.in_ok-push.ensures.items c.reserve.ensures.items
+                (c.is_some.ensures ∙ c.find-place.ensures) i;
+            callees = behind old.callees.items _ _ _ _ c.in_ok-push-2.ensures.items c.reserve-2.ensures.items refl i;
+            outcomes = behind old.outcomes.items _ _ _ _ c.in_ok-push-3.ensures.items c.reserve-3.ensures.items refl i;
+            graph = behind old.steps.items _ _ _ _ c.in_ok-push-4.ensures.items c.reserve-4.ensures.items refl i;
+            looks = behind old.looks.items _ _ _ _ c.in_ok-push-5.ensures.items c.reserve-5.ensures.items refl i;
+            settled = behind old.settled.items _ _ _ _ c.in_ok-push-6.ensures.items c.reserve-6.ensures.items refl i;
+            count = old.settled_count;
+          };
+        },
+      );
     }
