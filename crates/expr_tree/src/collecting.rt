@@ -18,10 +18,10 @@ pub fn words<'a>(alloc: Global, tree: &'a Tree) -> Result<Words<'a>, AllocError>
     Ok(words)
 }
 
-// Puts the words of a tree at the end.
+/// Puts the words of the tree behind others, as `words` gives them. The only error is want of memory.
 #[cycle(put)]
 #[tactic(auto, using(crate::proofs::Says::says))]
-fn put_words<'a>(alloc: Global, words: &mut Words<'a>, tree: &'a Tree) -> Result<(), AllocError>
+pub fn put_words<'a>(alloc: Global, words: &mut Words<'a>, tree: &'a Tree) -> Result<(), AllocError>
     ensures { IfOk result (λ _. words.new ≡ words.old ++ words_in (syntax tree.now)) }
 {
     match tree {

@@ -20,7 +20,7 @@ mod token;
 mod tree;
 mod word_list;
 
-pub use collecting::words;
+pub use collecting::{put_words, words};
 pub use fault::ParseFault;
 pub use laws::{
     complete_law, examples_law, formed_law, free_law, one_tree_law, parsed_law, reading_law,

@@ -1,6 +1,6 @@
 //! The order of lookup.
 
-ghost use Rattle.std.specs.Prelude.{◌≡◌, ◌++◌, codes, IfOk, length};
+ghost use Rattle.std.specs.Prelude.{◌++◌, codes, IfOk, length};
 ghost use Rattle.def_entry.specs.SameKeys.{is_among};
 ghost use Rattle.name_lookup.specs.Keeping.{StaysKept};
 ghost use Rattle.name_lookup.specs.Order as spec;

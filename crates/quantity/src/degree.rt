@@ -55,7 +55,7 @@ impl Degree {
     }
 
     // The denominator is not 0.
-    pub(crate) fn has_denominator(&self)
+    pub(crate) fn denominator_facts(&self)
         ensures { 0 < self.now.den }
     {
         let _ = &self.den;

@@ -4,15 +4,16 @@ ghost use Rattle.std.specs.Prelude.{◌≡◌, pos, IfOk};
 ghost use Rattle.frac128.specs.Fraction.{whole};
 
 use crate::exponent::Exponent;
+use smallvec::SmallVec;
 use std::alloc::{AllocError, Global};
 use std::default::MadeWith;
 use std::marker::Model;
-use units_io::Text;
 
-/// A name with its exponent, which contracts see as a pair.
+/// A name with its exponent, which contracts see as a pair. A short name lies in the value itself, since each product
+/// copies the names of a factor.
 #[derive(Drop)]
 pub(crate) struct Power {
-    name: Text,
+    name: SmallVec<u8, 16>,
     exponent: Exponent,
 }
 
@@ -25,14 +26,14 @@ impl Model for Power {
 
     ghost coded = { power_code };
 
-    ghost view = { λ p. (p.name, p.exponent) };
+    ghost view = { λ p. (p.name.items, p.exponent) };
 }
 
 // A small vector fills its unused places with this.
 impl MadeWith<Global> for Power {
     fn made_with(alloc: Global) -> Power {
         Power {
-            name: Text::from(Vec::new(alloc)),
+            name: SmallVec::new(alloc),
             exponent: Exponent::zero(),
         }
     }
@@ -42,7 +43,7 @@ impl Power {
     pub(crate) fn name(&self) -> &[u8]
         ensures { result.now ≡ self.now.0 }
     {
-        self.name.as_bytes()
+        self.name.as_slice()
     }
 
     pub(crate) fn exponent(&self) -> Exponent
@@ -66,7 +67,7 @@ impl Power {
         ensures { IfOk result (λ power. power ≡ (self.now.0, exponent)) }
     {
         Ok(Power {
-            name: self.name.copy(alloc)?,
+            name: SmallVec::from_slice(alloc, self.name())?,
             exponent,
         })
     }
@@ -76,7 +77,7 @@ impl Power {
         ensures { IfOk result (λ power. power ≡ (name.now, whole (pos 1))) }
     {
         Ok(Power {
-            name: Text::from_bytes(alloc, name)?,
+            name: SmallVec::from_slice(alloc, name)?,
             exponent: Exponent::one(),
         })
     }

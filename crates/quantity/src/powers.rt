@@ -155,7 +155,7 @@ impl Powers {
         ensures { AreThose result (power_exponents self degree.now) }
     {
         reduced_law();
-        degree.has_denominator();
+        degree.denominator_facts();
         let items = scale(alloc, self.items, degree)?;
         Ok(Powers { items })
     }

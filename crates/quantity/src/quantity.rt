@@ -93,7 +93,7 @@ impl Quantity {
         ensures value { result ≡ self.now.value }
         ensures kept { IsFrac self.now.value }
     {
-        is_kept(&self.value);
+        value_facts(&self.value);
         self.value
     }
 
@@ -121,7 +121,7 @@ impl Quantity {
 }
 
 // A fraction is in lowest terms and fits.
-fn is_kept(x: &Frac)
+fn value_facts(x: &Frac)
     ensures { IsFrac x.now }
 {
     x.den();

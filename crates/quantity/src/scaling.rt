@@ -22,7 +22,7 @@ pub(crate) fn scale(
     ensures { IsListed result (scaled degree.now items.items) }
 {
     reduced_law();
-    degree.has_denominator();
+    degree.denominator_facts();
     let mut powers = SmallVec::new(alloc);
     for power in items {
         put_product(&mut powers, power, degree)?;

@@ -73,6 +73,13 @@ impl<T: Drop> List<T> {
         self.items.push(item)?;
         Ok(())
     }
+
+    /// Takes all items out, and keeps the memory for others.
+    pub fn clear(&mut self)
+        ensures { self.new ≡ [] }
+    {
+        self.items.clear();
+    }
 }
 
 /// Takes the items over, with no copy.

@@ -5,12 +5,16 @@ use crate::files::StoreFault;
 use std::alloc::{AllocError, Global};
 use std::fs::{File, Metadata, OpenFile, Permissions};
 use std::io::{ErrorKind, Write};
-use std::os::unix::fs::MetadataExt;
+use std::os::unix::fs::{MetadataExt, PermissionsExt};
 use std::rt::Files;
 use std::{fs, io};
 
 // How many names of a new file are tried, each of which a run that was cut off may have left.
 const MOST_NAMES: u32 = 1000;
+
+// Who may read, write and run a file. To run it as another user or group is no leave that a new file takes over, since
+// it may be owned by another than the old one.
+const KEPT_PERMISSIONS: u32 = 0o777;
 
 // Where the system names what a run writes to.
 const STREAMS: &[&str] = &["/dev/stdout", "/dev/stderr"];
@@ -41,10 +45,15 @@ pub(super) fn save_file<H: Files>(
 // what is said behind would go to one without a name.
 fn kept_permissions<H: Files>(rt: &H, path: &str) -> Result<Option<Permissions>, StoreFault> {
     match fs::metadata(rt, path) {
-        Ok(old) if old.is_file() && !is_stream(rt, &old) => Ok(Some(old.permissions())),
+        Ok(old) if old.is_file() && !is_stream(rt, &old) => Ok(Some(without_ids(&old))),
         Err(e) if e.kind() == ErrorKind::NotFound => Ok(None),
         _ => Err(StoreFault::Failed),
     }
+}
+
+// The permissions of what was found, without the bits that lend its owner's or its group's.
+fn without_ids(found: &Metadata) -> Permissions {
+    Permissions::from_mode(found.permissions().mode() & KEPT_PERMISSIONS)
 }
 
 // Whether what was found is the file to which standard output or standard error leads.

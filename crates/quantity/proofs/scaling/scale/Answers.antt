@@ -19,5 +19,5 @@ returns-in_err-put_product c =
     rw (error.1, error.2)
     (handed_on _ _ _ _ _ c.in_err-put_product.ensures (λ fails.
     ap (λ (es : Powers). are_exponents (scaled by es)) (sym all)
-    ∙ scaling_fault c.reduced_law.ensures by _ _ c.loop-power.power-iterator _ c.in-Some.power c.has_denominator.ensures
+    ∙ scaling_fault c.reduced_law.ensures by _ _ c.loop-power.power-iterator _ c.in-Some.power c.denominator_facts.ensures
     c.loop-power.invariant c.in-Some.ensures.steps fails))
