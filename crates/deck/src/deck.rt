@@ -30,7 +30,6 @@ use deck_lines::LineStore;
 use def_entry::{Entry, Key, Kind};
 use def_lines::Lines;
 pub use keys::BorrowedKey;
-pub use near::PlacedEntry;
 use std::alloc::{AllocError, Global};
 use std::marker::Model;
 use units_io::Texts;

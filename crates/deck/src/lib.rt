@@ -11,7 +11,7 @@ mod places;
 mod settings;
 mod splice;
 
-pub use deck::{BorrowedKey, Deck, PlacedEntry};
+pub use deck::{BorrowedKey, Deck};
 pub use fault::DeckFault;
 pub use laws::{
     changes_are_computed, examples_law, key_lists_are_one, splices_are_undone,

@@ -16,7 +16,4 @@ pub use laws::{decks_are_closed, examples_law, first_faults_end_loads};
 pub use line::{Block, BorrowedLine, DeckLine, DeckLines, Ending, MarkedLines, Role};
 pub use load::load_text;
 pub use reading::{Reading, read_line};
-pub use store::{
-    EditedLines, KeyNumbers, LineStore, MOST_BYTES, MOST_LINES, NameSet, PutDefinitions,
-    can_exchange,
-};
+pub use store::{EditedLines, LineStore, MOST_BYTES, MOST_LINES, PutDefinitions, can_exchange};

@@ -16,7 +16,5 @@ mod reads;
 pub use definitions::PutDefinitions;
 pub use edited_lines::EditedLines;
 pub use exchangeable::can_exchange;
-pub use key_numbers::KeyNumbers;
 pub use line_list::{MOST_BYTES, MOST_LINES};
 pub use line_store::LineStore;
-pub use name_set::NameSet;

@@ -1,8 +1,9 @@
 //! A line put at the end.
 
-ghost use Rattle.std.specs.Prelude.{◌≡◌, ◌<◌, ◌++◌, ◌∷◌, ◌⊎◌, [], Some, Err, not, false, length, IfOk, IfErr, OnErr};
-ghost use Rattle.std.specs.Prelude.{OnOk};
+ghost use Rattle.std.specs.Prelude.{◌≡◌, ◌<◌, ◌++◌, ◌∷◌, ◌⊎◌, [], Some, Err, not, false, length, IfOk, IfErr, IfSome, OnErr};
+ghost use Rattle.std.specs.Prelude.{OnOk, option_map};
 ghost use Rattle.def_lines.specs.Blanks.{trimmed};
+ghost use Rattle.def_entry.specs.Keys as keys;
 ghost use Rattle.def_entry.specs.Seen.{seen_entry};
 ghost use Rattle.def_entry.specs.Views.{entry_view};
 ghost use Rattle.deck_lines.specs.Closed.{IsClosed};
@@ -15,7 +16,7 @@ ghost use Rattle.deck.specs.Changes.{IsChange};
 ghost use Rattle.deck.specs.Decks.{Contents};
 ghost use Rattle.deck.specs.Edits as edit;
 ghost use Rattle.deck.specs.LastPlaces.{IsIndexed, places_of};
-ghost use Rattle.deck.specs.Tables.{last_place};
+ghost use Rattle.deck.specs.Tables.{entry_at, last_place, table};
 ghost use Rattle.deck.specs.Undefining as undefining;
 ghost use Rattle.deck.specs.declared.fault.DeckFault.TheVariants.{OutOfMemory};
 ghost use Rattle.deck.specs.declared.settings.Settings as settings_spec;
@@ -24,10 +25,17 @@ use super::Deck;
 use crate::fault::DeckFault;
 use crate::places::LastPlaces;
 use deck_lines::LineStore;
-use def_entry::{Entry, EntryFault, Key, Keys, What, read_entry, same_text_law};
+use def_entry::{Entry, EntryFault, Key, Keys, Kind, What, read_entry, same_text_law};
 use def_lines::{Line, LineKind, classify, trim};
 use std::alloc::{AllocError, Global};
 use units_io::Text;
+
+// An entry, and the place of its line.
+#[derive(Drop)]
+struct PlacedEntry<'a> {
+    place: usize,
+    entry: Entry<'a>,
+}
 
 impl Deck {
     /// Puts a line that defines a key at the end, trimmed, with the number 0, and answers the key if
@@ -93,6 +101,22 @@ impl Deck {
         }
         let keys = key_alone(alloc, key)?;
         Ok((keys, Some(old.place)))
+    }
+
+    // `entry` and `place_of` by one look-up.
+    fn placed_entry(&self, kind: Kind, name: &[u8]) -> Option<PlacedEntry<'_>>
+        ensures entry { option_map (λ p. entry_view p.entry) result
+            ≡ entry_at (table self.now) (keys.key kind name.now) }
+        ensures place { IfSome result (λ p. last_place self.now.settings self.now.lines
+            (keys.key kind name.now) ≡ Some p.place) }
+    {
+        let Some(place) = self.place_of(kind, name) else {
+            return None;
+        };
+        match self.store.entry(place) {
+            Some(entry) => Some(PlacedEntry { place, entry }),
+            None => None,
+        }
     }
 
     // Puts a line that defines a key at the end.

@@ -1,6 +1,6 @@
-//! Entries with their places, and entries near which a caller has been before.
+//! Entries near which a caller has been before.
 
-ghost use Rattle.std.specs.Prelude.{◌≡◌, Some, option_map, IfSome};
+ghost use Rattle.std.specs.Prelude.{◌≡◌, Some, option_map};
 ghost use Rattle.std.specs.Bool.{OnTrue};
 ghost use Rattle.def_entry.specs.Keys as keys;
 ghost use Rattle.def_entry.specs.Views.{entry_view};
@@ -11,32 +11,7 @@ use super::Deck;
 use deck_lines::{KeyNumber, LineStore};
 use def_entry::{Entry, Kind};
 
-/// An entry, and where it stands.
-#[derive(Drop)]
-pub struct PlacedEntry<'a> {
-    /// The place of its line in `lines`, from 0.
-    pub place: usize,
-    /// The entry.
-    pub entry: Entry<'a>,
-}
-
 impl Deck {
-    /// `entry` and `place_of` by one look-up. It takes no memory.
-    pub fn placed_entry(&self, kind: Kind, name: &[u8]) -> Option<PlacedEntry<'_>>
-        ensures entry { option_map (λ p. entry_view p.entry) result
-            ≡ tables.entry_at (tables.table self.now) (keys.key kind name.now) }
-        ensures place { IfSome result (λ p. tables.last_place self.now.settings self.now.lines
-            (keys.key kind name.now) ≡ Some p.place) }
-    {
-        let Some(place) = self.place_of(kind, name) else {
-            return None;
-        };
-        match self.store.entry(place) {
-            Some(entry) => Some(PlacedEntry { place, entry }),
-            None => None,
-        }
-    }
-
     /// `entry`, which finds at once a key whose last active line stands at the place `near`, as it does for who has
     /// asked for the place before. A key whose line stands elsewhere is looked up. It takes no memory.
     // Inlined, so that who asks for what an entry says does not pay for its text.

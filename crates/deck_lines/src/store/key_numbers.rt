@@ -13,7 +13,7 @@ use std::alloc::{AllocError, Global};
 
 /// Keys with numbers, kind by kind.
 #[derive(Drop)]
-pub struct KeyNumbers {
+pub(crate) struct KeyNumbers {
     pub units: NameSet,
     pub prefixes: NameSet,
     pub functions: NameSet,

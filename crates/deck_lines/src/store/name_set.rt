@@ -12,7 +12,7 @@ use std::marker::Model;
 
 /// Names, each with the number of names that came before it.
 #[derive(Drop)]
-pub struct NameSet {
+pub(crate) struct NameSet {
     names: IndexSet<Vec<u8>>,
 }
 
