@@ -1,7 +1,8 @@
 #!/usr/bin/env bash
 # Times the program of crates/live_calls. Over a chain of 60,000 names, each of which is a multiple of the one before
 # it: the first query of the last one, later ones, queries of all names from the first on and from the last on, and
-# the memory of a settled name. Over a ring of as many names: a query, which ends in a cycle of all. Over the
+# the memory of a settled name; where valgrind is there, the instructions and the misses of a cache of the first query,
+# which no other work changes. Over a ring of as many names: a query, which ends in a cycle of all. Over the
 # definitions of GNU units with their includes, where they are there: all names settled. Prints the lowest of a few
 # runs, less what the load takes.
 #   bench/live.sh [DEFINITIONS]
@@ -18,7 +19,7 @@ import tempfile
 from pathlib import Path
 
 import timing
-from timing import say
+from timing import counted, say
 
 REAL = sys.argv[2]
 COUNT, LATER = 60_000, 200_000
@@ -27,6 +28,12 @@ timed = functools.partial(timing.timed, sys.argv[1])
 
 def say_each(what, cost):
     print(f"{what:44} {cost.clock * 1e6:8.2f} µs, {cost.processor * 1e6:8.2f} of the processor", flush=True)
+
+
+def say_counts(what, loading, first):
+    if loading and first:
+        instructions, misses = ((count - load) / COUNT for count, load in zip(first, loading))
+        print(f"{what:44} {instructions:8.0f} instructions, {misses:.1f} misses of a cache of 1 MB", flush=True)
 
 
 def real():
@@ -49,6 +56,7 @@ def chain():
     settled = f"{COUNT + 1} settled, {COUNT + 1} names, {COUNT + 1} reductions"
     memory = timed(["load chain", last, "counts"], settled).memory
     say("the first query of the last one", first.less(loading), f", {(memory - loading.memory) // COUNT} bytes a name")
+    say_counts("  a name of it", counted(sys.argv[1], ["load chain", "counts"]), counted(sys.argv[1], ["load chain", last]))
     later = timed(["load chain", last, *[last] * LATER], "1 u_0").less(first, LATER)
     say_each("a later one, with its line and its answer", later)
     unread = timed(["load chain", last, *["X" + last] * LATER], "bad call").less(first, LATER)

@@ -1,5 +1,7 @@
 """Times runs of a program that answers calls, one a line."""
 
+import re
+import shutil
 import subprocess
 import sys
 import tempfile
@@ -39,6 +41,23 @@ def timed(program, calls, wanted, runs=5):
             sys.exit(f"{calls[-1]}: status {status}, {last!r} in the place of {wanted!r}")
         costs.append(Cost(float(clock), float(processor), int(memory) << 10))
     return Cost(*(min(times) for times in list(zip(*costs))[:2]), max(cost.memory for cost in costs))
+
+
+# Caches of one size on every machine: what lies beyond 1 MB is a miss.
+CACHES = ["--cache-sim=yes", "--I1=32768,8,64", "--D1=32768,8,64", "--LL=1048576,16,64", "--cachegrind-out-file=/dev/null"]
+
+
+def counted(program, calls):
+    """The instructions of a run and its misses of a cache of 1 MB, which no other work changes, or none of them where
+    valgrind is not there."""
+    if shutil.which("valgrind") is None:
+        return None
+    with tempfile.TemporaryFile() as given:
+        given.write("".join(call + "\n" for call in calls).encode())
+        given.seek(0)
+        run = subprocess.run(["valgrind", "--tool=cachegrind", *CACHES, program], stdin=given, capture_output=True, text=True)
+    counts = [re.search(rf"{name}:\s+([\d,]+)", run.stderr) for name in ("I\\s+refs", "LL misses")]
+    return [int(count.group(1).replace(",", "")) for count in counts] if all(counts) else None
 
 
 def say(what, cost, rest=""):
