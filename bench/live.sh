@@ -56,7 +56,7 @@ def chain():
     settled = f"{COUNT + 1} settled, {COUNT + 1} names, {COUNT + 1} reductions"
     memory = timed(["load chain", last, "counts"], settled).memory
     say("the first query of the last one", first.less(loading), f", {(memory - loading.memory) // COUNT} bytes a name")
-    say_counts("  a name of it", counted(sys.argv[1], ["load chain", "counts"]), counted(sys.argv[1], ["load chain", last]))
+    say_counts("  a name of it", *(counted(sys.argv[1], ["load chain", call]) for call in ("counts", last)))
     later = timed(["load chain", last, *[last] * LATER], "1 u_0").less(first, LATER)
     say_each("a later one, with its line and its answer", later)
     unread = timed(["load chain", last, *["X" + last] * LATER], "bad call").less(first, LATER)

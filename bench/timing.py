@@ -44,7 +44,8 @@ def timed(program, calls, wanted, runs=5):
 
 
 # Caches of one size on every machine: what lies beyond 1 MB is a miss.
-CACHES = ["--cache-sim=yes", "--I1=32768,8,64", "--D1=32768,8,64", "--LL=1048576,16,64", "--cachegrind-out-file=/dev/null"]
+CACHES = ["--cache-sim=yes", "--I1=32768,8,64", "--D1=32768,8,64", "--LL=1048576,16,64"]
+COUNTER = ["valgrind", "--tool=cachegrind", *CACHES, "--cachegrind-out-file=/dev/null"]
 
 
 def counted(program, calls):
@@ -55,7 +56,7 @@ def counted(program, calls):
     with tempfile.TemporaryFile() as given:
         given.write("".join(call + "\n" for call in calls).encode())
         given.seek(0)
-        run = subprocess.run(["valgrind", "--tool=cachegrind", *CACHES, program], stdin=given, capture_output=True, text=True)
+        run = subprocess.run([*COUNTER, program], stdin=given, capture_output=True, text=True)
     counts = [re.search(rf"{name}:\s+([\d,]+)", run.stderr) for name in ("I\\s+refs", "LL misses")]
     return [int(count.group(1).replace(",", "")) for count in counts] if all(counts) else None
 

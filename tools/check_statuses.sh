@@ -129,6 +129,10 @@ ln -s near.units nearer.units
 expect 0 $'m !\ng 3 m\n' '' "printf ':define g 3 m\\n:save nearer.units\\n' | units -q -f kept.units \
     && [ -L nearer.units ] && [ -L near.units ] && cat kept.units"
 
+# A save keeps who may read, write and run the file, and no leave to run it as its owner or group.
+chmod 6750 kept.units
+expect 0 $'750\n' '' "echo ':save kept.units' | units -q -f kept.units && stat -c %a kept.units"
+
 # A save to what the run writes to is refused by whatever name, and what stands there is not lost.
 ln -s /dev/stdout stream
 for name in out.txt ./err.txt /proc/self/fd/1 //dev/stdout stream; do
