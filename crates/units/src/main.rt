@@ -4,6 +4,7 @@
 mod environment;
 
 ghost use Rattle.std.specs.Prelude.{◌≡◌, ◌<◌};
+ghost use Rattle.units_run.specs.Endings.{IsStated, MayEndBy};
 
 use environment::{collect_vars, collect_words};
 use std::marker::Brand;
@@ -12,11 +13,13 @@ use std::sync::ledger::{Blank, Ledger};
 use units_io::{DirFiles, StdSink, StdSource, Steps, Texts, Vars};
 use units_run::{Status, units_main};
 
-// The run on the system's streams and files, with a count of steps that nobody reads.
+// The run on the system's streams and files, with a count of steps that nobody reads. Which endings there may be is
+// decided by the words alone.
 fn run_on<L: Ledger>(rt: HostRuntime, words: &Texts, vars: &Vars, blank: Blank) -> Status
     requires name { blank.name ≡ L.name }
     requires parts { blank.parts ≡ L.parts }
     requires some { 0 < blank.parts }
+    ensures { IsStated result → MayEndBy words.now result }
 {
     let mut steps: Steps<L> = Steps::new(blank);
     let mut source = StdSource::new(rt.stdin());
