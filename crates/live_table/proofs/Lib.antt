@@ -9,6 +9,7 @@ pub mod DueOrder
 pub mod Edited
 pub mod Edits
 pub mod Events
+pub mod Finding
 pub mod Flags
 pub mod Following
 pub mod Forgets
@@ -24,7 +25,6 @@ pub mod LeadTargets
 pub mod Left
 pub mod LinkedNames
 pub mod Looking
-pub mod Marking
 pub mod NameQueries
 pub mod Named
 pub mod New
@@ -32,6 +32,7 @@ pub mod OneLess
 pub mod Outcomes
 pub mod Parts
 pub mod Places
+pub mod Placing
 pub mod Putting
 pub mod Queries
 pub mod QueryLeads

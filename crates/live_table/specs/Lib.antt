@@ -9,6 +9,7 @@ pub mod Edits
 pub mod Explored
 pub mod Exploring
 pub mod Forgotten
+pub mod Found
 pub mod Indexed
 pub mod Keeping
 pub mod KeptNames

@@ -1,11 +1,11 @@
 //! Numbers that are to be gone through.
 
 ghost use Rattle.std.specs.Prelude.{◌≡◌, ◌⊎◌, ◌↔◌, ◌+◌, ◌^◌, ◌<◌, ◌++◌, ◌∷◌, [], ℕ, length, if◌then◌else◌, nat_eq};
-ghost use Rattle.std.specs.Prelude.{IfOk, IfSome, OnOk, OnErr, slice_get};
+ghost use Rattle.std.specs.Prelude.{IfOk, IfSome, MatchOption, OnOk, OnErr, Some, false, slice_get};
 ghost use Rattle.std.specs.List.{IsDistinct};
 ghost use Rattle.name_walk.specs.Faults.{on};
 ghost use Rattle.name_walk.specs.Lists.{In};
-ghost use Rattle.live_table.specs.Agendas.{AreSameMarks};
+ghost use Rattle.live_table.specs.Agendas.{AreSamePlaces};
 
 use std::alloc::{AllocError, Global};
 use std::marker::Model;
@@ -14,19 +14,19 @@ use std::marker::Model;
 #[derive(Drop)]
 pub(crate) struct Agenda {
     numbers: Vec<usize>,
-    // whether a number is there, false beyond the last
-    marks: Vec<bool>,
+    // of each number that is there its place and 1, 0 of any other, none beyond the last
+    places: Vec<u32>,
 }
 
 impl Model for Agenda {
     ghost use Rattle.std.specs.Prelude.{List, ℕ};
-    ghost use Rattle.live_table.specs.Agendas.{IsMarked};
+    ghost use Rattle.live_table.specs.Agendas.{IsPlaced};
 
     ghost Value = { List ℕ };
 
     ghost view = { λ a. a.numbers.items };
 
-    ghost invariant = { λ a. IsMarked a.marks.items a.numbers.items };
+    ghost invariant = { λ a. IsPlaced a.places.items a.numbers.items };
 }
 
 impl Agenda {
@@ -36,7 +36,7 @@ impl Agenda {
     {
         Agenda {
             numbers: Vec::new(alloc),
-            marks: Vec::new(alloc),
+            places: Vec::new(alloc),
         }
     }
 
@@ -52,7 +52,15 @@ impl Agenda {
     pub(crate) fn has(&self, n: usize) -> bool
         ensures { result ≡ on self.now n }
     {
-        self.marks.get(n).copied().unwrap_or(false)
+        self.place_of(n).is_some()
+    }
+
+    /// The place at which a number stands, from 0, or none where it is not there.
+    pub(crate) fn place_of(&self, n: usize) -> Option<usize>
+        ensures { MatchOption result (on self.now n ≡ false) (λ place. slice_get self.now place ≡ Some n) }
+    {
+        let kept = self.places.get(n).copied().unwrap_or(0);
+        (kept as usize).checked_sub(1)
     }
 
     /// Puts a number, which is below `end`, behind the others, if it is not there. A refusal changes nothing.
@@ -61,12 +69,13 @@ impl Agenda {
         ensures ok { OnOk result (self.new ≡ (if on self.old n then self.old else self.old ++ n ∷ [])) }
         ensures err { OnErr result (self.new ≡ self.old) }
     {
-        cover(&mut self.marks, n, end)?;
-        if self.marks[n] {
+        if self.has(n) {
             return Ok(());
         }
+        cover(&mut self.places, n, end)?;
+        let kept = kept_place(self.numbers.len())?;
         self.numbers.push(n)?;
-        self.marks[n] = true;
+        self.places[n] = kept;
         Ok(())
     }
 
@@ -102,19 +111,29 @@ impl Agenda {
         ensures { self.new ≡ [] }
     {
         while let Some(n) = self.numbers.pop() {
-            self.marks[n] = false;
+            self.places[n] = 0;
         }
     }
 }
 
-// Makes room for the mark of a number, which is below `end`. No mark changes.
-fn cover(marks: &mut Vec<bool>, n: usize, end: usize) -> Result<(), AllocError>
+// Makes room for the place of a number, which is below `end`. No place changes.
+fn cover(places: &mut Vec<u32>, n: usize, end: usize) -> Result<(), AllocError>
     requires { n < end }
-    ensures same { AreSameMarks marks.old.items marks.new.items }
-    ensures ok { OnOk result (n < length marks.new.items) }
+    ensures same { AreSamePlaces places.old.items places.new.items }
+    ensures ok { OnOk result (n < length places.new.items) }
 {
-    if n < marks.len() {
+    if n < places.len() {
         return Ok(());
     }
-    marks.resize(end, false)
+    places.resize(end, 0)
+}
+
+// A place as it is kept. No memory holds so many numbers that it would not fit.
+fn kept_place(place: usize) -> Result<u32, AllocError>
+    ensures { IfOk result (λ kept. kept ≡ place + 1) }
+{
+    match u32::try_from(place.saturating_add(1)) {
+        Ok(kept) => Ok(kept),
+        Err(_) => Err(AllocError),
+    }
 }

@@ -11,6 +11,7 @@ ghost use Rattle.name_numbers.specs.Numbered.{LeadToKnown};
 ghost use Rattle.live_table.specs.Asked.{IsAnswered, IsAsked, IsKeyAsked, IsWalkedByName, fault_in};
 ghost use Rattle.live_table.specs.Edged.{IsLive};
 ghost use Rattle.live_table.specs.Exploring.{AreAllExplored, WereExplored, is_known};
+ghost use Rattle.live_table.specs.Found.{AreFound};
 ghost use Rattle.live_table.specs.QueryWords.{fault_before};
 ghost use Rattle.live_table.specs.Sound.{AreNodes};
 ghost use Rattle.live_table.specs.States.{AsksWords};
@@ -29,7 +30,7 @@ use crate::query_words::query_steps;
 use crate::scratch::Scratch;
 use crate::settling::settle;
 use deck::Deck;
-use def_entry::Kind;
+use def_entry::{Kind, What};
 use expr_tree::Words;
 use name_numbers::{numbered_fault_law, settling_law};
 use name_walk::{Net, Step, StepList, Walker};
@@ -69,14 +70,14 @@ pub(crate) fn ask_words<L: Ledger>(
     let tried = &mut scratch.tried;
     agenda.clear();
     let query = query_steps(alloc, deck, nodes, names, agenda, tried, words)?;
-    explore(alloc, deck, nodes, names, agenda, &mut explored.dead_ends)?;
+    let found = explore(alloc, deck, nodes, names, agenda, &mut explored.dead_ends)?;
     let targets = query.steps.as_slice();
     if let Some(end) = &query.end {
         let fault = cut_fault(alloc, deck, nodes, explored, scratch, targets, end)?;
         return Err(QueryFault::Name(fault));
     }
     settle_query(
-        alloc, deck, nodes, edges, explored, scratch, reductions, targets, steps,
+        alloc, deck, nodes, edges, explored, scratch, reductions, targets, &found, steps,
     )?;
     Ok(query.steps)
 }
@@ -111,31 +112,33 @@ pub(crate) fn ask_key<L: Ledger>(
     let agenda = &mut scratch.agenda;
     agenda.clear();
     let n = put_key(alloc, deck, nodes, names, agenda, kind, name)?;
-    explore(alloc, deck, nodes, names, agenda, &mut explored.dead_ends)?;
+    let found = explore(alloc, deck, nodes, names, agenda, &mut explored.dead_ends)?;
     let query = [Step::To(n)];
     settle_query(
-        alloc, deck, nodes, edges, explored, scratch, reductions, &query, steps,
+        alloc, deck, nodes, edges, explored, scratch, reductions, &query, &found, steps,
     )?;
     Ok(n)
 }
 
 // Settles what a query newly closes, unless it has a name fault: then it is remembered what was explored. All names
-// below it are explored.
-fn settle_query<L: Ledger>(
+// below it are explored, and what the entries of those on the agenda say was found in its order.
+fn settle_query<'a, L: Ledger>(
     alloc: Global,
-    deck: &Deck,
+    deck: &'a Deck,
     nodes: &mut Nodes,
     edges: &mut LateEdges,
     explored: &mut Explored,
     scratch: &mut Scratch,
     reductions: &mut u64,
     query: &[Step],
+    found: &[&'a What],
     steps: &mut Steps<L>,
 ) -> Result<(), QueryFault>
     requires live { IsLive deck.now (listed nodes.old) edges.old reductions.old }
     requires all { AreAllExplored (table deck.now) (listed nodes.old) explored.old.names scratch.old.agenda
         explored.old.dead_ends.items }
     requires known { LeadToKnown (is_known nodes.old.settled.items explored.old.names scratch.old.agenda) query.now }
+    requires found { AreFound (table deck.now) nodes.old.keys scratch.old.agenda found.now }
     ensures live { IsLive deck.now (listed nodes.new) edges.new reductions.new }
     ensures explored { WereExplored (table deck.now) (listed nodes.new) explored.new.names
         explored.new.dead_ends.items }
@@ -146,13 +149,16 @@ fn settle_query<L: Ledger>(
 {
     numbered_fault_law();
     let walker = &mut scratch.walker;
+    let agenda = &scratch.agenda;
     let fault = first_fault(alloc, nodes, walker, &explored.dead_ends, query)?;
     if let Some(fault) = fault {
-        explored.put_all(&scratch.agenda, nodes.keys.len())?;
+        explored.put_all(agenda, nodes.keys.len())?;
         return Err(QueryFault::Name(fault));
     }
     let order = walker.order();
-    settle(alloc, deck, nodes, edges, reductions, order, steps)?;
+    settle(
+        alloc, deck, nodes, edges, reductions, order, agenda, found, steps,
+    )?;
     Ok(())
 }
 

@@ -1,37 +1,38 @@
 //! Numbers and steps for all names below a query.
 
-ghost use Rattle.std.specs.Prelude.{◌≡◌, ◌<◌, true, IfOk, length};
-ghost use Rattle.def_entry.specs.Tables.{is_present};
+ghost use Rattle.std.specs.Prelude.{◌≡◌, IfOk};
+ghost use Rattle.def_entry.specs.Views.{what_view};
 ghost use Rattle.deck.specs.Tables.{table};
 ghost use Rattle.name_walk.specs.Lists.{In};
-ghost use Rattle.live_table.specs.Callees.{AreKeyWords};
 ghost use Rattle.live_table.specs.Exploring.{AreAllExplored, AreGrown, AreListed, AreSame, IsWritten, WereExplored};
+ghost use Rattle.live_table.specs.Found.{AreFound, Says};
 ghost use Rattle.live_table.specs.Sound.{AreNodes};
 ghost use Rattle.live_table.specs.Stored.{key_at, listed};
 
 use crate::agenda::Agenda;
 use crate::dead_end::DeadEnd;
-use crate::entry_words::{EntryWords, entry_words};
+use crate::entry_words::entry_words;
 use crate::nodes::Nodes;
 use crate::stepping::put_words;
 use crate::surroundings::entry;
 use deck::Deck;
-use def_entry::Kind;
+use def_entry::{Kind, What};
 use std::alloc::{AllocError, Global};
 
 // Few queries go through so many names.
 const MANY: usize = 1024;
 
 /// Numbers all names that those on the agenda reach, but for those that are settled or were explored, and gives them
-/// their steps in the present table. Then all of them are on the agenda. The only error is want of memory.
-pub(crate) fn explore(
+/// their steps in the present table. Then all of them are on the agenda, and what their entries say is given in its
+/// order. The only error is want of memory.
+pub(crate) fn explore<'a>(
     alloc: Global,
-    deck: &Deck,
+    deck: &'a Deck,
     nodes: &mut Nodes,
     explored: &Agenda,
     agenda: &mut Agenda,
     dead_ends: &mut Vec<DeadEnd>,
-) -> Result<(), AllocError>
+) -> Result<Vec<&'a What>, AllocError>
     requires nodes { AreNodes (table deck.now) (listed nodes.old) }
     requires listed { AreListed (table deck.now) (listed nodes.old) explored.now agenda.old }
     requires before { WereExplored (table deck.now) (listed nodes.old) explored.now dead_ends.old.items }
@@ -40,17 +41,21 @@ pub(crate) fn explore(
     ensures before { WereExplored (table deck.now) (listed nodes.new) explored.now dead_ends.new.items }
     ensures all { IfOk result (λ _. AreAllExplored (table deck.now) (listed nodes.new) explored.now agenda.new
         dead_ends.new.items) }
+    ensures found { IfOk result (λ found. AreFound (table deck.now) nodes.new.keys agenda.new found.items) }
 {
+    let mut found = Vec::new(alloc);
     let mut place = 0;
     while let Some(n) = agenda.get(place) {
         make_room(deck, nodes, place)?;
-        explore_name(alloc, deck, nodes, explored, agenda, dead_ends, n)?;
+        let what = entry(deck, nodes, n).what;
+        found.push(what)?;
+        explore_name(alloc, deck, nodes, explored, agenda, dead_ends, n, what)?;
         place += 1;
     }
-    Ok(())
+    Ok(found)
 }
 
-// Gives a name on the agenda its steps and its looks.
+// Gives a name on the agenda, whose entry says this, its steps and its looks.
 fn explore_name(
     alloc: Global,
     deck: &Deck,
@@ -59,17 +64,19 @@ fn explore_name(
     agenda: &mut Agenda,
     dead_ends: &mut Vec<DeadEnd>,
     n: usize,
+    what: &What,
 ) -> Result<(), AllocError>
     requires nodes { AreNodes (table deck.now) (listed nodes.old) }
     requires listed { AreListed (table deck.now) (listed nodes.old) explored.now agenda.old }
     requires name { In n agenda.old }
+    requires what { Says (table deck.now) (key_at nodes.old.keys n) (what_view what.now) }
     ensures grown { AreGrown (table deck.now) (listed nodes.old) (listed nodes.new) explored.now
         agenda.old agenda.new dead_ends.old.items dead_ends.new.items }
     ensures same { AreSame (λ m. m ≡ n → ⊥) (listed nodes.old) (listed nodes.new) }
     ensures written { IfOk result (λ _. IsWritten (table deck.now) (listed nodes.new) explored.now agenda.new
         dead_ends.new.items n) }
 {
-    let entry = words_of_key(alloc, deck, nodes, n)?;
+    let entry = entry_words(alloc, what)?;
     let steps = put_words(
         alloc,
         deck,
@@ -98,18 +105,4 @@ fn make_room(deck: &Deck, nodes: &mut Nodes, gone: usize) -> Result<(), AllocErr
     let prefixes = deck.key_count(Kind::Prefix);
     let functions = deck.key_count(Kind::Func);
     nodes.make_room(units.saturating_add(prefixes).saturating_add(functions))
-}
-
-// The words of the entry of a name.
-fn words_of_key<'a>(
-    alloc: Global,
-    deck: &'a Deck,
-    nodes: &Nodes,
-    n: usize,
-) -> Result<EntryWords<'a>, AllocError>
-    requires within { n < length nodes.now.keys }
-    requires present { is_present (table deck.now) (key_at nodes.now.keys n) ≡ true }
-    ensures { IfOk result (λ made. AreKeyWords (table deck.now) (key_at nodes.now.keys n) made) }
-{
-    entry_words(alloc, entry(deck, nodes, n).what)
 }

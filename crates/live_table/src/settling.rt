@@ -1,6 +1,9 @@
 //! The outcomes of names, in the order of a walk.
 
-ghost use Rattle.std.specs.Prelude.{◌≡◌, ◌+◌, ◌^◌, ◌<◌, ◌∷◌, [], ℕ, map, IfOk, OnErr, OnOk, Some, length, slice_get};
+ghost use Rattle.std.specs.Prelude.{◌≡◌, ◌+◌, ◌^◌, ◌<◌, ◌∷◌, [], ℕ, map, true, IfOk, OnErr, OnOk, Some, length};
+ghost use Rattle.std.specs.Prelude.{slice_get};
+ghost use Rattle.def_entry.specs.Tables.{is_present};
+ghost use Rattle.def_entry.specs.Views.{what_view};
 ghost use Rattle.live_table.specs.declared.callee.Callee.{Callee};
 ghost use Rattle.name_walk.specs.Lists.{In};
 ghost use Rattle.deck.specs.Tables.{table};
@@ -10,34 +13,41 @@ ghost use Rattle.live_table.specs.Asked.{AreSettledBy, put_in};
 ghost use Rattle.live_table.specs.Due.{AreDue, IsDue, with_outcome};
 ghost use Rattle.live_table.specs.Edged.{HasLateEdges};
 ghost use Rattle.live_table.specs.Exploring.{StayExplored};
+ghost use Rattle.live_table.specs.Found.{AreFound, Says};
 ghost use Rattle.live_table.specs.Ranks as ranks;
 ghost use Rattle.live_table.specs.Sound.{IsSound};
 ghost use Rattle.live_table.specs.Stored.{key_at, listed, shown};
 
+use crate::agenda::Agenda;
 use crate::callee::Callee;
 use crate::late_edges::LateEdges;
 use crate::nodes::Nodes;
 use crate::surroundings::{Asked, Surroundings, entry, steps_of};
 use deck::{Deck, tables_are_of_lines};
+use def_entry::What;
 use name_walk::Step;
 use std::alloc::{AllocError, Global};
 use std::sync::ledger::Ledger;
 use tree_eval::{Outcome, reduce};
 use units_io::Steps;
 
-/// Settles the names of a walk, targets before users, each with one step. Their edges wait.
-pub(crate) fn settle<L: Ledger>(
+/// Settles the names of a walk, targets before users, each with one step. Their edges wait. What the entries of the
+/// names on the agenda say was found in its order.
+pub(crate) fn settle<'a, L: Ledger>(
     alloc: Global,
-    deck: &Deck,
+    deck: &'a Deck,
     nodes: &mut Nodes,
     edges: &mut LateEdges,
     reductions: &mut u64,
     order: &[usize],
+    agenda: &Agenda,
+    found: &[&'a What],
     steps: &mut Steps<L>,
 ) -> Result<(), AllocError>
     requires sound { IsSound deck.now (listed nodes.old) reductions.old }
     requires edges { HasLateEdges deck.now (listed nodes.old) edges.old.waiting.items edges.old.made }
     requires order { AreDue (table deck.now) (listed nodes.old) order.now }
+    requires found { AreFound (table deck.now) nodes.old.keys agenda.now found.now }
     ensures sound { IsSound deck.now (listed nodes.new) reductions.new }
     ensures edges { HasLateEdges deck.now (listed nodes.new) edges.new.waiting.items edges.new.made }
     ensures explored { StayExplored (table deck.now) (listed nodes.old) (listed nodes.new) }
@@ -47,12 +57,35 @@ pub(crate) fn settle<L: Ledger>(
     ensures keys { OnOk result (nodes.new.keys ≡ nodes.old.keys) }
 {
     for n in order {
-        settle_one(alloc, deck, nodes, edges, reductions, *n, steps)?;
+        let what = what_of(deck, nodes, agenda, found, *n);
+        settle_one(alloc, deck, nodes, edges, reductions, *n, what, steps)?;
     }
     Ok(())
 }
 
-// Settles a name with one step. Want of memory leaves it as it was.
+// What the entry of a name says. A name that was explored before stands on no agenda.
+fn what_of<'a>(
+    deck: &'a Deck,
+    nodes: &Nodes,
+    agenda: &Agenda,
+    found: &[&'a What],
+    n: usize,
+) -> &'a What
+    requires found { AreFound (table deck.now) nodes.now.keys agenda.now found.now }
+    requires within { n < length nodes.now.keys }
+    requires present { is_present (table deck.now) (key_at nodes.now.keys n) ≡ true }
+    ensures { Says (table deck.now) (key_at nodes.now.keys n) (what_view result.now) }
+{
+    let Some(place) = agenda.place_of(n) else {
+        return entry(deck, nodes, n).what;
+    };
+    match found.get(place) {
+        Some(what) => what,
+        None => entry(deck, nodes, n).what,
+    }
+}
+
+// Settles a name, whose entry says this, with one step. Want of memory leaves it as it was.
 fn settle_one<L: Ledger>(
     alloc: Global,
     deck: &Deck,
@@ -60,11 +93,13 @@ fn settle_one<L: Ledger>(
     edges: &mut LateEdges,
     reductions: &mut u64,
     n: usize,
+    what: &What,
     steps: &mut Steps<L>,
 ) -> Result<(), AllocError>
     requires sound { IsSound deck.now (listed nodes.old) reductions.old }
     requires edges { HasLateEdges deck.now (listed nodes.old) edges.old.waiting.items edges.old.made }
     requires due { IsDue (table deck.now) (listed nodes.old) n }
+    requires what { Says (table deck.now) (key_at nodes.old.keys n) (what_view what.now) }
     ensures sound { IsSound deck.now (listed nodes.new) reductions.new }
     ensures edges { HasLateEdges deck.now (listed nodes.new) edges.new.waiting.items edges.new.made }
     ensures explored { StayExplored (table deck.now) (listed nodes.old) (listed nodes.new) }
@@ -76,7 +111,7 @@ fn settle_one<L: Ledger>(
         ≡ shown deck.now (listed nodes.old) reductions.old) }
     ensures steps { steps.new ≡ steps.old + 1 }
 {
-    let outcome = outcome_of(alloc, deck, nodes, n, steps)?;
+    let outcome = outcome_of(alloc, deck, nodes, n, what, steps)?;
     let rank = rank_of(deck, nodes, n, &outcome);
     edges.waiting.push_back(n)?;
     put(nodes, n, outcome, rank);
@@ -100,16 +135,18 @@ fn put(nodes: &mut Nodes, n: usize, outcome: Outcome, rank: u32)
     nodes.settled_count += 1;
 }
 
-// The outcome of a name, in one step.
+// The outcome of a name, whose entry says this, in one step.
 fn outcome_of<'a, L: Ledger>(
     alloc: Global,
     deck: &'a Deck,
     nodes: &'a Nodes,
     n: usize,
+    what: &What,
     steps: &mut Steps<L>,
 ) -> Result<Outcome, AllocError>
     requires sound { (reductions : ℕ) × IsSound deck.now (listed nodes.now) reductions }
     requires due { IsDue (table deck.now) (listed nodes.now) n }
+    requires what { Says (table deck.now) (key_at nodes.now.keys n) (what_view what.now) }
     ensures outcome { IfOk result (λ o. o ≡ names.outcome (table deck.now) (key_at nodes.now.keys n)) }
     ensures steps { steps.new ≡ steps.old + 1 }
 {
@@ -118,14 +155,7 @@ fn outcome_of<'a, L: Ledger>(
         nodes,
         asked: Asked::Name(n),
     };
-    reduce(
-        alloc,
-        &surroundings,
-        n,
-        nodes.keys.name(n),
-        entry(deck, nodes, n).what,
-        steps,
-    )
+    reduce(alloc, &surroundings, n, nodes.keys.name(n), what, steps)
 }
 
 // The rank of a name with this outcome.

@@ -15,7 +15,7 @@ use Rattle.live_table.proofs.GrownLive.{cut_short, grown_live, key_query}
 use Rattle.live_table.proofs.Stages.{AreAllStages, AreStages, Stages, cut_there, live_there, stages_of}
 use Rattle.live_table.proofs.StillExplored.{added_explored}
 use Rattle.live_table.proofs.asking.ask_key.Goals as goal
-use Rattle.live_table.proofs.asking.ask_key.Goals.{After-explore, After-put_key, In_ok-explore}
+use Rattle.live_table.proofs.asking.ask_key.Goals.{After-explore, After-put_key, In_ok-found}
 
 pub put_key-requires-clause-listed : goal.put_key-requires-clause-listed
 put_key-requires-clause-listed g c =
@@ -90,39 +90,39 @@ live : (g : _) (c : After-explore g)
     → IsLive c.args.deck.now (listed c.explore.new.nodes) c.args.edges.now c.args.reductions.now
 live g c = live_there (stages g c) (are_stages g c) c.args.edges.now c.requires.live
 
-pub returns-in_err-explore-clause-live : goal.returns-in_err-explore-clause-live
-returns-in_err-explore-clause-live g c = live g (goal.at.returns-in_err-explore-clause-live g c).After-explore
+pub returns-in_err-found-clause-live : goal.returns-in_err-found-clause-live
+returns-in_err-found-clause-live g c = live g (goal.at.returns-in_err-found-clause-live g c).After-explore
 
-pub returns-in_err-explore-clause-asked : goal.returns-in_err-explore-clause-asked
-returns-in_err-explore-clause-asked g c =
+pub returns-in_err-found-clause-asked : goal.returns-in_err-found-clause-asked
+returns-in_err-found-clause-asked g c =
     let t = table c.args.deck.now in
     let k = key_named c.args.kind c.args.name.now in
-    let now = (goal.at.returns-in_err-explore-clause-asked g c).After-explore in
-    let p = err_from_is_err_and c.from_residual-in_err-explore.result c.from_residual-in_err-explore.ensures.1 in
+    let now = (goal.at.returns-in_err-found-clause-asked g c).After-explore in
+    let p = err_from_is_err_and c.from_residual-in_err-found.result c.from_residual-in_err-found.ensures.1 in
     cut_there (stages g now) (are_stages g now) (IsSettledKey (listed c.explore.new.nodes) k) (AsksKey k)
-    (key_fault t k) (k ∷ key_reach t k) c.args.steps.now (key_query t k) c.from_residual-in_err-explore.result
+    (key_fault t k) (k ∷ key_reach t k) c.args.steps.now (key_query t k) c.from_residual-in_err-found.result
     (p.1 ∙ ap Err p.2)
 
 -- all of it
-abbrev all_stages : (g : _) → In_ok-explore g → Stages
+abbrev all_stages : (g : _) → In_ok-found g → Stages
 all_stages g c =
     stages_of c.args.deck.now c.args.reductions.now c.args.explored.now c.args.nodes.now c.put_key.new.nodes
     c.explore.new.nodes c.clear.new.self c.put_key.new.agenda c.explore.new.agenda c.explore.new.dead_ends.items
 
-are_all : (g : _) (c : In_ok-explore g) → AreAllStages (all_stages g c)
+are_all : (g : _) (c : In_ok-found g) → AreAllStages (all_stages g c)
 are_all g c = record {
   stages = record {
     sound = c.requires.live.sound;
     first = (c.put_key.ensures.added c.args.explored.now.dead_ends.items).grown;
     second = c.explore.ensures.grown;
   };
-  all = c.in_ok-explore.ensures.all;
+  all = c.in_ok-found.ensures.all;
   faults = c.numbered_fault_law.ensures;
   settles = c.settling_law.ensures;
 }
 
 -- the number is that of the key
-number : (g : _) (c : In_ok-explore g)
+number : (g : _) (c : In_ok-found g)
     → IsNumber (all_stages g c) (key_named c.args.kind c.args.name.now) c.in_ok-n.n
 number g c = record { is = c.in_ok-n.ensures.target.0; known = c.in_ok-n.ensures.target.1 }
 
@@ -132,9 +132,9 @@ settle_query-requires-clause-live g c = live g (goal.at.settle_query-requires-cl
 pub settle_query-requires-clause-known : goal.settle_query-requires-clause-known
 settle_query-requires-clause-known g c =
     let at = goal.at.settle_query-requires-clause-known g c in
-    one_known (all_stages g at.In_ok-explore) (are_all g at.In_ok-explore).stages
+    one_known (all_stages g at.In_ok-found) (are_all g at.In_ok-found).stages
     (key_named c.args.kind c.args.name.now)
-    c.in_ok-n.n (number g at.In_ok-explore)
+    c.in_ok-n.n (number g at.In_ok-found)
 
 pub returns-in_err-settle_query-clause-asked : goal.returns-in_err-settle_query-clause-asked
 returns-in_err-settle_query-clause-asked g c =
@@ -142,8 +142,8 @@ returns-in_err-settle_query-clause-asked g c =
     let at = goal.at.returns-in_err-settle_query-clause-asked g c in
     let p = err_from_is_err_and c.from_residual-in_err-settle_query.result
     c.from_residual-in_err-settle_query.ensures.1 in
-    key_explored_fault (all_stages g at.In_ok-explore) (are_all g at.In_ok-explore) k c.in_ok-n.n
-    (number g at.In_ok-explore) (IsSettledKey (listed c.settle_query.new.nodes) k)
+    key_explored_fault (all_stages g at.In_ok-found) (are_all g at.In_ok-found) k c.in_ok-n.n
+    (number g at.In_ok-found) (IsSettledKey (listed c.settle_query.new.nodes) k)
     (shown c.args.deck.now (listed c.settle_query.new.nodes) c.settle_query.new.reductions) c.args.steps.now
     c.settle_query.new.steps c.settle_query.ensures.live.sound.right c.in_err-settle_query.field-0.0
     c.in_err-settle_query.ensures.answered c.from_residual-in_err-settle_query.result (p.1 ∙ ap Err p.2)
@@ -152,8 +152,8 @@ pub returns-clause-asked : goal.returns-clause-asked
 returns-clause-asked g c =
     let at = goal.at.returns-clause-asked g c in
     let a = c.in_ok-settle_query.ensures.answered in
-    key_explored_settled (all_stages g at.In_ok-explore) (are_all g at.In_ok-explore)
-    (key_named c.args.kind c.args.name.now) c.in_ok-n.n (number g at.In_ok-explore)
+    key_explored_settled (all_stages g at.In_ok-found) (are_all g at.In_ok-found)
+    (key_named c.args.kind c.args.name.now) c.in_ok-n.n (number g at.In_ok-found)
     (listed c.settle_query.new.nodes) c.settle_query.new.reductions c.args.steps.now c.settle_query.new.steps
     (record {
       sound = c.settle_query.ensures.live.sound;

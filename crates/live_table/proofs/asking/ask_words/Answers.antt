@@ -21,7 +21,7 @@ use Rattle.live_table.proofs.Stages.{AreAllStages, AreStages, Stages, cut_there,
 use Rattle.live_table.proofs.StillExplored.{added_explored}
 use Rattle.live_table.proofs.asking.ask_words.Goals as goal
 use Rattle.live_table.proofs.asking.ask_words.Goals.{After-explore, After-query_steps, In-Some, In_default}
-use Rattle.live_table.proofs.asking.ask_words.Goals.{In_ok-explore}
+use Rattle.live_table.proofs.asking.ask_words.Goals.{In_ok-found}
 
 pub query_steps-requires-clause-listed : goal.query_steps-requires-clause-listed
 query_steps-requires-clause-listed g c =
@@ -97,33 +97,33 @@ live : (g : _) (c : After-explore g)
     → IsLive c.args.deck.now (listed c.explore.new.nodes) c.args.edges.now c.args.reductions.now
 live g c = live_there (stages g c) (are_stages g c) c.args.edges.now c.requires.live
 
-pub returns-in_err-explore-clause-live : goal.returns-in_err-explore-clause-live
-returns-in_err-explore-clause-live g c = live g (goal.at.returns-in_err-explore-clause-live g c).After-explore
+pub returns-in_err-found-clause-live : goal.returns-in_err-found-clause-live
+returns-in_err-found-clause-live g c = live g (goal.at.returns-in_err-found-clause-live g c).After-explore
 
-pub returns-in_err-explore-clause-asked : goal.returns-in_err-explore-clause-asked
-returns-in_err-explore-clause-asked g c =
+pub returns-in_err-found-clause-asked : goal.returns-in_err-found-clause-asked
+returns-in_err-found-clause-asked g c =
     let t = table c.args.deck.now in
-    let now = (goal.at.returns-in_err-explore-clause-asked g c).After-explore in
-    let p = err_from_is_err_and c.from_residual-in_err-explore.result c.from_residual-in_err-explore.ensures.1 in
+    let now = (goal.at.returns-in_err-found-clause-asked g c).After-explore in
+    let p = err_from_is_err_and c.from_residual-in_err-found.result c.from_residual-in_err-found.ensures.1 in
     cut_there (stages g now) (are_stages g now)
     (λ (query : SmallVec Step). AreSettledWords t (listed c.explore.new.nodes) c.args.words.now query.items)
     (AsksWords c.args.words.now) (name_fault t c.args.words.now) (reach t c.args.words.now) c.args.steps.now
-    (words_query t c.args.words.now) c.from_residual-in_err-explore.result (p.1 ∙ ap Err p.2)
+    (words_query t c.args.words.now) c.from_residual-in_err-found.result (p.1 ∙ ap Err p.2)
 
 -- all of it
-abbrev all_stages : (g : _) → In_ok-explore g → Stages
+abbrev all_stages : (g : _) → In_ok-found g → Stages
 all_stages g c =
     stages_of c.args.deck.now c.args.reductions.now c.args.explored.now c.args.nodes.now c.query_steps.new.nodes
     c.explore.new.nodes c.clear.new.self c.query_steps.new.agenda c.explore.new.agenda c.explore.new.dead_ends.items
 
-are_all : (g : _) (c : In_ok-explore g) → AreAllStages (all_stages g c)
+are_all : (g : _) (c : In_ok-found g) → AreAllStages (all_stages g c)
 are_all g c = record {
   stages = record {
     sound = c.requires.live.sound;
     first = (c.query_steps.ensures.added c.args.explored.now.dead_ends.items).grown;
     second = c.explore.ensures.grown;
   };
-  all = c.in_ok-explore.ensures.all;
+  all = c.in_ok-found.ensures.all;
   faults = c.numbered_fault_law.ensures;
   settles = c.settling_law.ensures;
 }
@@ -172,7 +172,7 @@ returns-in-Some-clause-asked g c =
     let t = table c.args.deck.now in
     let at = goal.at.returns-in-Some-clause-asked g c in
     explored_cut (λ (query : SmallVec Step). AreSettledWords t (listed c.explore.new.nodes) c.args.words.now
-    query.items) (all_stages g at.In_ok-explore) (are_all g at.In_ok-explore) c.args.words.now
+    query.items) (all_stages g at.In_ok-found) (are_all g at.In_ok-found) c.args.words.now
     c.in_ok-query.query.steps.items c.in-Some.end c.args.steps.now (cut g at.In-Some) c.in_ok-fault.fault
     (subst (λ (ys : List Step). fault_before (fault_in t (listed c.explore.new.nodes) c.explore.new.dead_ends.items ys)
     c.in-Some.end ≡ Some c.in_ok-fault.fault)
@@ -203,7 +203,7 @@ returns-in_err-settle_query-clause-asked g c =
     let now = shown c.args.deck.now (listed c.settle_query.new.nodes) c.settle_query.new.reductions in
     let p = err_from_is_err_and c.from_residual-in_err-settle_query.result c.from_residual-in_err-settle_query.ensures.1
     in
-    explored_fault (all_stages g at.In_ok-explore) (are_all g at.In_ok-explore) c.args.words.now
+    explored_fault (all_stages g at.In_ok-found) (are_all g at.In_ok-found) c.args.words.now
     c.in_ok-query.query.steps.items (written g at.In_default)
     (λ (query : SmallVec Step). AreSettledWords t (listed c.settle_query.new.nodes) c.args.words.now query.items)
     now c.args.steps.now c.settle_query.new.steps c.settle_query.ensures.live.sound.right
@@ -217,7 +217,7 @@ pub returns-clause-asked : goal.returns-clause-asked
 returns-clause-asked g c =
     let at = goal.at.returns-clause-asked g c in
     let a = c.in_ok-settle_query.ensures.answered in
-    explored_settled (all_stages g at.In_ok-explore) (are_all g at.In_ok-explore) c.args.words.now
+    explored_settled (all_stages g at.In_ok-found) (are_all g at.In_ok-found) c.args.words.now
     c.in_ok-query.query.steps.items (written g at.In_default) (listed c.settle_query.new.nodes)
     c.settle_query.new.reductions c.args.steps.now c.settle_query.new.steps
     (record {

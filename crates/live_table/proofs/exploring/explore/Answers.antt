@@ -1,11 +1,24 @@
-use Rattle.std.proofs.Common.{sym, ◌∙◌, subst}
+use Rattle.std.proofs.Common.{◌≡◌, ◌+◌, Some, refl, sym, ◌∙◌, subst}
+use Rattle.std.specs.List.{slice_get}
+use Rattle.def_entry.specs.Views.{entry_view, what_view}
 use Rattle.name_walk.proofs.Lists.{get_In}
 use Rattle.deck.specs.Tables.{table}
-use Rattle.live_table.specs.Stored.{Listed, listed}
+use Rattle.live_table.specs.Found.{Says}
+use Rattle.live_table.specs.Stored.{Listed, key_at, listed}
+use Rattle.live_table.proofs.Finding.{IsFinding, finding_next, finding_start}
 use Rattle.live_table.proofs.Growing.{grown_both}
 use Rattle.live_table.proofs.Reached.{IsExploring, at_end, explored_next, exploring_end, exploring_next}
+use Rattle.live_table.proofs.Reached.{exploring_start}
 use Rattle.live_table.proofs.exploring.explore.Goals as goal
-use Rattle.live_table.proofs.exploring.explore.Goals.{After-make_room}
+use Rattle.live_table.proofs.exploring.explore.Goals.{After-entry, After-make_room}
+
+pub loop-n-init : goal.loop-n-init
+loop-n-init c = (
+  exploring_start (table c.args.deck.now) (listed c.args.nodes.now) c.args.explored.now c.args.agenda.now
+      c.args.dead_ends.now.items c.requires.nodes c.requires.listed c.requires.before,
+  subst (λ found. IsFinding (table c.args.deck.now) c.args.nodes.now.keys c.args.agenda.now found 0)
+      (sym c.new-found.ensures.items) (finding_start (table c.args.deck.now) c.args.nodes.now.keys c.args.agenda.now),
+)
 
 -- where there is more room the exploring stands as before
 with_room : (c : After-make_room)
@@ -14,7 +27,18 @@ with_room : (c : After-make_room)
 with_room c =
     subst (λ (l : Listed). IsExploring (table c.args.deck.now) (listed c.args.nodes.now) l c.args.explored.now
     c.args.agenda.now c.loop-n.agenda c.args.dead_ends.now.items c.loop-n.dead_ends.items c.loop-n.place)
-    (sym c.make_room.ensures) c.loop-n.invariant
+    (sym c.make_room.ensures) c.loop-n.invariant.0
+
+-- and what was found is so still
+found_still : (c : After-make_room)
+    → IsFinding (table c.args.deck.now) c.make_room.new.nodes.keys c.loop-n.agenda c.loop-n.found.items c.loop-n.place
+found_still c =
+    subst (λ (l : Listed). IsFinding (table c.args.deck.now) l.keys c.loop-n.agenda c.loop-n.found.items c.loop-n.place)
+    (sym c.make_room.ensures) c.loop-n.invariant.1
+
+-- the number at the place
+at_place : (c : After-make_room) → slice_get c.loop-n.agenda c.loop-n.place ≡ Some c.in-Some.n
+at_place c = sym c.get.ensures.number ∙ c.in-Some.is
 
 pub returns-in_err-make_room-clause-grown : goal.returns-in_err-make_room-clause-grown
 returns-in_err-make_room-clause-grown c =
@@ -24,6 +48,31 @@ pub returns-in_err-make_room-clause-before : goal.returns-in_err-make_room-claus
 returns-in_err-make_room-clause-before c =
     (with_room (goal.at.returns-in_err-make_room-clause-before c).After-make_room).explored
 
+-- ---- its entry
+pub entry-requires-clause-within : goal.entry-requires-clause-within
+entry-requires-clause-within c =
+    let now = (goal.at.entry-requires-clause-within c).After-make_room in
+    (with_room now).grown.listed.within c.in-Some.n (get_In c.loop-n.agenda c.loop-n.place c.in-Some.n (at_place now))
+
+pub entry-requires-clause-present : goal.entry-requires-clause-present
+entry-requires-clause-present c =
+    let now = (goal.at.entry-requires-clause-present c).After-make_room in
+    (with_room now).grown.listed.present c.in-Some.n (get_In c.loop-n.agenda c.loop-n.place c.in-Some.n (at_place now))
+
+pub returns-in_err-push-clause-grown : goal.returns-in_err-push-clause-grown
+returns-in_err-push-clause-grown c =
+    (with_room (goal.at.returns-in_err-push-clause-grown c).After-make_room).grown
+
+pub returns-in_err-push-clause-before : goal.returns-in_err-push-clause-before
+returns-in_err-push-clause-before c =
+    (with_room (goal.at.returns-in_err-push-clause-before c).After-make_room).explored
+
+-- what it says
+says : (c : After-entry)
+    → Says (table c.args.deck.now) (key_at c.make_room.new.nodes.keys c.in-Some.n) (what_view c.entry.result.what.now)
+says c = (entry_view c.entry.result, c.entry.ensures, refl)
+
+-- ---- the name is explored
 pub explore_name-requires-clause-nodes : goal.explore_name-requires-clause-nodes
 explore_name-requires-clause-nodes c =
     (with_room (goal.at.explore_name-requires-clause-nodes c).After-make_room).grown.nodes
@@ -34,7 +83,10 @@ explore_name-requires-clause-listed c =
 
 pub explore_name-requires-clause-name : goal.explore_name-requires-clause-name
 explore_name-requires-clause-name c = get_In c.loop-n.agenda c.loop-n.place c.in-Some.n
-    (sym c.get.ensures.number ∙ c.in-Some.is)
+    (at_place (goal.at.explore_name-requires-clause-name c).After-make_room)
+
+pub explore_name-requires-clause-what : goal.explore_name-requires-clause-what
+explore_name-requires-clause-what c = says (goal.at.explore_name-requires-clause-what c).After-entry
 
 pub returns-in_err-explore_name-clause-grown : goal.returns-in_err-explore_name-clause-grown
 returns-in_err-explore_name-clause-grown c =
@@ -46,23 +98,41 @@ returns-in_err-explore_name-clause-grown c =
 
 pub returns-in_err-explore_name-clause-before : goal.returns-in_err-explore_name-clause-before
 returns-in_err-explore_name-clause-before c =
+    let now = (goal.at.returns-in_err-explore_name-clause-before c).After-make_room in
     explored_next (table c.args.deck.now) (listed c.args.nodes.now) (listed c.make_room.new.nodes)
     (listed c.explore_name.new.nodes) c.args.explored.now c.args.agenda.now c.loop-n.agenda c.explore_name.new.agenda
     c.args.dead_ends.now.items c.loop-n.dead_ends.items c.explore_name.new.dead_ends.items c.loop-n.place c.in-Some.n
-    (sym c.get.ensures.number ∙ c.in-Some.is)
-    (with_room (goal.at.returns-in_err-explore_name-clause-before c).After-make_room)
-    c.explore_name.ensures.grown c.explore_name.ensures.same
+    (at_place now) (with_room now) c.explore_name.ensures.grown c.explore_name.ensures.same
 
 pub loop-n-preserved : goal.loop-n-preserved
 loop-n-preserved c =
-    exploring_next (table c.args.deck.now) (listed c.args.nodes.now) (listed c.make_room.new.nodes)
-    (listed c.explore_name.new.nodes) c.args.explored.now c.args.agenda.now c.loop-n.agenda c.explore_name.new.agenda
-    c.args.dead_ends.now.items c.loop-n.dead_ends.items c.explore_name.new.dead_ends.items c.loop-n.place c.in-Some.n
-    (sym c.get.ensures.number ∙ c.in-Some.is) (with_room (goal.at.loop-n-preserved c).After-make_room)
-    c.explore_name.ensures.grown c.explore_name.ensures.same c.in_ok-explore_name.ensures.written
+    let now = (goal.at.loop-n-preserved c).After-make_room in (
+      exploring_next (table c.args.deck.now) (listed c.args.nodes.now) (listed c.make_room.new.nodes)
+          (listed c.explore_name.new.nodes) c.args.explored.now c.args.agenda.now c.loop-n.agenda
+          c.explore_name.new.agenda c.args.dead_ends.now.items c.loop-n.dead_ends.items
+          c.explore_name.new.dead_ends.items c.loop-n.place c.in-Some.n (at_place now) (with_room now)
+          c.explore_name.ensures.grown c.explore_name.ensures.same c.in_ok-explore_name.ensures.written,
+      subst (λ found. IsFinding (table c.args.deck.now) c.explore_name.new.nodes.keys c.explore_name.new.agenda found
+          (c.loop-n.place + 1)) (sym c.in_ok-push.ensures.items)
+          (finding_next (table c.args.deck.now) (listed c.make_room.new.nodes) (listed c.explore_name.new.nodes)
+          c.args.explored.now c.loop-n.agenda c.explore_name.new.agenda c.loop-n.dead_ends.items
+          c.explore_name.new.dead_ends.items c.loop-n.found.items c.loop-n.place c.in-Some.n c.entry.result.what
+          (with_room now).grown.listed (at_place now) (says (goal.at.loop-n-preserved c).After-entry) (found_still now)
+          c.explore_name.ensures.grown),
+    )
+
+-- ---- all are
+pub returns-clause-grown : goal.returns-clause-grown
+returns-clause-grown c = c.loop-n.invariant.0.grown
+
+pub returns-clause-before : goal.returns-clause-before
+returns-clause-before c = c.loop-n.invariant.0.explored
 
 pub returns-clause-all : goal.returns-clause-all
 returns-clause-all c =
     exploring_end (table c.args.deck.now) (listed c.args.nodes.now) (listed c.loop-n.nodes) c.args.explored.now
     c.args.agenda.now c.loop-n.agenda c.args.dead_ends.now.items c.loop-n.dead_ends.items c.loop-n.place
-    c.loop-n.invariant (at_end c.loop-n.agenda c.loop-n.place (sym c.get.ensures.number ∙ c.in_default.is))
+    c.loop-n.invariant.0 (at_end c.loop-n.agenda c.loop-n.place (sym c.get.ensures.number ∙ c.in_default.is))
+
+pub returns-clause-found : goal.returns-clause-found
+returns-clause-found c = c.loop-n.invariant.1.are

@@ -1,18 +1,18 @@
 use Rattle.std.proofs.Common.{◌≤◌, ◌<◌, length, List, ℕ, nat_eq, arith, subst, sym}
 use Rattle.std.specs.List.{IsDistinct}
 use Rattle.expr_tree.specs.declared.word_list.WordUse.{WordUse}
+use Rattle.def_entry.specs.Views.{what_view}
 use Rattle.deck.specs.Tables.{table}
 use Rattle.table_names.specs.Words.{key_words}
+use Rattle.live_table.specs.Callees.{AreKeyWords}
 use Rattle.live_table.specs.Exploring.{AreWritten}
 use Rattle.live_table.specs.Looks.{AllLead, AreLooks}
 use Rattle.live_table.specs.Stored.{key_at, listed}
+use Rattle.live_table.proofs.Finding.{said_words}
 use Rattle.live_table.proofs.Growing.{more_length}
 use Rattle.live_table.proofs.Reached.{stepped_grown, stepped_same, stepped_written}
 use Rattle.live_table.proofs.exploring.explore_name.Goals as goal
 use Rattle.live_table.proofs.exploring.explore_name.Goals.{After-put_words, In_ok-steps}
-
-pub words_of_key-requires-clause-within : goal.words_of_key-requires-clause-within
-words_of_key-requires-clause-within c = c.requires.listed.within c.args.n c.requires.name
 
 -- the name has its number still
 within : (c : After-put_words) → c.args.n < length c.put_words.new.nodes.keys
@@ -43,7 +43,14 @@ index_mut-requires-3 c =
     let inside = within (goal.at.index_mut-requires-3 c).After-put_words in
     omega arith
 
--- the steps are those of the words of its key
+-- the words are those of its key
+words : (c : In_ok-steps)
+    → AreKeyWords (table c.args.deck.now) (key_at c.args.nodes.now.keys c.args.n) c.in_ok-entry.entry
+words c =
+    said_words (table c.args.deck.now) (key_at c.args.nodes.now.keys c.args.n) (what_view c.args.what.now)
+    c.in_ok-entry.entry c.requires.what c.in_ok-entry.ensures
+
+-- so are the steps
 written : (c : In_ok-steps)
     → AreWritten (table c.args.deck.now) (listed c.put_words.new.nodes) c.args.explored.now c.put_words.new.agenda
     c.put_words.new.dead_ends.items (key_words (table c.args.deck.now) (key_at c.args.nodes.now.keys c.args.n))
@@ -51,7 +58,7 @@ written : (c : In_ok-steps)
 written c =
     subst (λ (us : List WordUse). AreWritten (table c.args.deck.now) (listed c.put_words.new.nodes)
     c.args.explored.now c.put_words.new.agenda c.put_words.new.dead_ends.items us c.in_ok-steps.steps.items)
-    c.in_ok-entry.ensures.words c.in_ok-steps.ensures.written
+    (words c).words c.in_ok-steps.ensures.written
 
 pub returns-clause-grown : goal.returns-clause-grown
 returns-clause-grown c =
@@ -75,8 +82,10 @@ returns-clause-written c =
     c.args.agenda.now c.put_words.new.agenda c.args.dead_ends.now.items c.put_words.new.dead_ends.items
     c.args.n (record { rank = c.index_mut.result.now.rank; starts = c.in_ok-entry.entry.starts }) c.in_ok-steps.steps
     c.in_ok-looks.looks c.put_words.ensures.added c.requires.listed c.requires.name
-    (written (goal.at.returns-clause-written c).In_ok-steps) c.in_ok-entry.ensures.starts
+    (written (goal.at.returns-clause-written c).In_ok-steps)
+    (words (goal.at.returns-clause-written c).In_ok-steps).starts
     (subst (λ (p : List WordUse × List ℕ). AllLead c.in_ok-steps.steps.items
     → AreLooks (table c.args.deck.now) c.put_words.new.nodes.keys p.0 c.in_ok-steps.steps.items p.1)
-    (λ i. (c.in_ok-entry.ensures.words i, sym c.in_ok-looks.ensures.copy i)) c.in_ok-steps.ensures.looks)
+    (λ i. ((words (goal.at.returns-clause-written c).In_ok-steps).words i, sym c.in_ok-looks.ensures.copy i))
+    c.in_ok-steps.ensures.looks)
     (subst (IsDistinct nat_eq) (sym c.in_ok-looks.ensures.copy) c.in_ok-looks.ensures.once)

@@ -1,11 +1,15 @@
-use Rattle.std.proofs.Common.{Result, Ok, Err, IfOk, ap, sym, ◌∙◌, List, ℕ}
-use Rattle.def_entry.specs.Views.{entry_view, what_view}
+use Rattle.std.proofs.Common.{Result, Ok, Err, IfOk, ap, subst, sym, ◌∙◌, List, ℕ}
+use Rattle.def_entry.specs.Entries.{What}
+use Rattle.def_entry.specs.Views.{what_view}
 use Rattle.deck.specs.Tables.{table}
 use Rattle.tree_eval.specs.Entries.{meaning_of}
+use Rattle.tree_eval.specs.Environment.{HasTarget, HoldsWords}
 use Rattle.tree_eval.specs.Outcomes.{outcome_of}
 use Rattle.table_names.specs.Meanings.{word_meaning}
 use Rattle.live_table.specs.declared.surroundings.Asked.TheVariants.{Name}
-use Rattle.live_table.specs.Stored.{listed}
+use Rattle.live_table.specs.Scenes.{holder_words, word_means}
+use Rattle.live_table.specs.Stored.{key_at, listed}
+use Rattle.live_table.specs.Surrounded.{scene}
 use Rattle.live_table.proofs.SettleOne.{surrounded}
 use Rattle.live_table.proofs.Telling.{has_target, holds_words, meaning_is, name_hand}
 use Rattle.live_table.proofs.settling.outcome_of.Goals as goal
@@ -19,23 +23,31 @@ invariant_of-surroundings g c =
     surrounded c.args.deck.now (listed c.args.nodes.now) c.requires.sound.0 c.args.n c.requires.sound.1 c.requires.due
 
 pub reduce-requires-clause-words : goal.reduce-requires-clause-words
-reduce-requires-clause-words g c = holds_words c.args.deck.now (listed c.args.nodes.now) (Name c.args.n)
+reduce-requires-clause-words g c =
+    subst (HoldsWords (holder_words (scene c.args.deck.now (listed c.args.nodes.now) (Name c.args.n))) c.args.n)
+    c.requires.what.2
+    (holds_words c.args.deck.now (listed c.args.nodes.now) (Name c.args.n)
     (surrounded c.args.deck.now (listed c.args.nodes.now) c.requires.sound.0 c.args.n c.requires.sound.1
     c.requires.due) c.args.n (name_hand c.args.deck.now (listed c.args.nodes.now) c.args.n)
-    (entry_view c.entry.result) c.entry.ensures
+    c.requires.what.0 c.requires.what.1)
 
 pub reduce-requires-clause-target : goal.reduce-requires-clause-target
-reduce-requires-clause-target g c = has_target c.args.deck.now (listed c.args.nodes.now) (Name c.args.n)
+reduce-requires-clause-target g c =
+    subst (HasTarget (word_means (scene c.args.deck.now (listed c.args.nodes.now) (Name c.args.n))))
+    c.requires.what.2
+    (has_target c.args.deck.now (listed c.args.nodes.now) (Name c.args.n)
     (surrounded c.args.deck.now (listed c.args.nodes.now) c.requires.sound.0 c.args.n c.requires.sound.1
     c.requires.due) c.args.n (name_hand c.args.deck.now (listed c.args.nodes.now) c.args.n)
-    (entry_view c.entry.result) c.entry.ensures
+    c.requires.what.0 c.requires.what.1)
 
 pub returns-clause-outcome : goal.returns-clause-outcome
 returns-clause-outcome g c =
     if_ok _ _ c.reduce.result (λ o e. e
     ∙ (ap (λ (name : List ℕ). outcome_of (meaning_of (word_meaning (table c.args.deck.now)) name
-    (what_view c.entry.result.what.now))) c.name.ensures
-    ∙ ap outcome_of (sym (meaning_is c.args.deck.now (listed c.args.nodes.now) (Name c.args.n)
+    (what_view c.args.what.now))) c.name.ensures
+    ∙ ap outcome_of (ap (λ (w : What). meaning_of (word_meaning (table c.args.deck.now))
+    (key_at c.args.nodes.now.keys c.args.n).name w) (sym c.requires.what.2)
+    ∙ sym (meaning_is c.args.deck.now (listed c.args.nodes.now) (Name c.args.n)
     (surrounded c.args.deck.now (listed c.args.nodes.now) c.requires.sound.0 c.args.n c.requires.sound.1
     c.requires.due) c.args.n (name_hand c.args.deck.now (listed c.args.nodes.now) c.args.n)
-    (entry_view c.entry.result) c.entry.ensures)))) c.reduce.ensures.outcome
+    c.requires.what.0 c.requires.what.1)))) c.reduce.ensures.outcome

@@ -1,5 +1,8 @@
-use Rattle.std.proofs.Common.{get_or, arith}
+use Rattle.std.proofs.Common.{List, get_or, arith, subst, sym}
 use Rattle.std.proofs.lemmas.Option.{slice_get-get_or}
+use Rattle.def_entry.specs.declared.key.Key.{Key}
+use Rattle.deck.specs.Tables.{table}
+use Rattle.live_table.specs.Found.{AreFound}
 use Rattle.live_table.specs.Stored.{listed}
 use Rattle.live_table.proofs.SettleAll.{is_due, standing_next, standing_start}
 use Rattle.live_table.proofs.settling.settle.Goals as goal
@@ -12,6 +15,27 @@ loop-n-init g c = (
   λ before ends were. were,
 )
 
+-- ---- what its entry says
+pub what_of-what-requires-clause-found : goal.what_of-what-requires-clause-found
+what_of-what-requires-clause-found g c =
+    subst (λ (keys : List Key). AreFound (table c.args.deck.now) keys c.args.agenda.now c.args.found.now)
+    (sym c.loop-n.invariant.0.keys) c.requires.found
+
+pub what_of-what-requires-clause-within : goal.what_of-what-requires-clause-within
+what_of-what-requires-clause-within g c =
+    (is_due c.args.deck.now (listed c.args.nodes.now) (listed c.loop-n.nodes) c.args.reductions.now
+    c.loop-n.reductions c.args.order.now c.loop-n.n-index c.args.steps.now c.loop-n.steps
+    (get_or c.args.order.now c.loop-n.n-index 0) (slice_get-get_or c.args.order.now c.loop-n.n-index 0 (omega arith))
+    c.loop-n.invariant.0).within
+
+pub what_of-what-requires-clause-present : goal.what_of-what-requires-clause-present
+what_of-what-requires-clause-present g c =
+    (is_due c.args.deck.now (listed c.args.nodes.now) (listed c.loop-n.nodes) c.args.reductions.now
+    c.loop-n.reductions c.args.order.now c.loop-n.n-index c.args.steps.now c.loop-n.steps
+    (get_or c.args.order.now c.loop-n.n-index 0) (slice_get-get_or c.args.order.now c.loop-n.n-index 0 (omega arith))
+    c.loop-n.invariant.0).present
+
+-- ---- the name is settled
 pub settle_one-requires-clause-due : goal.settle_one-requires-clause-due
 settle_one-requires-clause-due g c =
     is_due c.args.deck.now (listed c.args.nodes.now) (listed c.loop-n.nodes) c.args.reductions.now

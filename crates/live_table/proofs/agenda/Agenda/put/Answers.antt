@@ -1,29 +1,40 @@
-use Rattle.std.proofs.Common.{◌≡◌, ◌++◌, ◌∷◌, [], List, ℕ, true, false, set, sym, ◌∙◌, ap, subst}
+use Rattle.std.proofs.Common.{◌++◌, ◌∷◌, [], List, ℕ, set, sym, ◌∙◌, ap, subst, arith}
 use Rattle.std.proofs.lemmas.Bool.{cond-false}
 use Rattle.name_walk.specs.Faults.{on}
-use Rattle.live_table.specs.Agendas.{IsMarked}
-use Rattle.live_table.proofs.Marking.{marked_put, marked_same, unmarked_off}
+use Rattle.live_table.specs.Agendas.{IsPlaced}
+use Rattle.live_table.proofs.Placing.{placed_put, placed_same}
 use Rattle.live_table.proofs.agenda.Agenda.put.Goals as goal
+use Rattle.live_table.proofs.agenda.Agenda.put.Goals.{After-cover}
+
+-- with more room each place is as before
+placed : (c : After-cover) → IsPlaced c.cover.new.places.items c.self.inside.numbers.items
+placed c =
+    placed_same c.self.inside.places.items c.cover.new.places.items c.self.inside.numbers.items c.cover.ensures.same
+    c.self.invariant
+
+pub invariant_of-self : goal.invariant_of-self
+invariant_of-self c = placed (goal.at.invariant_of-self c).After-cover
+
+pub invariant_of-self-in_err-kept : goal.invariant_of-self-in_err-kept
+invariant_of-self-in_err-kept c = placed (goal.at.invariant_of-self-in_err-kept c).After-cover
+
+pub invariant_of-self-in_err-push : goal.invariant_of-self-in_err-push
+invariant_of-self-in_err-push c =
+    subst (IsPlaced c.cover.new.places.items) (sym c.in_err-push.ensures.items)
+    (placed (goal.at.invariant_of-self-in_err-push c).After-cover)
 
 pub invariant_of-self-2 : goal.invariant_of-self-2
 invariant_of-self-2 c =
-    let m : IsMarked c.cover.new.marks.items c.self.inside.numbers.items =
-    marked_same c.self.inside.marks.items c.cover.new.marks.items c.self.inside.numbers.items c.cover.ensures.same
-    c.self.invariant in
-    subst (λ (ns : List ℕ). IsMarked (set c.cover.new.marks.items c.args.n true) ns) (sym c.in_ok-push.ensures.items)
-    (marked_put c.cover.new.marks.items c.self.inside.numbers.items c.args.n c.in_ok-cover.ensures.ok
-    (unmarked_off c.cover.new.marks.items c.self.inside.numbers.items c.args.n c.index.result.now c.index.ensures
-    c.in_ok-cover.ensures.ok c.if-index.false m) m)
+    subst (λ (ns : List ℕ). IsPlaced (set c.cover.new.places.items c.args.n c.in_ok-kept.kept) ns)
+    (sym c.in_ok-push.ensures.items)
+    (placed_put c.cover.new.places.items c.self.inside.numbers.items c.args.n c.in_ok-kept.kept
+    (let e = c.len.ensures in let k = c.in_ok-kept.ensures in omega (arith, e, k)) c.in_ok-cover.ensures.ok
+    (ap (λ (ns : List ℕ). on ns c.args.n) c.self.view_is ∙ (sym c.has.ensures ∙ c.if-has.false))
+    (placed (goal.at.invariant_of-self-2 c).After-cover))
 
 pub returns-clause-ok : goal.returns-clause-ok
 returns-clause-ok c =
-    let m : IsMarked c.cover.new.marks.items c.self.inside.numbers.items =
-    marked_same c.self.inside.marks.items c.cover.new.marks.items c.self.inside.numbers.items c.cover.ensures.same
-    c.self.invariant in
-    let off : on c.self.inside.numbers.items c.args.n ≡ false =
-    unmarked_off c.cover.new.marks.items c.self.inside.numbers.items c.args.n c.index.result.now c.index.ensures
-    c.in_ok-cover.ensures.ok c.if-index.false m in
     c.in_ok-push.ensures.items
     ∙ (ap (λ (ns : List ℕ). ns ++ c.args.n ∷ []) c.self.view_is
     ∙ sym (cond-false (on c.args.self.now c.args.n) c.args.self.now (c.args.self.now ++ c.args.n ∷ [])
-    (ap (λ (ns : List ℕ). on ns c.args.n) (sym c.self.view_is) ∙ off)))
+    (sym c.has.ensures ∙ c.if-has.false)))

@@ -1,0 +1,19 @@
+-- What the entries of names say, found once and used again.
+use Rattle.std.specs.Prelude.{◌≡◌, ℕ, List, Some, slice_get}
+use Rattle.std.specs.Borrow.{Bor}
+use Rattle.def_entry.specs.declared.key.Key.{Key}
+use Rattle.def_entry.specs.declared.entry.What.{What as MadeWhat}
+use Rattle.def_entry.specs.Entries.{Entry, What}
+use Rattle.def_entry.specs.Tables.{Table, entry_at}
+use Rattle.def_entry.specs.Views.{what_view}
+use Rattle.live_table.specs.Stored.{key_at}
+
+-- the key has an entry, which says this
+abbrev pub Says : Table → Key → What → Type 0
+Says table k what = (e : Entry) × (entry_at table k ≡ Some e) × (e.what ≡ what)
+
+-- what was found at the place of a number is what the entry of its key says
+abbrev pub AreFound : Table → List Key → (numbers : List ℕ) → List (Bor MadeWhat) → Type 0
+AreFound table keys numbers found =
+    (i n : ℕ) (what : Bor MadeWhat) → slice_get numbers i ≡ Some n → slice_get found i ≡ Some what
+    → Says table (key_at keys n) (what_view what.now)
