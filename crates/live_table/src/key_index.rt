@@ -1,13 +1,13 @@
 //! Keys by number, and numbers by key.
 
 ghost use Rattle.std.specs.Prelude.{◌≡◌, ◌<◌, [], Some, false, length, slice_get};
-ghost use Rattle.std.specs.Prelude.{IfOk, MatchOption, OnErr};
+ghost use Rattle.std.specs.Prelude.{IfOk, IfSome, MatchOption, OnErr};
 ghost use Rattle.def_entry.specs.Keys.{key};
 ghost use Rattle.def_entry.specs.SameKeys.{is_among};
 ghost use Rattle.live_table.specs.Indexed.{IsAdded, stored};
 ghost use Rattle.live_table.specs.Stored.{key_at};
 
-use crate::stored_keys::{StoredKey, kind_told, overwrite, store};
+use crate::stored_keys::{StoredKey, is_short, kind_told, overwrite, store};
 use def_entry::{Key, Kind};
 use indexmap::IndexSet;
 use std::alloc::{AllocError, Global};
@@ -127,6 +127,31 @@ impl KeyIndex {
         kind: Kind,
         name: &[u8],
     ) -> Result<Added, AllocError>
+        ensures ok { IfOk result (λ added. IsAdded (key kind name.now) self.old self.new added.number added.is_new) }
+        ensures err { OnErr result (self.new ≡ self.old) }
+    {
+        if let Some(number) = self.number_of_long(kind, name) {
+            return Ok(Added {
+                number,
+                is_new: false,
+            });
+        }
+        self.insert(alloc, kind, name)
+    }
+
+    // The number of a key that takes memory of its own where it is stored: so that none is taken for one that is known.
+    fn number_of_long(&mut self, kind: Kind, name: &[u8]) -> Option<usize>
+        ensures kept { self.new ≡ self.old }
+        ensures number { IfSome result (λ n. slice_get self.old n ≡ Some (key kind name.now)) }
+    {
+        if is_short(name) {
+            return None;
+        }
+        self.number_of(kind, name)
+    }
+
+    // The number of a key, stored where it has none.
+    fn insert(&mut self, alloc: Global, kind: Kind, name: &[u8]) -> Result<Added, AllocError>
         ensures ok { IfOk result (λ added. IsAdded (key kind name.now) self.old self.new added.number added.is_new) }
         ensures err { OnErr result (self.new ≡ self.old) }
     {

@@ -10,7 +10,10 @@ use smallvec::SmallVec;
 use std::alloc::{AllocError, Global};
 
 /// A key as bytes: one that tells its kind, and those of its name. A short one takes no memory of its own.
-pub(crate) type StoredKey = SmallVec<u8, 16>;
+pub(crate) type StoredKey = SmallVec<u8, ROOM>;
+
+// The bytes for which a key has room where it lies.
+const ROOM: usize = 16;
 
 // So each takes four words where it lies.
 const _: () = prove!(size_of::<StoredKey>() == 32);
@@ -20,6 +23,11 @@ const UNIT: u8 = Kind::Unit as u8;
 const PREFIX: u8 = Kind::Prefix as u8;
 
 const FUNC: u8 = Kind::Func as u8;
+
+/// Whether a key of this name takes no memory of its own.
+pub(crate) fn is_short(name: &[u8]) -> bool {
+    name.len() < ROOM
+}
 
 /// A key as bytes. The only error is want of memory.
 pub(crate) fn store(alloc: Global, kind: Kind, name: &[u8]) -> Result<StoredKey, AllocError>

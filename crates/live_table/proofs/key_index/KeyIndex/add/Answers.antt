@@ -1,15 +1,25 @@
-use Rattle.std.proofs.Common.{List, subst}
+use Rattle.std.proofs.Common.{◌≡◌, List, ap, subst, ◌∙◌}
+use Rattle.std.specs.Prelude.{IfOk, OnErr}
+use Rattle.std.specs.List.{slice_get}
 use Rattle.def_entry.specs.Keys.{key}
 use Rattle.def_entry.specs.declared.key.Key.{Key}
-use Rattle.live_table.specs.Indexed.{IsAdded, keys_in}
-use Rattle.live_table.proofs.Indexing.{added}
+use Rattle.live_table.specs.Indexed.{IsAdded}
 use Rattle.live_table.proofs.key_index.KeyIndex.add.Goals as goal
+
+pub returns-in-Some-clause-ok : goal.returns-in-Some-clause-ok
+returns-in-Some-clause-ok c = record {
+  number =
+      ap (λ (keys : List Key). slice_get keys c.in-Some.number) c.number_of_long.ensures.kept
+      ∙ c.in-Some.ensures.number;
+  keys = c.number_of_long.ensures.kept;
+}
 
 pub returns-clause-ok : goal.returns-clause-ok
 returns-clause-ok c =
-    let k = key c.args.kind c.args.name.now in
-    subst (λ (keys : List Key). IsAdded k keys (keys_in c.insert_full.new.self.keys) c.in_ok-number.number
-    c.in_ok-number.is_new) c.self.view_is
-    (added c.self.inside.wanted.capacity c.self.inside.keys.keys c.insert_full.new.self.keys k c.in_ok-bytes.bytes
-    c.self.invariant c.in_ok-bytes.ensures c.in_ok-number.ensures.keys c.in_ok-number.number c.in_ok-number.is_new
-    c.in_ok-number.ensures.added c.in_ok-number.ensures.stored)
+    subst (λ (keys : List Key). IfOk c.insert.result (λ added. IsAdded (key c.args.kind c.args.name.now) keys
+    c.insert.new.self added.number added.is_new)) c.number_of_long.ensures.kept c.insert.ensures.ok
+
+pub returns-clause-err : goal.returns-clause-err
+returns-clause-err c =
+    subst (λ (keys : List Key). OnErr c.insert.result (c.insert.new.self ≡ keys)) c.number_of_long.ensures.kept
+    c.insert.ensures.err
