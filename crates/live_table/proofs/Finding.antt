@@ -3,6 +3,7 @@ use Rattle.std.proofs.Common.{◌≡◌, ◌+◌, ◌<◌, ℕ, List, [], ◌∷
 use Rattle.std.proofs.Common.{inr, arith, length-append}
 use Rattle.std.specs.Borrow.{Bor}
 use Rattle.std.specs.List.{slice_get}
+use Rattle.expr_tree.specs.declared.word_list.WordUse.{WordUse}
 use Rattle.def_entry.specs.declared.entry.What.{What as MadeWhat}
 use Rattle.def_entry.specs.declared.key.Key.{Key}
 use Rattle.def_entry.specs.Entries.{Entry, What}
@@ -10,8 +11,8 @@ use Rattle.def_entry.specs.Tables.{Table}
 use Rattle.def_entry.specs.Views.{what_view}
 use Rattle.name_walk.proofs.Lists.{get_In}
 use Rattle.table_names.specs.Words.{entry_words, what_words}
+use Rattle.live_table.specs.declared.callee.PartStarts.{PartStarts}
 use Rattle.live_table.specs.declared.dead_end.DeadEnd.{DeadEnd}
-use Rattle.live_table.specs.declared.entry_words.EntryWords.{EntryWords}
 use Rattle.live_table.specs.Callees.{AreEntryWords, AreKeyWords, start_of}
 use Rattle.live_table.specs.Exploring.{AreGrown, AreListed, IsMore}
 use Rattle.live_table.specs.Found.{AreFound, Says}
@@ -20,9 +21,9 @@ use Rattle.live_table.proofs.Growing.{key_same}
 use Rattle.live_table.proofs.Places.{element, get_lt, get_pushed, some_same}
 
 -- the words of what the entry of a key says are those of the key
-pub said_words : (t : Table) (k : Key) (what : What) (made : EntryWords) → Says t k what → AreEntryWords what made
-    → AreKeyWords t k made
-said_words t k what made says m = record {
+pub said_words : (t : Table) (k : Key) (what : What) (us : List WordUse) (begins : PartStarts) → Says t k what
+    → AreEntryWords what us begins → AreKeyWords t k us begins
+said_words t k what us begins says m = record {
   words = m.words ∙ sym (ap entry_words says.1 ∙ ap what_words says.2);
   starts = λ e at p. m.starts p
       ∙ ap (λ (w : What). start_of w p) (sym says.2 ∙ ap (λ (x : Entry). x.what)

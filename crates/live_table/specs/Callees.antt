@@ -1,9 +1,10 @@
 -- What is kept of a function beside its entry.
-use Rattle.std.specs.Prelude.{◌≡◌, ◌+◌, ℕ, Some, length}
+use Rattle.std.specs.Prelude.{◌≡◌, ◌+◌, ℕ, List, Some, length}
 use Rattle.def_entry.specs.Entries as what
 use Rattle.def_entry.specs.Entries.{Entry, What}
 use Rattle.def_entry.specs.declared.key.Key.{Key}
 use Rattle.def_entry.specs.Tables.{Table, entry_at}
+use Rattle.expr_tree.specs.declared.word_list.WordUse.{WordUse}
 use Rattle.expr_tree.specs.Words.{words_in}
 use Rattle.tree_eval.specs.declared.holder.Part.{Part}
 use Rattle.tree_eval.specs.declared.holder.Part.TheVariants as part
@@ -11,7 +12,6 @@ use Rattle.tree_eval.specs.Entries.{rank_of_meaning, words_if}
 use Rattle.tree_eval.specs.Expanded.{Meaning}
 use Rattle.live_table.specs.declared.callee.Callee.{Callee}
 use Rattle.live_table.specs.declared.callee.PartStarts.{PartStarts}
-use Rattle.live_table.specs.declared.entry_words.EntryWords.{EntryWords}
 use Rattle.table_names.specs.Words.{key_words, what_words}
 
 -- where the words of a tree begin among those of its entry: the in unit, the out unit, the forward tree and
@@ -38,12 +38,12 @@ HasStarts what callee = (p : Part) → start_at callee.starts p ≡ start_of wha
 abbrev pub HasRank : Meaning → Callee → Type 0
 HasRank meaning callee = callee.rank ≡ rank_of_meaning meaning
 
--- the words of an entry, and where its trees begin among them
-pub record AreEntryWords (what : What) (made : EntryWords) : Type 0 where
-  pub words : made.words ≡ what_words what
-  pub starts : (p : Part) → start_at made.starts p ≡ start_of what p
+-- these are the words of an entry, and its trees begin there among them
+pub record AreEntryWords (what : What) (us : List WordUse) (begins : PartStarts) : Type 0 where
+  pub words : us ≡ what_words what
+  pub starts : (p : Part) → start_at begins p ≡ start_of what p
 
 -- the same of the entry of a key
-pub record AreKeyWords (table : Table) (k : Key) (made : EntryWords) : Type 0 where
-  pub words : made.words ≡ key_words table k
-  pub starts : (e : Entry) → entry_at table k ≡ Some e → (p : Part) → start_at made.starts p ≡ start_of e.what p
+pub record AreKeyWords (table : Table) (k : Key) (us : List WordUse) (begins : PartStarts) : Type 0 where
+  pub words : us ≡ key_words table k
+  pub starts : (e : Entry) → entry_at table k ≡ Some e → (p : Part) → start_at begins p ≡ start_of e.what p

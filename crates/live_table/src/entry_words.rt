@@ -3,6 +3,7 @@
 ghost use Rattle.std.specs.Prelude.{◌≡◌, ◌++◌, ◌∷◌, [], IfOk, OnOk, option_map};
 ghost use Rattle.std.specs.Option.{option_copied};
 ghost use Rattle.expr_tree.specs.Trees.{syntax};
+ghost use Rattle.expr_tree.specs.Words.{words_in};
 ghost use Rattle.def_entry.specs.Entries.{Function};
 ghost use Rattle.def_entry.specs.Views.{function_view, what_view};
 ghost use Rattle.tree_eval.specs.Entries.{words_if};
@@ -11,75 +12,86 @@ ghost use Rattle.live_table.specs.Callees.{AreEntryWords};
 
 use crate::callee::PartStarts;
 use def_entry::{FunctionDef, What};
-use expr_tree::{Tree, WordKind, WordUse, Words, words};
+use expr_tree::{Tree, WordKind, WordUse, Words, put_words};
 use std::alloc::{AllocError, Global};
 use units_io::Text;
 
-/// The words of an entry, one tree after another, and where the trees of a function begin among them.
-#[derive(Drop)]
-pub(crate) struct EntryWords<'a> {
-    pub(crate) words: Words<'a>,
-    pub(crate) starts: PartStarts,
-}
-
-/// The words of what an entry says. The only error is want of memory.
-pub(crate) fn entry_words<'a>(alloc: Global, what: &'a What) -> Result<EntryWords<'a>, AllocError>
-    ensures { IfOk result (λ made. AreEntryWords (what_view what.now) made) }
+/// Writes the words of what an entry says over those that were there, one tree after another, and gives where the trees
+/// of a function begin among them. The only error is want of memory.
+pub(crate) fn write_entry_words<'a>(
+    alloc: Global,
+    words: &mut Words<'a>,
+    what: &'a What,
+) -> Result<PartStarts, AllocError>
+    ensures { IfOk result (λ starts. AreEntryWords (what_view what.now) words.new starts) }
 {
+    words.clear();
     match what {
-        What::Primitive | What::Dimensionless | What::ListOf(_) => Ok(alone(Words::new(alloc))),
-        What::Body(tree) => Ok(alone(words(alloc, tree)?)),
-        What::Function(function) => function_words(alloc, function),
-        What::Alias(target) => Ok(alone(alias_words(alloc, target)?)),
-        What::Table(table) => Ok(alone(words(alloc, &table.unit)?)),
+        What::Primitive | What::Dimensionless | What::ListOf(_) => Ok(alone()),
+        What::Body(tree) => put_tree(alloc, words, tree),
+        What::Function(function) => put_function(alloc, words, function),
+        What::Alias(target) => put_alias(alloc, words, target),
+        What::Table(table) => put_tree(alloc, words, &table.unit),
     }
 }
 
-// The words of one tree, which stands alone.
-fn alone<'a>(words: Words<'a>) -> EntryWords<'a>
-    ensures words { result.words ≡ words.entry }
-    ensures starts { result.starts ≡ record { out_unit = 0; forward = 0; inverse = 0 } }
+// Where the words of a tree begin that stands alone.
+fn alone() -> PartStarts
+    ensures { result ≡ record { out_unit = 0; forward = 0; inverse = 0 } }
 {
-    let starts = PartStarts {
+    PartStarts {
         out_unit: 0,
         forward: 0,
         inverse: 0,
-    };
-    EntryWords { words, starts }
+    }
 }
 
-// The word of an alias.
-fn alias_words<'a>(alloc: Global, target: &'a Text) -> Result<Words<'a>, AllocError>
-    ensures { IfOk result (λ words. words ≡ inverted_word target.now ∷ []) }
-{
-    let mut words = Words::new(alloc);
-    words.push(alloc, WordUse::new(target.as_bytes(), WordKind::Inverse))?;
-    Ok(words)
-}
-
-// The words of the trees of a function.
-fn function_words<'a>(
+// Puts the words of a tree that stands alone.
+fn put_tree<'a>(
     alloc: Global,
-    function: &'a FunctionDef,
-) -> Result<EntryWords<'a>, AllocError>
-    ensures { IfOk result (λ made. AreEntryWords (Function (function_view function.now)) made) }
+    words: &mut Words<'a>,
+    tree: &'a Tree,
+) -> Result<PartStarts, AllocError>
+    ensures words { IfOk result (λ _. words.new ≡ words.old ++ words_in (syntax tree.now)) }
+    ensures starts { IfOk result (λ starts. starts ≡ record { out_unit = 0; forward = 0; inverse = 0 }) }
 {
-    let mut words = Vec::new(alloc);
-    put_words(alloc, &mut words, function.in_unit.as_ref())?;
+    put_words(alloc, words, tree)?;
+    Ok(alone())
+}
+
+// Puts the word of an alias.
+fn put_alias<'a>(
+    alloc: Global,
+    words: &mut Words<'a>,
+    target: &'a Text,
+) -> Result<PartStarts, AllocError>
+    ensures words { IfOk result (λ _. words.new ≡ words.old ++ inverted_word target.now ∷ []) }
+    ensures starts { IfOk result (λ starts. starts ≡ record { out_unit = 0; forward = 0; inverse = 0 }) }
+{
+    words.push(alloc, WordUse::new(target.as_bytes(), WordKind::Inverse))?;
+    Ok(alone())
+}
+
+// Puts the words of the trees of a function, where there are none yet.
+fn put_function<'a>(
+    alloc: Global,
+    words: &mut Words<'a>,
+    function: &'a FunctionDef,
+) -> Result<PartStarts, AllocError>
+    requires { words.old ≡ [] }
+    ensures { IfOk result (λ starts. AreEntryWords (Function (function_view function.now)) words.new starts) }
+{
+    put_words_if(alloc, words, function.in_unit.as_ref())?;
     let out_unit = start_of(words.len())?;
-    put_words(alloc, &mut words, function.out_unit.as_ref())?;
+    put_words_if(alloc, words, function.out_unit.as_ref())?;
     let forward = start_of(words.len())?;
-    put_words(alloc, &mut words, Some(&function.forward))?;
+    put_words(alloc, words, &function.forward)?;
     let inverse = start_of(words.len())?;
-    put_words(alloc, &mut words, function.inverse.as_ref())?;
-    let starts = PartStarts {
+    put_words_if(alloc, words, function.inverse.as_ref())?;
+    Ok(PartStarts {
         out_unit,
         forward,
         inverse,
-    };
-    Ok(EntryWords {
-        words: Words::from(words),
-        starts,
     })
 }
 
@@ -94,17 +106,15 @@ fn start_of(count: usize) -> Result<u32, AllocError>
 }
 
 // Puts the words of a tree, where there is one, behind others.
-fn put_words<'a>(
+fn put_words_if<'a>(
     alloc: Global,
-    all: &mut Vec<WordUse<'a>>,
+    words: &mut Words<'a>,
     tree: Option<&'a Tree>,
 ) -> Result<(), AllocError>
-    ensures { OnOk result (all.new.items
-        ≡ all.old.items ++ words_if (option_map syntax (option_copied tree.entry))) }
+    ensures { OnOk result (words.new ≡ words.old ++ words_if (option_map syntax (option_copied tree.entry))) }
 {
-    let Some(tree) = tree else {
-        return Ok(());
-    };
-    let mut words = words(alloc, tree)?.into_vec();
-    all.append(&mut words)
+    match tree {
+        Some(tree) => put_words(alloc, words, tree),
+        None => Ok(()),
+    }
 }

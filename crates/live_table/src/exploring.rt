@@ -11,12 +11,13 @@ ghost use Rattle.live_table.specs.Stored.{key_at, listed};
 
 use crate::agenda::Agenda;
 use crate::dead_end::DeadEnd;
-use crate::entry_words::entry_words;
+use crate::entry_words::write_entry_words;
 use crate::nodes::Nodes;
 use crate::stepping::put_words;
 use crate::surroundings::entry;
 use deck::Deck;
 use def_entry::{Kind, What};
+use expr_tree::Words;
 use std::alloc::{AllocError, Global};
 
 // Few queries go through so many names.
@@ -43,28 +44,33 @@ pub(crate) fn explore<'a>(
         dead_ends.new.items) }
     ensures found { IfOk result (λ found. AreFound (table deck.now) nodes.new.keys agenda.new found.items) }
 {
+    let mut words = Words::new(alloc);
     let mut found = Vec::new(alloc);
     let mut place = 0;
     while let Some(n) = agenda.get(place) {
         make_room(deck, nodes, place)?;
         let what = entry(deck, nodes, n).what;
         found.push(what)?;
-        explore_name(alloc, deck, nodes, explored, agenda, dead_ends, n, what)?;
+        explore_name(
+            alloc, deck, nodes, explored, agenda, dead_ends, &mut words, n, what,
+        )?;
         place += 1;
     }
     Ok(found)
 }
 
-// Gives a name on the agenda, whose entry says this, its steps and its looks.
-fn explore_name(
+// Gives a name on the agenda, whose entry says this, its steps and its looks. Its words are written over those of the
+// name before.
+fn explore_name<'a>(
     alloc: Global,
     deck: &Deck,
     nodes: &mut Nodes,
     explored: &Agenda,
     agenda: &mut Agenda,
     dead_ends: &mut Vec<DeadEnd>,
+    words: &mut Words<'a>,
     n: usize,
-    what: &What,
+    what: &'a What,
 ) -> Result<(), AllocError>
     requires nodes { AreNodes (table deck.now) (listed nodes.old) }
     requires listed { AreListed (table deck.now) (listed nodes.old) explored.now agenda.old }
@@ -76,18 +82,10 @@ fn explore_name(
     ensures written { IfOk result (λ _. IsWritten (table deck.now) (listed nodes.new) explored.now agenda.new
         dead_ends.new.items n) }
 {
-    let entry = entry_words(alloc, what)?;
-    let steps = put_words(
-        alloc,
-        deck,
-        nodes,
-        explored,
-        agenda,
-        dead_ends,
-        &entry.words,
-    )?;
+    let starts = write_entry_words(alloc, words, what)?;
+    let steps = put_words(alloc, deck, nodes, explored, agenda, dead_ends, words)?;
     let looks = nodes.gathered.to_vec(alloc)?;
-    nodes.callees[n].starts = entry.starts;
+    nodes.callees[n].starts = starts;
     nodes.steps[n] = steps;
     nodes.looks[n] = looks;
     Ok(())

@@ -45,10 +45,11 @@ index_mut-requires-3 c =
 
 -- the words are those of its key
 words : (c : In_ok-steps)
-    → AreKeyWords (table c.args.deck.now) (key_at c.args.nodes.now.keys c.args.n) c.in_ok-entry.entry
+    → AreKeyWords (table c.args.deck.now) (key_at c.args.nodes.now.keys c.args.n)
+    c.write_entry_words.new.words c.in_ok-starts.starts
 words c =
     said_words (table c.args.deck.now) (key_at c.args.nodes.now.keys c.args.n) (what_view c.args.what.now)
-    c.in_ok-entry.entry c.requires.what c.in_ok-entry.ensures
+    c.write_entry_words.new.words c.in_ok-starts.starts c.requires.what c.in_ok-starts.ensures
 
 -- so are the steps
 written : (c : In_ok-steps)
@@ -64,7 +65,7 @@ pub returns-clause-grown : goal.returns-clause-grown
 returns-clause-grown c =
     stepped_grown (table c.args.deck.now) (listed c.args.nodes.now) (listed c.put_words.new.nodes) c.args.explored.now
     c.args.agenda.now c.put_words.new.agenda c.args.dead_ends.now.items c.put_words.new.dead_ends.items
-    c.args.n (record { rank = c.index_mut.result.now.rank; starts = c.in_ok-entry.entry.starts }) c.in_ok-steps.steps
+    c.args.n (record { rank = c.index_mut.result.now.rank; starts = c.in_ok-starts.starts }) c.in_ok-steps.steps
     c.in_ok-looks.looks c.put_words.ensures.added c.requires.listed c.requires.name
     (written (goal.at.returns-clause-grown c).In_ok-steps)
 
@@ -72,7 +73,7 @@ pub returns-clause-same : goal.returns-clause-same
 returns-clause-same c =
     stepped_same (table c.args.deck.now) (listed c.args.nodes.now) (listed c.put_words.new.nodes) c.args.explored.now
     c.args.agenda.now c.put_words.new.agenda c.args.dead_ends.now.items c.put_words.new.dead_ends.items
-    c.args.n (record { rank = c.index_mut.result.now.rank; starts = c.in_ok-entry.entry.starts }) c.in_ok-steps.steps
+    c.args.n (record { rank = c.index_mut.result.now.rank; starts = c.in_ok-starts.starts }) c.in_ok-steps.steps
     c.in_ok-looks.looks c.put_words.ensures.added c.requires.listed c.requires.name
     (written (goal.at.returns-clause-same c).In_ok-steps)
 
@@ -80,7 +81,7 @@ pub returns-clause-written : goal.returns-clause-written
 returns-clause-written c =
     stepped_written (table c.args.deck.now) (listed c.args.nodes.now) (listed c.put_words.new.nodes) c.args.explored.now
     c.args.agenda.now c.put_words.new.agenda c.args.dead_ends.now.items c.put_words.new.dead_ends.items
-    c.args.n (record { rank = c.index_mut.result.now.rank; starts = c.in_ok-entry.entry.starts }) c.in_ok-steps.steps
+    c.args.n (record { rank = c.index_mut.result.now.rank; starts = c.in_ok-starts.starts }) c.in_ok-steps.steps
     c.in_ok-looks.looks c.put_words.ensures.added c.requires.listed c.requires.name
     (written (goal.at.returns-clause-written c).In_ok-steps)
     (words (goal.at.returns-clause-written c).In_ok-steps).starts
