@@ -5,6 +5,7 @@ ghost use Rattle.std.specs.List as lists;
 ghost use Rattle.def_lines.specs.Lines as spec;
 
 use crate::blanks::{trim_end, trim_front};
+use memchr::memchr;
 use units_io::prefix_len;
 
 // The first physical line, and the bytes behind it.
@@ -63,5 +64,5 @@ fn place_of(text: &[u8], byte: u8) -> usize
     ensures is { result ≡ lists.position_or_len (λ b. b == byte) text.now }
     ensures within { result ≤ length text.now }
 {
-    prefix_len(text, |b| b != byte)
+    memchr(byte, text).unwrap_or(text.len())
 }

@@ -22,3 +22,4 @@ pub mod Stops
 pub mod Told
 pub mod Views
 pub mod Whole
+pub mod WordFronts

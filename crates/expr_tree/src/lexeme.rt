@@ -1,12 +1,12 @@
 //! Lexemes, and the one at the front of a text.
 
-ghost use Rattle.std.specs.Prelude.{◌≡◌, ◌<◌, ◌≤◌, ◌+◌, ◌^◌, if◌then◌else◌, IsTrue, length, slice_index};
+ghost use Rattle.std.specs.Prelude.{◌≡◌, ◌<◌, ◌≤◌, ◌+◌, ◌^◌, if◌then◌else◌, IsTrue, length, slice_index, true};
 ghost use Rattle.std.specs.List as lists;
 ghost use Rattle.expr_tree.specs.Lexemes as spec;
 ghost use Rattle.expr_tree.specs.Names as names;
 ghost use Rattle.expr_tree.specs.Seen.{seen_lexeme, seen_piece};
 
-use crate::name::{has_power, is_name, is_refused, is_word_byte};
+use crate::name::{has_power, is_name_word, is_refused, is_word_byte};
 use crate::operator::RootKind;
 use crate::power_digit::PowerDigit;
 use crate::token::Token;
@@ -101,7 +101,7 @@ fn numeral_piece(text: &[u8]) -> Piece<'_>
 }
 
 // The word at the front.
-#[tactic(auto, using(crate::proofs::Lengths::lengths))]
+#[tactic(auto, using(crate::proofs::Lengths::lengths, crate::proofs::WordFronts::words))]
 fn word_at_front(text: &[u8]) -> Piece<'_>
     requires word { IsTrue (names.is_word_byte (slice_index text.now 0)) }
     requires some { 0 < length text.now }
@@ -131,13 +131,14 @@ fn is_opened(text: &[u8]) -> bool
 
 // What a word is, where a `(` follows or not.
 fn word_piece(word: &[u8], opened: bool) -> Piece<'_>
+    requires whole { lists.list_all names.is_word_byte word.now ≡ true }
     requires some { 0 < length word.now }
     requires room { length word.now + (if opened then 1 else 0) < 2 ^ 64 }
     ensures is { seen_piece result ≡ spec.word_piece word.now opened }
     ensures some { 0 < result.len }
     ensures within { result.len ≤ length word.now + (if opened then 1 else 0) }
 {
-    if !(is_name(word) || is_refused(word)) {
+    if !(is_name_word(word) || is_refused(word)) {
         return Piece {
             lexeme: other_word(word),
             len: word.len(),
@@ -157,6 +158,7 @@ fn word_piece(word: &[u8], opened: bool) -> Piece<'_>
 
 // What a word is that is neither a name nor refused.
 fn other_word(word: &[u8]) -> Lexeme<'_>
+    requires { lists.list_all names.is_word_byte word.now ≡ true }
     ensures { seen_lexeme result ≡ spec.other_word word.now }
 {
     if word == b"per".as_slice() {
@@ -174,6 +176,7 @@ fn other_word(word: &[u8]) -> Lexeme<'_>
 // A name with one digit from 2 to 9 behind it.
 #[tactic(auto, using(crate::proofs::PowerWords::powers))]
 fn word_with_power(word: &[u8]) -> Lexeme<'_>
+    requires { lists.list_all names.is_word_byte word.now ≡ true }
     ensures { seen_lexeme result ≡ spec.word_with_power word.now }
 {
     if !has_power(word) {

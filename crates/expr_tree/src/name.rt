@@ -1,6 +1,6 @@
 //! Names, and the words of expressions.
 
-ghost use Rattle.std.specs.Prelude.{◌≡◌};
+ghost use Rattle.std.specs.Prelude.{◌≡◌, true};
 ghost use Rattle.std.specs.List.{list_all};
 ghost use Rattle.expr_tree.specs.Names as spec;
 
@@ -14,18 +14,26 @@ const LONGEST_NAME: usize = 255;
 pub fn is_name(bytes: &[u8]) -> bool
     ensures { result ≡ spec.is_name bytes.now }
 {
-    is_spelled(bytes) && !ends_in_count(bytes) && !is_keyword(bytes) && !is_refused(bytes)
+    has_word_bytes(bytes) && is_name_word(bytes)
 }
 
-// Whether the number of bytes, the bytes, the first and the last are those of a name.
-fn is_spelled(bytes: &[u8]) -> bool
-    ensures { result ≡ spec.is_spelled bytes.now }
+// Whether a word is a name. Its bytes are not gone through again.
+pub(crate) fn is_name_word(word: &[u8]) -> bool
+    requires { list_all spec.is_word_byte word.now ≡ true }
+    ensures { result ≡ spec.is_name word.now }
 {
-    !bytes.is_empty()
-        && bytes.len() <= LONGEST_NAME
-        && may_begin(bytes[0])
-        && may_end(bytes[bytes.len() - 1])
-        && has_word_bytes(bytes)
+    is_spelled(word) && !ends_in_count(word) && !is_keyword(word) && !is_refused(word)
+}
+
+// Whether the number of bytes of a word, the first and the last are those of a name.
+fn is_spelled(word: &[u8]) -> bool
+    requires { list_all spec.is_word_byte word.now ≡ true }
+    ensures { result ≡ spec.is_spelled word.now }
+{
+    !word.is_empty()
+        && word.len() <= LONGEST_NAME
+        && may_begin(word[0])
+        && may_end(word[word.len() - 1])
 }
 
 // Whether a word may hold each of the bytes.
@@ -67,11 +75,13 @@ pub fn is_refused(bytes: &[u8]) -> bool
     )
 }
 
-// Whether the bytes are a name, followed by one digit from 2 to 9.
+// Whether a word is a name, followed by one digit from 2 to 9.
+#[tactic(auto, using(crate::proofs::WordFronts::words))]
 pub(crate) fn has_power(word: &[u8]) -> bool
+    requires { list_all spec.is_word_byte word.now ≡ true }
     ensures { result ≡ spec.has_power word.now }
 {
-    !word.is_empty() && is_power_byte(word[word.len() - 1]) && is_name(&word[..word.len() - 1])
+    !word.is_empty() && is_power_byte(word[word.len() - 1]) && is_name_word(&word[..word.len() - 1])
 }
 
 // Whether the byte is a digit from 2 to 9.
@@ -88,28 +98,29 @@ fn is_keyword(bytes: &[u8]) -> bool
     matches!(bytes, b"per" | b"sqrt") || bytes == b"cuberoot".as_slice()
 }
 
-// Whether a word may hold the byte.
+// Whether a word may hold the byte. Most are letters, so these are told first.
 pub(crate) fn is_word_byte(byte: u8) -> bool
     ensures { result ≡ spec.is_word_byte byte }
 {
-    !matches!(
-        byte,
-        0..=32
-            | 127
-            | b'+'
-            | b'-'
-            | b'*'
-            | b'/'
-            | b'|'
-            | b'^'
-            | b';'
-            | b'~'
-            | b'#'
-            | b'('
-            | b')'
-            | b'['
-            | b']'
-    )
+    byte.is_ascii_alphabetic()
+        || !matches!(
+            byte,
+            0..=32
+                | 127
+                | b'+'
+                | b'-'
+                | b'*'
+                | b'/'
+                | b'|'
+                | b'^'
+                | b';'
+                | b'~'
+                | b'#'
+                | b'('
+                | b')'
+                | b'['
+                | b']'
+        )
 }
 
 // Whether a name may begin with the byte.

@@ -12,6 +12,9 @@ use crate::standing::Standing;
 use crate::token::Token;
 use std::alloc::Global;
 
+// The room for tokens at first: most expressions have fewer.
+const USUAL_TOKENS: usize = 8;
+
 // The tokens of a text that has no fault, each of which may stand where it stands, or its first
 // fault.
 pub(crate) fn scan(alloc: Global, text: &[u8]) -> Result<Vec<Token<'_>>, ParseFault>
@@ -20,7 +23,7 @@ pub(crate) fn scan(alloc: Global, text: &[u8]) -> Result<Vec<Token<'_>>, ParseFa
     ensures fits { IfOk result (λ tokens. fits WantsOperand 0 (map seen tokens.items) ≡ true) }
     ensures fault { IfErr result (λ fault. (fault ≡ ParseFault.OutOfMemory) ⊎ (first_fault text.now ≡ Some fault)) }
 {
-    let mut tokens = Vec::new(alloc);
+    let mut tokens = Vec::with_capacity(alloc, USUAL_TOKENS)?;
     let mut standing = Standing::new();
     let mut after_numeral = false;
     let mut at = 0;

@@ -1,0 +1,33 @@
+-- The words of expressions, whose bytes a word may hold.
+use Rattle.std.specs.List.{list_all, prefix_len}
+use Rattle.std.proofs.Common.{◌≡◌, ◌+◌, ◌&&◌, ℕ, zero, suc, Bool, true, false, cond, List, [], ◌∷◌, take, refl, ap, ◌∙◌}
+use Rattle.std.proofs.Common.{one-add}
+use Rattle.expr_tree.specs.Names.{is_word_byte}
+
+-- the front of a word is one
+pub take-words : (n : ℕ) (word : List ℕ) → list_all is_word_byte word ≡ true
+    → list_all is_word_byte (take n word) ≡ true
+take-words zero [] h = refl
+take-words (suc n) [] h = refl
+take-words zero (b ∷ word) h = refl
+take-words (suc n) (b ∷ word) h = go (is_word_byte b) h (take-words n word)
+  where
+    go : (t : Bool) → (t && list_all is_word_byte word) ≡ true
+        → (list_all is_word_byte word ≡ true → list_all is_word_byte (take n word) ≡ true)
+        → (t && list_all is_word_byte (take n word)) ≡ true
+    go true h rest = rest h
+    go false h rest = cc
+
+-- the bytes at the front of a text that words may hold are a word
+pub prefix_len-words : (text : List ℕ) → list_all is_word_byte (take (prefix_len is_word_byte text) text) ≡ true
+prefix_len-words [] = refl
+prefix_len-words (b ∷ text) = go (is_word_byte b) refl (prefix_len-words text)
+  where
+    go : (t : Bool) → is_word_byte b ≡ t → list_all is_word_byte (take (prefix_len is_word_byte text) text) ≡ true
+        → list_all is_word_byte (take (cond t (1 + prefix_len is_word_byte text) 0) (b ∷ text)) ≡ true
+    go true e rest =
+        ap (λ n. list_all is_word_byte (take n (b ∷ text))) (one-add (prefix_len is_word_byte text))
+        ∙ ap (λ t. t && list_all is_word_byte (take (prefix_len is_word_byte text) text)) e ∙ rest
+    go false e rest = refl
+
+pub ruleset words = (take-words, prefix_len-words)
