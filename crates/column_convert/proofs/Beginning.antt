@@ -3,11 +3,11 @@ use Rattle.std.proofs.Common.{◌≡◌, ◌≤◌, ◌-◌, ◌^◌, ◌++◌, 
 use Rattle.std.specs.Prelude.{Result, Ok, Err}
 use Rattle.std.specs.declared.alloc.AllocError.{AllocError}
 use Rattle.expr_tree.specs.declared.word_list.WordUse.{WordUse}
+use Rattle.live_table.specs.Calls.{AreQueries}
 use Rattle.live_table.specs.Shown.{Follows, IsCutOff, IsRightTable, Shown, state}
 use Rattle.live_table.specs.States.{AsksWords, Event, State, after_all}
 use Rattle.live_table.proofs.Events.{order_law}
 use Rattle.live_table.proofs.Following.{steps_rise}
-use Rattle.reply.specs.Calls.{AreMade}
 use Rattle.reply.proofs.Runs.{cut_after}
 use Rattle.column_convert.specs.Known.{AreBegun}
 use Rattle.column_convert.proofs.Again.{asked_again}
@@ -43,8 +43,8 @@ module _ (events : List Event) (a b : Shown) (n m : ℕ) (begun : AreBegun event
     most = subst (λ (s : State). k ≤ s.steps) begun.same f.most;
   }
 
-  pub begun_made : {A : Type 0} (r : Result A AllocError) (c : Shown) (k : ℕ) → AreMade events r b c m k
-      → AreMade events r a c n k
+  pub begun_made : {A : Type 0} (r : Result A AllocError) (c : Shown) (k : ℕ) → AreQueries events r b c m k
+      → AreQueries events r a c n k
   begun_made (Ok x) c k f = begun_follows c k f
   begun_made (Err e) c k f = begun_cut c k f
 

@@ -9,13 +9,13 @@ use Rattle.expr_tree.specs.Syntax.{Syntax}
 use Rattle.expr_tree.specs.Words.{words_in}
 use Rattle.quantity.specs.Amount.{Amount}
 use Rattle.live_table.specs.Answers.{answer}
+use Rattle.live_table.specs.Calls.{AreQueries}
 use Rattle.live_table.specs.Shown.{Follows, IsCutOff, IsRightTable, Shown}
 use Rattle.live_table.specs.States.{AsksWords, Event}
 use Rattle.live_table.proofs.Following.{cut_both, follows_both}
 use Rattle.live_table.proofs.NameQueries.{cut_at_once}
 use Rattle.live_table.proofs.Runs.{run_law}
 use Rattle.reply.specs.declared.options.Options.{Options}
-use Rattle.reply.specs.Calls.{AreMade}
 use Rattle.column_convert.specs.declared.cell.Cell.{Cell}
 use Rattle.column_convert.specs.declared.memory.Memory.{Memory}
 use Rattle.column_convert.specs.declared.signed.Signed.{Signed}
@@ -131,7 +131,7 @@ module _ (options : Options) (from to number : List ℕ) (n : Signed) (s : IsSig
   pub cell_cut : {A : Type 0} (Q : AllocError → Type 0) (r : Result A AllocError) → IsErrAnd r Q
       → ((options : Options) (number : List ℕ) → IsSigned number n
       → IsCutOff (number_queries (table a.deck) options from to number) a b o m)
-      → AreMade (number_queries (table a.deck) options from to number) r a b o m
+      → AreQueries (number_queries (table a.deck) options from to number) r a b o m
   cell_cut Q (Ok x) failed h = absurd failed
   cell_cut Q (Err e) failed h = h options number s
 
@@ -139,7 +139,7 @@ module _ (options : Options) (from to number : List ℕ) (n : Signed) (s : IsSig
       → AreBegun (number_queries (table a.deck) options from to number) a b o m) where
     -- nor for more
     pub cell_stopped : {A : Type 0} (Q : AllocError → Type 0) (r : Result A AllocError) → IsErrAnd r Q
-        → AreMade (number_queries (table a.deck) options from to number) r a b o m
+        → AreQueries (number_queries (table a.deck) options from to number) r a b o m
     cell_stopped Q (Ok x) failed = absurd failed
     cell_stopped Q (Err e) failed = begun_stopped _ a b o m (begun options number s)
 
@@ -159,11 +159,11 @@ module _ (options : Options) (from to number : List ℕ) (n : Signed) (s : IsSig
 
     -- by its conversion
     pub queries_made : {A : Type 0} (r : Result A AllocError) (c : Shown) (k : ℕ)
-        → AreMade (number_queries (table b.deck) options from to number) r b c m k
-        → AreMade (number_queries (table a.deck) options from to number) r a c o k
+        → AreQueries (number_queries (table b.deck) options from to number) r b c m k
+        → AreQueries (number_queries (table a.deck) options from to number) r a c o k
     queries_made r c k h =
         begun_made _ a b o m (begun options number s) r c k
-        (subst (λ (d : Contents). AreMade (number_queries (table d) options from to number) r b c m k) deck h)
+        (subst (λ (d : Contents). AreQueries (number_queries (table d) options from to number) r b c m k) deck h)
 
   pub cell_made : (r : Result Cell AllocError)
       → IfOk r (λ cell. cell ≡ cell_of (number_reply (table b.deck) options from to number))

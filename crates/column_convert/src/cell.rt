@@ -3,7 +3,7 @@
 ghost use Rattle.std.specs.Prelude.{◌≡◌, ◌++◌, IfOk, OnOk, codes};
 ghost use Rattle.def_lines.specs.Blanks.{trimmed};
 ghost use Rattle.deck.specs.Tables as tables;
-ghost use Rattle.reply.specs.Calls.{AreMade};
+ghost use Rattle.live_table.specs.Calls.{AreQueries};
 ghost use Rattle.reply.specs.Options.{IsPrintable};
 ghost use Rattle.column_convert.specs.Cells as spec;
 ghost use Rattle.column_convert.specs.Known.{IsRemembered, IsSigned};
@@ -43,7 +43,7 @@ pub(crate) fn convert_cell<L: Ledger>(
     requires known { IsRemembered table.old (trimmed from.now) to.now memory.old }
     ensures cell { IfOk result (λ cell.
         cell ≡ spec.cell (tables.table table.old.deck) options.now from.now to.now field.now) }
-    ensures queries { AreMade (spec.cell_queries (tables.table table.old.deck) options.now from.now to.now field.now)
+    ensures queries { AreQueries (spec.cell_queries (tables.table table.old.deck) options.now from.now to.now field.now)
         result table.old table.new steps.old steps.new }
     ensures known { OnOk result (IsRemembered table.new (trimmed from.now) to.now memory.new) }
     ensures deck { table.new.deck ≡ table.old.deck }
@@ -79,7 +79,7 @@ fn signed_cell<L: Ledger>(
     requires signed { IsSigned number.now n.now }
     ensures cell { IfOk result (λ cell. cell
         ≡ spec.cell_of (spec.number_reply (tables.table table.old.deck) options.now from.now to.now number.now)) }
-    ensures queries { AreMade
+    ensures queries { AreQueries
         (spec.number_queries (tables.table table.old.deck) options.now from.now to.now number.now)
         result table.old table.new steps.old steps.new }
     ensures known { OnOk result (IsRemembered table.new from.now to.now memory.new) }
@@ -106,7 +106,7 @@ fn number_cell<L: Ledger>(
     requires { IsPrintable options.now }
     ensures cell { IfOk result (λ cell. cell
         ≡ spec.cell_of (spec.number_reply (tables.table table.old.deck) options.now from.now to.now number.now)) }
-    ensures queries { AreMade
+    ensures queries { AreQueries
         (spec.number_queries (tables.table table.old.deck) options.now from.now to.now number.now)
         result table.old table.new steps.old steps.new }
     ensures deck { table.new.deck ≡ table.old.deck }

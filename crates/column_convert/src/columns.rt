@@ -2,7 +2,7 @@
 
 ghost use Rattle.std.specs.Prelude.{◌≡◌, ◌≤◌, ◌||◌, IfOk, OnOk, Some};
 ghost use Rattle.deck.specs.Tables as tables;
-ghost use Rattle.reply.specs.Calls.{AreMade};
+ghost use Rattle.live_table.specs.Calls.{AreQueries};
 ghost use Rattle.reply.specs.Options.{IsPrintable};
 ghost use Rattle.column_convert.specs.Blocks.{behind_first, block_of, first};
 ghost use Rattle.column_convert.specs.Inputs.{behind, input_of};
@@ -87,7 +87,7 @@ impl Columns {
         ensures block { IfOk result (λ block. block ≡ block_of
             (spec.rows (tables.table table.old.deck) options.now from.now to.now (first most self.old))) }
         ensures left { OnOk result (self.new ≡ behind_first most self.old) }
-        ensures queries { AreMade
+        ensures queries { AreQueries
             (spec.queries (tables.table table.old.deck) options.now from.now to.now (first most self.old))
             result table.old table.new steps.old steps.new }
         ensures deck { table.new.deck ≡ table.old.deck }
@@ -128,7 +128,7 @@ impl Columns {
             (spec.next_row (tables.table table.old.deck) conversion.now.options.now conversion.now.from.now
             conversion.now.to.now self.old)) }
         ensures left { OnOk result (self.new ≡ behind self.old) }
-        ensures queries { AreMade
+        ensures queries { AreQueries
             (spec.next_queries (tables.table table.old.deck) conversion.now.options.now conversion.now.from.now
             conversion.now.to.now self.old) result table.old table.new steps.old steps.new }
         ensures deck { table.new.deck ≡ table.old.deck }

@@ -5,8 +5,8 @@ ghost use Rattle.deck.specs.Tables as tables;
 ghost use Rattle.expr_tree.specs.Trees.{syntax};
 ghost use Rattle.expr_tree.specs.Words.{words_in};
 ghost use Rattle.live_table.specs.Answers.{answer};
+ghost use Rattle.live_table.specs.Calls.{AreQueries};
 ghost use Rattle.live_table.specs.States.{AsksWords};
-ghost use Rattle.reply.specs.Calls.{AreMade};
 ghost use Rattle.column_convert.specs.Known as spec;
 ghost use Rattle.column_convert.specs.Worths.{product_worth};
 
@@ -88,7 +88,7 @@ fn ask<L: Ledger>(
 ) -> Result<Option<Quantity>, AllocError>
     ensures value { IfOk result (λ value. IfSome value (λ x.
         answer (tables.table table.old.deck) (syntax tree.now) ≡ Ok x)) }
-    ensures query { AreMade (AsksWords (words_in (syntax tree.now)) ∷ []) result
+    ensures query { AreQueries (AsksWords (words_in (syntax tree.now)) ∷ []) result
         table.old table.new steps.old steps.new }
     ensures few { table.new.reductions ≤ 2 ^ 64 - 1 }
     ensures deck { table.new.deck ≡ table.old.deck }

@@ -3,7 +3,7 @@
 ghost use Rattle.std.specs.Prelude.{◌≡◌, ◌<◌, [], IfOk, OnOk, get_or, length, slice_set};
 ghost use Rattle.csv.specs.Records.{fields_of};
 ghost use Rattle.deck.specs.Tables as tables;
-ghost use Rattle.reply.specs.Calls.{AreMade};
+ghost use Rattle.live_table.specs.Calls.{AreQueries};
 ghost use Rattle.reply.specs.Options.{IsPrintable};
 ghost use Rattle.column_convert.specs.Drafts.{IsReady};
 ghost use Rattle.column_convert.specs.Rows as spec;
@@ -38,7 +38,7 @@ pub(crate) fn write_row<L: Ledger>(
     ensures row { IfOk result (λ refused. IsWritten draft.old.writer draft.new.writer refused
         (spec.row (tables.table table.old.deck) conversion.now.options.now conversion.now.from.now
         conversion.now.to.now place headed (fields_of fields.now))) }
-    ensures queries { AreMade
+    ensures queries { AreQueries
         (spec.row_queries (tables.table table.old.deck) conversion.now.options.now conversion.now.from.now
         conversion.now.to.now place headed (fields_of fields.now)) result table.old table.new steps.old steps.new }
     ensures deck { table.new.deck ≡ table.old.deck }

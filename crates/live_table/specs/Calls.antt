@@ -19,8 +19,8 @@ abbrev pub IsQuery : Event → Result Amount QueryFault → Shown → Shown → 
 IsQuery event (Err OutOfMemory) before after old new = IsCutOff (event ∷ []) before after old new
 IsQuery event answer before after old new = Follows (event ∷ []) before after old new
 
--- several queries, one behind another
-abbrev pub AreQueries : List Event → Result (Unit {0}) AllocError → Shown → Shown → ℕ → ℕ → Type 0
+-- several queries were made, one behind another, or want of memory cut them off
+abbrev pub AreQueries : {A : Type 0} → List Event → Result A AllocError → Shown → Shown → ℕ → ℕ → Type 0
 AreQueries events (Ok _) before after old new = Follows events before after old new
 AreQueries events (Err _) before after old new = IsCutOff events before after old new
 

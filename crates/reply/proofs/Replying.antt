@@ -10,6 +10,7 @@ use Rattle.def_entry.specs.Keys.{key}
 use Rattle.def_entry.specs.Tables.{Table, entry_at}
 use Rattle.deck.specs.Decks.{Contents}
 use Rattle.deck.specs.Tables.{table}
+use Rattle.live_table.specs.Calls.{AreQueries}
 use Rattle.live_table.specs.Shown.{Follows, IsCutOff, Shown}
 use Rattle.live_table.specs.States.{Event}
 use Rattle.reply.specs.declared.conversion.Conversion.{Conversion}
@@ -18,7 +19,7 @@ use Rattle.reply.specs.declared.failure.Failure.TheVariants.{Fault, OutOfMemory}
 use Rattle.reply.specs.declared.fault.ReplyFault.{ReplyFault}
 use Rattle.reply.specs.declared.form.Form.{Form}
 use Rattle.reply.specs.declared.options.Options.{Options}
-use Rattle.reply.specs.Calls.{AreMade, IsInquired, same}
+use Rattle.reply.specs.Calls.{IsInquired, same}
 use Rattle.reply.specs.Conversions.{conversion}
 use Rattle.reply.specs.Faults.{fault_text, is_told}
 use Rattle.reply.specs.Inquiries.{text_worth}
@@ -65,9 +66,9 @@ module _ (options : Options) (from to f g : List ℕ) (p : f ≡ trimmed from) (
       h.0
 
   pub conversion-made : {A : Type 0} (r : Result A AllocError) → b.deck ≡ a.deck
-      → Follows (conversion t options f g).events a b n m → AreMade (conversion_queries t options from to) r a b n m
+      → Follows (conversion t options f g).events a b n m → AreQueries (conversion_queries t options from to) r a b n m
   conversion-made r deck h =
-      subst (λ (es : List Event). AreMade es r a b n m) trimmed-queries
+      subst (λ (es : List Event). AreQueries es r a b n m) trimmed-queries
       (made r (conversion t options f g).events a b n m deck h)
 
   pub conversion-cut : answered (Err OutOfMemory) → IsCutOff (conversion_queries t options from to) a b n m
@@ -117,9 +118,9 @@ module _ (options : Options) (from f : List ℕ) (p : f ≡ trimmed from) (a b :
   value-fault-told law fault h = told (text_worth u f).answer fault (text-told law u f) h.0
 
   pub value-made : {A : Type 0} (r : Result A AllocError) → b.deck ≡ a.deck → Follows (text_worth u f).events a b n m
-      → AreMade (value_queries u from) r a b n m
+      → AreQueries (value_queries u from) r a b n m
   value-made r deck h =
-      subst (λ (es : List Event). AreMade es r a b n m) value-queries (made r (text_worth u f).events a b n m deck h)
+      subst (λ (es : List Event). AreQueries es r a b n m) value-queries (made r (text_worth u f).events a b n m deck h)
 
   pub value-cut : valued (Err OutOfMemory) → IsCutOff (value_queries u from) a b n m
   value-cut h = subst (λ (es : List Event). IsCutOff es a b n m) value-queries h

@@ -3,10 +3,10 @@ use Rattle.std.proofs.Common.{◌≡◌, ℕ, List, [], subst}
 use Rattle.std.specs.Prelude.{Result, Ok, Err}
 use Rattle.std.specs.declared.alloc.AllocError.{AllocError}
 use Rattle.std.proofs.lemmas.List.{append-nil}
+use Rattle.live_table.specs.Calls.{AreQueries}
 use Rattle.live_table.specs.Shown.{Follows, IsCutOff, Shown}
 use Rattle.live_table.specs.States.{Event}
 use Rattle.live_table.proofs.Runs.{run_law}
-use Rattle.reply.specs.Calls.{AreMade}
 
 -- queries that were made are a case of those that were cut off
 pub cut_after : (es : List Event) (a b : Shown) (n m : ℕ) → b.deck ≡ a.deck → Follows es a b n m → IsCutOff es a b n m
@@ -15,6 +15,6 @@ cut_after es a b n m same p =
 
 -- so they were made, or want of memory cut them off, whatever comes of a call behind them
 pub made : {A : Type 0} (r : Result A AllocError) (es : List Event) (a b : Shown) (n m : ℕ) → b.deck ≡ a.deck
-    → Follows es a b n m → AreMade es r a b n m
+    → Follows es a b n m → AreQueries es r a b n m
 made (Ok x) es a b n m same p = p
 made (Err e) es a b n m same p = cut_after es a b n m same p

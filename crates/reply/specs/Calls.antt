@@ -1,6 +1,5 @@
 -- What calls answer, and how they leave the live table and its steps.
 use Rattle.std.specs.Prelude.{◌≡◌, ⊤, ℕ, List, map, Result, Ok, Err}
-use Rattle.std.specs.declared.alloc.AllocError.{AllocError}
 use Rattle.expr_tree.specs.declared.tree.Tree.{Tree}
 use Rattle.expr_tree.specs.Syntax.{Syntax}
 use Rattle.expr_tree.specs.Trees.{syntax}
@@ -13,11 +12,6 @@ use Rattle.reply.specs.declared.failure.Failure.TheVariants.{Fault, OutOfMemory}
 use Rattle.reply.specs.declared.fault.ReplyFault.{ReplyFault}
 use Rattle.reply.specs.declared.fault.ReplyFault.TheVariants.{Name, Value}
 use Rattle.reply.specs.Inquiries.{Inquiry}
-
--- all queries were made, or want of memory cut them off
-abbrev pub AreMade : {A : Type 0} → List Event → Result A AllocError → Shown → Shown → ℕ → ℕ → Type 0
-AreMade events (Ok _) before after old new = Follows events before after old new
-AreMade events (Err _) before after old new = IsCutOff events before after old new
 
 -- an inquiry has its answer or its fault, as it is seen, or want of memory cut it off
 abbrev pub IsInquired : {A B : Type 0} → (A → B) → Inquiry B → Result A Failure → Shown → Shown → ℕ → ℕ → Type 0

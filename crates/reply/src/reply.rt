@@ -7,7 +7,7 @@ ghost use Rattle.def_entry.specs.declared.key.Kind.TheVariants as kinds;
 ghost use Rattle.def_entry.specs.Keys as keys;
 ghost use Rattle.def_entry.specs.Tables.{entry_at};
 ghost use Rattle.digits_print.specs.Styles.{IsStyle};
-ghost use Rattle.reply.specs.Calls as call;
+ghost use Rattle.live_table.specs.Calls.{AreQueries};
 ghost use Rattle.reply.specs.Conversions as conversions;
 ghost use Rattle.reply.specs.Faults as faults;
 ghost use Rattle.reply.specs.Options.{IsPrintable, style_of};
@@ -65,7 +65,7 @@ pub fn convert_reply<L: Ledger>(
     requires { IsPrintable options.now }
     ensures reply { IfOk result (λ reply.
         reply ≡ spec.conversion_reply (tables.table table.old.deck) options.now from.now to.now) }
-    ensures queries { call.AreMade (spec.conversion_queries (tables.table table.old.deck) options.now from.now to.now)
+    ensures queries { AreQueries (spec.conversion_queries (tables.table table.old.deck) options.now from.now to.now)
         result table.old table.new steps.old steps.new }
     ensures deck { table.new.deck ≡ table.old.deck }
 {
@@ -115,7 +115,7 @@ pub fn definition_reply<L: Ledger>(
     requires { IsPrintable options.now }
     ensures reply { IfOk result (λ reply.
         reply ≡ spec.definition_reply (tables.table table.old.deck) options.now from.now) }
-    ensures queries { call.AreMade (spec.value_queries (tables.table table.old.deck) from.now)
+    ensures queries { AreQueries (spec.value_queries (tables.table table.old.deck) from.now)
         result table.old table.new steps.old steps.new }
     ensures deck { table.new.deck ≡ table.old.deck }
 {
@@ -141,7 +141,7 @@ pub fn from_value<L: Ledger>(
     requires { IsPrintable options.now }
     ensures value { IfOk result (λ value.
         value ≡ spec.from_value (tables.table table.old.deck) options.now from.now) }
-    ensures queries { call.AreMade (spec.value_queries (tables.table table.old.deck) from.now)
+    ensures queries { AreQueries (spec.value_queries (tables.table table.old.deck) from.now)
         result table.old table.new steps.old steps.new }
     ensures deck { table.new.deck ≡ table.old.deck }
 {

@@ -6,10 +6,10 @@ use Rattle.quantity.specs.Amount.{Amount}
 use Rattle.def_entry.specs.Tables.{Table}
 use Rattle.deck.specs.Decks.{Contents}
 use Rattle.deck.specs.Tables.{table as table_in}
+use Rattle.live_table.specs.Calls.{AreQueries}
 use Rattle.live_table.specs.Shown.{Follows, Shown}
 use Rattle.live_table.specs.States.{Event}
 use Rattle.live_table.proofs.Following.{follows_both}
-use Rattle.reply.specs.Calls.{AreMade}
 use Rattle.reply.specs.Replies.{value_queries}
 use Rattle.reply.specs.declared.reply.FromValue.{FromValue}
 use Rattle.reply.specs.declared.reply.FromValue.TheVariants.{Good, Bad}
@@ -29,7 +29,7 @@ made events answer reply old new n k e f same =
 
 -- the same of a result
 pub made_or_cut : {A : Type 0} (events : List Event) (answer : A) (result : Result A AllocError) (old new : Shown)
-    (n k : ℕ) → IfOk result (λ reply. reply ≡ answer) → AreMade events result old new n k → new.deck ≡ old.deck
+    (n k : ℕ) → IfOk result (λ reply. reply ≡ answer) → AreQueries events result old new n k → new.deck ≡ old.deck
     → IsReplied events answer result old new n k
 made_or_cut events answer (Ok reply) old new n k e f same = made events answer reply old new n k e f same
 made_or_cut events answer (Err fault) old new n k e f same = tt
@@ -42,16 +42,16 @@ module _ (from : List ℕ) (value : FromValue) (old mid new : Shown) (n j k : �
     -- what conforms to a text that has a value
     pub listed_good : (x : Amount) → Good x ≡ value → Follows (value_queries table from) old mid n j
         → mid.deck ≡ old.deck → IfOk result (λ text. text ≡ conformable_report (table_in mid.deck) x)
-        → AreMade (conformable_queries (table_in mid.deck)) result mid new j k → new.deck ≡ mid.deck
+        → AreQueries (conformable_queries (table_in mid.deck)) result mid new j k → new.deck ≡ mid.deck
         → IsReplied (listed_by value table from).events (listed_by value table from).text result old new n k
     listed_good x w f same text made_then kept =
         subst (λ v. IsReplied (listed_by v table from).events (listed_by v table from).text result old new n k) w
         (by result
         (subst (λ (d : Contents). IfOk result (λ text. text ≡ conformable_report (table_in d) x)) same text)
-        (subst (λ (d : Contents). AreMade (conformable_queries (table_in d)) result mid new j k) same made_then))
+        (subst (λ (d : Contents). AreQueries (conformable_queries (table_in d)) result mid new j k) same made_then))
       where
         by : (r : Result (List ℕ) AllocError) → IfOk r (λ text. text ≡ conformable_report table x)
-            → AreMade (conformable_queries table) r mid new j k
+            → AreQueries (conformable_queries table) r mid new j k
             → IsReplied (listed_by (Good x) table from).events (listed_by (Good x) table from).text r old new n k
         by (Ok report) e g =
             made (value_queries table from ++ conformable_queries table) (conformable_report table x) report old new n k

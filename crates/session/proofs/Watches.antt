@@ -9,9 +9,9 @@ use Rattle.units_io.specs.FileMap.{FileMap}
 use Rattle.def_entry.specs.Tables.{Table}
 use Rattle.deck.specs.Decks.{Contents}
 use Rattle.deck.specs.Tables.{table as table_in}
+use Rattle.live_table.specs.Calls.{AreQueries}
 use Rattle.live_table.specs.Shown.{Follows, Shown}
 use Rattle.live_table.specs.States.{Event}
-use Rattle.reply.specs.Calls.{AreMade}
 use Rattle.reply.specs.declared.options.Options.{Options}
 use Rattle.session.specs.Answers.{watching}
 use Rattle.session.specs.Parts.{Said}
@@ -39,10 +39,10 @@ module _ (table : Table) (options : Options) where
       ap (λ (rest : List Event). queries_of table options (subject_of w) ++ rest) (same_queries watches)
 
   pub asked_again : (watches : List Watch) (result : Result (Unit {0}) AllocError) (old new : Shown) (n k : ℕ)
-      → AreMade (all_queries table options watches) result old new n k
-      → AreMade (watched_queries table options (map subject_of watches)) result old new n k
+      → AreQueries (all_queries table options watches) result old new n k
+      → AreQueries (watched_queries table options (map subject_of watches)) result old new n k
   asked_again watches result old new n k made =
-      subst (λ (events : List Event). AreMade events result old new n k) (same_queries watches) made
+      subst (λ (events : List Event). AreQueries events result old new n k) (same_queries watches) made
 
 not_full : (watches : List Watch) → (length watches ≡ 1000 → ⊥) → is_full (map subject_of watches) ≡ false
 not_full watches room = by (length (map subject_of watches)) (length-map watches subject_of)

@@ -5,7 +5,7 @@ ghost use Rattle.std.specs.declared.option.Option.{Option};
 ghost use Rattle.units_io.specs.FileMap.{FileMap};
 ghost use Rattle.def_entry.specs.Tables.{Table};
 ghost use Rattle.deck.specs.Tables as tables;
-ghost use Rattle.reply.specs.Calls.{AreMade};
+ghost use Rattle.live_table.specs.Calls.{AreQueries};
 ghost use Rattle.reply.specs.Options.{IsPrintable};
 ghost use Rattle.session.specs.Answering.{IsCalm};
 ghost use Rattle.session.specs.Answers.{watching};
@@ -39,7 +39,8 @@ pub(crate) fn tell_changes<L: Ledger>(
         ≡ told_by_edit before (tables.table table.old.deck) options.now (map subject_of watches.old)) }
     ensures watched { OnOk result (map subject_of watches.new ≡ map subject_of watches.old) }
     ensures current { AreCurrent (tables.table table.new.deck) options.now watches.new }
-    ensures queries { AreMade (watched_queries (tables.table table.old.deck) options.now (map subject_of watches.old))
+    ensures queries { AreQueries
+        (watched_queries (tables.table table.old.deck) options.now (map subject_of watches.old))
         result table.old table.new steps.old steps.new }
     ensures deck { table.new.deck ≡ table.old.deck }
 {

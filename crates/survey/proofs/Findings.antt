@@ -4,12 +4,13 @@ use Rattle.std.specs.Prelude.{Result, Ok, Err, OnOk}
 use Rattle.std.specs.declared.alloc.AllocError.{AllocError}
 use Rattle.live_table.specs.declared.fault.QueryFault.{QueryFault}
 use Rattle.live_table.specs.declared.fault.QueryFault.TheVariants.{Name, Value, OutOfMemory}
+use Rattle.live_table.specs.Calls.{AreQueries}
 use Rattle.live_table.specs.Shown.{Shown}
 use Rattle.def_entry.specs.declared.key.Key.{Key}
 use Rattle.digits_print.specs.declared.style.Style.{Style}
 use Rattle.survey.specs.declared.finding.Finding.{Finding}
 use Rattle.survey.specs.Checks.{finding_line}
-use Rattle.reply.specs.Calls.{AreMade, IsInquired, as_inquired, same}
+use Rattle.reply.specs.Calls.{IsInquired, as_inquired, same}
 use Rattle.reply.specs.Inquiries.{Inquiry, as_answer}
 use Rattle.reply.proofs.Runs.{made}
 
@@ -24,7 +25,7 @@ module _ {A : Type 0} (m : Inquiry A) (a b : Shown) (n l : ℕ) where
 
   -- and all was asked, whether or not there was memory afterwards
   pub are-made : (r : Result A QueryFault) → b.deck ≡ a.deck → IsInquired same m (as_inquired r) a b n l
-      → (q : Result (Unit {0}) AllocError) → OnOk q (r ≡ Err OutOfMemory → ⊥) → AreMade m.events q a b n l
+      → (q : Result (Unit {0}) AllocError) → OnOk q (r ≡ Err OutOfMemory → ⊥) → AreQueries m.events q a b n l
   are-made (Ok x) deck h q memory = made q m.events a b n l deck h.1
   are-made (Err (Name fault)) deck h q memory = made q m.events a b n l deck h.1
   are-made (Err (Value fault)) deck h q memory = made q m.events a b n l deck h.1

@@ -16,10 +16,11 @@ use Rattle.deck.specs.PlacedKeys.{key_there, keys_there}
 use Rattle.deck.specs.Tables.{Table, table}
 use Rattle.live_table.specs.declared.fault.QueryFault.{QueryFault}
 use Rattle.live_table.specs.declared.fault.QueryFault.TheVariants.{OutOfMemory}
+use Rattle.live_table.specs.Calls.{AreQueries}
 use Rattle.live_table.specs.Shown.{Follows, IsRightTable, Shown}
 use Rattle.live_table.proofs.Following.{follows_none}
 use Rattle.reply.specs.declared.fault.ReplyFault.{ReplyFault}
-use Rattle.reply.specs.Calls.{AreMade, IsInquired, as_inquired, same}
+use Rattle.reply.specs.Calls.{IsInquired, as_inquired, same}
 use Rattle.reply.specs.Inquiries.{as_answer, worth}
 use Rattle.survey.specs.Conformable.{conforming_row, is_conforming, unit_worth}
 use Rattle.survey.specs.Places.{given_by, unit_only, unit_there}
@@ -114,14 +115,15 @@ module _ (deck : Contents) (place : ℕ) (a b : Shown) (n l : ℕ) (found : Resu
   finds tree = IsInquired same (worth (table deck) tree) (as_inquired found) a b n l
 
   key-asked : (k : Key) → unit_there deck place ≡ Some k → finds (Word k.name) → b.deck ≡ a.deck
-      → AreMade (unit_queries_at deck place) q a b n l
+      → AreQueries (unit_queries_at deck place) q a b n l
   key-asked k there h same_deck =
-      subst (λ (o : Option Key). AreMade (given_by (λ k. (unit_worth (table deck) k).events) o) q a b n l) (sym there)
+      subst (λ (o : Option Key). AreQueries (given_by (λ k. (unit_worth (table deck) k).events) o) q a b n l)
+      (sym there)
       (are-made (unit_worth (table deck) k) a b n l found same_deck h q memory)
 
   -- the word of the unit was asked for, whether or not there was memory afterwards
   pub word-asked : (tree : Syntax) → Some tree ≡ option_map (λ k. Word k.name) (unit_there deck place) → finds tree
-      → b.deck ≡ a.deck → AreMade (unit_queries_at deck place) q a b n l
+      → b.deck ≡ a.deck → AreQueries (unit_queries_at deck place) q a b n l
   word-asked tree is h same_deck =
       let u = unit-of-word tree (unit_there deck place) is in
       key-asked u.0 u.1.0 (subst finds u.1.1 h) same_deck

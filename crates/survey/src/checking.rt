@@ -4,6 +4,7 @@ ghost use Rattle.std.specs.Prelude.{◌≡◌, ◌++◌, IfOk, OnOk};
 ghost use Rattle.deck.specs.PlacedKeys.{key_there, keys_there};
 ghost use Rattle.deck.specs.Tables as tables;
 ghost use Rattle.def_entry.specs.declared.key.Kind.TheVariants as kinds;
+ghost use Rattle.live_table.specs.Calls.{AreQueries};
 ghost use Rattle.live_table.specs.Shown.{IsRightTable};
 ghost use Rattle.reply.specs.Calls as call;
 ghost use Rattle.reply.specs.Inquiries as inquiries;
@@ -37,7 +38,7 @@ pub fn check_report<L: Ledger>(
     requires { IsPrintable options.now }
     ensures report { IfOk result (λ text.
         text ≡ spec.check_report (tables.table table.old.deck) (style_of options.now)) }
-    ensures queries { call.AreMade (spec.check_queries (tables.table table.old.deck)) result
+    ensures queries { AreQueries (spec.check_queries (tables.table table.old.deck)) result
         table.old table.new steps.old steps.new }
     ensures deck { table.new.deck ≡ table.old.deck }
 {
@@ -63,7 +64,7 @@ fn put_checks<L: Ledger>(
     ensures lines { OnOk result (lines.new.items ≡ lines.old.items
         ++ spec.check_among (tables.table table.old.deck) (style_of options.now)
         (keys_there table.old.deck.lines places.now)) }
-    ensures queries { call.AreMade
+    ensures queries { AreQueries
         (spec.queries_among (tables.table table.old.deck) (keys_there table.old.deck.lines places.now)) result
         table.old table.new steps.old steps.new }
     ensures deck { table.new.deck ≡ table.old.deck }
@@ -88,7 +89,7 @@ fn put_check_at<L: Ledger>(
     ensures line { OnOk result (lines.new.items ≡ lines.old.items
         ++ given_by (spec.check_line (tables.table table.old.deck) (style_of options.now))
         (key_there table.old.deck.lines place)) }
-    ensures queries { call.AreMade (given_by (λ k. (spec.checked (tables.table table.old.deck) k).events)
+    ensures queries { AreQueries (given_by (λ k. (spec.checked (tables.table table.old.deck) k).events)
         (key_there table.old.deck.lines place)) result table.old table.new steps.old steps.new }
     ensures deck { table.new.deck ≡ table.old.deck }
 {
@@ -112,7 +113,7 @@ fn put_check<L: Ledger>(
     requires right { IsRightTable table.old }
     ensures line { OnOk result (lines.new.items ≡ lines.old.items
         ++ spec.check_line (tables.table table.old.deck) (style_of options.now) key.now) }
-    ensures queries { call.AreMade (spec.checked (tables.table table.old.deck) key.now).events result
+    ensures queries { AreQueries (spec.checked (tables.table table.old.deck) key.now).events result
         table.old table.new steps.old steps.new }
     ensures deck { table.new.deck ≡ table.old.deck }
 {

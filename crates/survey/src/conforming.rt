@@ -9,9 +9,9 @@ ghost use Rattle.deck.specs.PlacedKeys.{key_there, keys_there};
 ghost use Rattle.deck.specs.Tables as tables;
 ghost use Rattle.expr_tree.specs.Syntax.{Word};
 ghost use Rattle.expr_tree.specs.Trees.{syntax};
+ghost use Rattle.live_table.specs.Calls.{AreQueries};
 ghost use Rattle.live_table.specs.Shown.{IsRightTable};
 ghost use Rattle.live_table.specs.declared.fault.QueryFault.TheVariants.{OutOfMemory};
-ghost use Rattle.reply.specs.Calls as call;
 ghost use Rattle.reply.specs.Inquiries.{as_answer};
 ghost use Rattle.survey.specs.Conformable as spec;
 ghost use Rattle.survey.specs.Places.{given_by, unit_there};
@@ -36,7 +36,7 @@ pub fn conformable_report<L: Ledger>(
     steps: &mut Steps<L>,
 ) -> Result<Text, AllocError>
     ensures report { IfOk result (λ text. text ≡ spec.conformable_report (tables.table table.old.deck) from.now) }
-    ensures queries { call.AreMade (spec.conformable_queries (tables.table table.old.deck)) result
+    ensures queries { AreQueries (spec.conformable_queries (tables.table table.old.deck)) result
         table.old table.new steps.old steps.new }
     ensures deck { table.new.deck ≡ table.old.deck }
 {
@@ -60,7 +60,7 @@ fn put_conforming_rows<L: Ledger>(
     ensures rows { OnOk result (rows.new.items ≡ rows.old.items
         ++ flat_map (spec.conforming_row (tables.table table.old.deck) from.now)
         (of_kind kinds.Unit (keys_there table.old.deck.lines places.now))) }
-    ensures queries { call.AreMade
+    ensures queries { AreQueries
         (spec.unit_queries (tables.table table.old.deck) (keys_there table.old.deck.lines places.now)) result
         table.old table.new steps.old steps.new }
     ensures deck { table.new.deck ≡ table.old.deck }
@@ -84,7 +84,7 @@ fn put_row_at<L: Ledger>(
     ensures rows { OnOk result (rows.new.items ≡ rows.old.items
         ++ given_by (spec.conforming_row (tables.table table.old.deck) from.now)
         (unit_there table.old.deck place)) }
-    ensures queries { call.AreMade (given_by (λ k. (spec.unit_worth (tables.table table.old.deck) k).events)
+    ensures queries { AreQueries (given_by (λ k. (spec.unit_worth (tables.table table.old.deck) k).events)
         (unit_there table.old.deck place)) result table.old table.new steps.old steps.new }
     ensures deck { table.new.deck ≡ table.old.deck }
 {

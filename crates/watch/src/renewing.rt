@@ -2,8 +2,8 @@
 
 ghost use Rattle.std.specs.Prelude.{◌≡◌, ◌++◌, OnErr, OnOk, map};
 ghost use Rattle.deck.specs.Tables as tables;
+ghost use Rattle.live_table.specs.Calls.{AreQueries};
 ghost use Rattle.live_table.specs.Shown.{IsRightTable};
-ghost use Rattle.reply.specs.Calls as call;
 ghost use Rattle.reply.specs.Options.{IsPrintable};
 ghost use Rattle.watch.specs.Calls.{IsPartlyRenewed};
 ghost use Rattle.watch.specs.Changes.{told_from, told_of};
@@ -34,7 +34,7 @@ pub(crate) fn renew_all<L: Ledger>(
         ≡ map (spec.renewed (tables.table table.old.deck) options.now) watches.old.items) }
     ensures partly { OnErr result
         (IsPartlyRenewed (tables.table table.old.deck) options.now watches.old.items watches.new.items) }
-    ensures queries { call.AreMade (spec.all_queries (tables.table table.old.deck) options.now watches.old.items)
+    ensures queries { AreQueries (spec.all_queries (tables.table table.old.deck) options.now watches.old.items)
         result table.old table.new steps.old steps.new }
     ensures deck { table.new.deck ≡ table.old.deck }
 {
@@ -69,7 +69,7 @@ fn renew<L: Ledger>(
         ++ told_of number (spec.change_of (tables.table table.old.deck) options.now watch.old)) }
     ensures renewed { OnOk result (watch.new ≡ spec.renewed (tables.table table.old.deck) options.now watch.old) }
     ensures same { OnErr result (watch.new ≡ watch.old) }
-    ensures queries { call.AreMade
+    ensures queries { AreQueries
         (spec.queries_of (tables.table table.old.deck) options.now (spec.subject_of watch.old))
         result table.old table.new steps.old steps.new }
     ensures deck { table.new.deck ≡ table.old.deck }

@@ -2,7 +2,7 @@
 
 ghost use Rattle.std.specs.Prelude.{◌≡◌, IfOk};
 ghost use Rattle.deck.specs.Tables as tables;
-ghost use Rattle.reply.specs.Calls as call;
+ghost use Rattle.live_table.specs.Calls.{AreQueries};
 ghost use Rattle.reply.specs.Options.{IsPrintable};
 ghost use Rattle.watch.specs.Watched as spec;
 
@@ -33,7 +33,7 @@ pub(crate) fn reply_bytes<L: Ledger>(
     requires { IsPrintable options.now }
     ensures bytes { IfOk result (λ bytes.
         bytes ≡ spec.reply_to (tables.table table.old.deck) options.now (spec.subject from.now to.now)) }
-    ensures queries { call.AreMade
+    ensures queries { AreQueries
         (spec.queries_of (tables.table table.old.deck) options.now (spec.subject from.now to.now))
         result table.old table.new steps.old steps.new }
     ensures deck { table.new.deck ≡ table.old.deck }
@@ -54,7 +54,7 @@ pub(crate) fn watch_on<L: Ledger>(
     requires { IsPrintable options.now }
     ensures watch { IfOk result (λ watch.
         watch ≡ spec.watch_on (tables.table table.old.deck) options.now (spec.subject from.now to.now)) }
-    ensures queries { call.AreMade
+    ensures queries { AreQueries
         (spec.queries_of (tables.table table.old.deck) options.now (spec.subject from.now to.now))
         result table.old table.new steps.old steps.new }
     ensures deck { table.new.deck ≡ table.old.deck }

@@ -3,7 +3,7 @@
 ghost use Rattle.std.specs.Prelude.{◌≡◌, ◌↔◌, ◌+◌, ◌++◌, ◌∷◌, ◌≤◌, [], IfOk, IsErrOf, OnErr, OnOk, length, map};
 ghost use Rattle.deck.specs.Tables as tables;
 ghost use Rattle.def_entry.specs.Tables.{Table};
-ghost use Rattle.reply.specs.Calls as call;
+ghost use Rattle.live_table.specs.Calls.{AreQueries};
 ghost use Rattle.reply.specs.Options.{IsPrintable};
 ghost use Rattle.watch.specs.Calls as calls;
 ghost use Rattle.watch.specs.Changes.{notice, told};
@@ -127,7 +127,7 @@ impl Watches {
         ensures current { OnOk result (spec.AreCurrent (tables.table table.old.deck) options.now self.new) }
         ensures partly { OnErr result
             (calls.IsPartlyRenewed (tables.table table.old.deck) options.now self.old self.new) }
-        ensures queries { call.AreMade (spec.all_queries (tables.table table.old.deck) options.now self.old) result
+        ensures queries { AreQueries (spec.all_queries (tables.table table.old.deck) options.now self.old) result
             table.old table.new steps.old steps.new }
         ensures deck { table.new.deck ≡ table.old.deck }
     {

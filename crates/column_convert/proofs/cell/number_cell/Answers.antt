@@ -1,8 +1,8 @@
 use Rattle.std.proofs.Common.{◌≡◌, List, subst, ap}
 use Rattle.std.specs.Prelude.{IfOk}
 use Rattle.deck.specs.Tables.{table as table_of}
+use Rattle.live_table.specs.Calls.{AreQueries}
 use Rattle.live_table.specs.States.{Event}
-use Rattle.reply.specs.Calls.{AreMade}
 use Rattle.reply.specs.Replies.{conversion_queries}
 use Rattle.reply.specs.declared.reply.Reply.{Reply}
 use Rattle.reply.proofs.Runs.{made}
@@ -27,7 +27,8 @@ returns-clause-cell g c =
 pub returns-clause-queries : goal.returns-clause-queries
 returns-clause-queries g c =
     subst (λ (es : List Event).
-    AreMade es c.cell_of.result c.args.table.now c.convert_reply.new.table c.args.steps.now c.convert_reply.new.steps)
+    AreQueries es c.cell_of.result c.args.table.now c.convert_reply.new.table c.args.steps.now
+    c.convert_reply.new.steps)
     (asked_queries (table_of c.args.table.now.deck) c.args.options.now c.args.from.now c.args.to.now c.args.number.now
     (table_of c.deck.result.now) c.cell_options.result c.in_ok-asked.asked c.as_bytes.result.now
     (ap table_of c.deck.ensures.deck) c.cell_options.ensures.is c.in_ok-asked.ensures c.as_bytes.ensures)

@@ -1,8 +1,8 @@
 use Rattle.std.proofs.Common.{List, subst}
 use Rattle.csv.specs.Records.{fields_of}
 use Rattle.deck.specs.Tables.{table as table_of}
+use Rattle.live_table.specs.Calls.{AreQueries}
 use Rattle.live_table.specs.States.{Event}
-use Rattle.reply.specs.Calls.{AreMade}
 use Rattle.reply.proofs.Runs.{made}
 use Rattle.column_convert.specs.Cells.{cell_queries}
 use Rattle.column_convert.proofs.Changing.{place_within}
@@ -16,7 +16,8 @@ write_cell-requires-clause-place g c =
 pub returns-in_ok-cell-in-Some-clause-queries : goal.returns-in_ok-cell-in-Some-clause-queries
 returns-in_ok-cell-in-Some-clause-queries g c =
     subst (λ (es : List Event).
-    AreMade es c.write_cell.result c.args.table.now c.convert_cell.new.table c.args.steps.now c.convert_cell.new.steps)
+    AreQueries es c.write_cell.result c.args.table.now c.convert_cell.new.table c.args.steps.now
+    c.convert_cell.new.steps)
     (field_queries (table_of c.args.table.now.deck) c.args.conversion.now.options.now c.args.conversion.now.from.now
     c.args.conversion.now.to.now (fields_of c.args.fields.now) c.args.place c.args.headed c.in-Some.field.now
     c.if-headed.false c.in-Some.ensures.value)

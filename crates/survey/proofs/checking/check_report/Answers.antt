@@ -7,19 +7,18 @@ use Rattle.deck.specs.Decks.{Contents}
 use Rattle.deck.specs.KeyLists.{table_keys}
 use Rattle.deck.specs.PlacedKeys.{keys_there}
 use Rattle.deck.specs.Tables.{table}
-use Rattle.live_table.specs.Calls.{all_names}
+use Rattle.live_table.specs.Calls.{AreQueries, all_names}
 use Rattle.live_table.specs.Shown.{Follows, IsCutOff}
 use Rattle.live_table.proofs.Following.{follows_both}
 use Rattle.live_table.proofs.NameQueries.{cut_at_once}
 use Rattle.live_table.proofs.Runs.{run_law}
-use Rattle.reply.specs.Calls.{AreMade}
 use Rattle.survey.specs.Checks.{check_queries, queries_among}
 use Rattle.survey.proofs.checking.check_report.Goals as goal
 
 pub returns-in_err-places-clause-queries : goal.returns-in_err-places-clause-queries
 returns-in_err-places-clause-queries g c =
     let p = err_from_is_err_and c.from_residual.result c.from_residual.ensures.1 in
-    subst (λ (r : Result (List ℕ) AllocError). AreMade (check_queries (table c.args.table.now.deck)) r
+    subst (λ (r : Result (List ℕ) AllocError). AreQueries (check_queries (table c.args.table.now.deck)) r
     c.args.table.now c.args.table.now c.args.steps.now c.args.steps.now) (sym p.1)
     (cut_at_once (check_queries (table c.args.table.now.deck)) c.args.table.now c.args.steps.now
     c.deck.ensures.right)
@@ -27,7 +26,7 @@ returns-in_err-places-clause-queries g c =
 pub returns-in_err-settle_all-clause-queries : goal.returns-in_err-settle_all-clause-queries
 returns-in_err-settle_all-clause-queries g c =
     let p = err_from_is_err_and c.from_residual-in_err-settle_all.result c.from_residual-in_err-settle_all.ensures.1 in
-    subst (λ (r : Result (List ℕ) AllocError). AreMade (check_queries (table c.args.table.now.deck)) r
+    subst (λ (r : Result (List ℕ) AllocError). AreQueries (check_queries (table c.args.table.now.deck)) r
     c.args.table.now c.settle_all.new.self c.args.steps.now c.settle_all.new.steps) (sym p.1)
     (run_law.cut_before (all_names (table c.args.table.now.deck))
     (queries_among (table c.args.table.now.deck) (table_keys (table c.args.table.now.deck)))
@@ -43,7 +42,7 @@ returns-in_err-put_checks-clause-queries g c =
     (c.key_lists_are_one.ensures (table c.deck.result.now)
     (keys_there c.deck.result.now.lines c.in_ok-places.places.items)
     (c.in_ok-places.ensures {u = tt}).all) in
-    subst (λ (r : Result (List ℕ) AllocError). AreMade (check_queries (table c.args.table.now.deck)) r
+    subst (λ (r : Result (List ℕ) AllocError). AreQueries (check_queries (table c.args.table.now.deck)) r
     c.args.table.now c.put_checks.new.table c.args.steps.now c.put_checks.new.steps) (sym p.1)
     (run_law.cut_behind (all_names (table c.args.table.now.deck))
     (queries_among (table c.args.table.now.deck) (table_keys (table c.args.table.now.deck)))

@@ -7,9 +7,9 @@ use Rattle.def_entry.specs.declared.key.Key.{Key}
 use Rattle.deck.specs.Decks.{Contents}
 use Rattle.deck.specs.PlacedKeys.{keys_there}
 use Rattle.deck.specs.Tables.{table}
+use Rattle.live_table.specs.Calls.{AreQueries}
 use Rattle.live_table.specs.Shown.{Follows, IsCutOff}
 use Rattle.live_table.specs.States.{Event}
-use Rattle.reply.specs.Calls.{AreMade}
 use Rattle.reply.specs.Options.{style_of}
 use Rattle.survey.specs.Checks.{check_line, checked, queries_among}
 use Rattle.survey.proofs.Places.{each-place, line_at, queries_at}
@@ -37,7 +37,7 @@ returns-in_err-put_check_at-clause-queries g c =
     let place = get_or c.args.places.now c.loop-place.place-index 0 in
     let p = err_from_is_err_and c.from_residual.result c.from_residual.ensures.1 in
     let deck = c.args.table.now.deck in
-    subst (λ (r : Result (Unit {0}) AllocError). AreMade
+    subst (λ (r : Result (Unit {0}) AllocError). AreQueries
     (queries_among (table deck) (keys_there deck.lines c.args.places.now)) r c.args.table.now
     c.put_check_at.new.table c.args.steps.now c.put_check_at.new.steps) (sym p.1)
     (subst (λ (es : List Event). IsCutOff es c.args.table.now c.put_check_at.new.table c.args.steps.now

@@ -8,9 +8,9 @@ use Rattle.expr_tree.specs.Syntax.{Word}
 use Rattle.expr_tree.specs.Trees.{syntax}
 use Rattle.expr_tree.specs.Words.{words_in}
 use Rattle.live_table.specs.Answers.{answer}
+use Rattle.live_table.specs.Calls.{AreQueries}
 use Rattle.live_table.specs.States.{AsksWords}
 use Rattle.live_table.proofs.NameQueries.{cut_at_once}
-use Rattle.reply.specs.Calls.{AreMade}
 use Rattle.reply.proofs.Composing.{asked}
 use Rattle.survey.specs.Places.{unit_there}
 use Rattle.survey.proofs.Places.{unit_queries_at}
@@ -20,7 +20,7 @@ use Rattle.survey.proofs.conforming.put_row_at.Goals as goal
 pub returns-in_err-word-clause-queries : goal.returns-in_err-word-clause-queries
 returns-in_err-word-clause-queries g c =
     let all = unit_queries_at c.args.table.now.deck c.args.place in
-    subst (λ (r : Result (Unit {0}) AllocError). AreMade all r
+    subst (λ (r : Result (Unit {0}) AllocError). AreQueries all r
     c.args.table.now c.args.table.now c.args.steps.now c.args.steps.now)
     (sym (err_from_is_err_and c.from_residual.result c.from_residual.ensures.1).1)
     (cut_at_once all c.args.table.now c.args.steps.now c.requires)

@@ -4,8 +4,8 @@ use Rattle.std.specs.declared.alloc.AllocError.{AllocError}
 use Rattle.std.proofs.lemmas.Result.{err_from_is_err_and}
 use Rattle.deck.specs.Decks.{Contents}
 use Rattle.deck.specs.Tables.{table}
+use Rattle.live_table.specs.Calls.{AreQueries}
 use Rattle.live_table.specs.Shown.{Follows, IsCutOff}
-use Rattle.reply.specs.Calls.{AreMade}
 use Rattle.watch.specs.Calls.{IsPartlyRenewed}
 use Rattle.watch.specs.Changes.{told_of}
 use Rattle.watch.specs.Watched.{all_queries, change_of, queries_of, renewed, subject_of}
@@ -52,8 +52,8 @@ returns-in_err-renew-clause-queries g c =
     let underway = c.loop-place.invariant.2 in
     let asked = c.loop-place.invariant.3 in
     let p = err_from_is_err_and c.from_residual.result c.from_residual.ensures.1 in
-    subst (λ (r : Result (Unit {0}) AllocError). AreMade (all_queries (table start) options watches) r c.args.table.now
-    c.renew.new.table c.args.steps.now c.renew.new.steps) (sym p.1)
+    subst (λ (r : Result (Unit {0}) AllocError). AreQueries (all_queries (table start) options watches) r
+    c.args.table.now c.renew.new.table c.args.steps.now c.renew.new.steps) (sym p.1)
     (asked-cut (λ (v : Watch). queries_of (table start) options (subject_of v)) watches place c.args.table.now
     c.loop-place.table c.args.steps.now c.loop-place.steps asked w w (omega arith)
     (underway-was (table start) options watches place c.loop-place.watches.items c.args.told.now.items
