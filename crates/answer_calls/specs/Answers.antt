@@ -9,8 +9,8 @@ use Rattle.reply.specs.declared.reply.FromValue.TheVariants.{Good, Bad}
 use Rattle.reply.specs.declared.reply.Reply.{Reply}
 use Rattle.reply.specs.Options.{style_of}
 use Rattle.reply.specs.Replies.{conversion_reply, definition_reply, from_value}
+use Rattle.survey.specs.Asked.{conformable}
 use Rattle.survey.specs.Checks.{check_report}
-use Rattle.survey.specs.Conformable.{conformable_report}
 use Rattle.survey.specs.Searches.{search_report}
 use Rattle.answer_calls.specs.declared.call.Asked.{Asked}
 use Rattle.answer_calls.specs.declared.call.Asked.TheVariants.{Conversion, Definition, Value, Check, Search}
@@ -33,11 +33,6 @@ abbrev pub value_text : FromValue → List ℕ
 value_text (Good x) = line_text (amount_text Exact x) Bool.false
 value_text (Bad text) = line_text text Bool.true
 
--- the report on what conforms to a value, or its fault
-abbrev pub conformable_text : Table → FromValue → List ℕ
-conformable_text table (Good x) = conformable_report table x
-conformable_text table (Bad text) = line_text text Bool.true
-
 -- what is asked of a table
 abbrev pub asked_text : Table → Options → Asked → List ℕ
 asked_text table options (Conversion from to) = reply_text (conversion_reply table options from.now to.now)
@@ -45,4 +40,4 @@ asked_text table options (Definition from) = reply_text (definition_reply table 
 asked_text table options (Value from) = value_text (from_value table options from.now)
 asked_text table options Check = check_report table (style_of options)
 asked_text table options (Search text) = search_report table text.now
-asked_text table options (Conformable from) = conformable_text table (from_value table options from.now)
+asked_text table options (Conformable from) = reply_text (conformable table options from.now).reply

@@ -12,7 +12,7 @@ use reply::{FromValue, Options, Reply, convert_reply, definition_reply, from_val
 use std::alloc::{AllocError, Global};
 use std::marker::Brand;
 use std::sync::ledger::{Blank, Ledger};
-use survey::{check_report, conformable_report, search_report};
+use survey::{check_report, conformable_reply, search_report};
 use units_io::{Steps, Text};
 
 // Puts the answer to a line, which may be no call.
@@ -73,8 +73,8 @@ fn put_asked<L: Ledger>(
         Asked::Check => put_report(answers, &check_report(alloc, live, options, &mut steps)?),
         Asked::Search(text) => put_report(answers, &search_report(alloc, live, text)?),
         Asked::Conformable(from) => {
-            let value = from_value(alloc, live, options, from, &mut steps)?;
-            put_conformable(alloc, live, answers, &value, &mut steps)
+            let reply = conformable_reply(alloc, live, options, from, &mut steps)?;
+            put_reply(answers, &reply)
         }
     }
 }
@@ -94,27 +94,6 @@ fn put_value(alloc: Global, answers: &mut Vec<u8>, value: &FromValue) -> Result<
     match value {
         FromValue::Good(value) => {
             put_line(answers, value.show(alloc, Style::Exact)?.as_bytes(), false)
-        }
-        FromValue::Bad(text) => put_line(answers, text.as_bytes(), true),
-    }
-}
-
-// Puts the report on the units that conform to a value, or the text of a fault as of a refused reply.
-fn put_conformable<L: Ledger>(
-    alloc: Global,
-    live: &mut LiveTable,
-    answers: &mut Vec<u8>,
-    value: &FromValue,
-    steps: &mut Steps<L>,
-) -> Result<(), AllocError>
-    ensures deck { live.new.deck ≡ live.old.deck }
-    ensures answer { OnOk result (answers.new.items
-        ≡ answers.old.items ++ spec.conformable_text (tables.table live.old.deck) value.now) }
-{
-    match value {
-        FromValue::Good(value) => {
-            let report = conformable_report(alloc, live, value, steps)?;
-            put_report(answers, &report)
         }
         FromValue::Bad(text) => put_line(answers, text.as_bytes(), true),
     }

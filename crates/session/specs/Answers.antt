@@ -4,7 +4,7 @@ use Rattle.units_io.specs.FileMap.{FileMap, with_file}
 use Rattle.deck.specs.Tables.{table as table_in}
 use Rattle.deck_save.specs.declared.fault.SaveFault.{SaveFault}
 use Rattle.live_table.specs.Shown.{Shown}
-use Rattle.session.specs.Asking.{Asked}
+use Rattle.survey.specs.Asked.{Asked}
 use Rattle.session.specs.EditResults.{EditResult, Made, Refused}
 use Rattle.session.specs.Lines.{word_line}
 use Rattle.session.specs.Queries.{after_events, asked_table, newly}
@@ -47,10 +47,10 @@ with_watched table watched state =
 -- what is asked, with this FROM pending behind it
 abbrev pub replying : Asked → (pending : Option (List ℕ)) → State → Answer
 replying asked pending state = record {
-  out = asked.text;
+  out = asked.reply.text;
   err = [];
-  newly = newly asked.events state.session.table;
-  after = with_table (asked_table asked.events state.session.table) pending state;
+  newly = newly asked.queries state.session.table;
+  after = with_table (asked_table asked.queries state.session.table) pending state;
 }
 
 -- an edit that came to this, with the notices of a file that was loaded: of what is watched, all is asked for again,

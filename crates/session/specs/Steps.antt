@@ -3,9 +3,11 @@ use Rattle.std.specs.Prelude.{ℕ, List, [], Option, Some, None, codes}
 use Rattle.deck.specs.Loading.{after_append}
 use Rattle.deck.specs.Tables.{table as table_in}
 use Rattle.deck_save.specs.Saved.{saved_file}
+use Rattle.reply.specs.Replies.{from_value}
+use Rattle.survey.specs.Asked.{conformable, converted, defined}
 use Rattle.survey.specs.Searches.{search_report}
 use Rattle.session.specs.Answers.{Answer, editing, replying, saving, saying, unwatching, watching}
-use Rattle.session.specs.Asking.{converted, defined, from_of, listed, valued, worth}
+use Rattle.session.specs.Asking.{from_of, valued}
 use Rattle.session.specs.Commands.{Command, Blank, Quit, Conformable, Search, Edit, Load, Save, Watch, Unwatch, Stats}
 use Rattle.session.specs.Commands.{Unknown, Bad, Expression, command_of}
 use Rattle.session.specs.Counting.{statistics}
@@ -19,19 +21,25 @@ use Rattle.watch.specs.Watched.{subject}
 
 -- a text is FROM: its fault, or else it is pending
 abbrev pub from_answer : (text : List ℕ) → State → Answer
-from_answer text state = replying (valued state.session text) (from_of (worth state.session text) text) state
+from_answer text state =
+    let table = table_in state.session.table.deck in
+    let options = state.session.options in
+    replying (valued table options text) (from_of (from_value table options text) text) state
 
 abbrev pub blank_answer : (pending : Option (List ℕ)) → State → Answer
 blank_answer None state = saying [] state
-blank_answer (Some from) state = replying (defined state.session from) None state
+blank_answer (Some from) state =
+    replying (defined (table_in state.session.table.deck) state.session.options from) None state
 
 abbrev pub conformable_answer : (pending : Option (List ℕ)) → State → Answer
 conformable_answer None state = from_answer (codes "?") state
-conformable_answer (Some from) state = replying (listed state.session from) (Some from) state
+conformable_answer (Some from) state =
+    replying (conformable (table_in state.session.table.deck) state.session.options from) (Some from) state
 
 abbrev pub expression_answer : (pending : Option (List ℕ)) → (text : List ℕ) → State → Answer
 expression_answer None text state = from_answer text state
-expression_answer (Some from) text state = replying (converted state.session from text) None state
+expression_answer (Some from) text state =
+    replying (converted (table_in state.session.table.deck) state.session.options from text) None state
 
 -- the answer to what a line asks for
 unfoldable pub answer_to : State → Command → Answer

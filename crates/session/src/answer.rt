@@ -18,7 +18,7 @@ ghost use Rattle.session.specs.Steps as spec;
 ghost use Rattle.session.specs.Versions.{Versions};
 ghost use Rattle.watch.specs.Watched.{Subject};
 
-use crate::asking::{converted, defined, listed, valued};
+use crate::asking::{conformable, converted, defined, valued};
 use crate::command::{Command, read_command};
 use crate::counting::statistics;
 use crate::fault::SessionFault;
@@ -149,7 +149,7 @@ fn answer_conformable<L: Ledger>(
     let Some(from) = pending.as_ref() else {
         return take_from(alloc, options, table, pending, b"?", steps);
     };
-    let text = listed(alloc, options, table, from.as_bytes(), steps)?;
+    let text = conformable(alloc, options, table, from.as_bytes(), steps)?;
     Ok(saying(alloc, text))
 }
 

@@ -1,18 +1,17 @@
 //! Queries of the live table of a session, and what they leave of it.
 
-ghost use Rattle.std.specs.Prelude.{◌≡◌, [], None};
+ghost use Rattle.std.specs.Prelude.{◌≡◌};
+ghost use Rattle.deck.specs.Tables as tables;
 ghost use Rattle.reply.specs.Options.{IsPrintable};
-ghost use Rattle.session.specs.Asking as spec;
+ghost use Rattle.reply.specs.Replies as replies;
+ghost use Rattle.survey.specs.Asked as spec;
 ghost use Rattle.session.specs.Parts.{IsReplied};
-ghost use Rattle.session.specs.Sessions.{known};
-ghost use Rattle.session.specs.Versions.{no_versions};
 
-use crate::lines::line_of;
 use live_table::LiveTable;
 use reply::{FromValue, Options, convert_reply, definition_reply, from_value};
 use std::alloc::{AllocError, Global};
 use std::sync::ledger::Ledger;
-use survey::conformable_report;
+use survey::conformable_reply;
 use units_io::{Steps, Text};
 
 /// What a text is worth.
@@ -24,8 +23,8 @@ pub(crate) fn valued<L: Ledger>(
     steps: &mut Steps<L>,
 ) -> Result<FromValue, AllocError>
     requires { IsPrintable options.now }
-    ensures reply { IsReplied (spec.valued (known options.now table.old None no_versions []) text.now).events
-        (spec.worth (known options.now table.old None no_versions []) text.now) result table.old table.new
+    ensures reply { IsReplied (replies.value_queries (tables.table table.old.deck) text.now)
+        (replies.from_value (tables.table table.old.deck) options.now text.now) result table.old table.new
         steps.old steps.new }
     ensures deck { table.new.deck ≡ table.old.deck }
 {
@@ -41,8 +40,8 @@ pub(crate) fn defined<L: Ledger>(
     steps: &mut Steps<L>,
 ) -> Result<Text, AllocError>
     requires { IsPrintable options.now }
-    ensures reply { let asked = spec.defined (known options.now table.old None no_versions []) from.now in
-        IsReplied asked.events asked.text result table.old table.new steps.old steps.new }
+    ensures reply { let asked = spec.defined (tables.table table.old.deck) options.now from.now in
+        IsReplied asked.queries asked.reply.text result table.old table.new steps.old steps.new }
     ensures deck { table.new.deck ≡ table.old.deck }
 {
     let reply = definition_reply(alloc, table, options, from, steps)?;
@@ -59,16 +58,16 @@ pub(crate) fn converted<L: Ledger>(
     steps: &mut Steps<L>,
 ) -> Result<Text, AllocError>
     requires { IsPrintable options.now }
-    ensures reply { let asked = spec.converted (known options.now table.old None no_versions []) from.now to.now in
-        IsReplied asked.events asked.text result table.old table.new steps.old steps.new }
+    ensures reply { let asked = spec.converted (tables.table table.old.deck) options.now from.now to.now in
+        IsReplied asked.queries asked.reply.text result table.old table.new steps.old steps.new }
     ensures deck { table.new.deck ≡ table.old.deck }
 {
     let reply = convert_reply(alloc, table, options, from, to, steps)?;
     Ok(reply.text)
 }
 
-/// What conforms to a text, or its fault.
-pub(crate) fn listed<L: Ledger>(
+/// The units that conform to a text, or its fault.
+pub(crate) fn conformable<L: Ledger>(
     alloc: Global,
     options: &Options,
     table: &mut LiveTable,
@@ -76,12 +75,10 @@ pub(crate) fn listed<L: Ledger>(
     steps: &mut Steps<L>,
 ) -> Result<Text, AllocError>
     requires { IsPrintable options.now }
-    ensures reply { let asked = spec.listed (known options.now table.old None no_versions []) from.now in
-        IsReplied asked.events asked.text result table.old table.new steps.old steps.new }
+    ensures reply { let asked = spec.conformable (tables.table table.old.deck) options.now from.now in
+        IsReplied asked.queries asked.reply.text result table.old table.new steps.old steps.new }
     ensures deck { table.new.deck ≡ table.old.deck }
 {
-    match from_value(alloc, table, options, from, steps)? {
-        FromValue::Good(value) => conformable_report(alloc, table, &value, steps),
-        FromValue::Bad(fault) => line_of(fault),
-    }
+    let reply = conformable_reply(alloc, table, options, from, steps)?;
+    Ok(reply.text)
 }

@@ -1,5 +1,6 @@
 mod Examples
 mod Findings
+mod Joining
 mod Opening
 mod Places
 mod PrefixAnswers

@@ -1,3 +1,4 @@
+pub mod Asked
 pub mod Calls
 pub mod Checks
 pub mod Conformable

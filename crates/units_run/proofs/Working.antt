@@ -16,8 +16,9 @@ use Rattle.reply.specs.Options.{style_of}
 use Rattle.session.specs.Lines.{lines_of_texts}
 use Rattle.session.specs.Queries.{LeavesLaw, newly}
 use Rattle.session.specs.declared.said.Said.{Said}
+use Rattle.survey.specs.Asked.{Asked}
 use Rattle.survey.specs.Checks.{check_report, check_queries}
-use Rattle.units_run.specs.Asked.{Asked, asked_for}
+use Rattle.units_run.specs.Asked.{asked_for}
 use Rattle.units_run.specs.Options.{options_of}
 use Rattle.units_run.specs.Planning.{IsFor, IsPlan}
 use Rattle.units_run.specs.Work.{checked, checked_lines, fresh, from_plan, replied, work_by}

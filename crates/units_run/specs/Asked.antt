@@ -1,53 +1,14 @@
--- What FROM and TO ask of a table.
-use Rattle.std.specs.Prelude.{◌++◌, ℕ, List, [], false, true, codes, if◌then◌else◌}
+-- What FROM and TO on a command line ask of a table.
+use Rattle.std.specs.Prelude.{ℕ, List, codes, if◌then◌else◌}
 use Rattle.std.specs.Str.{bytes_eq}
 use Rattle.def_entry.specs.Tables.{Table}
 use Rattle.def_lines.specs.Words.{is_empty}
-use Rattle.live_table.specs.States.{Event}
 use Rattle.reply.specs.declared.options.Options.{Options}
-use Rattle.reply.specs.declared.reply.Reply.{Reply}
-use Rattle.reply.specs.declared.reply.FromValue.{FromValue}
-use Rattle.reply.specs.declared.reply.FromValue.TheVariants.{Good, Bad}
-use Rattle.reply.specs.Replies as replies
-use Rattle.survey.specs.Conformable.{conformable_report, conformable_queries}
+use Rattle.survey.specs.Asked.{Asked, conformable, converted, defined}
 
--- the reply, and the queries that are made for it
-pub record Asked : Type 0 where
-  pub reply : Reply
-  pub queries : List Event
-
-module _ (table : Table) (options : Options) where
-  -- FROM alone
-  abbrev pub defined : (from : List ℕ) → Asked
-  defined from = record {
-    reply = replies.definition_reply table options from;
-    queries = replies.value_queries table from;
-  }
-
-  -- FROM in terms of TO
-  abbrev pub converted : (from to : List ℕ) → Asked
-  converted from to = record {
-    reply = replies.conversion_reply table options from to;
-    queries = replies.conversion_queries table options from to;
-  }
-
-  -- the units that conform to a FROM of this value, or why it has none
-  abbrev pub conformable_to : FromValue → Asked
-  conformable_to (Good x) = record {
-    reply = record { text = conformable_report table x; refused = false };
-    queries = conformable_queries table;
-  }
-  conformable_to (Bad fault) = record { reply = record { text = fault ++ codes "\n"; refused = true }; queries = [] }
-
-  -- the units that conform to FROM
-  abbrev pub conformable : (from : List ℕ) → Asked
-  conformable from =
-      let units = conformable_to (replies.from_value table options from) in
-      record { reply = units.reply; queries = replies.value_queries table from ++ units.queries }
-
-  -- FROM with this TO, which may be blank, or `?`
-  abbrev pub asked_for : (from to : List ℕ) → Asked
-  asked_for from to =
-      if is_empty to then defined from
-      else if bytes_eq to (codes "?") then conformable from
-      else converted from to
+-- FROM with this TO, which may be blank, or `?`
+abbrev pub asked_for : Table → Options → (from to : List ℕ) → Asked
+asked_for table options from to =
+    if is_empty to then defined table options from
+    else if bytes_eq to (codes "?") then conformable table options from
+    else converted table options from to

@@ -11,7 +11,7 @@ use Rattle.session.specs.Standing.{IsAt}
 use Rattle.session.specs.Telling.{when_told}
 use Rattle.session.specs.Waiting.{at_first}
 use Rattle.session.specs.declared.said.Said.{Said}
-use Rattle.units_run.specs.Asked.{Asked}
+use Rattle.survey.specs.Asked.{Asked}
 use Rattle.units_run.specs.Calls.{column_run}
 use Rattle.units_run.specs.Endings.{IsConverted, MayEnd}
 use Rattle.units_run.specs.Plans as plans

@@ -22,8 +22,9 @@ use Rattle.session.specs.Sessions.{known, state_of}
 use Rattle.session.specs.Talks.{opened}
 use Rattle.session.specs.Trials.{Trial, trial}
 use Rattle.session.specs.Versions.{no_versions}
+use Rattle.survey.specs.Asked.{Asked}
 use Rattle.survey.specs.Checks.{check_report, check_queries}
-use Rattle.units_run.specs.Asked.{Asked, asked_for}
+use Rattle.units_run.specs.Asked.{asked_for}
 use Rattle.units_run.specs.Definitions.{built_in_deck, no_deck_line}
 use Rattle.units_run.specs.Options.{options_of}
 use Rattle.units_run.specs.Plans.{Plan, Whole, Opened, Columns, complaint}

@@ -3,7 +3,7 @@ use Rattle.deck.specs.Decks.{Contents}
 use Rattle.deck.specs.Tables.{table}
 use Rattle.def_lines.specs.Lines.{line_content}
 use Rattle.session.specs.Lines.{lines_of_texts}
-use Rattle.units_run.specs.Asked.{Asked}
+use Rattle.survey.specs.Asked.{Asked}
 use Rattle.units_run.specs.Options.{options_of}
 use Rattle.units_run.specs.Planning.{IsPlan}
 use Rattle.units_run.specs.Work.{replied}

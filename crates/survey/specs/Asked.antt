@@ -1,0 +1,48 @@
+-- What FROM and TO ask of a table.
+use Rattle.std.specs.Prelude.{◌++◌, ℕ, List, [], false, true, codes}
+use Rattle.def_entry.specs.Tables.{Table}
+use Rattle.live_table.specs.States.{Event}
+use Rattle.reply.specs.declared.options.Options.{Options}
+use Rattle.reply.specs.declared.reply.Reply.{Reply}
+use Rattle.reply.specs.declared.reply.FromValue.{FromValue}
+use Rattle.reply.specs.declared.reply.FromValue.TheVariants.{Good, Bad}
+use Rattle.reply.specs.Replies as replies
+use Rattle.survey.specs.Conformable.{conformable_report, conformable_queries}
+
+-- the reply, and the queries that are made for it
+pub record Asked : Type 0 where
+  pub reply : Reply
+  pub queries : List Event
+
+-- the text of a fault is the whole reply
+abbrev pub fault_reply : (fault : List ℕ) → Reply
+fault_reply fault = record { text = fault ++ codes "\n"; refused = true }
+
+-- the units that conform to a FROM of this value, or why it has none
+abbrev pub conformable_to : Table → FromValue → Asked
+conformable_to table (Good x) = record {
+  reply = record { text = conformable_report table x; refused = false };
+  queries = conformable_queries table;
+}
+conformable_to table (Bad fault) = record { reply = fault_reply fault; queries = [] }
+
+module _ (table : Table) (options : Options) where
+  -- FROM alone
+  abbrev pub defined : (from : List ℕ) → Asked
+  defined from = record {
+    reply = replies.definition_reply table options from;
+    queries = replies.value_queries table from;
+  }
+
+  -- FROM in terms of TO
+  abbrev pub converted : (from to : List ℕ) → Asked
+  converted from to = record {
+    reply = replies.conversion_reply table options from to;
+    queries = replies.conversion_queries table options from to;
+  }
+
+  -- the units that conform to FROM
+  abbrev pub conformable : (from : List ℕ) → Asked
+  conformable from =
+      let units = conformable_to table (replies.from_value table options from) in
+      record { reply = units.reply; queries = replies.value_queries table from ++ units.queries }
