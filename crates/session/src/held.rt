@@ -9,11 +9,11 @@ use std::alloc::{AllocError, Global};
 use std::marker::Model;
 
 /// The longest line that is read.
-pub const LONGEST_LINE: usize = 65_536;
+pub(crate) const LONGEST_LINE: usize = 65_536;
 
 /// The bytes of a line so far, or that they are too many, which contracts see as `None`.
 #[derive(Drop)]
-pub struct Held {
+pub(crate) struct Held {
     bytes: Vec<u8>,
     long: bool,
 }
@@ -32,7 +32,7 @@ impl Model for Held {
 
 impl Held {
     /// No byte of a line. It takes no memory.
-    pub fn new(alloc: Global) -> Held
+    pub(crate) fn new(alloc: Global) -> Held
         ensures { result ≡ Some [] }
     {
         Held {
@@ -42,7 +42,7 @@ impl Held {
     }
 
     /// More bytes of the line. The only error is want of memory.
-    pub fn add(&mut self, piece: &[u8]) -> Result<(), AllocError>
+    pub(crate) fn add(&mut self, piece: &[u8]) -> Result<(), AllocError>
         ensures { (part : List ℕ) → self.old ≡ readable part → OnOk result (self.new ≡ readable (part ++ piece.now)) }
     {
         if self.long {
@@ -56,14 +56,14 @@ impl Held {
     }
 
     /// Whether no byte of a line is held.
-    pub fn is_empty(&self) -> bool
+    pub(crate) fn is_empty(&self) -> bool
         ensures { (part : List ℕ) → self.now ≡ readable part → result ≡ is_empty part }
     {
         !self.long && self.bytes.is_empty()
     }
 
     /// The line, unless it is too long.
-    pub fn line(&self) -> Option<&[u8]>
+    pub(crate) fn line(&self) -> Option<&[u8]>
         ensures is { option_copied result ≡ self.now }
         ensures short { IfSome result (λ line. length line.now ≤ longest_line) }
     {
@@ -74,7 +74,7 @@ impl Held {
     }
 
     /// No byte of a line from now on.
-    pub fn clear(&mut self)
+    pub(crate) fn clear(&mut self)
         ensures { self.new ≡ Some [] }
     {
         self.bytes.clear();

@@ -24,7 +24,6 @@ mod watching;
 pub use answer::LineReply;
 pub use command::{Command, DeckEdit, read_command};
 pub use fault::SessionFault;
-pub use held::{Held, LONGEST_LINE};
 pub use laws::{leaves_law, line_laws};
 pub use lines::notice_lines;
 pub use over_source::{SessionEnd, run_session};

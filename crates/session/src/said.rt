@@ -39,7 +39,7 @@ impl Said {
     }
 
     /// Nothing.
-    pub fn clear(&mut self)
+    pub(crate) fn clear(&mut self)
         ensures out { self.new.out.items ≡ [] }
         ensures err { self.new.err.items ≡ [] }
     {
