@@ -249,6 +249,25 @@ Faults of values and of texts. The first one is the whole reply.
   syntax error at 0
   [1]
 
+Names of 15, 16 and 17 bytes, which lie in a value or beside it, and of as many as may be: in one product, and asked
+again behind edits of one of them.
+
+  $ name() { printf "%$2s" | tr ' ' "$1"; }
+  $ for n in 15 16 17 255; do echo "$(name a $n) !"; done > long.units
+  $ echo "$(name b 16) 2 $(name a 15)" >> long.units
+  $ echo "$(name b 17) 3 $(name b 16) $(name a 16)" >> long.units
+  $ units --exact -f long.units "$(name b 17) $(name a 17) / $(name a 255)^2" | sed "s/$(name a 255)/longest/"
+  \tDefinition: 6 aaaaaaaaaaaaaaa aaaaaaaaaaaaaaaa aaaaaaaaaaaaaaaaa / longest^2 (esc)
+  $ printf '%s\n' "$(name b 17)" '' ":define $(name b 16) 5|2 $(name a 15)" "$(name b 17)" '' ":drop $(name b 16)" \
+  >     "$(name b 17)" "$(name a 15) $(name a 16)" "$(name b 17)s" "$(name a 17)" | units -q --exact -f long.units
+  \tDefinition: 3 bbbbbbbbbbbbbbbb aaaaaaaaaaaaaaaa = 6 aaaaaaaaaaaaaaa aaaaaaaaaaaaaaaa (esc)
+  \tDefinition: 3 bbbbbbbbbbbbbbbb aaaaaaaaaaaaaaaa = 15|2 aaaaaaaaaaaaaaa aaaaaaaaaaaaaaaa (esc)
+  \t* 6 (esc)
+  \t/ 1|6 (esc)
+  conformability error
+  \t6 aaaaaaaaaaaaaaa aaaaaaaaaaaaaaaa (esc)
+  \t1 aaaaaaaaaaaaaaaaa (esc)
+
 Names that nobody defines, that are refused, and a function without an argument.
 
   $ units "sinn(1)"
