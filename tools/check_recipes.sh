@@ -107,7 +107,7 @@ for page in docs/COLUMNS.md README.md; do
     if grep -q '^  \$ ' "$folder/${page##*/}"; then pages+=("$folder/${page##*/}"); fi
 done
 if [ -e "$folder/skipped" ]; then skipped=$(wc -l < "$folder/skipped"); fi
-PATH=$folder/programs:$PATH "$root/tools/transcripts.py" "${pages[@]}" > "$folder/log"
+PATH=$folder/programs:$PATH:$root/bin "$root/tools/transcripts.py" "${pages[@]}" > "$folder/log"
 status=$?
 sed '$d' "$folder/log"
 echo "$(tail -n 1 "$folder/log"), $skipped skipped"

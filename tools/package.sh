@@ -29,6 +29,9 @@ fail() {
 # heading_field NUMBER: a quoted field of the .TH line of the manual page: 1 is the date, 2 the name and the version.
 heading_field() { sed -n '/^\.TH /{s/^[^"]*//;p;q;}' "$root/share/man/man1/units.1" | cut -d '"' -f $((2 * $1)); }
 
+# named WORD: what release/MADE_FROM has after this word.
+named() { sed -n "s/^$1 //p" "$root/release/MADE_FROM"; }
+
 # kit_crates: the crates of the kit that are linked into the program, directly or through another one, sorted.
 kit_crates() {
     local pending=() seen=' ' crate
@@ -44,35 +47,53 @@ kit_crates() {
     tr ' ' '\n' <<< "$seen" | grep . | sort
 }
 
-# kit_licences: what the kit states of each of these crates, and the text of its licence. If there is a choice, the
-# text is that of the MIT licence.
+# licence_files CRATE: the licences that apply. If there is a choice of MIT and Apache, that of MIT.
+licence_files() {
+    local file
+    for file in "$kit/rattle/$1"/LICENSE*; do
+        if [ ! -e "$file" ]; then continue; fi
+        if [ "${file##*/}" != LICENSE-APACHE ] || [ ! -e "$kit/rattle/$1/LICENSE-MIT" ]; then echo "$file"; fi
+    done
+}
+
+# print_licence FILE FORM: the text of a licence. Debian has the Apache licence in a place of its own, and its packages
+# refer to that: so does the form `debian`.
+print_licence() {
+    if [ "$2" = debian ] && head -n 1 "$1" | grep -q 'Apache License'; then
+        echo 'The Apache License, Version 2.0, is in /usr/share/common-licenses/Apache-2.0.'
+    else
+        cat "$1"
+    fi
+}
+
+# kit_licences FORM: what the kit states of each crate, and the text of its licence.
 kit_licences() {
-    local crate folder text silent=()
+    local crate file files silent=()
     while read -r crate; do
-        folder=$kit/rattle/$crate
-        text=$(find "$folder" -maxdepth 1 \( -name LICENSE-MIT -o -name LICENSE \) 2> /dev/null | sort | head -n 1)
-        if [ -z "$text" ]; then
-            text=$(find "$folder" -maxdepth 1 -name 'LICENSE*' 2> /dev/null | sort | head -n 1)
-        fi
-        if [ -z "$text" ]; then
+        mapfile -t files < <(licence_files "$crate")
+        if [ "${#files[@]}" = 0 ]; then
             silent+=("$crate")
             continue
         fi
         printf '\n\n--- The crate %s of the kit ---\n\n' "$crate"
-        sed -n '3{s/`//g;p;}' "$folder/README.md" 2> /dev/null | fold -s -w 78 | sed 's/ *$//'
-        echo
-        cat "$text"
+        sed -n '3{s/`//g;p;}' "$kit/rattle/$crate/README.md" 2> /dev/null | fold -s -w 78 | sed 's/ *$//'
+        for file in "${files[@]}"; do
+            echo
+            print_licence "$file" "$1"
+        done
     done < <(kit_crates)
     if [ "${#silent[@]}" -gt 0 ]; then
         printf '\n\n--- Other crates of the kit ---\n\nThe kit states no licence for these: %s.\n' "${silent[*]}"
     fi
 }
 
+# write_copyright FORM: the licence of the program and those of the crates in it.
 write_copyright() {
     printf 'exact units %s\n\n' "$version"
     cat "$root/COPYING.md"
-    printf '\n\nThe program was built by %s and contains code of the following crates of that kit.\n' "$("$kit/bin/rt" version)"
-    kit_licences
+    printf '\n\nThe program was built by %s and contains code of the following crates of that kit.\n' \
+        "$(named toolchain)"
+    kit_licences "$1"
 }
 
 # set_times FOLDER: the date of the release for all that is below the folder.
@@ -86,7 +107,7 @@ stage_files() {
     rm -f "$share/$name/installed"
     find "$share/man" -type f -name '*.1' | while read -r page; do gzip -9n "$page"; done
     mkdir -p "$share/doc/$name" "$share/lintian/overrides"
-    write_copyright > "$share/doc/$name/copyright"
+    write_copyright debian > "$share/doc/$name/copyright"
     gzip -9nc "$root/CHANGELOG.md" > "$share/doc/$name/changelog.gz"
     printf '%s (%s-1) unstable; urgency=medium\n\n  * Release %s; changelog.gz says what it changes.\n\n -- %s  %s\n' \
         "$name" "$version" "$version" "$maintainer" "$(date -R -d "@$epoch")" \
@@ -141,7 +162,7 @@ build_tarball() {
     done
     cp -R "$root/share" "$root/docs" "$root/examples" "$root/README.md" "$root/CHANGELOG.md" "$root/COPYING.md" "$top"
     find "$top" -name __pycache__ -prune -exec rm -rf {} +
-    write_copyright > "$top/LICENCES"
+    write_copyright full > "$top/LICENCES"
     mkdir "$top/release"
     cp "$root/release/MADE_FROM" "$top/release"
     cat > "$top/tools/built.sh" <<- 'END'

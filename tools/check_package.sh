@@ -1,0 +1,163 @@
+#!/usr/bin/env bash
+# Tests what tools/package.sh builds: two builds, from two copies of the repository, are equal; lintian finds no error;
+# the package has the released program, nothing that Debian's package `units` has, and installs nothing outside of
+# /usr; the tarball runs, installs and uninstalls.
+#
+#     tools/check_package.sh              needs dpkg-deb, lintian and the kit (`rt`)
+#     tools/check_package.sh --chroot     also installs and removes the package beside Debian's `units` in a clean
+#                                         chroot. Needs root, debootstrap and the network, and takes a minute; the
+#                                         chroot is kept in ${TMPDIR:-/tmp}/exact-units-chroot.tar for the next time
+#
+# The last line is `N passed, M failed, K skipped`, and the status is 0 exactly if nothing failed.
+set -u
+script=$(readlink -f "${BASH_SOURCE[0]}") || exit
+root=${script%/*/*}
+folder=$(mktemp -d) || exit
+trap 'rm -rf "$folder"' EXIT
+passed=0 failed=0 skipped=0
+base=${TMPDIR:-/tmp}/exact-units-chroot.tar
+
+# expect NAME WANTED GOT
+expect() {
+    if [ "$2" = "$3" ]; then
+        passed=$((passed + 1))
+    else
+        failed=$((failed + 1))
+        printf 'check_package: %s:\n--- wanted\n%s\n--- got\n%s\n' "$1" "$2" "$3"
+    fi
+}
+
+# skip NUMBER REASON
+skip() {
+    skipped=$((skipped + $1))
+    echo "check_package: $2, so $1 tests were skipped"
+}
+
+finish() {
+    echo "$passed passed, $failed failed, $skipped skipped"
+    [ "$failed" = 0 ]
+    exit
+}
+
+# copy_to FOLDER: the files of the repository that git knows, and new ones that it does not ignore.
+# shellcheck disable=SC2016 # the inner shell expands $f
+copy_to() {
+    mkdir -p "$1"
+    (cd "$root" && git ls-files -z --cached --others --exclude-standard | grep -zv '^crates/.*/out/' \
+        | xargs -0 sh -c 'for f; do [ ! -e "$f" ] || printf "%s\0" "$f"; done' sh | tar -c --null --files-from - ) \
+        | tar -x -C "$1"
+}
+
+build_twice() {
+    "$root/tools/package.sh" "$folder/first" > "$folder/log" 2>&1 || { cat "$folder/log"; return 1; }
+    (umask 077 && copy_to "$folder/a copy")
+    find "$folder/a copy" -name '*.units' -exec touch -d '2001-02-03' {} +
+    (umask 027 && TZ=Asia/Tokyo LANG=en_GB.UTF-8 "$folder/a copy/tools/package.sh" "$folder/second") > "$folder/log" 2>&1 \
+        || { cat "$folder/log"; return 1; }
+}
+
+check_equal_builds() {
+    local file
+    expect 'two builds are made' 0 "$(build_twice >&2; echo $?)"
+    deb=$(echo "$folder"/first/exact-units_*.deb)
+    tarball=$(echo "$folder"/first/exact-units-*.tar.gz)
+    for file in "$deb" "$tarball" "$folder/first/SHA256SUMS"; do
+        expect "two builds of ${file##*/} are equal" 0 "$(cmp "$file" "$folder/second/${file##*/}" >&2; echo $?)"
+    done
+    expect 'the checksums' 0 "$(cd "$folder/first" && sha256sum --quiet -c SHA256SUMS >&2; echo $?)"
+}
+
+check_lintian() {
+    if ! command -v lintian > /dev/null; then
+        skip 1 'there is no lintian'
+        return
+    fi
+    expect 'lintian finds no error' '' "$(lintian --allow-root --no-cfg "$deb" 2>&1 | grep '^E:')"
+}
+
+check_contents() {
+    local unpacked=$folder/unpacked released=$root/release/units-x86_64-linux
+    dpkg-deb -R "$deb" "$unpacked"
+    expect 'the program is the released one' 0 "$(cmp "$unpacked/usr/bin/exact-units" "$released" >&2; echo $?)"
+    expect 'the programs' 'exact-units qunits units-lint' "$(find "$unpacked/usr/bin" -printf '%f\n' | sort | tail -n +2 \
+        | grep -x 'exact-units\|qunits\|units-lint' | xargs)"
+    expect 'all is below /usr' 'DEBIAN usr' "$(find "$unpacked" -mindepth 1 -maxdepth 1 -printf '%f\n' | sort | xargs)"
+    expect 'all belongs to root' '' "$(dpkg-deb -c "$deb" | awk '$2 != "root/root"')"
+    expect 'nobody else may write' '' "$(dpkg-deb -c "$deb" | grep '^.....w\|^........w')"
+    expect 'the checksums of the files' 0 "$(cd "$unpacked" && md5sum --quiet -c DEBIAN/md5sums >&2; echo $?)"
+    expect 'the C library that is needed' 2.34 "$(grep -ao 'GLIBC_[0-9.]*' "$released" | cut -d _ -f 2 | sort -V | tail -n 1)"
+    expect 'the licence of each crate' '' "$(for crate in clap csv memchr smallvec strsim; do
+        grep -q -- "--- The crate $crate of" "$unpacked/usr/share/doc/exact-units/copyright" || echo "$crate"; done)"
+    if dpkg -L units > /dev/null 2>&1; then
+        expect 'no file of the package units' '' "$(dpkg-deb -c "$deb" | sed 's/^[^/]*\.\//\//; s/ -> .*//' | grep -v '/$' \
+            | grep -Fxf <(dpkg -L units))"
+    else
+        skip 1 'the package units is not installed'
+    fi
+}
+
+check_tarball() {
+    local top home=$folder/home
+    tar -xzf "$tarball" -C "$folder"
+    top=$(echo "$folder"/exact-units-*/)
+    mkdir "$home"
+    export HOME=$home XDG_CONFIG_HOME=$home/config XDG_STATE_HOME=$home/state
+    expect 'the program of the tarball' $'\t* 32.808399' "$("$top/bin/units" -1 '10 m' ft 2>&1)"
+    expect 'qunits of the tarball' $'\t* 96.56064' "$("$top/bin/qunits" -1 60 mph to km/h 2>&1)"
+    expect 'it installs' 0 "$("$top/tools/install.sh" --prefix "$folder/prefix" > "$folder/log" 2>&1; echo $?)"
+    expect 'the installed program' $'\t* 32.808399' "$("$folder/prefix/bin/units" -1 '10 m' ft 2>&1)"
+    expect 'the installed qunits' $'\t* 96.56064' "$("$folder/prefix/bin/qunits" -1 60 mph to km/h 2>&1)"
+    expect 'it uninstalls' 0 "$("$top/tools/install.sh" --prefix "$folder/prefix" --uninstall > "$folder/log" 2>&1; echo $?)"
+    expect 'and leaves nothing' '' "$(find "$folder/prefix" -type f 2> /dev/null)"
+}
+
+# in_chroot WORD..: runs a command in the chroot.
+in_chroot() { DEBIAN_FRONTEND=noninteractive LC_ALL=C PATH=/usr/sbin:/usr/bin:/sbin:/bin chroot "$chroot" "$@"; }
+
+files_of_chroot() {
+    (cd "$chroot" && find usr etc -not -path 'usr/share/doc*' -not -name '*.pyc' -not -name __pycache__ | sort)
+}
+
+make_chroot() {
+    chroot=$folder/chroot
+    mkdir "$chroot"
+    if [ ! -e "$base" ]; then
+        debootstrap --variant=minbase bookworm "$chroot" > "$folder/log" 2>&1 || { tail "$folder/log"; return 1; }
+        in_chroot apt-get install -y -q units python3-minimal > "$folder/log" 2>&1 || { tail "$folder/log"; return 1; }
+        tar -cf "$base.new" --one-file-system -C "$chroot" . && mv "$base.new" "$base"
+    else
+        tar -xf "$base" -C "$chroot"
+    fi
+}
+
+check_chroot() {
+    expect 'a clean chroot is made' 0 "$(make_chroot >&2; echo $?)"
+    chroot=$folder/chroot
+    files_of_chroot > "$folder/before"
+    cp "$deb" "$chroot/tmp/"
+    expect 'the package installs' 0 "$(in_chroot dpkg -i "/tmp/${deb##*/}" > "$folder/log" 2>&1; echo $?)"
+    expect 'the program' $'\t* 32.808399' "$(in_chroot exact-units -1 '10 m' ft)"
+    expect 'qunits' $'\t* 96.56064' "$(in_chroot qunits -1 60 mph to km/h)"
+    expect 'units is still that of GNU' 'GNU Units version 2.22' "$(in_chroot units --version | head -n 1)"
+    expect 'the package units is whole' '' "$(in_chroot dpkg --verify units)"
+    expect 'this package is whole' '' "$(in_chroot dpkg --verify exact-units | grep -v /usr/share/doc/)"
+    expect 'the package is removed' 0 "$(in_chroot dpkg --purge exact-units > "$folder/log" 2>&1; echo $?)"
+    files_of_chroot > "$folder/after"
+    expect 'nothing is left' '' "$(diff "$folder/before" "$folder/after" | grep '^[<>]' | grep -v dpkg)"
+    expect 'GNU units still runs' $'\t* 32.808399' "$(in_chroot units -1 '10 m' ft)"
+}
+
+case ${1-} in
+    '' | --chroot) ;;
+    *) sed -n '2,/^set/s/^# \{0,1\}//p' "$script" | sed '$d'; exit 2 ;;
+esac
+if ! command -v dpkg-deb > /dev/null || ! command -v rt > /dev/null; then
+    skip 26 'dpkg-deb or the kit (rt) is absent'
+    finish
+fi
+check_equal_builds
+check_lintian
+check_contents
+check_tarball
+if [ "${1-}" = --chroot ]; then check_chroot; fi
+finish
