@@ -123,7 +123,7 @@ make_chroot() {
     mkdir "$chroot"
     if [ ! -e "$base" ]; then
         debootstrap --variant=minbase bookworm "$chroot" > "$folder/log" 2>&1 || { tail "$folder/log"; return 1; }
-        in_chroot apt-get install -y -q units python3-minimal > "$folder/log" 2>&1 || { tail "$folder/log"; return 1; }
+        in_chroot apt-get install -y -q --no-install-recommends units python3-minimal > "$folder/log" 2>&1 || { tail "$folder/log"; return 1; }
         tar -cf "$base.new" --one-file-system -C "$chroot" . && mv "$base.new" "$base"
     else
         tar -xf "$base" -C "$chroot"

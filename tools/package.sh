@@ -157,9 +157,10 @@ build_tarball() {
     local top=$work/$name-$version part
     mkdir "$top" "$top/bin" "$top/tools"
     install -m 755 "$program" "$top/bin/units"
-    for part in bin/qunits tools/install.sh tools/import_gnu.sh tools/lint_units.py; do
+    for part in bin/qunits bin/units-lint tools/install.sh tools/import_gnu.sh tools/lint_units.py; do
         install -m 755 "$root/$part" "$top/$part"
     done
+    install -m 644 "$root/tools/install_files.sh" "$root"/tools/unit_*.py "$top/tools"
     cp -R "$root/share" "$root/docs" "$root/examples" "$root/README.md" "$root/CHANGELOG.md" "$root/COPYING.md" "$top"
     find "$top" -name __pycache__ -prune -exec rm -rf {} +
     write_copyright full > "$top/LICENCES"
