@@ -5,8 +5,8 @@
 #
 #     tools/check_package.sh              needs dpkg-deb, lintian and the kit (`rt`)
 #     tools/check_package.sh --chroot     also installs and removes the package beside Debian's `units` in a clean
-#                                         chroot. Needs root, debootstrap and the network, and takes a minute; the
-#                                         chroot is kept in ${TMPDIR:-/tmp}/exact-units-chroot.tar for the next time
+#                                         chroot. Needs root, debootstrap and the network, and takes some minutes the
+#                                         first time; ${TMPDIR:-/tmp}/exact-units-chroot.tar keeps the chroot
 #
 # The last line is `N passed, M failed, K skipped`, and the status is 0 exactly if nothing failed.
 set -u
@@ -124,6 +124,7 @@ make_chroot() {
     if [ ! -e "$base" ]; then
         debootstrap --variant=minbase bookworm "$chroot" > "$folder/log" 2>&1 || { tail "$folder/log"; return 1; }
         in_chroot apt-get install -y -q --no-install-recommends units python3-minimal > "$folder/log" 2>&1 || { tail "$folder/log"; return 1; }
+        in_chroot apt-get clean
         tar -cf "$base.new" --one-file-system -C "$chroot" . && mv "$base.new" "$base"
     else
         tar -xf "$base" -C "$chroot"
@@ -152,7 +153,7 @@ case ${1-} in
     *) sed -n '2,/^set/s/^# \{0,1\}//p' "$script" | sed '$d'; exit 2 ;;
 esac
 if ! command -v dpkg-deb > /dev/null || ! command -v rt > /dev/null; then
-    skip 26 'dpkg-deb or the kit (rt) is absent'
+    skip 22 'dpkg-deb or the kit (rt) is absent'
     finish
 fi
 check_equal_builds
