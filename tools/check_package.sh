@@ -39,13 +39,10 @@ finish() {
     exit
 }
 
-# copy_to FOLDER: the files of the repository that git knows, and new ones that it does not ignore.
-# shellcheck disable=SC2016 # the inner shell expands $f
+# copy_to FOLDER: the repository without its history and without what was built.
 copy_to() {
     mkdir -p "$1"
-    (cd "$root" && git ls-files -z --cached --others --exclude-standard | grep -zv '^crates/.*/out/' \
-        | xargs -0 sh -c 'for f; do [ ! -e "$f" ] || printf "%s\0" "$f"; done' sh | tar -c --null --files-from - ) \
-        | tar -x -C "$1"
+    tar --create --directory "$root" --exclude=./.git --exclude=./out --exclude='./crates/*/out' . | tar -x --directory "$1"
 }
 
 build_twice() {
@@ -154,6 +151,10 @@ case ${1-} in
 esac
 if ! command -v dpkg-deb > /dev/null || ! command -v rt > /dev/null; then
     skip 22 'dpkg-deb or the kit (rt) is absent'
+    finish
+fi
+if ! "$root/tools/release.sh" --check > /dev/null; then
+    skip 22 'the released program is not of the present sources, so no package can be built'
     finish
 fi
 check_equal_builds

@@ -107,8 +107,8 @@ for page in docs/COLUMNS.md README.md; do
     if grep -q '^  \$ ' "$folder/${page##*/}"; then pages+=("$folder/${page##*/}"); fi
 done
 if [ -e "$folder/skipped" ]; then skipped=$(wc -l < "$folder/skipped"); fi
-PATH=$folder/programs:$PATH:$root/bin "$root/tools/transcripts.py" "${pages[@]}" > "$folder/log"
-status=$?
+PATH=$folder/programs:$PATH "$root/tools/transcripts.py" "${pages[@]}" > "$folder/log"
 sed '$d' "$folder/log"
-echo "$(tail -n 1 "$folder/log"), $skipped skipped"
-exit "$status"
+read -r passed _ failed _ more _ < <(tail -n 1 "$folder/log" | tr -d ,)
+echo "$passed passed, $failed failed, $((skipped + more)) skipped"
+[ "$failed" = 0 ]

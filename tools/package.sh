@@ -105,6 +105,7 @@ stage_files() {
     DESTDIR=$stage "$root/tools/install.sh" --prefix /usr --name "$name" > /dev/null
     if [ -d "$share/zsh/site-functions" ]; then mv "$share/zsh/site-functions" "$share/zsh/vendor-completions"; fi
     rm -f "$share/$name/installed"
+    install -m 755 "$program" "$stage/usr/bin/$name"
     find "$share/man" -type f -name '*.1' | while read -r page; do gzip -9n "$page"; done
     mkdir -p "$share/doc/$name" "$share/lintian/overrides"
     write_copyright debian > "$share/doc/$name/copyright"
@@ -192,7 +193,8 @@ version=$(heading_field 2)
 version=${version#units }
 if ! [[ $version =~ ^[0-9]+\.[0-9]+\.[0-9]+$ ]]; then fail "the .TH line of units.1 has no version"; fi
 epoch=${SOURCE_DATE_EPOCH:-$(date -d "$(heading_field 1)" +%s)}
-program=$("$root/tools/built.sh" units)
+program=$root/release/units-x86_64-linux
+"$root/tools/release.sh" --check >&2 || fail 'a package has the released program: make a release of these sources first'
 
 work=$(mktemp -d)
 trap 'rm -rf "$work"' EXIT

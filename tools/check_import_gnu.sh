@@ -3,7 +3,7 @@
 # package `units`, if that is installed. There the copy has to give no notice, units that GNU's own file loses have to
 # be known, and GNU units has to answer alike over the original and over the copy.
 #
-#     tools/check_import.sh
+#     tools/check_import_gnu.sh
 #
 # The last line is `N passed, M failed, K skipped`, and the status is 0 exactly if nothing failed.
 set -u
@@ -22,7 +22,7 @@ expect() {
         passed=$((passed + 1))
     else
         failed=$((failed + 1))
-        printf 'check_import: %s:\n--- wanted\n%s\n--- got\n%s\n' "$1" "$2" "$3"
+        printf 'check_import_gnu: %s:\n--- wanted\n%s\n--- got\n%s\n' "$1" "$2" "$3"
     fi
 }
 
@@ -111,7 +111,7 @@ check_refusals
 if [ -r "$gnu_file" ] && command -v units > /dev/null; then
     check_gnu_file
 else
-    echo "check_import: there is no $gnu_file (Debian's package units), so GNU's own definitions were not tried"
+    echo "check_import_gnu: there is no $gnu_file (Debian's package units), so GNU's own definitions were not tried"
     skipped=1
 fi
 echo "$passed passed, $failed failed, $skipped skipped"
