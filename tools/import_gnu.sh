@@ -1,7 +1,7 @@
 #!/usr/bin/env bash
 # Makes a copy of GNU units' definitions that `units` reads without a notice.
 #
-#     tools/import_gnu.sh [FILE [TO]]
+#     import_gnu.sh [FILE [TO]]
 #
 # FILE is GNU's definitions.units; if it is not given, the installed one is looked for. TO is the copy, `gnu.units` in
 # the current folder if it is not given, and standard output if it is `-`. A file that this script did not write is
@@ -198,9 +198,9 @@ readable_copy() {
 
 case ${1-} in
     -h | --help) sed -n '2,/^set/s/^# \{0,1\}//p' "${BASH_SOURCE[0]}"; exit ;;
-    -?*) fail "there is no option $1; see tools/import_gnu.sh --help" 2 ;;
+    -?*) fail "there is no option $1; see import_gnu.sh --help" 2 ;;
 esac
-if [ "$#" -gt 2 ]; then fail 'at most two files are taken; see tools/import_gnu.sh --help' 2; fi
+if [ "$#" -gt 2 ]; then fail 'at most two files are taken; see import_gnu.sh --help' 2; fi
 file=${1:-$(installed_file)} || fail 'GNU units is not installed in a usual place: name its definitions.units'
 to=${2:-gnu.units}
 if [ ! -f "$file" ] || [ ! -r "$file" ]; then fail "cannot read $file"; fi
