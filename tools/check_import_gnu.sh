@@ -58,6 +58,10 @@ check_small_file() {
     expect 'a copy is replaced' 0 "$(status_of "$import" small.units copy.units)"
     expect 'by equal bytes' "$(cat first.units)" "$(cat copy.units)"
     expect 'standard output' "$(cat first.units)" "$("$import" small.units -)"
+    cp small.units 'a b\t.units'
+    expect 'a file with a blank and a backslash' 0 "$(status_of "$import" 'a b\t.units' 'c d\t.units')"
+    expect 'the same definitions' "$(wanted_lines)" "$(grep -v '^#' 'c d\t.units')"
+    rm 'a b\t.units' 'c d\t.units'
     expect 'nothing else is left' 'copy.units first.units other.units said small.units' "$(echo *)"
 }
 

@@ -42,15 +42,18 @@ finish() {
 # copy_to FOLDER: the repository without its history and without what was built.
 copy_to() {
     mkdir -p "$1"
-    tar --create --directory "$root" --exclude=./.git --exclude=./out --exclude='./crates/*/out' . | tar -x --directory "$1"
+    tar --create --directory "$root" --exclude=./.git --exclude=./out --exclude='./crates/*/out' . \
+        | tar --extract --directory "$1"
 }
 
+# build_in FOLDER COPY: builds with the script of a copy of the repository; its output is shown if that fails.
+build_in() { "$2/tools/package.sh" "$1" > "$folder/log" 2>&1 || { cat "$folder/log"; return 1; }; }
+
 build_twice() {
-    "$root/tools/package.sh" "$folder/first" > "$folder/log" 2>&1 || { cat "$folder/log"; return 1; }
+    build_in "$folder/first" "$root" || return
     (umask 077 && copy_to "$folder/a copy")
     find "$folder/a copy" -name '*.units' -exec touch -d '2001-02-03' {} +
-    (umask 027 && TZ=Asia/Tokyo LANG=en_GB.UTF-8 "$folder/a copy/tools/package.sh" "$folder/second") > "$folder/log" 2>&1 \
-        || { cat "$folder/log"; return 1; }
+    (umask 027 && TZ=Asia/Tokyo LANG=en_GB.UTF-8 build_in "$folder/second" "$folder/a copy")
 }
 
 check_equal_builds() {
@@ -76,17 +79,16 @@ check_contents() {
     local unpacked=$folder/unpacked released=$root/release/units-x86_64-linux
     dpkg-deb -R "$deb" "$unpacked"
     expect 'the program is the released one' 0 "$(cmp "$unpacked/usr/bin/exact-units" "$released" >&2; echo $?)"
-    expect 'the programs' 'exact-units qunits units-lint' "$(find "$unpacked/usr/bin" -printf '%f\n' | sort | tail -n +2 \
-        | grep -x 'exact-units\|qunits\|units-lint' | xargs)"
+    expect 'the programs' 'exact-units qunits units-lint' "$(cd "$unpacked/usr/bin" && echo exact-units q* units-lint)"
     expect 'all is below /usr' 'DEBIAN usr' "$(find "$unpacked" -mindepth 1 -maxdepth 1 -printf '%f\n' | sort | xargs)"
     expect 'all belongs to root' '' "$(dpkg-deb -c "$deb" | awk '$2 != "root/root"')"
     expect 'nobody else may write' '' "$(dpkg-deb -c "$deb" | grep '^.....w\|^........w')"
     expect 'the checksums of the files' 0 "$(cd "$unpacked" && md5sum --quiet -c DEBIAN/md5sums >&2; echo $?)"
-    expect 'the C library that is needed' 2.34 "$(grep -ao 'GLIBC_[0-9.]*' "$released" | cut -d _ -f 2 | sort -V | tail -n 1)"
+    expect 'the C library that is needed' GLIBC_2.34 "$(grep -ao 'GLIBC_[0-9.]*' "$released" | sort -V | tail -n 1)"
     expect 'the licence of each crate' '' "$(for crate in clap csv memchr smallvec strsim; do
         grep -q -- "--- The crate $crate of" "$unpacked/usr/share/doc/exact-units/copyright" || echo "$crate"; done)"
     if dpkg -L units > /dev/null 2>&1; then
-        expect 'no file of the package units' '' "$(dpkg-deb -c "$deb" | sed 's/^[^/]*\.\//\//; s/ -> .*//' | grep -v '/$' \
+        expect 'no file of the package units' '' "$(cd "$unpacked" && find usr -not -type d -printf '/%p\n' \
             | grep -Fxf <(dpkg -L units))"
     else
         skip 1 'the package units is not installed'
@@ -101,10 +103,12 @@ check_tarball() {
     export HOME=$home XDG_CONFIG_HOME=$home/config XDG_STATE_HOME=$home/state
     expect 'the program of the tarball' $'\t* 32.808399' "$("$top/bin/units" -1 '10 m' ft 2>&1)"
     expect 'qunits of the tarball' $'\t* 96.56064' "$("$top/bin/qunits" -1 60 mph to km/h 2>&1)"
-    expect 'it installs' 0 "$("$top/tools/install.sh" --prefix "$folder/prefix" > "$folder/log" 2>&1; echo $?)"
+    "$top/tools/install.sh" --prefix "$folder/prefix" > "$folder/log" 2>&1
+    expect 'it installs' 0 $?
     expect 'the installed program' $'\t* 32.808399' "$("$folder/prefix/bin/units" -1 '10 m' ft 2>&1)"
     expect 'the installed qunits' $'\t* 96.56064' "$("$folder/prefix/bin/qunits" -1 60 mph to km/h 2>&1)"
-    expect 'it uninstalls' 0 "$("$top/tools/install.sh" --prefix "$folder/prefix" --uninstall > "$folder/log" 2>&1; echo $?)"
+    "$top/tools/install.sh" --prefix "$folder/prefix" --uninstall > "$folder/log" 2>&1
+    expect 'it uninstalls' 0 $?
     expect 'and leaves nothing' '' "$(find "$folder/prefix" -type f 2> /dev/null)"
 }
 
@@ -120,7 +124,8 @@ make_chroot() {
     mkdir "$chroot"
     if [ ! -e "$base" ]; then
         debootstrap --variant=minbase bookworm "$chroot" > "$folder/log" 2>&1 || { tail "$folder/log"; return 1; }
-        in_chroot apt-get install -y -q --no-install-recommends units python3-minimal > "$folder/log" 2>&1 || { tail "$folder/log"; return 1; }
+        in_chroot apt-get install -y -q --no-install-recommends units python3-minimal > "$folder/log" 2>&1 \
+            || { tail "$folder/log"; return 1; }
         in_chroot apt-get clean
         tar -cf "$base.new" --one-file-system -C "$chroot" . && mv "$base.new" "$base"
     else

@@ -4,7 +4,7 @@
 #     tools/package.sh [FOLDER]
 #
 # writes exact-units_VERSION-1_amd64.deb, exact-units-VERSION-x86_64-linux.tar.gz and SHA256SUMS to FOLDER, which is
-# `out` in the repository if it is not given. The version and the date are those of the manual page share/man/man1/units.1.
+# `out` in the repository if it is not given. The version and the date are those of share/man/man1/units.1.
 #
 # The package is called exact-units, and so is its program: Debian's package `units` has /usr/bin/units, registers no
 # alternative for it, and stays installed beside this one. Two builds of the same sources are equal byte for byte,
