@@ -64,6 +64,7 @@ QUICK = [
     Check("completions", ("tools/check_completions.py",)),
     Check("recipes", ("tools/check_recipes.sh",)),
     Check("GNU import", ("tools/check_import_gnu.sh",)),
+    Check("GNU page", ("tools/check_gnu_page.py",)),
     Check("package", ("tools/check_package.sh",)),
     Check("Vim files", ("tools/check_vim.sh",)),
     Check("web page", ("tools/check_web.sh",)),
