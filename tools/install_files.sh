@@ -71,9 +71,9 @@ add_pages() {
     fi
     add_edited 644 "$root/share/man/man1/units.1" "$prefix/share/man/man1/$name.1" "$edits"
     add_edited 644 "$root/share/man/man1/qunits.1" "$prefix/share/man/man1/qunits.1" "$edits"
-    for page in $(grep -ohE '\bdocs/[A-Z_]+\.md' "$root"/share/man/man1/*.1 | sort -u); do
+    while read -r page; do
         add 644 "$root/$page" "$prefix/share/doc/$name/$page"
-    done
+    done < <(grep -ohE '\bdocs/[A-Z_]+\.md' "$root"/share/man/man1/*.1 | sort -u)
 }
 
 add_documents() {
@@ -102,8 +102,8 @@ add_vim_files() {
     local file place
     for file in "$root"/share/vim/*/*.vim; do
         place=${file#"$root/share/vim/"}
-        add 644 "$file" "$prefix/share/vim/vimfiles/$place"
-        add 644 "$file" "$prefix/share/nvim/site/$place"
+        add_edited 644 "$file" "$prefix/share/vim/vimfiles/$place" "s/makeprg=units\b/makeprg=$name/"
+        add_edited 644 "$file" "$prefix/share/nvim/site/$place" "s/makeprg=units\b/makeprg=$name/"
     done
 }
 

@@ -2,6 +2,7 @@
 
 # The names that the command converts, after the part of the word before the last name.
 function __units_expression
+    string match -q -- '-*' (commandline -ct); and return
     set -l words (commandline -opc)
     set -l program (command -s -- $words[1]; or echo $words[1])
     set -l word (string replace -r '^["\']' '' -- (commandline -ct))
@@ -24,7 +25,8 @@ function __units_expression
     if test -n "$file"; or test (path basename $program) != qunits
         set -a options -f (string replace -r '^~/' "$HOME/" -- "$file")
     end
-    printf '%s\n' $front(command (path dirname $program)/qunits --names $options 2>/dev/null)
+    set -l qunits (path dirname $program)/qunits
+    printf '%s\n' $front(command $qunits --names $options 2>/dev/null)
 end
 
 for program in units qunits

@@ -5,7 +5,7 @@
 # byte of UTF-8, so these searches find all of them.
 list_names() {
     LC_ALL=C awk 'BEGIN { for (i = 33; i < 245; i++) if (i < 127 || i > 193) printf "search %c\n", i }' |
-        "$program" -q -f "$file" ${locale:+-l "$locale"} 2> /dev/null | LC_ALL=C sort -u |
+        "$program" -q ${file:+-f "$file"} ${locale:+-l "$locale"} 2> /dev/null | LC_ALL=C sort -u |
         awk -F '\t' 'NF > 2 && $2 !~ /-$/ { sub(/^!unitlist /, "", $2); sub(/\(\)$/, "", $2); print $2 }'
 }
 

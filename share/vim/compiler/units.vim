@@ -4,4 +4,4 @@ let current_compiler = 'units'
 
 " Notices and findings have a file and a line. A fault in a definition has only its name.
 CompilerSet makeprg=units\ --check\ -f\ %:S
-CompilerSet errorformat=%f:%l:\ %m,%-G\\s%#,%m
+CompilerSet errorformat=%f:%l:\ %m,%+G%.%#
