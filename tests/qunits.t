@@ -38,6 +38,7 @@ One word each: FROM and UNIT, as for `units`. A number and a unit are FROM alone
   \tDefinition: 25.4 m (esc)
   $ apart qunits 2 m ft
   \tDefinition: 0.6096 m^2 (esc)
+  err: qunits: for a conversion: qunits 2 m to ft
   $ apart qunits "1 acre" ""
   \tDefinition: 4046.8564 m^2 (esc)
   $ apart qunits ""
@@ -168,6 +169,12 @@ Words that are refused.
   $ apart qunits -x 5 m to ft
   err: units: usage: units [options] [FROM [TO]]
   [2]
+  $ apart qunits '\n' to m
+  unknown unit: \n
+  [1]
+  $ apart qunits 5 m to '\t' to '\n'
+  err: qunits: to and to: one conversion at a time
+  [2]
   $ apart qunits -d
   err: units: usage: units [options] [FROM [TO]]
   [2]
@@ -247,6 +254,21 @@ Hints on standard error, unless `-q` or `-t` is given.
   unknown unit: acer
   err: qunits: similar names: acre
   [1]
+  $ apart qunits 1 US gallon to liter
+  unknown unit: US
+  err: qunits: similar names: us_gallon uk_gallon usgallon
+  [1]
+  $ apart qunits 60 mph km/h
+  \tDefinition: 7.4506667 m^2 / s^2 (esc)
+  err: qunits: for a conversion: qunits 60 mph to km/h
+  $ apart qunits 5 ft 6 in
+  \tDefinition: 0.2322576 m^2 (esc)
+  $ apart qunits 5 ft lbf
+  \tDefinition: 6.7790897 kg m^2 / s^2 (esc)
+  $ apart qunits 98.6 degF to K
+  \t* 54.777778 (esc)
+  \t/ 0.018255578 (esc)
+  err: qunits: for a temperature, not a difference: qunits 'tempF(98.6)' to K
   $ apart qunits -q 1 acer to m^2
   unknown unit: acer
   [1]

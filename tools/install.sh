@@ -46,7 +46,9 @@ done
 while [[ $prefix = ?*/ ]]; do prefix=${prefix%/}; done
 [[ $prefix$(printf x) != *$'\n'* ]] || refuse 'the prefix has a line feed'
 destdir=${DESTDIR:-}
-[ "$setup" = no ] || [ -z "$destdir" ] || refuse '--setup changes the files of a user, and DESTDIR is set'
+while [[ $destdir = */ ]]; do destdir=${destdir%/}; done
+[[ -z $destdir || $destdir = /* ]] || destdir=$PWD/$destdir
+[ "$setup" = no ] || [ -z "${DESTDIR:-}" ] || refuse '--setup changes the files of a user, and DESTDIR is set'
 list=$prefix/share/$name/installed
 
 work=$(mktemp -d)

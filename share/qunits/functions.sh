@@ -18,7 +18,7 @@ with_fractions() {
 
 # ask_joined OPTION..: an unknown word and the next one may be one name. Fluid ounces are fluid_ounces.
 ask_joined() {
-    asked_from=$from asked_to=$to refusal=$reply
+    asked_from=$from asked_to=$to refusal=$reply joined=''
     while word=${reply#*: } && case " $from  $to" in *" $word "[[:alpha:]]*) ;; *) false ;; esac; do
         case " $from" in
             *" $word "[[:alpha:]]*) from="${from%%"$word "*}${word}_${from#*"$word "}" ;;
@@ -28,7 +28,7 @@ ask_joined() {
         reply=$("$program" "$@" -- "$from" ${to:+"$to"}) || status=$?
     done
     case $reply in
-        'unknown unit: '*) from=$asked_from to=$asked_to reply=$refusal ;;
+        'unknown unit: '*) from=$asked_from to=$asked_to reply=$refusal joined=$word ;;
     esac
 }
 
@@ -55,7 +55,8 @@ hint_at_temperature() {
     esac
 }
 
-# similar_names WORD: at most six names that one typing error, or two in a longer word, turn into the word.
+# similar_names WORD: at most six names, the nearest first, of which the word is at most one typing error away, or two
+# if it is long.
 similar_names() {
     list_names | awk -v word="$1" '
         # The number of letters to insert, drop, replace or exchange with the next one.
@@ -72,17 +73,33 @@ similar_names() {
         }
         function least(a, b) { return a < b ? a : b }
         BEGIN { word = tolower(word); bound = length(word) < 3 ? 0 : length(word) < 6 ? 1 : 2 }
-        length($0) - length(word) <= bound && length(word) - length($0) <= bound && found < 6 &&
-            distance(tolower($0), word) <= bound { found++; printf " %s", $0 }'
+        length($0) - length(word) <= bound && length(word) - length($0) <= bound {
+            errors = distance(tolower($0), word)
+            if (errors <= bound) print errors, $0
+        }' | sort -n | head -n 6 | cut -d ' ' -f 2 | paste -s -d ' ' -
 }
 
+# hint_at_conversion: whether FROM is a quantity and a unit that it can be converted to, such as 60 mph km/h.
+hint_at_conversion() {
+    quantity=${from% *}
+    last_unit=${from##* }
+    case $to:$separator:$quantity in
+        ::*[0-9]*' '*[!-+*/^\|\(]) ;;
+        *) return 1 ;;
+    esac
+    if is_number "${quantity##* }"; then return 1; fi
+    "$program" -ts -f "$file" ${locale:+-l "$locale"} -- "$quantity" "$last_unit" > /dev/null 2>&1 || return
+    say "for a conversion: qunits $quantity to $last_unit"
+}
+
+# hint: on standard error, what may be meant.
 hint() {
-    if hint_at_temperature; then return; fi
+    if hint_at_temperature || hint_at_conversion; then return; fi
     case $reply in
         'unknown unit: '*)
             word=${reply#unknown unit: }
-            similar=$(similar_names "${word%% in *}")
-            if [ "$similar" ]; then say "similar names:$similar"; fi ;;
+            similar=$(similar_names "${joined:-${word%% in *}}")
+            if [ "$similar" ]; then say "similar names: $similar"; fi ;;
         'conformability error'*)
             case $from in
                 [0-9]*' '[a-z]*' '[0-9]*) say 'a blank multiplies; "+" adds, as in 5 ft + 6 in' ;;
