@@ -4,7 +4,7 @@
     tools/check_completions.py [SHELL..]
 
 It installs into temporary folders by tools/install.sh: for a user under ~/.local with --setup, and for a system under
-/usr in a stage, of which bash-completion and the shells are told by their own variables. A shell that is absent is named and
+/usr in a stage, to which variables of bash-completion and of the shells point. A shell that is absent is named and
 counted as skipped. The last line is `N passed, M failed, K skipped`.
 """
 
@@ -103,28 +103,40 @@ def is_installed(shell: Shell) -> bool:
     return shutil.which(shell.name) is not None and (shell.name != "bash" or BASH_COMPLETION.exists())
 
 
-def try_cases(tally: Tally, shell: Shell, where: str, environment: dict[str, str], folder: Path, name: str, cases) -> None:
+@dataclass(frozen=True)
+class Install:
+    """An installed program, its name, and what a shell is started with."""
+
+    kind: str
+    name: str
+    environment: dict[str, str]
+    folder: Path
+
+
+def try_cases(tally: Tally, shell: Shell, install: Install, cases: list[tuple[str, str]]) -> None:
     """Types each case in one shell."""
-    startup = Path(environment["HOME"]) / shell.startup
+    startup = Path(install.environment["HOME"]) / shell.startup
     startup.parent.mkdir(parents=True, exist_ok=True)
     startup.write_text(shell.commands)
     command = [word if word != ".rc" else str(startup) for word in shell.command]
-    terminal = Terminal(command, environment, folder)
+    terminal = Terminal(command, install.environment, install.folder)
+    title = f"{shell.name}, {install.kind}, {install.name}"
     try:
-        tally.count(terminal.shows("ready> "), f"{shell.name}, {where}: no prompt: {terminal.text()!r}")
-        for typed, pattern in cases:
+        tally.count(terminal.shows("ready> "), f"{title}: no prompt: {terminal.text()!r}")
+        for keys, pattern in cases:
+            typed = keys.replace("NAME", install.name)
             terminal.clear()
-            terminal.type(typed.replace("NAME", name))
-            terminal.shows(re.escape(typed.replace("NAME", name)[-3:]))
+            terminal.type(typed)
+            terminal.shows(re.escape(typed[-3:]))
             terminal.type("\t")
-            is_well = terminal.shows(pattern.replace("NAME", name))
-            tally.count(is_well, f"{shell.name}, {where}: {typed!r} became {terminal.text()!r}")
+            is_well = terminal.shows(pattern.replace("NAME", install.name))
+            tally.count(is_well, f"{title}: {typed!r} became {terminal.text()!r}")
             terminal.type("\x15")
     finally:
         terminal.close()
 
 
-def install(environment: dict[str, str], *words: str) -> None:
+def run_install(environment: dict[str, str], *words: str) -> None:
     command = [str(ROOT / "tools/install.sh"), *words]
     done = subprocess.run(command, env=environment, capture_output=True, text=True)
     if done.returncode != 0:
@@ -145,21 +157,22 @@ def make_lab(folder: Path, home: Path) -> None:
 
 
 def try_user(tally: Tally, room: Path) -> None:
-    """An install under ~/.local, which --setup tells the shells of."""
+    """An install under ~/.local with --setup."""
     home = room / "home"
     environment = environment_of(home, home / ".local/bin")
     make_lab(room / "lab", home)
-    install(environment, "--setup")
+    run_install(environment, "--setup")
+    user = Install("for a user", "units", environment, room / "lab")
     for shell in SHELLS:
         cases = OPTIONS + NAMES
         if is_installed(shell):
-            try_cases(tally, shell, "for a user", environment, room / "lab", "units", cases)
+            try_cases(tally, shell, user, cases)
         else:
             tally.skip(len(cases) + 1, f"{shell.name} or its bash-completion is not installed")
 
 
 def try_system(tally: Tally, room: Path, name: str) -> None:
-    """A staged install under /usr, of which the shells are told as if it were in its place."""
+    """A staged install under /usr, which the shells find as if it were in its place."""
     stage = room / f"stage of {name}"
     share = stage / "usr/share"
     environment = environment_of(
@@ -169,7 +182,8 @@ def try_system(tally: Tally, room: Path, name: str) -> None:
         XDG_DATA_DIRS=f"{share}:/usr/share",
         BASH_COMPLETION_COMPAT_DIR=str(stage / "etc/bash_completion.d"),
     )
-    install(environment, "--prefix", "/usr", "--name", name)
+    run_install(environment, "--prefix", "/usr", "--name", name)
+    system = Install("for a system", name, environment, room / "lab")
     folders = " ".join(f"'{folder}'" for folder in sorted(share.glob("zsh/*")))
     cases = [OPTIONS[0], OPTIONS[2], OPTIONS[7], NAMES[0], NAMES[6]]
     for shell in SHELLS:
@@ -178,7 +192,7 @@ def try_system(tally: Tally, room: Path, name: str) -> None:
             continue
         if shell.name == "zsh":
             shell = Shell("zsh", shell.command, shell.startup, f"fpath=({folders} $fpath)\n" + shell.commands)
-        try_cases(tally, shell, f"for a system, as {name}", environment, room / "lab", name, cases)
+        try_cases(tally, shell, system, cases)
 
 
 def try_claim(tally: Tally, room: Path) -> None:

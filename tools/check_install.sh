@@ -64,6 +64,7 @@ expect 'an unknown argument' 2 '*unknown argument: /usr*--help*' '$install /usr'
 expect 'a prefix without a value' 2 '*--prefix needs a value*' '$install --prefix'
 expect 'a name that is no name' 2 '*not a name*' '$install --name ../units'
 expect 'the name of another command' 2 '*another command*' '$install --name qunits'
+expect 'no HOME' 2 '*--prefix is needed*' 'HOME= $install'
 expect 'setup with DESTDIR' 2 '*DESTDIR*' 'DESTDIR=/tmp/x $install --setup'
 expect 'nothing to uninstall' 1 '*no list of installed files*' '$install --uninstall'
 [ -z "$(ls -A "$HOME")" ]
@@ -85,7 +86,8 @@ if [ -e "$HOME/.local/bin/units-lint" ]; then
 else
     skip tools/lint_units.py 'units-lint'
 fi
-expect 'the modes' 0 '' 'find $HOME/.local -type d ! -perm 755; find $HOME/.local -type f ! -perm 644 ! -path "*/bin/*" ! -name import_gnu.sh'
+expect 'the modes' 0 '' 'find $HOME/.local -type d ! -perm 755
+    find $HOME/.local -type f ! -perm 644 ! -path "*/bin/*" ! -name import_gnu.sh'
 for page in units qunits; do
     if command -v man > /dev/null; then
         expect "the page of $page" 0 "*$page - *" "man -M \$HOME/.local/share/man $page"
@@ -113,7 +115,8 @@ expect 'uninstall by force' 0 '' '$install --uninstall --force'
 expect '.. leaves nothing' 0 '' 'ls -A $HOME'
 mkdir -p "$HOME/.local/bin"
 echo mine > "$HOME/.local/bin/units"
-unchanged 'a file of someone else' "$HOME" 1 '*/bin/units exists and was not installed*nothing was installed*' '$install'
+unchanged 'a file of someone else' "$HOME" 1 '*/bin/units exists and was not installed*nothing was installed*' \
+    '$install'
 mkdir "$HOME/.local/bin/qunits"
 unchanged 'a folder in the place of a file' "$HOME" 1 '*/bin/qunits is a folder*' '$install --force'
 rmdir "$HOME/.local/bin/qunits"
@@ -122,7 +125,8 @@ echo 'file 0 /nowhere' >> "$HOME/.local/share/units/installed"
 echo old > "$HOME/.local/share/units/old.units"
 echo "file $(sha256sum < "$HOME/.local/share/units/old.units" | cut -d ' ' -f 1) $HOME/.local/share/units/old.units" \
     >> "$HOME/.local/share/units/installed"
-expect 'a file of an earlier version goes' 0 '*installed*' '$install && ! ls $HOME/.local/share/units/old.units 2> /dev/null'
+expect 'a file of an earlier version goes' 0 '*installed*' \
+    '$install && ! ls $HOME/.local/share/units/old.units 2> /dev/null'
 expect 'a list of one'\''s own folders' 0 '' '$install --uninstall && find $HOME -mindepth 3'
 rm -r "$HOME/.local"
 
@@ -162,10 +166,14 @@ expect '.. bash' 0 'complete -r units*' 'tail -n 1 $stage/etc/bash_completion.d/
 expect '.. works' 0 '96.56064' '$stage/usr/bin/qunits -t 60 mph to km/h'
 expect '.. uninstall' 0 '' 'DESTDIR=$stage $install --uninstall --prefix /usr'
 expect '.. leaves nothing' 0 '' 'find $stage -mindepth 1'
+expect 'under /usr/local' 0 $'qunits.fish\nunits\nunits-lint.fish\nunits.fish' \
+    'DESTDIR=$stage/ $install --prefix /usr/local > /dev/null && find $stage/etc -type f -printf "%f\n" | LC_ALL=C sort'
+expect '.. leaves nothing' 0 '' 'DESTDIR=$stage $install --uninstall --prefix=/usr/local && find $stage -mindepth 1'
 expect 'another name' 0 '*installed*' 'DESTDIR=$stage $install --prefix /usr --name exact-units'
 expect '.. takes no name of GNU units' 0 '' 'find $stage -name units -o -name units.1 -o -name _units'
 expect '.. claims nothing in bash' 1 '' 'ls $stage/etc 2> /dev/null || exit 1'
-expect '.. in the programs' 0 $'96.56064\n0.9144' '$stage/usr/bin/qunits -t 60 mph to km/h; $stage/usr/bin/exact-units -t yd m'
+expect '.. in qunits' 0 '96.56064' '$stage/usr/bin/qunits -t 60 mph to km/h'
+expect '.. in the program' 0 '0.9144' '$stage/usr/bin/exact-units -t yd m'
 expect '.. in the page' 0 '.TH EXACT-UNITS 1 *' 'grep "^[.]TH" $stage/usr/share/man/man1/exact-units.1'
 if command -v lexgrog > /dev/null; then
     expect '.. in its heading' 0 '*exact-units - *' 'lexgrog $stage/usr/share/man/man1/exact-units.1'
@@ -176,7 +184,8 @@ mkdir -p gnu/usr/bin
 echo gnu > gnu/usr/bin/units
 unchanged 'over the program of another package' gnu 1 '*usr/bin/units exists*nothing was installed*' \
     'DESTDIR=$folder/gnu $install --prefix /usr'
-expect 'beside it' 0 '*installed*' 'DESTDIR=$folder/gnu $install --prefix /usr --name exact-units; cat gnu/usr/bin/units'
+expect 'beside it' 0 '*installed*gnu' \
+    'DESTDIR=$folder/gnu $install --prefix /usr --name exact-units; cat gnu/usr/bin/units'
 
 echo "$passed passed, $failed failed, $skipped skipped"
 [ "$failed" = 0 ]

@@ -74,7 +74,8 @@ open("all.units", "w").write("\n".join(lines) + "\n")
 open("marks.vim", "w").write("\n".join(marks) + "\n")
 END
 # shellcheck disable=SC2016 # the parameters of that script
-printf '#!/bin/sh\nshift 2\nprintf "%%s\\n" "$1:2: bad name: a2" "bad: unknown unit: nosuch in bad" "sub.units:7: stray end"\nexit 1\n' > units
+printf '%s\n' '#!/bin/sh' 'shift 2' \
+    'printf "%s\n" "$1:2: bad name: a2" "bad: unknown unit: nosuch in bad" "sub.units:7: stray end"' 'exit 1' > units
 chmod +x units
 cat > test.vim << 'END'
 let s:lines = []
@@ -94,7 +95,8 @@ call s:Is('comments', &commentstring, '# %s')
 syntax sync fromstart
 source marks.vim
 silent make!
-let s:places = map(filter(getqflist(), 'v:val.lnum > 0'), {_, place -> bufname(place.bufnr) . ':' . place.lnum . ': ' . place.text})
+let s:places = filter(getqflist(), 'v:val.lnum > 0')
+call map(s:places, {_, place -> bufname(place.bufnr) . ':' . place.lnum . ': ' . place.text})
 call s:Is('places of notices', s:places, ['all.units:2: bad name: a2', 'sub.units:7: stray end'])
 call s:Is('all lines of the report', len(filter(getqflist(), 'v:val.text =~# "nosuch"')), 1)
 call writefile(s:lines, 'results')
@@ -108,7 +110,8 @@ for editor in vim nvim; do
         continue
     fi
     rm -f results
-    PATH=$folder:$PATH $editor -es -N -u NONE -i NONE --cmd "set runtimepath^=$root/share/vim" -c 'source test.vim' < /dev/null > log 2>&1
+    PATH=$folder:$PATH $editor -es -N -u NONE -i NONE --cmd "set runtimepath^=$root/share/vim" -c 'source test.vim' \
+        < /dev/null > log 2>&1
     if ! [ -e results ]; then
         echo "check_vim: $editor ended early:"
         cat log

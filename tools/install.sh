@@ -24,7 +24,7 @@ say() { echo "install: $*" >&2; }
 refuse() { say "$*; see tools/install.sh --help"; exit 2; }
 give_up() { say "$*"; exit 1; }
 
-prefix=${HOME:-}/.local name=units action=install force=no setup=no
+prefix=${HOME:+$HOME/.local} name=units action=install force=no setup=no
 while [ "$#" -gt 0 ]; do
     case $1 in
         --help | -h) sed -n '2,/^set/s/^# \{0,1\}//p' "$script" && exit ;;
@@ -42,6 +42,7 @@ while [ "$#" -gt 0 ]; do
 done
 [[ $name =~ ^[A-Za-z][A-Za-z0-9._+-]*$ ]] || refuse "not a name for a program: $name"
 [[ $name != qunits && $name != units-lint ]] || refuse "$name is the name of another command"
+[[ $prefix ]] || refuse 'there is no HOME, so --prefix is needed'
 [[ $prefix = /* ]] || prefix=$PWD/$prefix
 while [[ $prefix = ?*/ ]]; do prefix=${prefix%/}; done
 [[ $prefix$(printf x) != *$'\n'* ]] || refuse 'the prefix has a line feed'
@@ -205,6 +206,10 @@ advise() {
     case :$PATH: in *:"$prefix/bin":*) ;; *) echo "$prefix/bin is not on your PATH" ;; esac
     if ! is_system_prefix && [ "$setup" = no ] && ! has_line "$bash_file" "$bash_line"; then
         echo "bash, zsh and Vim do not look for completions and syntax files there; --setup has them do so"
+    fi
+    if [ ! -e /usr/share/bash-completion/bash_completion ]; then
+        printf 'bash-completion is not installed; without it, completions in bash need this line in ~/.bashrc:\n%s\n' \
+            "$bash_line"
     fi
 }
 

@@ -34,6 +34,11 @@ zsh_folder() {
     fi
 }
 
+# fish_folder: where fish looks. Without XDG_DATA_DIRS that is no folder under /usr/local.
+fish_folder() {
+    case $prefix in /usr/local) echo /etc/fish/completions ;; *) echo "$prefix/share/fish/vendor_completions.d" ;; esac
+}
+
 # as_replacement TEXT: the text in the right side of a command s#..#..# of sed.
 as_replacement() { printf '%s\n' "$1" | sed 's/[&#\\]/\\&/g'; }
 
@@ -89,7 +94,7 @@ add_completions() {
     local completions=$root/share/completions command edits="s/\\bunits qunits\\b/$name qunits/"
     for command in "$name" qunits units-lint; do
         add_edited 644 "$completions/units.bash" "$prefix/share/bash-completion/completions/$command" "$edits"
-        add_edited 644 "$completions/units.fish" "$prefix/share/fish/vendor_completions.d/$command.fish" "$edits"
+        add_edited 644 "$completions/units.fish" "$(fish_folder)/$command.fish" "$edits"
     done
     add_edited 644 "$completions/_units" "$(zsh_folder)/_$name" "$edits"
     if [ "$name" = units ] && is_system_prefix; then

@@ -13,12 +13,14 @@ _units_names() {
 
 # _units_expression COMMAND WORD: the last name in the word, which may begin with a quote.
 _units_expression() {
-    local word=${2#[\"\']} file='' locale='' at tail
+    local word=${2#[\"\']} file='' locale='' option='' at tail
     for ((at = 1; at < COMP_CWORD; at++)); do
         case ${COMP_WORDS[at]} in
-            -f | --file) file=${COMP_WORDS[at + 1]} ;;
-            -l | --locale) locale=${COMP_WORDS[at + 1]} ;;
-            =) case ${COMP_WORDS[at - 1]} in --file) file=${COMP_WORDS[at + 1]} ;; --locale) locale=${COMP_WORDS[at + 1]} ;; esac ;;
+            -f | --file) option='file' ;;
+            -l | --locale) option='locale' ;;
+            =) ;; # bash takes --file=NAME as three words
+            *) case $option in file) file=${COMP_WORDS[at]} ;; locale) locale=${COMP_WORDS[at]} ;; esac
+                option='' ;;
         esac
     done
     tail=${word##*[-+*/|^;~()[:space:]]}

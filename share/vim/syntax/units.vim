@@ -13,11 +13,12 @@ syntax match unitsStatusWord /\%(#=\s*\)\@<=\%(exact\|conventional\|measured\|ro
 " Expressions
 syntax match unitsNumber /\%(\d\+\.\?\d*\|\.\d\+\)\%([eE][-+]\?\d\+\)\?/ contained
 " A digit within or after a name belongs to the name.
-syntax match unitsWord /[^[:blank:]0-9_,.!#+*\/|^;~()\[\]\-][^[:blank:]#+*\/|^;~()\[\]\-]*/ contained contains=unitsOperatorWord,unitsRoot,unitsRefused
+syntax match unitsWord /[^[:blank:]0-9_,.!#+*\/|^;~()\[\]\-][^[:blank:]#+*\/|^;~()\[\]\-]*/ contained
+            \ contains=unitsOperatorWord,unitsRoot,unitsRefused
 syntax match unitsOperator /[-+*\/|^;~]/ contained
 syntax match unitsOperatorWord /\%(^\|[[:blank:]()]\)\@1<=per\ze\%([[:blank:]()]\|$\)/ contained
 syntax match unitsRoot /\<\%(sqrt\|cuberoot\)\ze\s*(/ contained
-syntax match unitsRefused /\<\%(sin\|cos\|tan\|asin\|acos\|atan\|sinh\|cosh\|tanh\|asinh\|acosh\|atanh\|ln\|log\|log2\|exp\)\ze(/ contained
+syntax match unitsRefused /\<\%(a\?\%(sin\|cos\|tan\)h\?\|ln\|log\|log2\|exp\)\ze(/ contained
 syntax match unitsPrimitive /!\%(dimensionless\)\?\ze\s*\%(#.*\)\?$/ contained
 syntax match unitsOption /\<\%(\%(units\|domain\|range\)\ze=\|noerror\>\)/ contained
 syntax match unitsContinued /\\\ze\s*\%(#.*\)\?$/ contained
@@ -43,7 +44,7 @@ syntax region unitsListDefinition matchgroup=unitsDirective keepend contains=uni
 syntax match unitsList /\%(unitlist\s\+\)\@<=\S\+/ contained nextgroup=unitsListUnits
 syntax match unitsListUnits /.*/ contained contains=@unitsExpression
 syntax region unitsDirectiveLine matchgroup=unitsDirective keepend contains=unitsComment,unitsContinued
-            \ start=/^\s*!\s*\%(include\|locale\|endlocale\|set\|var\|varnot\|endvar\|utf8\|endutf8\|message\|prompt\)\ze\%(\s\|$\)/
+            \ start=/^\s*!\s*\%(include\|\%(end\)\?\%(locale\|var\|utf8\)\|set\|varnot\|message\|prompt\)\ze\%(\s\|$\)/
             \ skip=/\\\s*\%(#.*\)\?$/ end=/$/
 
 highlight default link unitsTodo Todo
