@@ -157,6 +157,8 @@ A minus after the first word of FROM is a difference; in front it is a sign. `-1
 
 Words that are refused.
 
+  $ qunits 5 m to 2>&-
+  [2]
   $ apart qunits 5 m to
   err: qunits: no unit follows to
   [2]
@@ -331,5 +333,8 @@ Help, the version, and the names that may be converted.
   "in" is the inch, but means "to" between two units if there is no "to". Quote ? * ( ) ; and -> for the shell.
   $ qunits --version
   qunits* (glob)
+  $ apart qunits --names -f nosuch.units
+  err: units: no file: nosuch.units
+  [3]
   $ qunits --names | grep -cxE 'acre|tempC|hms|kilo'
   3
