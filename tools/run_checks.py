@@ -62,6 +62,7 @@ QUICK = [
     Check("library", ("tools/check_library.sh",)),
     Check("install", ("tools/check_install.sh",)),
     Check("completions", ("tools/check_completions.py",)),
+    Check("sessions of qunits", ("tools/check_qunits_session.py",)),
     Check("recipes", ("tools/check_recipes.sh",)),
     Check("GNU import", ("tools/check_import_gnu.sh",)),
     Check("GNU page", ("tools/check_gnu_page.py",)),
