@@ -1,0 +1,174 @@
+"""Checks the library of definitions in share/units, as tools/check_library.sh says.
+
+    check_library.py [--program UNITS] [--library FOLDER] [--verbose]
+"""
+
+from __future__ import annotations
+
+import argparse
+import re
+import subprocess
+import sys
+from collections import Counter
+from dataclasses import dataclass, field
+from pathlib import Path
+
+import transcripts
+from library_functions import check_functions
+from library_relations import check_relations
+from library_values import check_constants, check_factors, check_symbols
+from unit_answers import ROOT, NoAnswers, Session, default_program
+from unit_files import Kind, Opening, Setting, read_deck
+
+LOCALES = ("en_US", "en_GB", "de_DE")
+LINTED_LOCALES = ("en_US", "en_GB")
+FEWEST, MOST = 1400, 1800
+LINTER = Path(__file__).with_name("lint_units.py")
+TRAPS = ROOT / "tests/library/traps.units"
+EXPECTED_FINDING = re.compile(r"# finds: (.*)")
+
+
+@dataclass
+class Results:
+    """How many checks passed and failed, by subject; each failure is printed as it comes."""
+
+    passed: Counter = field(default_factory=Counter)
+    failed: int = 0
+    skipped: int = 0
+
+    def check(self, name, is_right, detail=""):
+        """Counts a check under the first word of its name."""
+        if is_right:
+            self.passed[name.split(" ")[0].rstrip(":")] += 1
+        else:
+            self.failed += 1
+            print(f"{name}: {detail}")
+
+    def skip(self, name, reason):
+        self.skipped += 1
+        print(f"{name}: skipped, {reason}")
+
+
+def variables_of(deck):
+    """The variables of a deck, each with the values that it names and others that no user would expect."""
+    values = {}
+    for line in deck.lines:
+        if isinstance(line, Setting):
+            values.setdefault(line.variable, []).append(line.value)
+        elif isinstance(line, Opening) and line.block.variable:
+            values.setdefault(line.block.variable, []).extend(line.block.values)
+    return {variable: [*dict.fromkeys(named), "", "odd", named[0].lower()] for variable, named in values.items()}
+
+
+def check_reports(session, deck, results):
+    """The program's own check of the library is empty under each locale and with odd variables."""
+    settings = [(locale, ()) for locale in LOCALES]
+    for variable, values in variables_of(deck).items():
+        settings += [(locale, ((variable, value),)) for value in values for locale in LOCALES[:2]]
+    for locale, variables in settings:
+        report = Session(session.program, session.file, locale, variables).check()
+        lines = report.splitlines()
+        name = f"report {locale} {' '.join(f'{name}={value}' for name, value in variables)}"
+        results.check(name, not lines, f"{len(lines)} lines, the first is: {lines[0] if lines else ''}")
+
+
+def check_files(program, folder, standard, results):
+    """Each other file of the folder that can be loaded alone has no notice of its own; none is left out."""
+    included = set(standard.files)
+    for file in sorted(folder.glob("*.units")):
+        deck = read_deck(file)
+        includes = len(deck.files) > 1
+        if str(file) not in included and includes or file.name == "built_in.units":
+            report = Session(program, str(file)).check().splitlines()
+            results.check(f"file {file.name}", not report, f"{len(report)} lines, the first is: {report[0] if report else ''}")
+
+
+def lint(program, file, locale, *options):
+    run = subprocess.run(
+        [sys.executable, LINTER, "--program", program, "--locale", locale, *options, file],
+        stdout=subprocess.PIPE, stderr=subprocess.STDOUT, text=True, errors="replace", check=False,
+    )  # fmt: skip
+    return run.returncode, run.stdout.splitlines()
+
+
+def check_linter(program, file, results):
+    """The linter is silent on the library, and finds each planted trap and nothing else."""
+    for locale in LINTED_LOCALES:
+        _, findings = lint(program, file, locale, "--statuses", "--dimensions")
+        results.check(f"lint {locale}: status 0 and no line", not findings, f"{len(findings)} findings")
+        for finding in findings:
+            results.check("lint", False, finding)
+    status, findings = lint(program, str(TRAPS), "en_US", "--statuses", "--dimensions")
+    results.check("lint: status 1 on the planted traps", status == 1, f"status {status}")
+    expected = []
+    for number, line in enumerate(TRAPS.read_text(encoding="utf-8").splitlines(), 1):
+        expected += [f"{TRAPS}:{number}: {message}" for message in EXPECTED_FINDING.findall(line)]
+    for line in expected:
+        results.check("lint: a planted trap", line in findings, f"not found: {line}")
+    for line in findings:
+        results.check("lint: no false finding", line in expected, line)
+
+
+def check_counts(deck, results):
+    """The number of definitions, and that each has a status; prints the counts by status and by file."""
+    definitions = deck.definitions
+    count = len(definitions)
+    results.check("count of definitions", FEWEST <= count <= MOST, f"{count}, not between {FEWEST} and {MOST}")
+    statuses = Counter(re.split("[ :]", definition.status or "none")[0] for definition in definitions)
+    for definition in definitions:
+        results.check("status", bool(definition.status), f"{definition.place}: {definition.name} has none")
+        is_sure = "?" not in definition.comment and "?" not in (definition.status or "")
+        results.check("certainty", is_sure, f"{definition.place}: {definition.name} has a question mark")
+    kinds = Counter(definition.kind.value for definition in definitions)
+    files = Counter(Path(definition.place.file).stem for definition in definitions)
+    for title, counts in (("status", statuses), ("kind", kinds), ("file", files)):
+        print(f"definitions by {title}: " + ", ".join(f"{name} {number}" for name, number in counts.most_common()))
+    print(f"definitions: {count}")
+
+
+def check_dimensions(deck, results):
+    """Each definition says what it conforms to; the linter compares that with its value."""
+    for definition in deck.definitions:
+        results.check("dimension", bool(definition.unit), f"{definition.place}: {definition.name} has no #: UNIT")
+
+
+def check_built_in(folder, results):
+    file = folder / "built_in.units"
+    is_equal = file.exists() and file.read_bytes() == transcripts.built_in()
+    results.check("built_in.units", is_equal, "differs from the built-in text of the program")
+
+
+def check_all(program, folder, results):
+    file = folder / "standard.units"
+    deck, session = read_deck(file), Session(program, str(file))
+    check_counts(deck, results)
+    check_dimensions(deck, results)
+    check_built_in(folder, results)
+    check_reports(session, deck, results)
+    check_files(program, folder, deck, results)
+    check_linter(program, str(file), results)
+    check_factors(session, results)
+    check_constants(session, results)
+    check_relations(session, results)
+    check_symbols(session, results)
+    check_functions(session, deck.active(session.locale, {}), results)
+    lists = sum(definition.kind is Kind.LIST for definition in deck.definitions)
+    results.check("lists", lists >= 5, f"{lists} lists of units")
+
+
+def main():
+    parser = argparse.ArgumentParser(description=__doc__.partition("\n")[0])
+    parser.add_argument("--program", default=default_program(), help="the program units")
+    parser.add_argument("--library", default=ROOT / "share/units", type=Path, help="the folder of the library")
+    options, results = parser.parse_args(), Results()
+    try:
+        check_all(options.program, options.library, results)
+    except (OSError, NoAnswers) as fault:
+        results.check("library", False, str(fault))
+    print("passed by subject: " + ", ".join(f"{name} {count}" for name, count in sorted(results.passed.items())))
+    print(f"{results.passed.total()} passed, {results.failed} failed, {results.skipped} skipped")
+    sys.exit(1 if results.failed else 0)
+
+
+if __name__ == "__main__":
+    main()

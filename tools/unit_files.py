@@ -1,0 +1,279 @@
+"""Reads definition files of units: their lines, includes and blocks, and what their comments say of a definition.
+
+The comment `#= STATUS: SOURCE` says how exact a definition is, and `#: UNIT` what it conforms to. A comment on the line
+of a definition holds for that definition. A comment on a line of its own holds for the definitions after it, up to the
+next blank line.
+"""
+
+from __future__ import annotations
+
+import re
+from dataclasses import dataclass, field
+from enum import Enum
+from pathlib import Path
+
+BLANKS = " \t"
+DEEPEST_INCLUDE = 16
+NOTE = re.compile(r"#([=:])[ \t]*([^#]*)")
+FORBIDDEN_IN_NAMES = re.compile(r"[\x00-\x20\x7f+\-*/|^;~#()\[\]]")
+SUBSCRIPT = re.compile(r"_[0-9.,]*[1-9]$")
+REFUSED_NAMES = set("per sqrt cuberoot sin cos tan asin acos atan sinh cosh tanh asinh acosh atanh ln log log2 exp".split())
+ENDS = {"endlocale": {"locale"}, "endvar": {"var", "varnot"}, "endutf8": {"utf8"}}
+ARGUMENTS = {  # the least and the greatest number of words after a directive; None is no limit
+    "include": (1, 1), "locale": (1, 1), "set": (2, None), "var": (2, None), "varnot": (2, None), "utf8": (0, 0),
+    "endlocale": (0, 0), "endvar": (0, 0), "endutf8": (0, 0), "message": (0, None), "prompt": (0, None),
+    "unitlist": (0, None),
+}  # fmt: skip
+
+
+class Kind(Enum):
+    UNIT = "unit"
+    PREFIX = "prefix"
+    FUNCTION = "function"
+    LIST = "list"
+
+
+@dataclass(frozen=True)
+class Place:
+    """A physical line of a file."""
+
+    file: str
+    number: int
+
+    def __str__(self):
+        return f"{self.file}:{self.number}"
+
+
+@dataclass(frozen=True)
+class Block:
+    """A block of a locale or a variable, or of UTF-8, which always holds."""
+
+    directive: str
+    variable: str = ""
+    values: tuple[str, ...] = ()
+
+    def holds(self, locale, variables):
+        if self.directive == "locale":
+            return locale in self.values
+        if self.directive == "utf8":
+            return True
+        return (variables.get(self.variable) in self.values) == (self.directive == "var")
+
+    def excludes(self, other):
+        """Whether this block and the other one never hold together."""
+        if self.directive == other.directive == "locale":
+            return self.values != other.values
+        if self.variable != other.variable or "utf8" in (self.directive, other.directive):
+            return False
+        mine, others = set(self.values), set(other.values)
+        if self.directive == other.directive:
+            return self.directive == "var" and not mine & others
+        return mine <= others if self.directive == "var" else others <= mine
+
+
+@dataclass(frozen=True)
+class Definition:
+    """A definition. The text is that after the name; the status and the unit are those of its comments, if any."""
+
+    kind: Kind
+    name: str
+    text: str
+    place: Place
+    blocks: tuple[Block, ...] = ()
+    status: str | None = None
+    unit: str | None = None
+    comment: str = ""
+
+
+@dataclass(frozen=True)
+class Opening:
+    """The line that opens a block, with the blocks around it."""
+
+    block: Block
+    blocks: tuple[Block, ...]
+
+
+@dataclass(frozen=True)
+class Setting:
+    """A line that sets a variable where it is not set."""
+
+    variable: str
+    value: str
+    blocks: tuple[Block, ...]
+
+
+@dataclass(frozen=True)
+class LogicalLine:
+    """A line with the lines that continue it. `is_blank` is said of a line without a comment, too."""
+
+    number: int
+    text: str
+    comment: str
+    is_blank: bool
+
+
+@dataclass
+class Deck:
+    """The lines of a file and its includes, in order, and what is wrong with lines that have no effect."""
+
+    lines: list[Definition | Opening | Setting] = field(default_factory=list)
+    faults: list[tuple[Place, str]] = field(default_factory=list)
+    files: list[str] = field(default_factory=list)
+
+    @property
+    def definitions(self):
+        return [line for line in self.lines if isinstance(line, Definition)]
+
+    def active(self, locale, variables):
+        """The definitions that count under a locale and variables, in order."""
+        variables, holding, found = dict(variables), {}, []
+        for line in self.lines:
+            if not all(holding[id(block)] for block in line.blocks):
+                if isinstance(line, Opening):
+                    holding[id(line.block)] = False
+            elif isinstance(line, Opening):
+                holding[id(line.block)] = line.block.holds(locale, variables)
+            elif isinstance(line, Setting):
+                variables.setdefault(line.variable, line.value)
+            else:
+                found.append(line)
+        return found
+
+
+def logical_lines(text):
+    """The logical lines of a text. A comment ends a physical line before a backslash can continue it."""
+    parts, comments, start = [], [], 1
+    for number, physical in enumerate(text.split("\n"), 1):
+        if not parts:
+            start = number
+        kept, mark, comment = physical.removesuffix("\r").partition("#")
+        comments += [mark + comment] * bool(mark)
+        kept = kept.rstrip(BLANKS)
+        if kept.endswith("\\"):
+            parts.append(kept[:-1] + " ")
+            continue
+        whole = ("".join(parts) + kept).strip(BLANKS)
+        yield LogicalLine(start, whole, " ".join(comments), not whole and not comments)
+        parts, comments = [], []
+    if parts:
+        yield LogicalLine(start, "".join(parts).strip(BLANKS), " ".join(comments), False)
+
+
+def notes_of(comment):
+    """The status and the unit that a comment names, each None if it names none."""
+    found = {mark: text.strip() for mark, text in NOTE.findall(comment)}
+    return found.get("="), found.get(":")
+
+
+def words_of(text):
+    return [word for word in re.split("[ \t]+", text) if word]
+
+
+def name_fault(name):
+    """Why a word cannot be the name of a definition, or None."""
+    size = len(name.encode(errors="surrogateescape"))
+    is_shaped = 1 <= size <= 255 and not FORBIDDEN_IN_NAMES.search(name)
+    is_shaped = is_shaped and name[0] not in "0123456789_,.!" and name[-1] not in "_,."
+    if is_shaped and re.search("[1-9]$", name) and not SUBSCRIPT.search(name):
+        is_shaped = False
+    return None if is_shaped and name not in REFUSED_NAMES else f"bad name: {name}"
+
+
+def key_of(line):
+    """The kind, the name and the text of a definition line, or what is wrong with it."""
+    if line.startswith("!"):
+        words = re.split("[ \t]+", line[1:].strip(BLANKS), maxsplit=2)
+        kind, name, text = Kind.LIST, "".join(words[1:2]), "".join(words[2:])
+    else:
+        line = line.removeprefix("+").lstrip(BLANKS)
+        name = re.split(r"[ \t(\[]", line, maxsplit=1)[0]
+        text = line[len(name) :]
+        kind = Kind.FUNCTION if text[:1] in ("(", "[") and text else Kind.UNIT
+        if kind is Kind.UNIT and name.endswith("-"):
+            kind, name = Kind.PREFIX, name[:-1]
+        text = text.strip(BLANKS)
+    return kind, name, text, name_fault(name) or (None if text else "bad definition")
+
+
+class FileReader:
+    """Reads one file into a deck."""
+
+    def __init__(self, deck, file, blocks, depth):
+        self.deck, self.file, self.outer, self.depth = deck, file, blocks, depth
+        self.opened = []  # the blocks of this file, each with the place that opened it
+        self.group = (None, None)
+
+    @property
+    def blocks(self):
+        return (*self.outer, *(block for block, _ in self.opened))
+
+    def read(self, text):
+        self.deck.files.append(self.file)
+        for line in logical_lines(text):
+            place = Place(self.file, line.number)
+            if line.is_blank:
+                self.group = (None, None)
+            elif not line.text:
+                self.group = tuple(new or old for new, old in zip(notes_of(line.comment), self.group))
+            elif line.text.startswith("!"):
+                self.direct(line, place)
+            else:
+                self.define(line, place)
+        for _, place in self.opened:
+            self.fail(place, "unclosed block")
+
+    def fail(self, place, fault):
+        self.deck.faults.append((place, fault))
+
+    def define(self, line, place):
+        kind, name, text, fault = key_of(line.text)
+        if fault:
+            return self.fail(place, fault)
+        notes = [own or shared for own, shared in zip(notes_of(line.comment), self.group)]
+        self.deck.lines.append(Definition(kind, name, text, place, self.blocks, *notes, line.comment))
+
+    def direct(self, line, place):
+        word, *rest = words_of(line.text[1:]) or [""]
+        if word not in ARGUMENTS:
+            return self.fail(place, "unknown directive")
+        least, most = ARGUMENTS[word]
+        if len(rest) < least or most is not None and len(rest) > most:
+            return self.fail(place, "bad directive")
+        if word == "include":
+            read_into(self.deck, self.file, rest[0], place, self.blocks, self.depth + 1)
+        elif word == "unitlist":
+            self.define(line, place)
+        elif word == "set":
+            value = re.split("[ \t]+", line.text[1:].strip(BLANKS), maxsplit=2)[2]
+            self.deck.lines.append(Setting(rest[0], value, self.blocks))
+        elif word in ENDS:
+            self.close(word, place)
+        elif word not in ("message", "prompt"):
+            block = Block(word, "" if word == "locale" else "".join(rest[:1]), tuple(rest if word == "locale" else rest[1:]))
+            self.deck.lines.append(Opening(block, self.blocks))
+            self.opened.append((block, place))
+
+    def close(self, word, place):
+        if self.opened and self.opened[-1][0].directive in ENDS[word]:
+            self.opened.pop()
+        else:
+            self.fail(place, "stray end")
+
+
+def read_into(deck, includer, name, place, blocks, depth):
+    """Reads an included file into a deck; a file that is absent or too deep is a fault at the line that includes it."""
+    file = name if name.startswith("/") else includer[: includer.rfind("/") + 1] + name
+    if depth > DEEPEST_INCLUDE:
+        return deck.faults.append((place, f"include too deep: {file}"))
+    try:
+        text = Path(file).read_bytes().decode(errors="surrogateescape")
+    except OSError:
+        return deck.faults.append((place, f"no file: {file}"))
+    FileReader(deck, file, blocks, depth).read(text)
+
+
+def read_deck(file):
+    """The deck of a file with its includes. Raises OSError if the file itself cannot be read."""
+    deck, file = Deck(), str(file)
+    FileReader(deck, file, (), 0).read(Path(file).read_bytes().decode(errors="surrogateescape"))
+    return deck
