@@ -25,7 +25,6 @@ LINTED_LOCALES = ("en_US", "en_GB")
 FEWEST, MOST = 1400, 1800
 LINTER = Path(__file__).with_name("lint_units.py")
 TRAPS = ROOT / "tests/library/traps.units"
-EXPECTED_FINDING = re.compile(r"# finds: (.*)")
 
 
 @dataclass
@@ -84,9 +83,10 @@ def check_files(program, folder, standard, results):
 
 
 def lint(program, file, locale, *options):
+    """The status and the lines of the linter, which runs beside the planted traps."""
     run = subprocess.run(
         [sys.executable, LINTER, "--program", program, "--locale", locale, *options, file],
-        stdout=subprocess.PIPE, stderr=subprocess.STDOUT, text=True, errors="replace", check=False,
+        cwd=TRAPS.parent, stdout=subprocess.PIPE, stderr=subprocess.STDOUT, text=True, errors="replace", check=False,
     )  # fmt: skip
     return run.returncode, run.stdout.splitlines()
 
@@ -95,18 +95,17 @@ def check_linter(program, file, results):
     """The linter is silent on the library, and finds each planted trap and nothing else."""
     for locale in LINTED_LOCALES:
         _, findings = lint(program, file, locale, "--statuses", "--dimensions")
-        results.check(f"lint {locale}: status 0 and no line", not findings, f"{len(findings)} findings")
+        results.check(f"lint {locale}: no finding", not findings, f"{len(findings)} findings")
         for finding in findings:
             results.check("lint", False, finding)
-    status, findings = lint(program, str(TRAPS), "en_US", "--statuses", "--dimensions")
+    status, findings = lint(program, TRAPS.name, "en_US", "--statuses", "--dimensions")
     results.check("lint: status 1 on the planted traps", status == 1, f"status {status}")
-    expected = []
-    for number, line in enumerate(TRAPS.read_text(encoding="utf-8").splitlines(), 1):
-        expected += [f"{TRAPS}:{number}: {message}" for message in EXPECTED_FINDING.findall(line)]
-    for line in expected:
-        results.check("lint: a planted trap", line in findings, f"not found: {line}")
-    for line in findings:
-        results.check("lint: no false finding", line in expected, line)
+    found = [finding.removeprefix(f"{TRAPS.name}:") for finding in findings]
+    expected = TRAPS.with_suffix(".findings").read_text(encoding="utf-8").splitlines()
+    for finding in expected:
+        results.check("lint: a planted trap", finding in found, f"not found: {finding}")
+    for finding in found:
+        results.check("lint: no false finding", finding in expected, finding)
 
 
 def check_counts(deck, results):
@@ -127,8 +126,10 @@ def check_counts(deck, results):
 
 
 def check_dimensions(deck, results):
-    """Each definition says what it conforms to; the linter compares that with its value."""
+    """Each unit and prefix says what it conforms to; the linter compares that with its value."""
     for definition in deck.definitions:
+        if definition.kind in (Kind.FUNCTION, Kind.LIST):
+            continue
         results.check("dimension", bool(definition.unit), f"{definition.place}: {definition.name} has no #: UNIT")
 
 
@@ -161,6 +162,7 @@ def main():
     parser.add_argument("--program", default=default_program(), help="the program units")
     parser.add_argument("--library", default=ROOT / "share/units", type=Path, help="the folder of the library")
     options, results = parser.parse_args(), Results()
+    options.library = options.library.resolve()
     try:
         check_all(options.program, options.library, results)
     except (OSError, NoAnswers) as fault:

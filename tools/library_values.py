@@ -39,6 +39,13 @@ def agrees(number, printed):
     return abs(number - Fraction(printed)) <= last_digit / 2
 
 
+def tolerance_of(printed, uncertainty):
+    """How far a constant may be from its published value: `...` follows digits that are cut off."""
+    if uncertainty == "...":
+        return Fraction(10) ** Decimal(printed).as_tuple().exponent
+    return Fraction(0 if uncertainty == "exact" else uncertainty)
+
+
 def quotient(value, unit):
     """How many of a unit a value is, or None if they do not conform or have no value."""
     if isinstance(value, Fault) or isinstance(unit, Fault) or not value.conforms(unit) or not unit.number:
@@ -69,7 +76,7 @@ def check_factors(session, results):
 
 
 def check_constants(session, results):
-    """Each constant is the published one within its uncertainty, or in each printed digit if it is exact."""
+    """Each constant is the published one within its uncertainty, or in each printed digit if digits are cut off."""
     rows = list(rows_of("constants.tsv"))
     values = session.values([row[0] for row in rows])
     units = session.values([row[1] for row in rows])
@@ -78,8 +85,7 @@ def check_constants(session, results):
         if found is None:
             results.check(f"constant {name} in {unit_text}", False, mismatch(value, unit))
             continue
-        error = abs(found - Fraction(printed))
-        is_near = agrees(found, printed) if uncertainty == "exact" else error <= Fraction(uncertainty)
+        is_near = abs(found - Fraction(printed)) <= tolerance_of(printed, uncertainty)
         results.check(f"constant {name} in {unit_text}", is_near, f"{float(found):.14g}, but published is {printed}")
 
 

@@ -13,7 +13,8 @@ Each file is read with its includes, and each finding is one line `FILE:LINE: me
 - a unit or prefix that is named as an English word of queries (`to`, `as`), which would be multiplied silently;
 - `1 / 8 in`, in which the inch is below the line;
 - a definition that does not conform to the unit of its comment `#: UNIT`;
-- with --statuses a definition without a status (`#= STATUS: SOURCE`), with --dimensions one without `#: UNIT`.
+- with --statuses a definition without a status (`#= STATUS: SOURCE`);
+- with --dimensions a unit or a prefix without `#: UNIT`.
 
 The status is 0 if nothing is found, 1 if something is, and 2 if a file cannot be read or the program does not answer.
 """
@@ -193,7 +194,7 @@ class Linter:
 
     def find_missing_dimensions(self):
         for definition in self.deck.definitions:
-            if not definition.unit:
+            if not definition.unit and definition.kind in (Kind.UNIT, Kind.PREFIX):
                 self.report(definition, f"{definition.name} does not say what it conforms to (#: UNIT)")
 
 
@@ -247,7 +248,7 @@ def parsed_options():
     )  # fmt: skip
     parser.add_argument("files", nargs="+", metavar="FILE")
     parser.add_argument("--statuses", action="store_true", help="ask for the status of each definition")
-    parser.add_argument("--dimensions", action="store_true", help="ask for the expected unit of each definition")
+    parser.add_argument("--dimensions", action="store_true", help="ask for the expected unit of each unit and prefix")
     parser.add_argument("-l", "--locale", default="en_US", help="the locale; otherwise en_US")
     parser.add_argument("--program", default=default_program(), help="the program units; otherwise the one found first")
     return parser.parse_args()
