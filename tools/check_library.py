@@ -1,6 +1,6 @@
 """Checks the library of definitions in share/units, as tools/check_library.sh says.
 
-    check_library.py [--program UNITS] [--library FOLDER] [--verbose]
+    check_library.py [--program UNITS] [--library FOLDER]
 """
 
 from __future__ import annotations
@@ -9,15 +9,19 @@ import argparse
 import re
 import subprocess
 import sys
+import tempfile
 from collections import Counter
+from contextlib import contextmanager
 from dataclasses import dataclass, field
 from pathlib import Path
 
+import built
+import library_queries
 import transcripts
 from library_functions import check_functions
 from library_relations import check_relations
 from library_values import check_constants, check_factors, check_symbols
-from unit_answers import ROOT, NoAnswers, Session, default_program
+from unit_answers import ROOT, NoAnswers, Session
 from unit_files import Kind, Opening, Setting, read_deck
 
 LOCALES = ("en_US", "en_GB", "de_DE")
@@ -33,7 +37,6 @@ class Results:
 
     passed: Counter = field(default_factory=Counter)
     failed: int = 0
-    skipped: int = 0
 
     def check(self, name, is_right, detail=""):
         """Counts a check under the first word of its name."""
@@ -42,10 +45,6 @@ class Results:
         else:
             self.failed += 1
             print(f"{name}: {detail}")
-
-    def skip(self, name, reason):
-        self.skipped += 1
-        print(f"{name}: skipped, {reason}")
 
 
 def variables_of(deck):
@@ -68,18 +67,34 @@ def check_reports(session, deck, results):
         report = Session(session.program, session.file, locale, variables).check()
         lines = report.splitlines()
         name = f"report {locale} {' '.join(f'{name}={value}' for name, value in variables)}"
-        results.check(name, not lines, f"{len(lines)} lines, the first is: {lines[0] if lines else ''}")
+        results.check(name, not lines, f"{len(lines)} lines, the first is: {''.join(lines[:1])}")
+
+
+@contextmanager
+def loadable(folder, file, standard):
+    """The path of a file to load for one of the folder: itself, or one that includes the library before it."""
+    if len(read_deck(file).files) > 1 or file.name == "built_in.units":
+        yield str(file)
+        return
+    with tempfile.NamedTemporaryFile("w", suffix=".units") as both:
+        both.write(f"!include {folder / standard}\n!include {file}\n")
+        both.flush()
+        yield both.name
 
 
 def check_files(program, folder, standard, results):
-    """Each other file of the folder that can be loaded alone has no notice of its own; none is left out."""
+    """The files that the library does not include can be loaded with it, and the linter is silent on them."""
     included = set(standard.files)
     for file in sorted(folder.glob("*.units")):
-        deck = read_deck(file)
-        includes = len(deck.files) > 1
-        if str(file) not in included and includes or file.name == "built_in.units":
-            report = Session(program, str(file)).check().splitlines()
-            results.check(f"file {file.name}", not report, f"{len(report)} lines, the first is: {report[0] if report else ''}")
+        if str(file) in included:
+            continue
+        with loadable(folder, file, "standard.units") as path:
+            report = Session(program, path).check().splitlines()
+            results.check(f"file {file.name}", not report, f"{len(report)} lines, the first is: {''.join(report[:1])}")
+            if file.name == "built_in.units":
+                continue
+            _, findings = lint(program, path, "en_US", "--statuses", "--dimensions")
+            results.check(f"file {file.name}: no finding", not findings, f"{len(findings)}: {''.join(findings[:1])}")
 
 
 def lint(program, file, locale, *options):
@@ -153,22 +168,24 @@ def check_all(program, folder, results):
     check_relations(session, results)
     check_symbols(session, results)
     check_functions(session, deck.active(session.locale, {}), results)
+    is_written = library_queries.TRANSCRIPT.read_text(encoding="utf-8") == library_queries.transcript()
+    results.check("tests/library.t", is_written, "differs from its source: run tools/library_queries.py")
     lists = sum(definition.kind is Kind.LIST for definition in deck.definitions)
     results.check("lists", lists >= 5, f"{lists} lists of units")
 
 
 def main():
     parser = argparse.ArgumentParser(description=__doc__.partition("\n")[0])
-    parser.add_argument("--program", default=default_program(), help="the program units")
+    parser.add_argument("--program", help="the program units; otherwise the one of the repository")
     parser.add_argument("--library", default=ROOT / "share/units", type=Path, help="the folder of the library")
     options, results = parser.parse_args(), Results()
     options.library = options.library.resolve()
     try:
-        check_all(options.program, options.library, results)
+        check_all(options.program or built.program("units"), options.library, results)
     except (OSError, NoAnswers) as fault:
         results.check("library", False, str(fault))
     print("passed by subject: " + ", ".join(f"{name} {count}" for name, count in sorted(results.passed.items())))
-    print(f"{results.passed.total()} passed, {results.failed} failed, {results.skipped} skipped")
+    print(f"{sum(results.passed.values())} passed, {results.failed} failed, 0 skipped")
     sys.exit(1 if results.failed else 0)
 
 

@@ -1,7 +1,8 @@
 """Everyday queries with their answers, which are computed from the definitions of the units in fractions.
 
-A row is FROM, TO and the answer: a number, `("reading", number)` for a conversion to a function, `("reciprocal conversion",
-number)`, a list of counts with their units, or the text of a refusal. Words before FROM are options.
+A row is FROM, TO and the answer: a number, `("reading", number)` for a conversion to a function,
+`("reciprocal conversion", number)`, a list of counts with their units, or the text of a refusal. Words before FROM are
+options.
 """
 
 from fractions import Fraction as F

@@ -13,12 +13,15 @@ from fractions import Fraction
 from unit_answers import Fault
 from unit_files import Kind
 
-OPTION = re.compile(r"\s*(?:units=\[(?P<input>[^;\]]*);(?P<output>[^\]]*)\]|(?P<which>domain|range)=(?P<interval>\S*?[\])])|noerror\s)")
+OPTION = re.compile(
+    r"\s*(?:units=\[(?P<input>[^;\]]*);(?P<output>[^\]]*)\]"
+    r"|(?P<which>domain|range)=(?P<interval>[\[(][^\])]*[\])])|noerror(?=\s|$))"
+)
 BOUND = r"\s*([-+]?[0-9.eE+-]*(?:\|[0-9.eE+-]*)?)\s*"
 INTERVAL = re.compile(rf"([\[(]){BOUND},{BOUND}([\])])")
 OPEN_ENDS = [
     Fraction(text)
-    for text in "-1000 -40 -1/3 0 1/10000000000 1/500000000 1/2000000 1/1000000 1/7 1 37/10 100 12345/8 1e10 5e14 1e15".split()
+    for text in "-1000 -40 -1/3 0 1e-10 2e-9 5e-7 1e-6 1/7 1 37/10 100 12345/8 1e10 5e14 1e15".split()
 ]
 
 

@@ -19,8 +19,8 @@ from library_answers import ANSWERS
 TRANSCRIPT = Path(__file__).resolve().parent.parent / "tests/library.t"
 DIGITS = 8
 HEAD = """\
-Everyday queries over the library of definitions. tools/library_queries.py writes this file and computes the answers from
-the definitions of the units. LIBRARY is the path of share/units/standard.units.
+Everyday queries over the library of definitions. tools/library_queries.py writes this file and computes the answers
+from the definitions of the units. LIBRARY is the path of share/units/standard.units.
 
   $ over() { units -1 -f "$LIBRARY" "$@"; }
 """

@@ -21,7 +21,8 @@ CONSTANTS = {
     "sigma_e": ("thomson_cross_section", "m^2"), "lambda_C": ("compton_wavelength", "m"), "u": ("dalton", "kg"),
     "sigma": ("stefan_boltzmann", "W/m^2 K^4"), "KJ": ("josephson_constant", "Hz/V"),
     "RK": ("von_klitzing_constant", "ohm"), "phi0": ("flux_quantum", "Wb"), "G0": ("conductance_quantum", "S"),
-    "c1": ("first_radiation_constant", "W m^2"), "c2": ("second_radiation_constant", "m K"), "he": ("h_over_e", "V s"), "hk": ("h_over_k", "K s"), "2eh": ("two_e_over_h", "Hz/V"),
+    "c1": ("first_radiation_constant", "W m^2"), "c2": ("second_radiation_constant", "m K"), "he": ("h_over_e", "V s"),
+    "hk": ("h_over_k", "K s"), "2eh": ("two_e_over_h", "Hz/V"),
     "G": ("gravitational_constant", "N m^2/kg^2"), "planck_mass": ("planck_mass", "kg"), "eV": ("eV", "J"),
 }  # fmt: skip
 
@@ -86,4 +87,5 @@ def check_relations(session, results):
             results.check(f"relation {text}", False, f"{CONSTANTS[missing.args[0]][0]} has no value")
             continue
         difference = abs(left / right - 1)
-        results.check(f"relation {text}", difference <= Fraction(tolerance), f"the sides differ by {float(difference):.2g}")
+        detail = f"the sides differ by {float(difference):.2g}"
+        results.check(f"relation {text}", difference <= Fraction(tolerance), detail)

@@ -143,8 +143,8 @@ class Linter:
     def find_divided_units(self):
         for definition in self.active:
             for numbers, below in divided_units(definition.text):
-                message = f"{numbers} / {below} divides by all of {below}; put ({numbers} / ..) or ({below}) in parentheses"
-                self.report(definition, message)
+                advice = f"put ({numbers} / ..) or ({below}) in parentheses"
+                self.report(definition, f"{numbers} / {below} divides by all of {below}; {advice}")
 
     def find_wrong_dimensions(self):
         """Definitions that do not conform to the unit that their comment names."""
@@ -207,7 +207,9 @@ def is_usual(prefix, unit):
 
 def is_plural_of_symbols(reading):
     """Whether a reading is a plural that nobody writes, such as `hms` for hectometres."""
-    return reading is not None and reading.is_plural and all(is_symbol(name) for name in (reading.prefix, reading.unit) if name)
+    if reading is None or not reading.is_plural:
+        return False
+    return all(is_symbol(name) for name in (reading.prefix, reading.unit) if name)
 
 
 def divided_units(text):

@@ -17,7 +17,9 @@ DEEPEST_INCLUDE = 16
 NOTE = re.compile(r"#([=:])[ \t]*([^#]*)")
 FORBIDDEN_IN_NAMES = re.compile(r"[\x00-\x20\x7f+\-*/|^;~#()\[\]]")
 SUBSCRIPT = re.compile(r"_[0-9.,]*[1-9]$")
-REFUSED_NAMES = set("per sqrt cuberoot sin cos tan asin acos atan sinh cosh tanh asinh acosh atanh ln log log2 exp".split())
+REFUSED_NAMES = set(
+    "per sqrt cuberoot sin cos tan asin acos atan sinh cosh tanh asinh acosh atanh ln log log2 exp".split()
+)
 ENDS = {"endlocale": {"locale"}, "endvar": {"var", "varnot"}, "endutf8": {"utf8"}}
 ARGUMENTS = {  # the least and the greatest number of words after a directive; None is no limit
     "include": (1, 1), "locale": (1, 1), "set": (2, None), "var": (2, None), "varnot": (2, None), "utf8": (0, 0),
@@ -249,7 +251,7 @@ class FileReader:
         elif word in ENDS:
             self.close(word, place)
         elif word not in ("message", "prompt"):
-            block = Block(word, "" if word == "locale" else "".join(rest[:1]), tuple(rest if word == "locale" else rest[1:]))
+            block = Block(word, "", tuple(rest)) if word == "locale" else Block(word, "".join(rest[:1]), tuple(rest[1:]))
             self.deck.lines.append(Opening(block, self.blocks))
             self.opened.append((block, place))
 
