@@ -126,7 +126,7 @@ from the definitions of the units. LIBRARY is the path of share/units/standard.u
   \t* 100 (esc)
   $ over "120 yd * 53.3 yd" acres
   \t* 1.3214876 (esc)
-  $ over A4paper sqin
+  $ over A4_paper sqin
   \t* 96.673693 (esc)
   $ over "1 cup" ml
   \t* 236.58824 (esc)

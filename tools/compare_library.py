@@ -32,7 +32,7 @@ DIFFERENCES = ROOT / "tests/library/gnu_differences.tsv"
 DIGITS = 12
 TOLERANCE = Fraction(1, 10**DIGITS)
 MARK = "8675309 kg"  # asked between two names, so that each has its own lines
-DIMENSIONLESS = ("radian",)  # a dimension here, a number in GNU units
+DIMENSIONLESS = ("radian", "sr")  # a dimension here or in GNU units, and a number in the other
 CALLED_WITH = ("1", "2", "12", "25")
 
 
@@ -54,9 +54,10 @@ def asked_names(definitions):
 
 
 def value_of_gnu(lines):
-    """The value in the lines that GNU units answers; None if it does not know the name, a text if it is no value."""
+    """The value in the lines that GNU units answers; None if it does not know the name or refuses the argument, a text if
+    it is no value."""
     text = lines.strip()
-    if text.startswith("Unknown") or not text:
+    if text.startswith("Unknown") or "outside domain" in text or not text:
         return None
     if not text.startswith("Definition: ") or "\n" in text:
         return text.replace("\n", " ")

@@ -120,7 +120,7 @@ ANSWERS = [
     ("1 section", "acres", 640),
     ("1 barn", "fm^2", 100),
     ("120 yd * 53.3 yd", "acres", F("120") * F("53.3") * YD**2 / ACRE),
-    ("A4paper", "sqin", F("0.21") * F("0.297") / IN**2),
+    ("A4_paper", "sqin", F("0.21") * F("0.297") / IN**2),
     # Volume
     ("1 cup", "ml", CUP / ML),
     ("1 us_cup", "ml", CUP / ML),
