@@ -1,11 +1,11 @@
 #!/usr/bin/env python3
 """Compares each name of the library that GNU units knows too, at twelve digits, with what GNU units answers.
 
-    tools/compare_library.py [--gnu GNU] [--program UNITS] [--library FILE] [--draft]
+    tools/compare_library.py [--gnu GNU] [--program UNITS] [--library FILE] [--locale LOCALE] [--draft]
 
 GNU units is Debian's package units; the library is share/units/standard.units. Each name that the two programs give
 different values has a reason in tests/library/gnu_differences.tsv: the name, our value, GNU's value and the reason,
-with a date at its head. A difference without a reason, or with other values than those of its row, is printed; so is a
+with a date at its head. Those of another locale than en_US are in gnu_differences.LOCALE.tsv, which goes before. A difference without a reason, or with other values than those of its row, is printed; so is a
 reason without a difference. With --draft the rows that are missing are printed as rows of that file.
 
 The last lines count the names: shared, equal, different with a reason and without one. The status is 1 if a difference
@@ -29,6 +29,7 @@ from unit_answers import ROOT, Fault, Session, Value, default_program
 from unit_files import Kind, read_deck
 
 DIFFERENCES = ROOT / "tests/library/gnu_differences.tsv"
+COMMON_LOCALE = "en_US"
 DIGITS = 12
 TOLERANCE = Fraction(1, 10**DIGITS)
 MARK = "8675309 kg"  # asked between two names, so that each has its own lines
@@ -76,11 +77,11 @@ def value_of_gnu(lines):
     return Value(number, tuple(kept))
 
 
-def values_of_gnu(gnu, expressions):
+def values_of_gnu(gnu, locale, expressions):
     """What GNU units answers to each expression."""
     lines = "".join(f"{MARK}\n\n{expression}\n\n" for expression in expressions) + f"{MARK}\n\n"
     run = subprocess.run(
-        [gnu, "-q", "-d", "15", "-l", "en_US"], input=lines.encode(), stdout=subprocess.PIPE, stderr=subprocess.STDOUT,
+        [gnu, "-q", "-d", "15", "-l", locale], input=lines.encode(), stdout=subprocess.PIPE, stderr=subprocess.STDOUT,
         env={**os.environ, "LC_ALL": "C.UTF-8"}, check=False,
     )  # fmt: skip
     parts = re.split(rf"\s*Definition: {MARK}\n", run.stdout.decode(errors="replace"))[1:-1]
@@ -108,10 +109,10 @@ def written(value):
     return printed(value.number, DIGITS) + (f" {value.dimensions}" if value.powers else "")
 
 
-def reasons():
-    """The rows of the file of differences by name."""
+def reasons(file):
+    """The rows of a file of differences by name; none if there is no such file."""
     rows = {}
-    for line in DIFFERENCES.read_text(encoding="utf-8").splitlines():
+    for line in file.read_text(encoding="utf-8").splitlines() if file.exists() else []:
         if line and not line.startswith("#"):
             name, ours, theirs, reason = line.split("\t")
             rows[name] = (ours, theirs, reason)
@@ -123,15 +124,18 @@ def parsed_options():
     parser.add_argument("--gnu", default="/usr/bin/units")
     parser.add_argument("--program", default=default_program())
     parser.add_argument("--library", default=ROOT / "share/units/standard.units", type=Path)
+    parser.add_argument("--locale", default=COMMON_LOCALE)
     parser.add_argument("--draft", action="store_true")
     return parser.parse_args()
 
 
 def main():
-    options, known = parsed_options(), reasons()
-    names = asked_names(read_deck(options.library).active("en_US", os.environ))
-    ours = Session(options.program, str(options.library)).values(names.values())
-    theirs = values_of_gnu(options.gnu, list(names.values()))
+    options = parsed_options()
+    own = reasons(DIFFERENCES.with_suffix(f".{options.locale}.tsv"))
+    known = reasons(DIFFERENCES) | own
+    names = asked_names(read_deck(options.library).active(options.locale, os.environ))
+    ours = Session(options.program, str(options.library), options.locale).values(names.values())
+    theirs = values_of_gnu(options.gnu, options.locale, list(names.values()))
     shared, equal, reasoned, unreasoned = 0, 0, set(), 0
     for name, our_value, their_value in zip(names, map(without_radians, ours), theirs):
         shared += their_value is not None
@@ -145,7 +149,8 @@ def main():
         unreasoned += 1
         reason = known.get(name, ("", "", ""))[2]
         print("\t".join([name, *row, reason]) if options.draft else f"{name}: {row[0]}, GNU {row[1]}")
-    stale = [name for name in known if name not in reasoned]
+    expected = known if options.locale == COMMON_LOCALE else own
+    stale = [name for name in expected if name not in reasoned]
     for name in [] if options.draft else stale:
         print(f"{name}: a reason without this difference")
     print(f"# {len(names)} names, {shared} shared, {equal} equal, {len(reasoned)} different with a reason, "
