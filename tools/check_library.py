@@ -64,8 +64,7 @@ def check_reports(session, deck, results):
     for variable, values in variables_of(deck).items():
         settings += [(locale, ((variable, value),)) for value in values for locale in LOCALES[:2]]
     for locale, variables in settings:
-        report = Session(session.program, session.file, locale, variables).check()
-        lines = report.splitlines()
+        lines = Session(session.program, session.file, locale, variables).check()
         name = f"report {locale} {' '.join(f'{name}={value}' for name, value in variables)}"
         results.check(name, not lines, f"{len(lines)} lines, the first is: {''.join(lines[:1])}")
 
@@ -89,7 +88,7 @@ def check_files(program, folder, standard, results):
         if str(file) in included:
             continue
         with loadable(folder, file, "standard.units") as path:
-            report = Session(program, path).check().splitlines()
+            report = Session(program, path).check()
             results.check(f"file {file.name}", not report, f"{len(report)} lines, the first is: {''.join(report[:1])}")
             if file.name == "built_in.units":
                 continue
@@ -113,6 +112,8 @@ def check_linter(program, file, results):
         results.check(f"lint {locale}: no finding", not findings, f"{len(findings)} findings")
         for finding in findings:
             results.check("lint", False, finding)
+    status, message = lint(program, "absent.units", "en_US")
+    results.check("lint: status 2 and one line for an absent file", (status, len(message)) == (2, 1), f"status {status}")
     status, findings = lint(program, TRAPS.name, "en_US", "--statuses", "--dimensions")
     results.check("lint: status 1 on the planted traps", status == 1, f"status {status}")
     found = [finding.removeprefix(f"{TRAPS.name}:") for finding in findings]

@@ -5,7 +5,7 @@
 
 Each file is read with its includes, and each finding is one line `FILE:LINE: message` on standard output:
 
-- a line that has no effect;
+- a line that has no effect, with the program's reason;
 - a name that is defined twice, unless the two blocks exclude each other or a block replaces what is outside of it;
 - a prefix with a unit that the program reads as the plural of a symbol (`das` as the plural of `da`);
 - a list or function whose name is also a unit, a plural or a prefix with a unit;
@@ -24,11 +24,10 @@ from __future__ import annotations
 import argparse
 import os
 import re
-import signal
 import sys
 
 from unit_answers import Fault, NoAnswers, Session, Value, default_program
-from unit_files import Kind, read_deck
+from unit_files import Kind, Place, read_deck
 from unit_names import Names, Reading
 
 ENGLISH = set(
@@ -41,6 +40,8 @@ RELATIVE_ERROR = re.compile(r"[0-9](\.[0-9]+)?e-[0-9]+|[0-9]%")
 YEAR = re.compile(r"\b(1[89]|20)[0-9]{2}\b")
 BINARY_PREFIX = re.compile("([KMGTPEZYRQ]i|(kibi|mebi|gibi|tebi|pebi|exbi|zebi|yobi|robi|quebi))$")
 TOKEN = re.compile(r"(?P<number>[0-9.][0-9.|]*(?:[eE][+-]?[0-9]+)?)|(?P<word>[^\s+\-*/|^;~#()\[\]]+)|(?P<sign>\S)")
+NOTICE = re.compile(r"(.*):([0-9]+): (.*)")
+LONGEST_MISREADING = 7  # characters: a prefix and a unit of two each, and the ending of a plural
 UNITS_OPTION = re.compile(r"units=\[([^;\]]*);([^\]]*)\]")
 PROBE = "lint_probe"  # a unit of value 1, so that a prefix before it has the value of the prefix
 
@@ -54,10 +55,13 @@ class Linter:
     """The findings for one deck under one locale."""
 
     def __init__(self, deck, session):
-        self.deck, self.session = deck, session
-        self.active = deck.active(session.locale, os.environ | dict(session.variables))
+        self.session, self.files = session, deck.files
+        self.findings = list(notices_of(session, deck.files))
+        without_effect = {place for place, _ in self.findings}
+        self.definitions = [line for line in deck.definitions if line.place not in without_effect]
+        active = deck.active(session.locale, os.environ | dict(session.variables))
+        self.active = [definition for definition in active if definition.place not in without_effect]
         self.names = Names(self.active)
-        self.findings = [(place, fault) for place, fault in deck.faults]
         self.values = self.known_values()
 
     def report(self, definition, message):
@@ -84,7 +88,7 @@ class Linter:
     def find_repeated(self):
         """Names that are defined again where the first definition holds too."""
         seen = {}
-        for definition in self.deck.definitions:
+        for definition in self.definitions:
             earlier = seen.setdefault((definition.kind, definition.name), {})
             for blocks, first in earlier.items():
                 is_exclusive = any(one.excludes(other) for one in blocks for other in definition.blocks)
@@ -107,7 +111,10 @@ class Linter:
 
     def plural_reading(self, prefix, unit):
         """The plural of a symbol as which a prefix with a unit is read, if its value is another one, or None."""
-        if not is_usual(prefix, unit) or prefix + unit in self.names.units | self.names.functions:
+        word = prefix + unit
+        if len(word) > LONGEST_MISREADING or not is_usual(prefix, unit):
+            return None
+        if word in self.names.units or word in self.names.functions:
             return None
         found = self.names.derived(prefix + unit)
         is_misread = is_plural_of_symbols(found) and self.value_of(found) != self.value_of(Reading(prefix, unit))
@@ -137,7 +144,7 @@ class Linter:
 
     def find_english_words(self):
         for definition in [*self.names.units.values(), *self.names.prefixes.values()]:
-            if definition.name.lower() in ENGLISH:
+            if definition.name in ENGLISH:
                 self.report(definition, f"{definition.name} is an English word that a query may contain")
 
     def find_divided_units(self):
@@ -182,7 +189,7 @@ class Linter:
         return option[2].strip() if option else ""
 
     def find_missing_statuses(self):
-        for definition in self.deck.definitions:
+        for definition in self.definitions:
             if not definition.status:
                 self.report(definition, f"{definition.name} has no status (#= STATUS: SOURCE)")
             elif not (status := STATUS.match(definition.status)):
@@ -193,7 +200,7 @@ class Linter:
                 self.report(definition, f"{definition.name} is measured, but the year of the data is missing")
 
     def find_missing_dimensions(self):
-        for definition in self.deck.definitions:
+        for definition in self.definitions:
             if not definition.unit and definition.kind in (Kind.UNIT, Kind.PREFIX):
                 self.report(definition, f"{definition.name} does not say what it conforms to (#: UNIT)")
 
@@ -219,10 +226,18 @@ def divided_units(text):
     for at, (kind, token) in enumerate(tokens):
         if kind == "sign" and token in "+-();[],":
             start = at + 1
-        elif token == "/" and [kind for kind, _ in tokens[at + 1 : at + 3]] == ["number", "word"]:
+        elif token in ("/", "per") and [kind for kind, _ in tokens[at + 1 : at + 3]] == ["number", "word"]:
             above = tokens[start:at]
             if above and all(kind == "number" or token in "*/" for kind, token in above):
                 yield " ".join(token for _, token in above), f"{tokens[at + 1][1]} {tokens[at + 2][1]}"
+
+
+def notices_of(session, files):
+    """The program's notices on lines that have no effect, each with its place."""
+    for line in session.check():
+        notice = NOTICE.fullmatch(line)
+        if notice and notice[1] in files:
+            yield Place(notice[1], int(notice[2])), notice[3]
 
 
 def findings_of(file, options):
@@ -239,7 +254,7 @@ def findings_of(file, options):
         linter.find_missing_statuses()
     if options.dimensions:
         linter.find_missing_dimensions()
-    order = {name: at for at, name in enumerate(linter.deck.files)}
+    order = {name: at for at, name in enumerate(linter.files)}
     return sorted(linter.findings, key=lambda finding: (order.get(finding[0].file, 0), finding[0].number))
 
 
@@ -256,8 +271,18 @@ def parsed_options():
     return parser.parse_args()
 
 
+def write(findings):
+    """Writes the findings; a reader that wants no more of them, such as head, ends the run."""
+    try:
+        for place, message in findings:
+            print(f"{place}: {message}")
+        sys.stdout.flush()
+    except BrokenPipeError:
+        os.dup2(os.open(os.devnull, os.O_WRONLY), sys.stdout.fileno())
+        sys.exit(1)
+
+
 def main():
-    signal.signal(signal.SIGPIPE, signal.SIG_DFL)
     options, found = parsed_options(), 0
     for file in options.files:
         try:
@@ -266,8 +291,7 @@ def main():
             sys.exit(print(f"lint_units: {file}: {fault.strerror}", file=sys.stderr) or 2)
         except NoAnswers as fault:
             sys.exit(print(f"lint_units: {fault}", file=sys.stderr) or 2)
-        for place, message in findings:
-            print(f"{place}: {message}")
+        write(findings)
         found += len(findings)
     sys.exit(1 if found else 0)
 

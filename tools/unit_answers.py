@@ -91,13 +91,14 @@ class Session:
         run = self.run(command, "".join(lines))
         replies = run.stdout.decode(errors="surrogateescape").splitlines()
         if len(replies) != len(expressions):
-            raise NoAnswers(f"{self.program}: {len(replies)} replies to {len(expressions)} expressions")
+            counts = f"{len(replies)} replies to {len(expressions)} expressions"
+            raise NoAnswers(f"{self.program} is not the program, which answers each line: {counts}")
         return [value_of(reply) for reply in replies]
 
     def check(self):
-        """What the program's own check of the file writes, on both streams."""
+        """The lines that the program's own check of the file writes, on both streams."""
         run = self.run([self.program, "--check", "-l", self.locale, "-f", self.file], "")
-        return (run.stdout + run.stderr).decode(errors="replace")
+        return (run.stdout + run.stderr).decode(errors="surrogateescape").splitlines()
 
     def run(self, command, given):
         environment = {**os.environ, **dict(self.variables)}

@@ -1,5 +1,7 @@
 """Reads definition files of units: their lines, includes and blocks, and what their comments say of a definition.
 
+Lines that have no effect are passed over: the program says why they have none.
+
 The comment `#= STATUS: SOURCE` says how exact a definition is, and `#: UNIT` what it conforms to. A comment on the line
 of a definition holds for that definition. A comment on a line of its own holds for the definitions after it, up to the
 next blank line.
@@ -15,17 +17,7 @@ from pathlib import Path
 BLANKS = " \t"
 DEEPEST_INCLUDE = 16
 NOTE = re.compile(r"#([=:])[ \t]*([^#]*)")
-FORBIDDEN_IN_NAMES = re.compile(r"[\x00-\x20\x7f+\-*/|^;~#()\[\]]")
-SUBSCRIPT = re.compile(r"_[0-9.,]*[1-9]$")
-REFUSED_NAMES = set(
-    "per sqrt cuberoot sin cos tan asin acos atan sinh cosh tanh asinh acosh atanh ln log log2 exp".split()
-)
 ENDS = {"endlocale": {"locale"}, "endvar": {"var", "varnot"}, "endutf8": {"utf8"}}
-ARGUMENTS = {  # the least and the greatest number of words after a directive; None is no limit
-    "include": (1, 1), "locale": (1, 1), "set": (2, None), "var": (2, None), "varnot": (2, None), "utf8": (0, 0),
-    "endlocale": (0, 0), "endvar": (0, 0), "endutf8": (0, 0), "message": (0, None), "prompt": (0, None),
-    "unitlist": (0, None),
-}  # fmt: skip
 
 
 class Kind(Enum):
@@ -116,10 +108,9 @@ class LogicalLine:
 
 @dataclass
 class Deck:
-    """The lines of a file and its includes, in order, and what is wrong with lines that have no effect."""
+    """The lines of a file and its includes, in order, and the files by their names."""
 
     lines: list[Definition | Opening | Setting] = field(default_factory=list)
-    faults: list[tuple[Place, str]] = field(default_factory=list)
     files: list[str] = field(default_factory=list)
 
     @property
@@ -171,30 +162,19 @@ def words_of(text):
     return [word for word in re.split("[ \t]+", text) if word]
 
 
-def name_fault(name):
-    """Why a word cannot be the name of a definition, or None."""
-    size = len(name.encode(errors="surrogateescape"))
-    is_shaped = 1 <= size <= 255 and not FORBIDDEN_IN_NAMES.search(name)
-    is_shaped = is_shaped and name[0] not in "0123456789_,.!" and name[-1] not in "_,."
-    if is_shaped and re.search("[1-9]$", name) and not SUBSCRIPT.search(name):
-        is_shaped = False
-    return None if is_shaped and name not in REFUSED_NAMES else f"bad name: {name}"
-
-
 def key_of(line):
-    """The kind, the name and the text of a definition line, or what is wrong with it."""
+    """The kind, the name and the text of a definition line. The name or the text is empty if the line has none."""
     if line.startswith("!"):
         words = re.split("[ \t]+", line[1:].strip(BLANKS), maxsplit=2)
-        kind, name, text = Kind.LIST, "".join(words[1:2]), "".join(words[2:])
-    else:
-        line = line.removeprefix("+").lstrip(BLANKS)
-        name = re.split(r"[ \t(\[]", line, maxsplit=1)[0]
-        text = line[len(name) :]
-        kind = Kind.FUNCTION if text[:1] in ("(", "[") and text else Kind.UNIT
-        if kind is Kind.UNIT and name.endswith("-"):
-            kind, name = Kind.PREFIX, name[:-1]
-        text = text.strip(BLANKS)
-    return kind, name, text, name_fault(name) or (None if text else "bad definition")
+        return Kind.LIST, "".join(words[1:2]), "".join(words[2:])
+    line = line.removeprefix("+").lstrip(BLANKS)
+    name = re.split(r"[ \t(\[]", line, maxsplit=1)[0]
+    text = line[len(name) :]
+    if text[:1] in ("(", "["):
+        return Kind.FUNCTION, name, text
+    if name.endswith("-"):
+        return Kind.PREFIX, name[:-1], text.strip(BLANKS)
+    return Kind.UNIT, name, text.strip(BLANKS)
 
 
 class FileReader:
@@ -202,80 +182,64 @@ class FileReader:
 
     def __init__(self, deck, file, blocks, depth):
         self.deck, self.file, self.outer, self.depth = deck, file, blocks, depth
-        self.opened = []  # the blocks of this file, each with the place that opened it
+        self.opened = []  # the blocks of this file
         self.group = (None, None)
 
     @property
     def blocks(self):
-        return (*self.outer, *(block for block, _ in self.opened))
+        return (*self.outer, *self.opened)
 
     def read(self, text):
         self.deck.files.append(self.file)
         for line in logical_lines(text):
-            place = Place(self.file, line.number)
             if line.is_blank:
                 self.group = (None, None)
             elif not line.text:
                 self.group = tuple(new or old for new, old in zip(notes_of(line.comment), self.group))
             elif line.text.startswith("!"):
-                self.direct(line, place)
+                self.direct(line)
             else:
-                self.define(line, place)
-        for _, place in self.opened:
-            self.fail(place, "unclosed block")
+                self.define(line)
 
-    def fail(self, place, fault):
-        self.deck.faults.append((place, fault))
+    def define(self, line):
+        kind, name, text = key_of(line.text)
+        if name and text:
+            notes = [own or shared for own, shared in zip(notes_of(line.comment), self.group)]
+            place = Place(self.file, line.number)
+            self.deck.lines.append(Definition(kind, name, text, place, self.blocks, *notes, line.comment))
 
-    def define(self, line, place):
-        kind, name, text, fault = key_of(line.text)
-        if fault:
-            return self.fail(place, fault)
-        notes = [own or shared for own, shared in zip(notes_of(line.comment), self.group)]
-        self.deck.lines.append(Definition(kind, name, text, place, self.blocks, *notes, line.comment))
-
-    def direct(self, line, place):
+    def direct(self, line):
         word, *rest = words_of(line.text[1:]) or [""]
-        if word not in ARGUMENTS:
-            return self.fail(place, "unknown directive")
-        least, most = ARGUMENTS[word]
-        if len(rest) < least or most is not None and len(rest) > most:
-            return self.fail(place, "bad directive")
-        if word == "include":
-            read_into(self.deck, self.file, rest[0], place, self.blocks, self.depth + 1)
+        if word == "include" and len(rest) == 1:
+            read_into(self.deck, self.file, rest[0], self.blocks, self.depth + 1)
         elif word == "unitlist":
-            self.define(line, place)
-        elif word == "set":
+            self.define(line)
+        elif word == "set" and len(rest) > 1:
             value = re.split("[ \t]+", line.text[1:].strip(BLANKS), maxsplit=2)[2]
             self.deck.lines.append(Setting(rest[0], value, self.blocks))
-        elif word in ENDS:
-            self.close(word, place)
-        elif word not in ("message", "prompt"):
-            block = Block(word, "", tuple(rest)) if word == "locale" else Block(word, "".join(rest[:1]), tuple(rest[1:]))
-            self.deck.lines.append(Opening(block, self.blocks))
-            self.opened.append((block, place))
-
-    def close(self, word, place):
-        if self.opened and self.opened[-1][0].directive in ENDS[word]:
+        elif word == "locale" and len(rest) == 1:
+            self.open(Block(word, "", tuple(rest)))
+        elif word in ("var", "varnot") and len(rest) > 1:
+            self.open(Block(word, rest[0], tuple(rest[1:])))
+        elif word == "utf8" and not rest:
+            self.open(Block(word))
+        elif self.opened and not rest and self.opened[-1].directive in ENDS.get(word, ()):
             self.opened.pop()
-        else:
-            self.fail(place, "stray end")
+
+    def open(self, block):
+        self.deck.lines.append(Opening(block, self.blocks))
+        self.opened.append(block)
 
 
-def read_into(deck, includer, name, place, blocks, depth):
-    """Reads an included file into a deck; a file that is absent or too deep is a fault at the line that includes it."""
+def read_into(deck, includer, name, blocks, depth):
+    """Reads an included file into a deck, if it is there and not too deep."""
     file = name if name.startswith("/") else includer[: includer.rfind("/") + 1] + name
-    if depth > DEEPEST_INCLUDE:
-        return deck.faults.append((place, f"include too deep: {file}"))
-    try:
-        text = Path(file).read_bytes().decode(errors="surrogateescape")
-    except OSError:
-        return deck.faults.append((place, f"no file: {file}"))
-    FileReader(deck, file, blocks, depth).read(text)
+    if depth <= DEEPEST_INCLUDE and Path(file).is_file():
+        FileReader(deck, file, blocks, depth).read(Path(file).read_bytes().decode(errors="surrogateescape"))
 
 
 def read_deck(file):
-    """The deck of a file with its includes. Raises OSError if the file itself cannot be read."""
+    """The deck of a file with its includes. Raises OSError if a file cannot be read."""
     deck, file = Deck(), str(file)
     FileReader(deck, file, (), 0).read(Path(file).read_bytes().decode(errors="surrogateescape"))
     return deck
