@@ -427,6 +427,8 @@ from the definitions of the units. LIBRARY is the path of share/units/standard.u
   \t176.66667 (esc)
   $ over "tempF(98.6)" tempC
   \t37 (esc)
+  $ over "°F(350)" "°C"
+  \t176.66667 (esc)
   $ over "tempC(-40)" tempF
   \t-40 (esc)
   $ over "tempC(100)" K
@@ -564,8 +566,6 @@ from the definitions of the units. LIBRARY is the path of share/units/standard.u
   \t* 0.99916736 (esc)
   $ over "5 mM" mol/l
   \t* 0.005 (esc)
-  $ over "1 mol R * 298.15 K / (1 atm)" l
-  \t* 24.465404 (esc)
   $ over "1 u" kg
   \t* 1.6605391e-27 (esc)
   $ over "1 Jy" "W/m^2 Hz"
@@ -601,4 +601,105 @@ from the definitions of the units. LIBRARY is the path of share/units/standard.u
   conformability error
   \t1e+09 / s (esc)
   \t1 bit (esc)
+  [1]
+  $ over "1|2 * 1000 kg * (100 km/hour)^2" kJ
+  \t* 385.80247 (esc)
+  $ over "G_N earth_mass / earth_radius^2" m/s^2
+  \t* 9.8202244 (esc)
+  $ over "2 G_N solar_mass / c^2" km
+  \t* 2.9532501 (esc)
+  $ over "stefan_boltzmann * (300 K)^4" W/m^2
+  \t* 459.30033 (esc)
+  $ over "planck c / (532 nm)" eV
+  \t* 2.33053 (esc)
+  $ over "planck * 1 GHz" J
+  \t* 6.6260702e-25 (esc)
+  $ over "planck * 1 GHz / k_B" mK
+  \t* 47.992431 (esc)
+  $ over "hbar c" "MeV fm"
+  \t* 197.32698 (esc)
+  $ over "electron_mass c^2" keV
+  \t* 510.99895 (esc)
+  $ over "proton_mass c^2" MeV
+  \t* 938.27209 (esc)
+  $ over "u c^2" MeV
+  \t* 931.4941 (esc)
+  $ over "k_B * 300 K / elementary_charge" mV
+  \t* 25.852 (esc)
+  $ over "planck / (electron_mass c)" pm
+  \t* 2.4263102 (esc)
+  $ over "bohr_magneton * 1 T / planck" GHz
+  \t* 13.996245 (esc)
+  $ over "elementary_charge * 1 T / (2 pi electron_mass)" GHz
+  \t* 27.99249 (esc)
+  $ over "rydberg_constant c" THz
+  \t* 3289.842 (esc)
+  $ over "1 atm / (k_B * 273.15 K)" 1/cm^3
+  \t* 2.6867801e+19 (esc)
+  $ over "1 mol R * 298.15 K / (1 atm)" l
+  \t* 24.465404 (esc)
+  $ over "55.845 g/mol / avogadro" kg
+  \t* 9.2732804e-26 (esc)
+  $ over "1 amu / (1 angstrom^3)" g/cm^3
+  \t* 1.6605391 (esc)
+  $ over "4|3 pi (6371 km)^3" km^3
+  \t* 1.0832069e+12 (esc)
+  $ over "4 pi (1 au)^2" m^2
+  \t* 2.8122938e+23 (esc)
+  $ over "solar_luminosity / (4 pi au^2)" W/m^2
+  \t* 1361.1665 (esc)
+  $ over "1 kpc" ly
+  \t* 3261.5638 (esc)
+  $ over "1/(70 km/s/Mpc)" year
+  \t* 1.396846e+10 (esc)
+  $ over "sqrt(2 * 9.8 m/s^2 * 10 m)" m/s
+  \t* 14 (esc)
+  $ over "1 l/m^2" mm
+  \t* 1 (esc)
+  $ over "1000 kg/m^3 * gravity * 10 m" kPa
+  \t* 98.0665 (esc)
+  $ over "1e6 cuft/day" gpm
+  \t* 5194.8052 (esc)
+  $ over "(60 mph)^2 / (2 * 100 m)" gravity
+  \t* 0.3668129 (esc)
+  $ over "1 W/m^2 * 1 acre * 1 year" kWh
+  \t* 35474.743 (esc)
+  $ over "1 horsepower hour/gallon" J/m^3
+  \t* 7.0917504e+08 (esc)
+  $ over "1 kWh / (1000 kg * gravity)" m
+  \t* 367.09784 (esc)
+  $ over "100 lbf / (3 in * 4 in)" psi
+  \t* 8.3333333 (esc)
+  $ over "1/(1/(10 ohm) + 1/(22 ohm))" ohm
+  \t* 6.875 (esc)
+  $ over "2 pi * 50 Hz * 10 mH" ohm
+  \t* 3.1415927 (esc)
+  $ over "(1 inch)^4 / 12" mm^4
+  \t* 34685.952 (esc)
+  $ over "pi (0.25 inch)^2 100 ft" gallons
+  \t* 1.0199976 (esc)
+  $ over "206265 arcsec" rad
+  \t* 1.0000009 (esc)
+  $ over "1.22 radian * 550 nm / (10 cm)" arcsec
+  \t* 1.3840368 (esc)
+  $ over "1 barn * 1e34 / (cm^2 s)" 1/s
+  \t* 1e+10 (esc)
+  $ over "1 gram c^2" TJ
+  \t* 89.875518 (esc)
+  $ over "1 kg c^2" megaton_tnt
+  \t* 21.480764 (esc)
+  $ over "0.5 * 1.225 kg/m^3 * (30 m/s)^2 * 2.2 m^2 * 0.3" N
+  \t* 363.825 (esc)
+  $ over "12 V * 100 Ah" kWh
+  \t* 1.2 (esc)
+  $ over "1 tablespoon * 1 g/ml" oz
+  \t* 0.52158778 (esc)
+  $ over "2 TB / (600 MB/s)" minutes
+  \t* 55.555556 (esc)
+  $ over "2000 sqft * 40 BTU/(hour sqft)" kW
+  \t* 23.445686 (esc)
+  $ over "50 gpm * 100 psi" hp
+  \t* 2.9166667 (esc)
+  $ over "1 light-year" km
+  sum of unlike units: 2.9979246e+08 m / s and 31557600 s
   [1]

@@ -278,6 +278,7 @@ ANSWERS = [
     # Temperature
     ("tempF(350)", "tempC", ("reading", celsius(350))),
     ("tempF(98.6)", "tempC", ("reading", 37)),
+    ("°F(350)", "°C", ("reading", celsius(350))),
     ("tempC(-40)", "tempF", ("reading", -40)),
     ("tempC(100)", "K", F("373.15")),
     ("tempC(20)", "tempF", ("reading", fahrenheit(20))),
@@ -352,7 +353,6 @@ ANSWERS = [
     ("photon(500 nm)", "eV", H * C / E / F("5e-7")),
     ("18 g / molar_mass_water", "mol", 18 / (2 * F("1.0080") + F("15.999"))),
     ("5 mM", "mol/l", F(5, 1000)),
-    ("1 mol R * 298.15 K / (1 atm)", "l", R * F("298.15") / ATM * 1000),
     ("1 u", "kg", F("1.66053906892e-27")),
     ("1 Jy", "W/m^2 Hz", F("1e-26")),
     # Textile, cooking, gauges

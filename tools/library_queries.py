@@ -15,6 +15,7 @@ from fractions import Fraction
 from pathlib import Path
 
 from library_answers import ANSWERS
+from library_formulas import FORMULAS
 
 TRANSCRIPT = Path(__file__).resolve().parent.parent / "tests/library.t"
 DIGITS = 8
@@ -73,7 +74,7 @@ def reply_of(answer):
 
 
 def queries():
-    for *operands, answer in ANSWERS:
+    for *operands, answer in ANSWERS + FORMULAS:
         reply, status = reply_of(answer)
         yield Query(tuple(operands), reply, status)
 
