@@ -612,8 +612,8 @@ from the definitions of the units. LIBRARY is the path of share/units/standard.u
   \t* 459.30033 (esc)
   $ over "planck c / (532 nm)" eV
   \t* 2.33053 (esc)
-  $ over "planck * 1 GHz" J
-  \t* 6.6260702e-25 (esc)
+  $ over "planck * 3 GHz" J
+  \t* 1.987821e-24 (esc)
   $ over "planck * 1 GHz / k_B" mK
   \t* 47.992431 (esc)
   $ over "hbar c" "MeV fm"

@@ -113,7 +113,8 @@ def check_linter(program, file, results):
         for finding in findings:
             results.check("lint", False, finding)
     status, message = lint(program, "absent.units", "en_US")
-    results.check("lint: status 2 and one line for an absent file", (status, len(message)) == (2, 1), f"status {status}")
+    is_refused = status == 2 and len(message) == 1
+    results.check("lint: status 2 and one line for an absent file", is_refused, f"status {status}")
     status, findings = lint(program, TRAPS.name, "en_US", "--statuses", "--dimensions")
     results.check("lint: status 1 on the planted traps", status == 1, f"status {status}")
     found = [finding.removeprefix(f"{TRAPS.name}:") for finding in findings]

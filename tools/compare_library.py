@@ -5,8 +5,9 @@
 
 GNU units is Debian's package units; the library is share/units/standard.units. Each name that the two programs give
 different values has a reason in tests/library/gnu_differences.tsv: the name, our value, GNU's value and the reason,
-with a date at its head. Those of another locale than en_US are in gnu_differences.LOCALE.tsv, which goes before. A difference without a reason, or with other values than those of its row, is printed; so is a
-reason without a difference. With --draft the rows that are missing are printed as rows of that file.
+with a date at its head. Those of another locale than en_US are in gnu_differences.LOCALE.tsv, which goes before. A
+difference without a reason, or with other values than those of its row, is printed; so is a reason without a
+difference. With --draft the rows that are missing are printed as rows of that file.
 
 The last lines count the names: shared, equal, different with a reason and without one. The status is 1 if a difference
 has no reason or a reason no difference. By hand: it needs GNU units.
@@ -55,8 +56,10 @@ def asked_names(definitions):
 
 
 def value_of_gnu(lines):
-    """The value in the lines that GNU units answers; None if it does not know the name or refuses the argument, a text if
-    it is no value."""
+    """The value in the lines that GNU units answers.
+
+    None if it does not know the name or refuses the argument, and a text if the answer is no value.
+    """
     text = lines.strip()
     if text.startswith("Unknown") or "outside domain" in text or not text:
         return None

@@ -3,7 +3,8 @@
 from fractions import Fraction as F
 
 from library_answers import (
-    ACRE, AU, BTU, C, CAL, DAY, E, FT, GAL, GRAVITY, H, HOUR, HP, IN, K, KWH, LY, MPH, NA, OZ, PC, PI, PSI, R, TBSP, YEAR,
+    ACRE, AU, BTU, C, CAL, DAY, E, FT, GAL, GRAVITY, H, HOUR, HP, IN, K, KWH, LY, MPH, NA, OZ, PC, PI, PSI, R, TBSP,
+    YEAR,
 )  # fmt: skip
 
 HBAR = H / (2 * PI)
@@ -17,7 +18,7 @@ FORMULAS = [
     ("2 G_N solar_mass / c^2", "km", 2 * GM_SUN / C**2 / 1000),
     ("stefan_boltzmann * (300 K)^4", "W/m^2", STEFAN_BOLTZMANN * 300**4),
     ("planck c / (532 nm)", "eV", H * C / F("5.32e-7") / E),
-    ("planck * 1 GHz", "J", H * 10**9),
+    ("planck * 3 GHz", "J", H * 3 * 10**9),
     ("planck * 1 GHz / k_B", "mK", H * 10**9 / K * 1000),
     ("hbar c", "MeV fm", HBAR * C / (E * 10**6) * 10**15),
     ("electron_mass c^2", "keV", MASS_E * C**2 / (E * 1000)),
