@@ -20,7 +20,7 @@ import library_queries
 import transcripts
 from library_functions import check_functions
 from library_relations import check_relations
-from library_values import check_constants, check_factors, check_symbols
+from library_values import check_constants, check_factors, check_spellings, check_symbols
 from unit_answers import ROOT, NoAnswers, Session
 from unit_files import Kind, Opening, Setting, read_deck
 
@@ -169,7 +169,10 @@ def check_all(program, folder, results):
     check_constants(session, results)
     check_relations(session, results)
     check_symbols(session, results)
-    check_functions(session, deck.active(session.locale, {}), results)
+    active = deck.active(session.locale, {})
+    units = [definition.name for definition in active if definition.kind is Kind.UNIT]
+    check_spellings(session, units, results)
+    check_functions(session, active, results)
     is_written = library_queries.TRANSCRIPT.read_text(encoding="utf-8") == library_queries.transcript()
     results.check("tests/library.t", is_written, "differs from its source: run tools/library_queries.py")
     lists = sum(definition.kind is Kind.LIST for definition in deck.definitions)

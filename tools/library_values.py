@@ -26,6 +26,9 @@ WORDS = {
 BINARY = {"Ki": 1, "Mi": 2, "Gi": 3, "Ti": 4, "Pi": 5, "Ei": 6}
 
 
+SPELLINGS = {"metre": "meter", "litre": "liter", "feet": "foot", "gramme": "gram", "_": ""}
+
+
 def rows_of(name):
     """The rows of a table: tab-separated fields, without comments."""
     for line in (TABLES / name).read_text(encoding="utf-8").splitlines():
@@ -87,6 +90,22 @@ def check_constants(session, results):
             continue
         is_near = abs(found - Fraction(printed)) <= tolerance_of(printed, uncertainty)
         results.check(f"constant {name} in {unit_text}", is_near, f"{float(found):.14g}, but published is {printed}")
+
+
+def check_spellings(session, names, results):
+    """Names of units that differ in their spelling alone have one value."""
+    groups = {}
+    for name in names:
+        plain = name
+        for spelling, common in SPELLINGS.items():
+            plain = plain.replace(spelling, common)
+        groups.setdefault(plain, []).append(name)
+    spelled = [group for group in groups.values() if len(group) > 1 and len(group[0]) > 3]
+    values = dict(zip(sum(spelled, []), session.values(sum(spelled, []))))
+    for first, *others in spelled:
+        for other in others:
+            detail = f"{values[other]}, but {first} is {values[first]}"
+            results.check(f"spelling {other}", values[other] == values[first], detail)
 
 
 def prefixed(symbol, prefixes):
