@@ -42,11 +42,18 @@ def agrees(number, printed):
     return abs(number - Fraction(printed)) <= last_digit / 2
 
 
-def tolerance_of(printed, uncertainty):
-    """How far a constant may be from its published value: `...` follows digits that are cut off."""
+def tolerance_of(expression, printed, uncertainty):
+    """How far a constant may be from its published value.
+
+    That is nothing if it is exact, a unit of the last digit if digits are cut off (`...`), the uncertainty if it is
+    derived from others, and otherwise half a unit of the last digit.
+    """
+    last_digit = Fraction(10) ** Decimal(printed).as_tuple().exponent
     if uncertainty == "...":
-        return Fraction(10) ** Decimal(printed).as_tuple().exponent
-    return Fraction(0 if uncertainty == "exact" else uncertainty)
+        return last_digit
+    if uncertainty == "exact":
+        return Fraction(0)
+    return Fraction(uncertainty) if " " in expression else last_digit / 2
 
 
 def quotient(value, unit):
@@ -79,7 +86,7 @@ def check_factors(session, results):
 
 
 def check_constants(session, results):
-    """Each constant is the published one within its uncertainty, or in each printed digit if digits are cut off."""
+    """Each constant is the published one in each digit, and one that is derived from others within its uncertainty."""
     rows = list(rows_of("constants.tsv"))
     values = session.values([row[0] for row in rows])
     units = session.values([row[1] for row in rows])
@@ -88,7 +95,7 @@ def check_constants(session, results):
         if found is None:
             results.check(f"constant {name} in {unit_text}", False, mismatch(value, unit))
             continue
-        is_near = abs(found - Fraction(printed)) <= tolerance_of(printed, uncertainty)
+        is_near = abs(found - Fraction(printed)) <= tolerance_of(name, printed, uncertainty)
         results.check(f"constant {name} in {unit_text}", is_near, f"{float(found):.14g}, but published is {printed}")
 
 
