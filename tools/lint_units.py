@@ -272,7 +272,8 @@ def parsed_options():
 
 
 def write(findings):
-    """Writes the findings; a reader that wants no more of them, such as head, ends the run."""
+    """Writes the findings, with the bytes of the file; a reader that wants no more of them, such as head, ends the run."""
+    sys.stdout.reconfigure(encoding="utf-8", errors="surrogateescape")
     try:
         for place, message in findings:
             print(f"{place}: {message}")
