@@ -83,10 +83,12 @@ def loadable(folder, file, standard):
 
 def check_files(program, folder, standard, results):
     """The files that the library does not include can be loaded with it, and the linter is silent on them."""
-    included = set(standard.files)
-    for file in sorted(folder.glob("*.units")):
-        if str(file) in included:
+    checked = set(standard.files)
+    decks = {file: read_deck(file) for file in folder.glob("*.units")}
+    for file in sorted(decks, key=lambda file: (-len(decks[file].files), file)):
+        if str(file) in checked:
             continue
+        checked.update(decks[file].files)
         with loadable(folder, file, "standard.units") as path:
             report = Session(program, path).check()
             results.check(f"file {file.name}", not report, f"{len(report)} lines, the first is: {''.join(report[:1])}")

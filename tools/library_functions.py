@@ -6,6 +6,7 @@ A table is compared with its points in both directions by a model of its own, to
 from __future__ import annotations
 
 import re
+from bisect import bisect_left
 from collections import Counter
 from dataclasses import dataclass
 from fractions import Fraction
@@ -85,12 +86,13 @@ class Table:
         return list(zip(self.points, self.points[1:]))
 
     def at(self, x):
-        for (x0, y0), (x1, y1) in self.segments:
-            if x0 <= x <= x1:
-                return y0 + (y1 - y0) * (x - x0) / (x1 - x0)
-        raise ValueError(f"{self.name} has no value at {x}")
+        """The value at a number between the first and the last one of the points."""
+        place = max(bisect_left(self.points, (x,)), 1)
+        (x0, y0), (x1, y1) = self.points[place - 1 : place + 1]
+        return y0 + (y1 - y0) * (x - x0) / (x1 - x0)
 
     def back(self, y):
+        """The number whose value is y, in the first segment that has it."""
         for (x0, y0), (x1, y1) in self.segments:
             if min(y0, y1) <= y <= max(y0, y1):
                 return x0 if y0 == y1 else x0 + (x1 - x0) * (y - y0) / (y1 - y0)
