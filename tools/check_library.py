@@ -20,7 +20,7 @@ import library_queries
 import transcripts
 from library_functions import check_functions
 from library_relations import check_relations
-from library_values import check_constants, check_factors, check_spellings, check_symbols
+from library_values import check_constants, check_factors, check_lists, check_spellings, check_symbols
 from unit_answers import ROOT, NoAnswers, Session
 from unit_files import Kind, Opening, Setting, read_deck
 
@@ -177,8 +177,7 @@ def check_all(program, folder, results):
     check_functions(session, active, results)
     is_written = library_queries.TRANSCRIPT.read_text(encoding="utf-8") == library_queries.transcript()
     results.check("tests/library.t", is_written, "differs from its source: run tools/library_queries.py")
-    lists = sum(definition.kind is Kind.LIST for definition in deck.definitions)
-    results.check("lists", lists >= 5, f"{lists} lists of units")
+    check_lists(session, [definition for definition in active if definition.kind is Kind.LIST], results)
 
 
 def main():

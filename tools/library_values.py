@@ -115,6 +115,17 @@ def check_spellings(session, names, results):
             results.check(f"spelling {other}", values[other] == values[first], detail)
 
 
+def check_lists(session, lists, results):
+    """The units of each list conform, and each is less than the one before it."""
+    for definition in lists:
+        units = [part.strip() for part in definition.text.split(";")]
+        values = session.values(units)
+        faults = [str(value) for value in values if isinstance(value, Fault)]
+        pairs = [] if faults else list(zip(values, values[1:]))
+        falls = all(one.conforms(other) and one.number > other.number > 0 for one, other in pairs)
+        results.check(f"list {definition.name}", not faults and falls, "; ".join(faults) or "its units do not fall")
+
+
 def prefixed(symbol, prefixes):
     """Each word of a symbol with one of the prefixes, with its factor."""
     tables = {"word": WORDS, "symbol": POWERS_OF_TEN}
