@@ -106,7 +106,8 @@ class Linter:
             if misread:
                 word, found = misread[0]
                 others = "".join(f", {word}" for word, _ in misread[1:])
-                message = f"{word} is read as {found}, not with {unit}; define it" + others.replace(", ", " (also ", 1)
+                message = f"{word} is read as {found}, not as a prefix with {unit}; define it"
+                message += others.replace(", ", " (also ", 1)
                 self.report(self.names.units[unit], message + ")" * bool(others))
 
     def plural_reading(self, prefix, unit):
@@ -116,7 +117,7 @@ class Linter:
             return None
         if word in self.names.units or word in self.names.functions:
             return None
-        found = self.names.derived(prefix + unit)
+        found = self.names.derived(word)
         is_misread = is_plural_of_symbols(found) and self.value_of(found) != self.value_of(Reading(prefix, unit))
         return found if is_misread else None
 
