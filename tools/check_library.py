@@ -6,6 +6,7 @@
 from __future__ import annotations
 
 import argparse
+import os
 import re
 import subprocess
 import sys
@@ -21,6 +22,7 @@ import transcripts
 from library_functions import check_functions
 from library_relations import check_relations
 from library_values import check_constants, check_factors, check_lists, check_spellings, check_symbols
+from lint_units import notices_of
 from unit_answers import ROOT, NoAnswers, Session
 from unit_files import Kind, Opening, Setting, read_deck
 
@@ -152,6 +154,28 @@ def check_dimensions(deck, results):
         results.check("dimension", bool(definition.unit), f"{definition.place}: {definition.name} has no #: UNIT")
 
 
+def covering(names):
+    """Some characters of which each name has one."""
+    left, characters = set(names), []
+    while left:
+        counts = Counter(character for name in left for character in set(name))
+        characters.append(counts.most_common(1)[0][0])
+        left = {name for name in left if characters[-1] not in name}
+    return characters
+
+
+def check_reader(program, file, results):
+    """The reader of the linter finds the keys and the texts that the program finds."""
+    for locale in LOCALES:
+        session, deck = Session(program, str(file), locale), read_deck(file)
+        without_effect = {place for place, _ in notices_of(session, deck.files)}
+        active = [line for line in deck.active(locale, os.environ) if line.place not in without_effect]
+        ours = {definition.key: definition.text for definition in active}
+        theirs = session.search(covering(definition.name for definition in active))
+        different = [key for key in ours.keys() | theirs.keys() if ours.get(key) != theirs.get(key)]
+        results.check(f"reader {file.name} {locale}", not different, f"{len(different)} keys, such as {different[:3]}")
+
+
 def check_built_in(folder, results):
     file = folder / "built_in.units"
     is_equal = file.exists() and file.read_bytes() == transcripts.built_in()
@@ -167,6 +191,8 @@ def check_all(program, folder, results):
     check_reports(session, deck, results)
     check_files(program, folder, deck, results)
     check_linter(program, str(file), results)
+    check_reader(program, file, results)
+    check_reader(program, TRAPS, results)
     check_factors(session, results)
     check_constants(session, results)
     check_relations(session, results)

@@ -273,7 +273,7 @@ def parsed_options():
 
 
 def write(findings):
-    """Writes the findings, with the bytes of the file; a reader that wants no more of them, such as head, ends the run."""
+    """Writes the findings with the bytes of the file. A reader that wants no more of them, such as head, ends the run."""
     sys.stdout.reconfigure(encoding="utf-8", errors="surrogateescape")
     try:
         for place, message in findings:

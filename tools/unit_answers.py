@@ -95,6 +95,13 @@ class Session:
             raise NoAnswers(f"{self.program} is not the program, which answers each line: {counts}")
         return [value_of(reply) for reply in replies]
 
+    def search(self, texts):
+        """The definitions whose names contain one of some texts: what the program shows of each by its key."""
+        command = [self.program, "-q", "-l", self.locale, "-f", self.file]
+        run = self.run(command, "".join(f"search {text}\n" for text in texts))
+        lines = run.stdout.decode(errors="surrogateescape").split("\n")
+        return dict(line[1:].split("\t", 1) for line in lines if line.startswith("\t"))
+
     def check(self):
         """The lines that the program's own check of the file writes, on both streams."""
         run = self.run([self.program, "--check", "-l", self.locale, "-f", self.file], "")

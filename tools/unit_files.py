@@ -78,6 +78,12 @@ class Definition:
     unit: str | None = None
     comment: str = ""
 
+    @property
+    def key(self):
+        """The name as the program writes it in reports, with a mark of its kind."""
+        marks = {Kind.UNIT: "{}", Kind.PREFIX: "{}-", Kind.FUNCTION: "{}()", Kind.LIST: "!unitlist {}"}
+        return marks[self.kind].format(self.name)
+
 
 @dataclass(frozen=True)
 class Opening:
