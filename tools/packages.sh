@@ -9,7 +9,7 @@ packages=(
     # linters of bin/check
     shellcheck pyflakes3
     # shells, completions and line editing
-    bash-completion zsh fish rlwrap man-db
+    bash-completion zsh fish rlwrap man-db mandoc
     # packages and recipes
     lintian debootstrap parallel openssh-server pv miller
     # comparisons with other programs

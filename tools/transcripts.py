@@ -35,7 +35,7 @@ MANUAL = ROOT / "share/man/man1"
 BUILT_IN = ROOT / "crates/units_run/src/built_in.rt"
 LIBRARY = ROOT / "share/units/standard.units"
 BUILT = ROOT / "tools/built.sh"
-COMMANDS = ["qunits"]
+COMMANDS = ["qunits", "units-lint"]
 SECONDS = 120  # for all commands of a file
 INDENT = b"  "
 UNPRINTABLE = re.compile(rb"[\x00-\x09\x0b-\x1f\x7f-\xff]")
@@ -158,9 +158,7 @@ def put_programs(folder):
             missing.add(name)
     for command in COMMANDS:
         if (ROOT / "bin" / command).exists():
-            wrapper = folder / command
-            wrapper.write_text(f'#!/bin/sh\nexec "{ROOT}/bin/{command}" "$@"\n')
-            wrapper.chmod(0o755)
+            (folder / command).symlink_to(ROOT / "bin" / command)
     return missing
 
 
