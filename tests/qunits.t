@@ -294,6 +294,8 @@ Statuses from 4 to 7 have a reason.
   $ { echo m | qunits > /dev/full; } 2>&1
   qunits: the output could not be written
   [5]
+  $ sh -c 'ulimit -f 0; qunits m to ft 2>&1 > file' | cat
+  qunits: the output could not be written
   $ yes 1 | head -c 16777217 | apart qunits --column 1 ft m
   err: qunits: the input is too long for one run; convert a long column in blocks by parallel --pipe (see units(1))
   [7]
