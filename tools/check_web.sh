@@ -1,8 +1,8 @@
 #!/usr/bin/env bash
 # Drives the page in headless Chromium and Firefox and compares every reply with the released program.
 #   tools/check_web.sh [--questions N] [--pictures FOLDER]
-# It takes the module in release/units.html and the present web/ and share/units. N is 60 if not given. A browser that is
-# not installed is skipped. The last line is `N passed, M failed, K skipped`.
+# It takes the module in release/units.html and the present web/ and share/units. N is 60 if not given. A browser that
+# is not installed is skipped. The last line is `N passed, M failed, K skipped`.
 set -u
 script=$(readlink -f "${BASH_SOURCE[0]}") || exit
 root=${script%/*/*}

@@ -21,7 +21,9 @@ path_of() {
 print_parts() {
     local part sum
     sum=$(for part in "${parts[@]}"; do cat "$(path_of "$part")"; done | sha256sum | cut -d ' ' -f 1)
-    echo "$sum glibc $(dpkg-query -W -f '${Version}' libc6-dev 2> /dev/null || echo unknown), gcc $(gcc -dumpfullversion)"
+    local libc
+    libc=$(dpkg-query -W -f '${Version}' libc6-dev 2> /dev/null) || libc=unknown
+    echo "$sum libc6-dev $libc, gcc $(gcc -dumpfullversion)"
 }
 
 link() {

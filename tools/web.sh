@@ -2,8 +2,8 @@
 # The page in a browser, as one file: the program compiled to WebAssembly, with web/ and share/units.
 #   tools/web.sh             after bin/test and tools/release.sh: makes release/units.html and its lines in
 #                            release/MADE_FROM. It makes everything twice and compares. web/out has the modules
-#   tools/web.sh --page TO   makes the page of the present web/ and share/units as the file TO, with the module that is in
-#                            release/units.html; this needs no toolchain
+#   tools/web.sh --page TO   makes the page of the present web/ and share/units as the file TO, with the module that
+#                            is in release/units.html; this needs no toolchain
 set -euo pipefail
 script=$(readlink -f "${BASH_SOURCE[0]}")
 root=${script%/*/*}

@@ -84,8 +84,8 @@ const u32 *__x86_get_cpuid_feature_leaf(u32 leaf) {
     return every_feature;
 }
 
-// The heap. The size of a block is a power of two; its exponent is in a header in front of it. A freed block is kept for
-// the next block of its size.
+// The heap. The size of a block is a power of two; its exponent is in a header in front of it. A freed block is kept
+// for the next block of its size.
 enum { HEADER = 16, LEAST = 5, SIZES = 48, PAGE = 65536 };
 extern byte __heap_base;
 static byte *heap_end;

@@ -14,8 +14,8 @@ MEMORY_SECTION = 5
 # The memory section is near the start of a module.
 HEAD_BYTES = 16384
 
-# Defines `runModule(bytes, runs)`, which runs a module over the page's files and returns [status, out, err, trap] of each
-# run, and `ownModule`, the bytes of the page's module.
+# Defines `runModule(bytes, runs)`, which runs a module over the page's files and returns [status, out, err, trap] of
+# each run, and `ownModule`, the bytes of the page's module.
 DEFINITIONS = """(async () => {
   window.bytesOf = base64 => Uint8Array.from(atob(base64), letter => letter.charCodeAt(0));
   window.runModule = async (bytes, runs) => {

@@ -6,8 +6,8 @@
 # The environment has KIT, the folder of the toolchain.
 set -euo pipefail
 script=$(readlink -f "${BASH_SOURCE[0]}")
-here=${script%/*}
-root=${here%/*/*}
+root=${script%/*/*/*}
+# shellcheck source=tools/sources.sh
 . "$root/tools/sources.sh"
 name=$1
 folder=$(readlink -f "$2")
@@ -17,14 +17,20 @@ if ! [ -e "$object" ]; then
     exit 1
 fi
 
-# A toolchain whose clang keeps what it is given.
+# A toolchain whose clang keeps a copy of the code that it compiles. It runs without variables of the environment.
 tools=$folder/toolchain
 mkdir -p "$tools/bin"
 ln -sfn "${KIT:?}/toolchain/lib" "$tools/lib"
 for tool in "$KIT"/toolchain/bin/*; do
     if [ "${tool##*/}" != clang ]; then ln -sf "$tool" "$tools/bin/"; fi
 done
-cp "$here/clang.sh" "$tools/bin/clang"
+cat > "$tools/bin/clang" << CLANG
+#!/bin/bash
+for word in "\$@"; do
+    case \$word in *.bc) /bin/cp "\$word" '$folder/' ;; esac
+done
+exec '$KIT/toolchain/bin/clang' "\$@"
+CLANG
 chmod +x "$tools/bin/clang"
 
 words=(--crate-name "$name" src/main.rt --extern "std=$KIT/rlibs/std.rlib" -L "dependency=$KIT/rlibs")
@@ -42,7 +48,7 @@ done < <(lines_of "$name")
 words+=(--antt-project "$KIT/rattle/logic/antt-project.json" --logic-built "$KIT/logic_built" --jobs 1)
 
 cd "$root/crates/$name"
-KEEP=$folder "$KIT/bin/rattle" build "${words[@]}" --toolchain "$tools" --backend llvm -o "$folder/$name.o" \
+"$KIT/bin/rattle" build "${words[@]}" --toolchain "$tools" --backend llvm -o "$folder/$name.o" \
     < /dev/null > "$folder/build.log" 2>&1 || {
     tail -n 20 "$folder/build.log" >&2
     exit 1
