@@ -33,6 +33,8 @@ from firefox import Firefox
 from page import Page
 
 SHOWN_FAILURES = 12
+# Firefox gets a third of the questions.
+FIREFOX_SHARE = 3
 VIEWS = ("convert", "session", "definitions")
 
 
@@ -148,11 +150,11 @@ def check_definitions(name: str, page: Page, native: Native, tally: Tally) -> No
     selected = page.browser.value(
         "(t => t.value.slice(t.selectionStart, t.selectionEnd))(document.getElementById('text'))")
     tally.equal(f"{name}: the definition of a row of the check", selected, "loopb 3 loopa")
-    for from_, to in (("3 loopa", "m"), ("smoot", "m"), ("broken", "")):
-        page.open(f"#from={from_.replace(' ', '+')}&to={to}")
-        page.ask([(from_, to)])
+    page.open("#from=smoot&to=m")
+    asked = [("3 loopa", "m"), ("smoot", "m"), ("broken", "")]
+    for (from_, to), (reply, _, _) in zip(asked, page.ask(asked)):
         expected = native.streams(["-f", cases.OWN_FILE, *operands(from_, to)])
-        tally.equal(f"{name}: {from_} after a reload", page.text("reply"), expected)
+        tally.equal(f"{name}: {from_} after a reload", reply, expected)
     page.click("tab-definitions")
     page.click("restore")
     tally.equal(f"{name}: the restored file", page.property("text", "value"), cases.OWN_TEXT)
@@ -248,12 +250,23 @@ def check_storage(page: Page, tally: Tally) -> None:
     tally.equal("a change that is not kept", page.ask([("smoot", "in")])[0][0], "\t* 67\n\t/ 0.014925373\n")
 
 
+def ask_chromium(arguments: argparse.Namespace, native: Native, tally: Tally) -> None:
+    browser = Chromium()
+    try:
+        page = Page(browser, arguments.page.resolve().as_uri())
+        page.open()
+        check_questions(browser.name, page, native, tally, arguments.questions)
+        tally.equal("faults of the page", browser.faults(), [])
+    finally:
+        browser.close()
+
+
 def check_chromium(arguments: argparse.Namespace, native: Native, tally: Tally) -> None:
     browser = Chromium()
     try:
         page = Page(browser, arguments.page.resolve().as_uri())
         browser.call("Log.enable")
-        check_browser(page, native, tally, arguments.questions)
+        check_views(page, native, tally)
         check_accessibility(page, tally)
         check_server(arguments.page.resolve(), browser, tally)
         check_storage(page, tally)
@@ -272,12 +285,15 @@ def check_chromium(arguments: argparse.Namespace, native: Native, tally: Tally) 
 def check_firefox(arguments: argparse.Namespace, native: Native, tally: Tally) -> None:
     browser = Firefox()
     try:
-        check_browser(Page(browser, arguments.page.resolve().as_uri()), native, tally, arguments.questions)
+        page = Page(browser, arguments.page.resolve().as_uri())
+        check_views(page, native, tally)
+        page.open()
+        check_questions(browser.name, page, native, tally, arguments.questions // FIREFOX_SHARE)
     finally:
         browser.close()
 
 
-def check_browser(page: Page, native: Native, tally: Tally, count: int) -> None:
+def check_views(page: Page, native: Native, tally: Tally) -> None:
     name = page.browser.name
     page.open()
     tally.equal(f"{name}: the page starts", page.property("failure", "hidden"), True)
@@ -285,8 +301,6 @@ def check_browser(page: Page, native: Native, tally: Tally, count: int) -> None:
     print(f"{name}: ready {started} ms after the page was opened", flush=True)
     for check in (check_names, check_links, check_sessions, check_definitions):
         check(name, page, native, tally)
-    page.open()
-    check_questions(name, page, native, tally, count)
 
 
 def library_of(page: Path) -> dict[str, str]:
@@ -305,14 +319,16 @@ def main() -> None:
     parser.add_argument("--pictures", type=Path)
     arguments = parser.parse_args()
     library, tally = library_of(arguments.page), Tally()
-    checks = [(Chromium.command, check_chromium), (Firefox.command, check_firefox)]
+    checks = [
+        (Chromium.command, check_chromium), (Chromium.command, ask_chromium), (Firefox.command, check_firefox),
+    ]
     with tempfile.TemporaryDirectory() as temporary, ThreadPoolExecutor(len(checks)) as pool:
         running = []
         for command, check in checks:
             if not shutil.which(command):
-                tally.skip(f"{command} is not installed")
+                tally.skip(f"{check.__name__}: {command} is not installed")
                 continue
-            folder = Path(temporary, command)
+            folder = Path(temporary, check.__name__)
             folder.mkdir()
             running.append(pool.submit(check, arguments, Native(arguments.program, library, folder), tally))
         for check_run in running:

@@ -80,7 +80,7 @@ def check_memory(page: Any, native: Any, tally: Any) -> None:
     runs = json.dumps([{"words": words, "input": lines}])
     whole = native.run(words, "".join(lines))
     least, refused = memory_limits(head)[2], 0
-    for more in (0, 1, 2, 4, 8, 16, 24, 32, 48, 1024):
+    for more in (0, 2, 8, 16, 32, 1024):
         [[status, out, _, trap]] = page.browser.value(f"runModule({patched(head, least + more)}, {runs})")
         refused += status == OUT_OF_MEMORY
         is_whole = (status, out, trap) == (whole.returncode, whole.stdout, None)
