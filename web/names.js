@@ -3,9 +3,10 @@
 const names = (() => {
     const DELAY = 120, MOST = 50;
 
-    // The lines of a report that have a name and, after a tab, its definition.
+    // The lines of a report that have a name and, after a tab, its definition. A primitive unit is defined as "!".
     const reportedNames = text => text.split('\n').filter(line => line.startsWith('\t'))
-        .map(line => line.slice(1).split('\t')).map(([name, meaning = '']) => ({name, meaning}));
+        .map(line => line.slice(1).split('\t'))
+        .map(([name, meaning = '']) => ({name, meaning: meaning === '!' ? 'primitive' : meaning}));
 
     // The last word of a text, and the text before it.
     function splitLastWord(text) {
