@@ -42,8 +42,8 @@ const options = (() => {
         const before = get('root').value || files.OWN;
         const own = files.names().filter(name => !files.isOfLibrary(name));
         get('root').replaceChildren(
-            ...own.map(name => new Option(name === files.OWN ? `Library and ${name}` : name, name)),
-            new Option('Library only', files.ALL), new Option('Built-in', BUILT_IN));
+            ...own.map(name => new Option(name, name)),
+            new Option('Library', files.ALL), new Option('Built-in', BUILT_IN));
         setValue('root', before);
     }
 
