@@ -2,7 +2,7 @@
 // The Definitions view: edits the files and shows what the program's --check reports of them.
 const definitions = (() => {
     const CHECK_DELAY = 150;
-    let shown = files.OWN, checkTimer = 0, replaced = null;
+    let shown = files.OWN, checkTimer = 0, isEdited = false, replaced = null;
 
     // ---- Files ----
 
@@ -15,6 +15,7 @@ const definitions = (() => {
     }
 
     function showFile(name) {
+        keepEdit();
         shown = files.names().includes(name) ? name : files.OWN;
         if (get('text').value !== files.textOf(shown)) get('text').value = files.textOf(shown);
         listFiles();
@@ -23,6 +24,7 @@ const definitions = (() => {
 
     // Replaces a whole file, which can be undone.
     function replace(name, text, message) {
+        keepEdit();
         replaced = {name, text: files.isChanged(name) ? files.textOf(name) : undefined};
         get('restored-text').textContent = message;
         get('restored').hidden = false;
@@ -40,6 +42,7 @@ const definitions = (() => {
     function create(event) {
         event.preventDefault();
         const name = get('new-name').value.trim();
+        keepEdit();
         get('naming').hidden = true;
         if (!files.names().includes(name)) files.change([[name, '# Definitions\n']]);
         showFile(name);
@@ -72,11 +75,20 @@ const definitions = (() => {
     function edit() {
         get('restored').hidden = true;
         clearTimeout(checkTimer);
+        isEdited = true;
         checkTimer = setTimeout(() => {
-            files.change([[shown, get('text').value]]);
+            keepEdit();
             listFiles();
             check();
         }, CHECK_DELAY);
+    }
+
+    // Keeps what was typed since the last pause, before anything else uses or replaces the text.
+    function keepEdit() {
+        clearTimeout(checkTimer);
+        if (!isEdited) return;
+        isEdited = false;
+        files.change([[shown, get('text').value]]);
     }
 
     // ---- The report ----
@@ -129,6 +141,8 @@ const definitions = (() => {
     function start() {
         get('file').addEventListener('change', () => showFile(get('file').value));
         get('text').addEventListener('input', edit);
+        get('text').addEventListener('blur', () => { if (isEdited) showFile(shown); });
+        addEventListener('pagehide', keepEdit);
         get('new-file').addEventListener('click', () => {
             get('naming').hidden = false;
             get('new-name').value = '';

@@ -34,11 +34,11 @@ const files = (() => {
     const OWN_TEXT = '# Your own definitions, after those of the library.\n!include all.units\n\n';
     const changed = new Map();
     const listeners = [];
-    let library = {};
+    let library = new Map();
 
-    const originalText = name => library[name] ?? (name === OWN ? OWN_TEXT : undefined);
+    const originalText = name => library.get(name) ?? (name === OWN ? OWN_TEXT : undefined);
     const textOf = name => changed.get(name) ?? originalText(name) ?? '';
-    const names = () => [...new Set([OWN, ...changed.keys(), ...Object.keys(library)])];
+    const names = () => [...new Set([OWN, ...changed.keys(), ...library.keys()])];
     const notify = () => listeners.forEach(listener => listener());
 
     function set(name, text) {
@@ -55,7 +55,7 @@ const files = (() => {
     }
 
     function load(given) {
-        library = given;
+        library = new Map(Object.entries(given));
         for (const key of storage.keys().filter(key => key.startsWith(PREFIX))) {
             set(key.slice(PREFIX.length), storage.read(key));
         }
@@ -71,12 +71,12 @@ const files = (() => {
         OWN, ALL, load, names, textOf, change,
         restore: name => change([[name, undefined]]),
         hasOriginal: name => originalText(name) !== undefined,
-        isOfLibrary: name => name in library,
+        isOfLibrary: name => library.has(name),
         isChanged: name => changed.has(name),
         contents: () => names().map(name => [name, textOf(name)]),
         changes: () => [...changed],
         // The files as they were when these were the changes.
-        contentsWith: changes => [...new Map([[OWN, OWN_TEXT], ...Object.entries(library), ...changes])],
+        contentsWith: changes => [...new Map([[OWN, OWN_TEXT], ...library, ...changes])],
         listen: listener => listeners.push(listener),
     };
 })();

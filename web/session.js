@@ -85,7 +85,8 @@ const session = (() => {
 
     function start(compiled) {
         module = compiled;
-        state = storage.read(KEY, null);
+        const kept = storage.read(KEY, null);
+        state = Array.isArray(kept?.lines) ? kept : null;
         get('entry').addEventListener('submit', enter);
         get('line').addEventListener('keydown', recall);
         get('remove-line').addEventListener('click', () => removeLines(1));
@@ -96,9 +97,10 @@ const session = (() => {
         start,
         // A session without lines follows the options and the files.
         open() {
-            if (state?.lines.length) return show();
-            state = null;
-            return showAnew();
+            const hasLines = state !== null && state.lines.length > 0;
+            if (!hasLines) state = null;
+            if (!hasLines || shownTurns === 0) showAnew();
+            get('transcript').scrollTop = get('transcript').scrollHeight;
         },
     };
 })();

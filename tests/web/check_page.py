@@ -160,6 +160,10 @@ def check_definitions(name: str, page: Page, native: Native, tally: Tally) -> No
     tally.equal(f"{name}: the restored file", page.property("text", "value"), cases.OWN_TEXT)
     page.click("undo-restore")
     tally.equal(f"{name}: the file after undo", page.property("text", "value"), cases.FAULTY_TEXT)
+    page.type_text(cases.FAULTY_TEXT + "x 2 m\n")
+    page.show_file("all.units")
+    page.show_file(cases.OWN_FILE)
+    tally.equal(f"{name}: a file left while typing", page.property("text", "value"), cases.FAULTY_TEXT + "x 2 m\n")
     page.click("restore")
     native.write(cases.OWN_FILE, cases.OWN_TEXT)
 

@@ -101,11 +101,22 @@ class Page:
         prompt = self.text("prompt")
         return out + (f"{prompt} " if prompt.startswith("You ") else ""), err
 
-    def replace_text(self, text: str) -> None:
-        """Types a text in place of the shown file, and waits for its check."""
+    def type_text(self, text: str) -> None:
+        """Types a text in place of the shown file."""
         self.browser.value("(() => { const t = document.getElementById('text'); t.focus(); t.select(); })()")
         self.browser.type(text)
+
+    def replace_text(self, text: str) -> None:
+        """Types a text in place of the shown file, and waits for its check."""
+        self.type_text(text)
         self.wait(500)
+
+    def show_file(self, name: str) -> None:
+        self.browser.value(f"""(() => {{
+          const file = document.getElementById('file');
+          file.value = {json.dumps(name)};
+          file.dispatchEvent(new Event('change'));
+        }})()""")
 
     def report(self) -> list[str]:
         return self.browser.value("[...document.querySelectorAll('#check li')].map(item => item.textContent)")
