@@ -64,7 +64,7 @@ make() {
     make_modules "$out/again"
     local file
     for file in units32.wasm units64.wasm units.html; do cmp "$out/$file" "$out/again/$file"; done
-    rm -r "$out/again" "$out/toolchain"
+    rm -r "$out/again" "$out/toolchain" "$out"/{module.bc,units.o,build.log}
     cp "$out/units.html" "$page"
     record
     ls -l "$page" "$out"/*.wasm

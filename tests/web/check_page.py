@@ -18,6 +18,7 @@ import subprocess
 import sys
 import tempfile
 import threading
+import traceback
 from concurrent.futures import ThreadPoolExecutor
 from functools import partial
 from http.server import SimpleHTTPRequestHandler, ThreadingHTTPServer
@@ -336,7 +337,10 @@ def main() -> None:
             folder.mkdir()
             running.append(pool.submit(check, arguments, Native(arguments.program, library, folder), tally))
         for check_run in running:
-            check_run.result()
+            fault = check_run.exception()
+            if fault is not None:
+                traceback.print_exception(fault)
+            tally.equal("a check that ended early", repr(fault), "None")
     print(f"{tally.passed} passed, {tally.failed} failed, {tally.skipped} skipped")
     sys.exit(tally.failed > 0)
 

@@ -19,6 +19,7 @@ ASK = """(async (questions) => {
     get('to').dispatchEvent(new Event('input'));
     const time = performance.now() - begin;
     while (document.documentElement.dataset.settled !== `${from}\\n${to}`) {
+      if (performance.now() - begin > 60_000) throw new Error(`no answer to ${from} in ${to} within a minute`);
       await new Promise(done => setTimeout(done, 2));
     }
     answers.push([get('reply').textContent, get('answer').textContent, time]);
