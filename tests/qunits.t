@@ -102,6 +102,19 @@ Fractions of whole numbers are numbers, and so is a whole number with a fraction
   0.5
   $ apart qunits 3/4
   \tDefinition: 0.75 (esc)
+  $ apart qunits -t 1½ ft to in
+  18
+  $ apart qunits -t 1 ½ ft to in
+  18
+  $ apart qunits -t 2¾ in + ½ in to ¼ in
+  13
+  $ for locale in C C.UTF-8; do LC_ALL=$locale apart qunits 1½ in; done
+  \tDefinition: 0.0381 m (esc)
+  \tDefinition: 0.0381 m (esc)
+  $ apart qunits -t 5 km² to m^2
+  5000000
+  $ apart qunits -t 5 m^3 to dm³
+  5000
 
 The units that conform, with and without `to`.
 

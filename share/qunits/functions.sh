@@ -10,8 +10,12 @@ list_names() {
 }
 
 # with_fractions TEXT: 3/4 in is 3|4 in, and 2 1/2 cups are (2+1|2) cups. For units each of them divides by the unit.
+# 1½ cups and 1 ½ cups are (1+½) cups, where units multiplies; m² is m^2.
 with_fractions() {
     printf '%s\n' "$1" | sed -E '
+        s#²#^2#g
+        s#³#^3#g
+        s#(^|[ (;-])([0-9]+) ?(½|¼|¾|⅓|⅔|⅛|⅜|⅝|⅞)#\1(\2+\3)#g
         s#(^|[ (;-])([0-9]+) ([0-9]+)/([0-9]+)( [^-+*/^|; 0-9.)]|[a-df-zA-DF-Z])#\1(\2+\3|\4)\5#g
         s#(^|[ (;-])([0-9]+)/([0-9]+)( [^-+*/^|; 0-9.)]|[a-df-zA-DF-Z])#\1\2|\3\4#g'
 }
