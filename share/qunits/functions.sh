@@ -1,6 +1,15 @@
 # shellcheck shell=sh disable=SC2034,SC2154 # bin/qunits sets and reads from, to, reply and status
 # Functions of bin/qunits: the names of a library, what people write in another way than units reads it, and hints.
 
+# write_own_file: what --new does.
+write_own_file() {
+    if [ -e "$own" ]; then refuse "$own exists already"; fi
+    case $file in *[[:space:]\#\|]*) refuse "!include cannot name a path with blanks: $file" ;; esac
+    mkdir -p "${own%/*}" && sed "s|^!include .*|!include $file|" "$root/share/qunits/first.units" > "$own.new" &&
+        mv "$own.new" "$own" && echo "$own" && exit
+    rm -f "$own.new"; say "could not write $own"; exit 5
+}
+
 # list_names: the units, functions and lists of the file. Each name holds a printing character of ASCII or a leading
 # byte of UTF-8, so these searches find all of them.
 list_names() {
