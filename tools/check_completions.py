@@ -209,12 +209,15 @@ def try_claim(tally: Tally, room: Path) -> None:
 def main() -> None:
     tally = Tally()
     SHELLS[:] = [shell for shell in SHELLS if shell.name in sys.argv[1:] or not sys.argv[1:]]
-    with tempfile.TemporaryDirectory(prefix="completions-") as folder:
-        room = Path(folder)
+    room = Path(tempfile.mkdtemp(prefix="completions-"))
+    try:
         try_user(tally, room)
         try_system(tally, room, "units")
         try_system(tally, room, "exact-units")
         try_claim(tally, room)
+    finally:
+        # Fish may still write its own completions there.
+        shutil.rmtree(room, ignore_errors=True)
     print(f"{tally.passed} passed, {tally.failed} failed, {tally.skipped} skipped")
     sys.exit(1 if tally.failed else 0)
 

@@ -16,7 +16,7 @@ from pathlib import Path
 ESCAPES = re.compile(
     r"\x1b(\[[0-9;?>=]*[@a-zA-Z]|\][^\x07\x1b]*(\x07|\x1b\\)|[()][A-Z0-9]|[=>78cM])|[\r\x07\x0e\x0f]"
 )
-SECONDS = 10  # for one answer of a shell, on a machine that does other work
+SECONDS = 60  # for one answer of a shell; a machine that runs proofs may need most of it
 
 
 class Terminal:
