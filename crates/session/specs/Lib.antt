@@ -29,3 +29,5 @@ pub mod Trials
 pub mod Trialing
 pub mod Worlds
 pub mod Runs
+pub mod HistoryLaws
+pub mod CommandExamples
