@@ -28,6 +28,10 @@ grows_more o mid new bytes first later = (
       ∙ ap (grown o) (append_assoc bytes first.0 later.0),
 )
 
+pub grows_again : (o mid new : Option (List ℕ)) → GrowsAtLeast o mid [] → GrowsAtLeast mid new []
+    → GrowsAtLeast o new []
+grows_again o mid new first later = grows_more o mid new [] first later
+
 -- nothing was written to one sink, or all of some bytes to another
 pub order_grows : (A : Type 0) (o new : Option (List ℕ)) (bytes : List ℕ) → A ⊎ (new ≡ grown o bytes)
     → A ⊎ GrowsAtLeast o new bytes

@@ -160,6 +160,6 @@ module _ (taken block ready rest : List ℕ) (held : Option (List ℕ)) (b : blo
 -- nor does the last line, which no line feed ends
 pub end_names_none : (input : List ℕ) (held : Option (List ℕ)) → Holds input held → (unfinished input ≡ [] → ⊥)
     → NamesNoFile input → names_file_in (unfinished input) ≡ false
-end_names_none input held h open none =
+end_names_none input held h some none =
     none-among names_file_in (whole_lines input) (unfinished input) []
-    (ap (list_any names_file_in) (sym (heard_end input h.going open)) ∙ none)
+    (ap (list_any names_file_in) (sym (heard_end input h.going some)) ∙ none)

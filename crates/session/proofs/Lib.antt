@@ -26,3 +26,4 @@ pub mod Watches
 pub mod Caching
 pub mod OtherVersions
 pub mod Undoing
+pub mod AnsweredLines

@@ -31,3 +31,4 @@ pub mod Worlds
 pub mod Runs
 pub mod HistoryLaws
 pub mod CommandExamples
+pub mod AnswerExamples

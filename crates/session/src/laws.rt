@@ -1,5 +1,6 @@
 //! Laws of a session. A function does nothing: its contract is the law.
 
+ghost use Rattle.session.specs.AnswerExamples.{AnswerExamples};
 ghost use Rattle.session.specs.CommandExamples.{CommandExamples};
 ghost use Rattle.session.specs.HistoryLaws.{HistoryLaws, SaveLaw};
 ghost use Rattle.session.specs.Laws.{LineLaws};
@@ -20,6 +21,11 @@ pub fn leaves_law()
 /// What some lines ask for.
 pub fn command_examples()
     ensures { CommandExamples }
+{}
+
+/// What some lines are answered with.
+pub fn answer_examples()
+    ensures { AnswerExamples }
 {}
 
 /// Cached outcomes change no answer but that to `:stats`, versions of the deck change none but those to `:undo` and

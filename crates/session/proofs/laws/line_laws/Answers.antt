@@ -10,8 +10,8 @@ pub returns : goal.returns
 unfolding readable line_content command_in
 returns c = record {
   joined = joined_from [];
-  lines_clear = lines-clear [] refl;
-  rest_clear = rest-clear [] refl;
+  lines_clear = λ bytes. lines-clear [] bytes refl;
+  rest_clear = λ bytes. rest-clear [] bytes refl;
   only = only-cut;
   on = heard-going;
   over = λ line lines e. ap (λ d. line ∷ cond d [] (heard lines)) e;

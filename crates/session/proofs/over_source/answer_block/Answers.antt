@@ -2,7 +2,7 @@ use Rattle.std.proofs.Common.{◌++◌, [], refl, sym, ◌∙◌, arith}
 use Rattle.session.proofs.Blocks.{either_rose, later_than, rose_from, rose_since, same_input, stands}
 use Rattle.session.proofs.Ending.{done_by, fed_cause, goes_on, write_cause}
 use Rattle.session.proofs.Faulting.{still}
-use Rattle.session.proofs.Growing.{front_grows, grows_more, same_grows}
+use Rattle.session.proofs.Growing.{front_grows, grows_again, same_grows}
 use Rattle.session.proofs.TakingUp.{block_last, holds_behind, holds_first, holds_on, names_none_at}
 use Rattle.session.proofs.Writing.{ended_written, part_written, waits_at_first, waits_behind, waits_on}
 use Rattle.session.proofs.over_source.answer_block.Goals as goal
@@ -33,8 +33,8 @@ returns-in_default-clause-run g c = λ was is. record {
   caused = write_cause _ _ (either_rose _ _ _ _ _ _ c.loop-rest.invariant.out_later c.loop-rest.invariant.err_later
       c.in_default.ensures.cause);
   grows = record {
-    out = grows_more _ _ _ _ c.loop-rest.invariant.out_grows (front_grows _ _ _ c.write.ensures.out);
-    err = grows_more _ _ _ _ c.loop-rest.invariant.err_grows (front_grows _ _ _ c.write.ensures.err);
+    out = grows_again _ _ _ c.loop-rest.invariant.out_grows (front_grows _ _ _ c.write.ensures.out);
+    err = grows_again _ _ _ c.loop-rest.invariant.err_grows (front_grows _ _ _ c.write.ensures.err);
   };
 }
 
@@ -54,8 +54,8 @@ returns-in-Some-clause-run g c = λ was is. record {
       (λ failed. rose_since _ _ _ c.loop-rest.invariant.fetches_later (c.feed-fed.ensures.faults.cause failed))
       (λ failed. rose_since _ _ _ c.loop-rest.invariant.stores_later (c.feed-fed.ensures.faults.written failed));
   grows = record {
-    out = grows_more _ _ _ _ c.loop-rest.invariant.out_grows (front_grows _ _ _ c.write.ensures.out);
-    err = grows_more _ _ _ _ c.loop-rest.invariant.err_grows (front_grows _ _ _ c.write.ensures.err);
+    out = grows_again _ _ _ c.loop-rest.invariant.out_grows (front_grows _ _ _ c.write.ensures.out);
+    err = grows_again _ _ _ c.loop-rest.invariant.err_grows (front_grows _ _ _ c.write.ensures.err);
   };
 }
 
@@ -69,8 +69,8 @@ loop-rest-preserved g c = record {
   stores_later = later_than _ _ _ c.loop-rest.invariant.stores_later c.feed-fed.ensures.faults.later;
   out_later = later_than _ _ _ c.loop-rest.invariant.out_later c.write.ensures.out_later;
   err_later = later_than _ _ _ c.loop-rest.invariant.err_later c.write.ensures.err_later;
-  out_grows = grows_more _ _ _ _ c.loop-rest.invariant.out_grows (front_grows _ _ _ c.write.ensures.out);
-  err_grows = grows_more _ _ _ _ c.loop-rest.invariant.err_grows (front_grows _ _ _ c.write.ensures.err);
+  out_grows = grows_again _ _ _ c.loop-rest.invariant.out_grows (front_grows _ _ _ c.write.ensures.out);
+  err_grows = grows_again _ _ _ c.loop-rest.invariant.err_grows (front_grows _ _ _ c.write.ensures.err);
   holds = λ taken h.
       let p = c.loop-rest.invariant.holds taken h in
       holds_on taken c.args.block.now p.0 c.loop-rest.rest.now c.feed-fed.new.rest.now _ p.1 c.feed-fed.result

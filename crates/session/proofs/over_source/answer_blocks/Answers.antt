@@ -3,7 +3,7 @@ use Rattle.session.specs.Worlds.{source_of}
 use Rattle.session.proofs.Blocks.{all_heard, cut, cut_part, heard_by, later_than, loses, no_rest, none_left}
 use Rattle.session.proofs.Blocks.{rose_since, took_enough, took_more, went}
 use Rattle.session.proofs.Ending.{cause_since, ended_at, length_cause, read_cause}
-use Rattle.session.proofs.Growing.{grows_more}
+use Rattle.session.proofs.Growing.{grows_again}
 use Rattle.session.proofs.TakingUp.{names_none_at}
 use Rattle.session.proofs.over_source.answer_blocks.Goals as goal
 
@@ -44,8 +44,8 @@ returns-then-n-eq0-clause-run g c =
           c.loop-total.invariant.err_later c.loop-total.invariant.later c.loop-total.invariant.stores_later
           (c.answer_end.ensures.run first_seen new).caused;
       grows = record {
-        out = grows_more _ _ _ _ c.loop-total.invariant.out_grows (c.answer_end.ensures.run old new).grows.out;
-        err = grows_more _ _ _ _ c.loop-total.invariant.err_grows (c.answer_end.ensures.run old new).grows.err;
+        out = grows_again _ _ _ c.loop-total.invariant.out_grows (c.answer_end.ensures.run old new).grows.out;
+        err = grows_again _ _ _ c.loop-total.invariant.err_grows (c.answer_end.ensures.run old new).grows.err;
       };
     }
 
@@ -74,8 +74,8 @@ returns-in-Some-clause-run g c =
           c.loop-total.invariant.err_later c.loop-total.invariant.later c.loop-total.invariant.stores_later
           (c.in-Some.ensures.run first_seen new).caused;
       grows = record {
-        out = grows_more _ _ _ _ c.loop-total.invariant.out_grows (c.in-Some.ensures.run old new).grows.out;
-        err = grows_more _ _ _ _ c.loop-total.invariant.err_grows (c.in-Some.ensures.run old new).grows.err;
+        out = grows_again _ _ _ c.loop-total.invariant.out_grows (c.in-Some.ensures.run old new).grows.out;
+        err = grows_again _ _ _ c.loop-total.invariant.err_grows (c.in-Some.ensures.run old new).grows.err;
       };
     }
 
@@ -105,8 +105,8 @@ loop-total-preserved g c =
       earlier = omega (arith, c.in-Ok.ensures.cause.later, c.loop-total.invariant.earlier);
       out_later = later_than _ _ _ c.loop-total.invariant.out_later behind.later.out;
       err_later = later_than _ _ _ c.loop-total.invariant.err_later behind.later.err;
-      out_grows = grows_more _ _ _ _ c.loop-total.invariant.out_grows behind.grows.out;
-      err_grows = grows_more _ _ _ _ c.loop-total.invariant.err_grows behind.grows.err;
+      out_grows = grows_again _ _ _ c.loop-total.invariant.out_grows behind.grows.out;
+      err_grows = grows_again _ _ _ c.loop-total.invariant.err_grows behind.grows.err;
       holds = λ input q h.
           let p = c.loop-total.invariant.holds input q h in
           let lost = loses _ _ p.1 (take c.in-Ok.n c.take.new.buf) p.3 c.in-Ok.ensures.bytes in (

@@ -31,7 +31,7 @@ pub returns-in-Err-clause-opening : goal.returns-in-Err-clause-opening
 returns-in-Err-clause-opening g c = inl refl
 
 pub returns-in-Err-clause-order : goal.returns-in-Err-clause-order
-returns-in-Err-clause-order g c = order_grows _ _ _ _ c.write.ensures.order
+returns-in-Err-clause-order g c = order_grows _ _ _ c.args.said.now.err.items c.write.ensures.order
 
 pub returns-clause-run : goal.returns-clause-run
 returns-clause-run g c = record {
@@ -58,10 +58,10 @@ returns-clause-unasked g c = λ input q none.
 
 pub returns-clause-opening : goal.returns-clause-opening
 returns-clause-opening g c = inr (
-  grows_more _ _ _ _ (all_grows _ _ _ c.in-Ok-write.ensures.whole.0) c.answer_blocks.ensures.run.grows.out,
-  grows_more _ _ _ _ (all_grows _ _ _ c.in-Ok-write.ensures.whole.1) c.answer_blocks.ensures.run.grows.err,
+  grows_more _ _ _ c.args.said.now.out.items (all_grows _ _ _ c.in-Ok-write.ensures.whole.0) c.answer_blocks.ensures.run.grows.out,
+  grows_more _ _ _ c.args.said.now.err.items (all_grows _ _ _ c.in-Ok-write.ensures.whole.1) c.answer_blocks.ensures.run.grows.err,
 )
 
 pub returns-clause-order : goal.returns-clause-order
 returns-clause-order g c =
-    inr (grows_more _ _ _ _ (all_grows _ _ _ c.in-Ok-write.ensures.whole.1) c.answer_blocks.ensures.run.grows.err)
+    inr (grows_more _ _ _ c.args.said.now.err.items (all_grows _ _ _ c.in-Ok-write.ensures.whole.1) c.answer_blocks.ensures.run.grows.err)
