@@ -7,10 +7,6 @@ use Rattle.def_entry.specs.Keys.{key_of}
 use Rattle.def_entry.specs.Reading.{what_of}
 use Rattle.def_lines.specs.Kinds.{kind_of}
 use Rattle.def_lines.specs.Lines.{line_content}
-use Rattle.expr_tree.specs.Faults.{fault_from}
-use Rattle.expr_tree.specs.Lexemes.{lexemes_from, tokens_in}
-use Rattle.expr_tree.specs.Parsed.{parsed}
-use Rattle.expr_tree.specs.Reading.{tree_of}
 use Rattle.deck.specs.Edits.{with_line, without_some}
 use Rattle.deck.specs.Loading.{with_answer}
 use Rattle.deck.specs.declared.fault.DeckFault.TheVariants.{DeckFull}
@@ -30,7 +26,6 @@ use Rattle.watch.specs.Watched.{subject}
 
 pub examples : AnswerExamples
 unfolding readable line_content command_in colon_command answer_to after_events key_of kind_of form_of heading what_of
-unfolding fault_from lexemes_from tokens_in parsed tree_of
 examples = record {
   quit = λ state. refl;
   blank = λ state h. ap (λ pending. blank_answer pending state) h;
@@ -43,7 +38,7 @@ examples = record {
   bad_form = λ state. refl;
   bad_name = λ state. refl;
   deck_full = λ state h.
-      let d = with_line (codes "ft 12 in") (deck_in state) in
+      let d = with_line (codes "m !") (deck_in state) in
       ap (λ (b : Bool). editing (edit_result (if b then Err DeckFull else Ok d) [] (dated_in state.session)) [] state) h;
   no_undo = λ state h.
       ap (λ past. editing (turn_result (undone_to past (timeline_of (deck_in state) state.session.versions))
@@ -59,7 +54,7 @@ examples = record {
   too_long = λ state h. ap (λ outcome. saving outcome (codes "mine") state) h;
   many_watches = λ state h. ap (λ full. watching full (subject (codes "ft") (codes "m")) state) h;
   define = λ state h.
-      let d = with_line (codes "ft 12 in") (deck_in state) in
+      let d = with_line (codes "m !") (deck_in state) in
       ap (λ (b : Bool). (deck_in (editing
       (edit_result (if b then Err DeckFull else Ok d) [] (dated_in state.session)) [] state).after).lines) h;
   drop_last = λ state place h.

@@ -39,8 +39,8 @@ pub record AnswerExamples : Type 0 where
       → IsOnly (codes ":drop k-") (codes "no such definition: k-\n") state
   pub bad_form : (state : State) → IsOnly (codes ":define m") (codes "bad definition\n") state
   pub bad_name : (state : State) → IsOnly (codes ":define 1a m") (codes "bad name: 1a\n") state
-  pub deck_full : (state : State) → pass_limit ((deck_in state).lines ++ plain_line 0 (codes "ft 12 in") ∷ []) ≡ true
-      → IsOnly (codes ":define ft 12 in") (codes "deck full\n") state
+  pub deck_full : (state : State) → pass_limit ((deck_in state).lines ++ plain_line 0 (codes "m !") ∷ []) ≡ true
+      → IsOnly (codes ":define m !") (codes "deck full\n") state
   pub no_undo : (state : State) → state.session.versions.past ≡ []
       → IsOnly (codes ":undo") (codes "nothing to undo\n") state
   pub no_redo : (state : State) → state.session.versions.future ≡ []
@@ -52,9 +52,9 @@ pub record AnswerExamples : Type 0 where
   pub many_watches : (state : State) → is_full state.session.watched ≡ true
       → IsOnly (codes ":watch ft ; m") (codes "too many watches\n") state
   -- edits
-  pub define : (state : State) → pass_limit ((deck_in state).lines ++ plain_line 0 (codes "ft 12 in") ∷ []) ≡ false
-      → (deck_after state (codes ":define ft 12 in")).lines
-      ≡ (deck_in state).lines ++ plain_line 0 (codes "ft 12 in") ∷ []
+  pub define : (state : State) → pass_limit ((deck_in state).lines ++ plain_line 0 (codes "m !") ∷ []) ≡ false
+      → (deck_after state (codes ":define m !")).lines
+      ≡ (deck_in state).lines ++ plain_line 0 (codes "m !") ∷ []
   pub drop_last : (state : State) (place : ℕ)
       → last_place (deck_in state).settings (deck_in state).lines (key kind.Prefix (codes "k")) ≡ Some place
       → (deck_after state (codes ":drop k-")).lines
