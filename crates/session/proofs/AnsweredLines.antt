@@ -39,7 +39,8 @@ examples = record {
   bad_name = λ state. refl;
   deck_full = λ state h.
       let d = with_line (codes "m !") (deck_in state) in
-      ap (λ (b : Bool). editing (edit_result (if b then Err DeckFull else Ok d) [] (dated_in state.session)) [] state) h;
+      ap (λ (b : Bool). editing (edit_result (if b then Err DeckFull else Ok d) [] (dated_in state.session)) [] state)
+      h;
   no_undo = λ state h.
       ap (λ past. editing (turn_result (undone_to past (timeline_of (deck_in state) state.session.versions))
       (codes "nothing to undo") (deck_in state)) [] state) h;

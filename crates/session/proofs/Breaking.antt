@@ -103,7 +103,8 @@ broken_more fault base first before line after all now e b =
       answered = before ++ b.answered;
       rest = b.rest ++ after;
       split =
-          e ∙ ap (λ ls. before ++ (ls ++ after)) b.split ∙ ap (λ ls. before ++ ls) (append_assoc b.answered b.rest after)
+          e ∙ ap (λ ls. before ++ (ls ++ after)) b.split
+          ∙ ap (λ ls. before ++ ls) (append_assoc b.answered b.rest after)
           ∙ sym (append_assoc before b.answered (b.rest ++ after));
       before = subst (λ (t : Talk). IsBefore base t now.said) same b.before;
       left = (

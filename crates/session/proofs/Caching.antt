@@ -1,5 +1,6 @@
 -- What is cached changes no answer but that to `:stats`.
-use Rattle.std.proofs.Common.{◌≡◌, ◌∙◌, ◌++◌, ◌||◌, refl, sym, ap, ap₂, subst, ℕ, Bool, true, false, true≢false, List, []}
+use Rattle.std.proofs.Common.{◌≡◌, ◌∙◌, ◌++◌, ◌||◌, refl, sym, ap, ap₂, subst, ℕ, Bool, true, false, true≢false, List}
+use Rattle.std.proofs.Common.{[]}
 use Rattle.std.proofs.Common.{◌∷◌, Option, Some, None, Result, Ok, Err, if◌then◌else◌, length, nat_le}
 use Rattle.std.specs.List.{list_any}
 use Rattle.def_entry.specs.declared.key.Key.{Key}
@@ -86,14 +87,16 @@ unfolding answer_to
 cache-law state cached reductions command.Blank h = blank-cached state cached reductions state.session.pending
 cache-law state cached reductions command.Quit h =
     record { out = refl; err = refl; cached = cached; reductions = reductions; after = refl }
-cache-law state cached reductions command.Conformable h = conformable-cached state cached reductions state.session.pending
+cache-law state cached reductions command.Conformable h = conformable-cached state cached reductions
+    state.session.pending
 cache-law state cached reductions (command.Search text) h =
     record { out = refl; err = refl; cached = cached; reductions = reductions; after = refl }
 cache-law state cached reductions (Edit edit) h =
     editing-cached state cached reductions _ _ [] (edited-cached state cached reductions edit)
 cache-law state cached reductions (command.Load name) h =
     let outcome = after_append state.files name state.session.table.deck in
-    editing-cached state cached reductions _ _ (notice_lines outcome) (result-cached state cached reductions outcome name)
+    editing-cached state cached reductions _ _ (notice_lines outcome)
+    (result-cached state cached reductions outcome name)
 cache-law state cached reductions (command.Save name) h =
     record { out = refl; err = refl; cached = cached; reductions = reductions; after = refl }
 cache-law state cached reductions (command.Watch from to) h =

@@ -1,5 +1,6 @@
 -- The versions of the deck change no answer but those to `:undo` and `:redo`.
-use Rattle.std.proofs.Common.{◌≡◌, ◌∙◌, ◌+◌, ◌++◌, refl, sym, ap, ap₂, subst, ℕ, Bool, true, false, true≢false, List, []}
+use Rattle.std.proofs.Common.{◌≡◌, ◌∙◌, ◌+◌, ◌++◌, refl, sym, ap, ap₂, subst, ℕ, Bool, true, false, true≢false, List}
+use Rattle.std.proofs.Common.{[]}
 use Rattle.std.proofs.Common.{◌∷◌, Option, Some, None, Result, Ok, Err, if◌then◌else◌, length, nat_le}
 use Rattle.std.specs.List.{list_any}
 use Rattle.def_entry.specs.declared.key.Key.{Key}

@@ -49,7 +49,8 @@ module _ (first : Talk) (taken : List ℕ) (going : list_any is_last (whole_line
   talked = talk_over first (whole_lines taken)
 
   talk_end : (unfinished taken ≡ [] → ⊥) → talk_on first taken ≡ next talked (unfinished taken)
-  talk_end h = ap (talk_over first) (heard_end taken going h) ∙ talk-append first (whole_lines taken) (unfinished taken ∷ [])
+  talk_end h = ap (talk_over first) (heard_end taken going h) ∙ talk-append first (whole_lines taken)
+      (unfinished taken ∷ [])
 
   -- no line is open at the end
   pub talk_ended : unfinished taken ≡ [] → talk_on first taken ≡ talked

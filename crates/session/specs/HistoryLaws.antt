@@ -1,5 +1,6 @@
 -- Laws of what came before a line. Outcomes that are cached change no answer but that to `:stats`; the versions of the
--- deck change none but those to `:undo` and `:redo`; an undo gives back what an edit changed, and a load what was saved.
+-- deck change none but those to `:undo` and `:redo`; an undo gives back what an edit changed, and a load gives back
+-- what was saved.
 use Rattle.std.specs.Prelude.{◌≡◌, ℕ, List, Bool, true, false, Ok}
 use Rattle.std.specs.List.{list_any}
 use Rattle.deck.specs.Decks.{Contents}
@@ -123,7 +124,8 @@ UndoLaw = (state : State) (edit : DeckEdit) (deck : Contents) (versions : Versio
 
 -- law: so does an undo after a load that was made
 abbrev pub UndoLoadLaw : Type 0
-UndoLoadLaw = (state : State) (name : List ℕ) (deck : Contents) → after_append state.files name (deck_in state) ≡ Ok deck
+UndoLoadLaw = (state : State) (name : List ℕ) (deck : Contents) → after_append state.files name (deck_in state) ≡ Ok
+    deck
     → IsRestored (deck_in state) (deck_in (after_undone state (Load name)))
 
 pub record HistoryLaws : Type 0 where

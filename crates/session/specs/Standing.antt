@@ -46,7 +46,8 @@ pub record IsBefore (base : Base) (talk : Talk) (said : Said) : Type 0 where
   pub err : Begins (base.err ++ said.err.items) talk.err
 
 -- the first of these lines are answered, and the others are not: what is said is a front of the talk over the answered
--- ones, and the files are as that leaves them, or, only if a store failed, with the file spoilt that the next line saves
+-- ones, and the files are as that talk leaves them, or, only if a store failed, with the file spoilt that the next line
+-- saves
 pub record BreaksOff (failed : Type 0) (base : Base) (talk : Talk) (lines : List (List ℕ)) (now : Now) : Type 0 where
   pub answered : List (List ℕ)
   pub rest : List (List ℕ)
@@ -63,7 +64,8 @@ pub record Holds (taken : List ℕ) (held : Option (List ℕ)) : Type 0 where
   pub going : list_any is_last (whole_lines taken) ≡ false
   pub part : held ≡ readable (unfinished taken)
 
--- bytes of an input were taken up: a front of them, with these left; or a line of them is the last; or there was a fault
+-- bytes of an input were taken up: a front of them, with these left; or one of their lines is the last; or there was a
+-- fault
 abbrev pub IsTakenUp : Result Bool SessionFault → (taken bytes left : List ℕ) → (held : Option (List ℕ)) → Type 0
 IsTakenUp (Ok false) taken bytes left held =
     (done : List ℕ) × (bytes ≡ done ++ left) × Holds (taken ++ done) held

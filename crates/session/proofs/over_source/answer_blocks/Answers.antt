@@ -119,7 +119,8 @@ loop-total-preserved g c =
       unasked = λ input q h none.
           let p = c.loop-total.invariant.holds input q h in
           let lost = loses _ _ p.1 (take c.in-Ok.n c.take.new.buf) p.3 c.in-Ok.ensures.bytes in
-          c.answer_block.ensures.unasked p.0 lost.0 p.4 (names_none_at _ _ (went input p.0 p.1 _ lost.0 p.2 lost.2) none)
+          c.answer_block.ensures.unasked p.0 lost.0 p.4
+          (names_none_at _ _ (went input p.0 p.1 _ lost.0 p.2 lost.2) none)
           ∙ c.loop-total.invariant.unasked input q h none;
       room = (omega (arith, c.loop-total.invariant.room.0), omega (arith, c.loop-total.invariant.room.1));
       counted = took_more c.loop-total.total c.in-Ok.n _ _ _ c.loop-total.invariant.counted c.in-Ok.ensures.count;

@@ -58,10 +58,13 @@ returns-clause-unasked g c = λ input q none.
 
 pub returns-clause-opening : goal.returns-clause-opening
 returns-clause-opening g c = inr (
-  grows_more _ _ _ c.args.said.now.out.items (all_grows _ _ _ c.in-Ok-write.ensures.whole.0) c.answer_blocks.ensures.run.grows.out,
-  grows_more _ _ _ c.args.said.now.err.items (all_grows _ _ _ c.in-Ok-write.ensures.whole.1) c.answer_blocks.ensures.run.grows.err,
+  grows_more _ _ _ c.args.said.now.out.items (all_grows _ _ _ c.in-Ok-write.ensures.whole.0)
+      c.answer_blocks.ensures.run.grows.out,
+  grows_more _ _ _ c.args.said.now.err.items (all_grows _ _ _ c.in-Ok-write.ensures.whole.1)
+      c.answer_blocks.ensures.run.grows.err,
 )
 
 pub returns-clause-order : goal.returns-clause-order
 returns-clause-order g c =
-    inr (grows_more _ _ _ c.args.said.now.err.items (all_grows _ _ _ c.in-Ok-write.ensures.whole.1) c.answer_blocks.ensures.run.grows.err)
+    inr (grows_more _ _ _ c.args.said.now.err.items (all_grows _ _ _ c.in-Ok-write.ensures.whole.1)
+    c.answer_blocks.ensures.run.grows.err)
