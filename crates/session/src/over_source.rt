@@ -144,7 +144,8 @@ fn answer_block<O: Sink, E: Sink, F: Files, L: Ledger>(
     steps: &mut Steps<L>,
     block: &[u8],
 ) -> Option<SessionEnd>
-    ensures run { (was is : SourceSeen) → spec.IsBlockAnswered result block.now held.old session.old held.new session.new
+    ensures run { (was is : SourceSeen) →
+        spec.IsBlockAnswered result block.now held.old session.old held.new session.new
         (world_of was (sink_of (O.written out.old) (O.faults out.old)) (sink_of (E.written err.old) (E.faults err.old))
         (files_of (F.files files.old) (F.faults files.old) (F.store_faults files.old)) steps.old)
         (world_of is (sink_of (O.written out.new) (O.faults out.new)) (sink_of (E.written err.new) (E.faults err.new))
