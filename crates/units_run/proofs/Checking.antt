@@ -9,8 +9,7 @@ use Rattle.session.specs.Hearing.{heard}
 use Rattle.session.specs.Input.{lines_of}
 use Rattle.session.specs.Outside.{Outside}
 use Rattle.session.specs.Telling.{when_told}
-use Rattle.session.specs.Written.{IsAll, IsFront, IsPart, IsPartBut, Output}
-use Rattle.units_run.specs.Calls.{run_over}
+use Rattle.session.specs.Written.{IsAll, IsFront, Output}
 use Rattle.units_run.specs.Checks.{IsWritten, report_of, steps_of}
 use Rattle.units_run.specs.Endings.{IsLeftOf, IsStated, IsWorked}
 use Rattle.units_run.specs.Planning.{IsCheck, IsPlan}

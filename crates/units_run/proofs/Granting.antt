@@ -18,7 +18,6 @@ use Rattle.reply.specs.Grants.{GrantLaw}
 use Rattle.reply.specs.Replies.{conversion_reply}
 use Rattle.reply.specs.declared.options.Options.{Options}
 use Rattle.session.specs.Outside.{Outside}
-use Rattle.session.specs.Telling.{TellsIf}
 use Rattle.session.specs.Worlds.{World, outside}
 use Rattle.session.specs.Written.{Course, IsAll, whole}
 use Rattle.survey.specs.Asked.{conformable, converted, defined}

@@ -1,11 +1,11 @@
 -- A check report that is written by the block.
 use Rattle.std.proofs.Common.{◌≡◌, ◌∙◌, ◌++◌, ◌||◌, ℕ, List, [], ◌∷◌, Bool, true, false, Some, None, refl, sym, ap}
-use Rattle.std.proofs.Common.{subst}
-use Rattle.std.proofs.Common.{append_assoc, drop, if◌then◌else◌, not, take}
+use Rattle.std.proofs.Common.{◌-◌, ◌==◌, append_assoc, arith, drop, if◌then◌else◌, length, not, subst, take}
 use Rattle.std.specs.declared.option.Option.{Option}
 use Rattle.std.specs.List.{cons_option}
 use Rattle.std.proofs.lemmas.Grind.{flat_map-append}
-use Rattle.std.proofs.lemmas.List.{append-nil, take-append-drop}
+use Rattle.std.proofs.lemmas.Bool.Decides.{nat_tests}
+use Rattle.std.proofs.lemmas.List.{append-nil, length-drop, take-append-drop, take_all}
 use Rattle.column_run.proofs.Writing.{front_all, front_behind, front_more, grown_none, grown_twice}
 use Rattle.def_entry.specs.declared.key.Key.{Key}
 use Rattle.def_lines.specs.Words.{is_empty}
@@ -41,6 +41,17 @@ some_both (x ∷ xs) ys = refl
 
 true_false : true ≡ false → ⊥
 true_false is = cc
+
+-- all places behind the first ones
+places_behind : (n : ℕ) (places : List ℕ) → take (length places - n) (drop n places) ≡ drop n places
+places_behind n places =
+    let long : length (drop n places) ≡ length places - n = length-drop n places in
+    take_all (length places - n) (drop n places) (omega arith)
+
+-- there are none
+pub no_places : (places : List ℕ) (none : Bool) → none ≡ (length places == 0) → none ≡ true → places ≡ []
+no_places [] none is e = refl
+no_places (x ∷ places) none is e = absurd (grind (arith, nat_tests, is, e))
 
 -- how a report ends by whether it has a byte
 pub reported : (bytes : List ℕ) (any : Bool) (before after : Option (List ℕ)) → any ≡ not (is_empty bytes)
@@ -150,18 +161,22 @@ module _ (options : Options) (places head : List ℕ) (start : Option (List ℕ)
           (front_behind start out after u.written further u.out_is f)
 
       -- the next lines are written
-      pub underway_next : (after : Option (List ℕ)) (some : Bool) → after ≡ grown out further
+      pub underway_next : (left cleared : List ℕ) (after : Option (List ℕ)) (some : Bool)
+          → left ≡ take (length rest - n) (drop n rest) → cleared ≡ [] → after ≡ grown out further
           → some ≡ (any || not (is_empty further))
-          → IsUnderway options places head start before old (drop n rest) [] some after later last
-      underway_next after some all either = record {
+          → IsUnderway options places head start before old left cleared some after later last
+      underway_next left cleared after some behind none all either = record {
         front = front_further;
         written = u.written ++ further;
-        parts = parts_next;
+        parts = parts_next ∙ ap (λ (ps : List ℕ). front_further ++ ps) (sym (behind ∙ places_behind n rest));
         out_is =
             all
             ∙ ap (λ (o : Option (List ℕ)). grown o further) u.out_is
             ∙ grown_twice start u.written further;
-        text = append-nil (u.written ++ further) ∙ text_next;
+        text =
+            ap (λ (ls : List ℕ). (u.written ++ further) ++ ls) none
+            ∙ append-nil (u.written ++ further)
+            ∙ text_next;
         any_is =
             either
             ∙ ap (λ (b : Bool). b || not (is_empty further)) u.any_is
@@ -177,14 +192,17 @@ module _ (options : Options) (places head : List ℕ) (start : Option (List ℕ)
       }
 
   -- no place is left, and all is written
-  module _ (rest : List ℕ) (any : Bool) (out : Option (List ℕ)) (now : Shown) (new : ℕ)
-      (u : IsUnderway options places head start before old rest [] any out now new) (none : rest ≡ []) where
+  module _ (rest lines : List ℕ) (any : Bool) (out : Option (List ℕ)) (now : Shown) (new : ℕ)
+      (u : IsUnderway options places head start before old rest lines any out now new) (none : rest ≡ [])
+      (cleared : lines ≡ []) where
     places_over : u.front ≡ places
     places_over = sym (u.parts ∙ ap (λ (ps : List ℕ). u.front ++ ps) none ∙ append-nil u.front)
 
     text_over : u.written ≡ head ++ lines_of before.deck options places
     text_over =
-        sym (append-nil u.written) ∙ u.text
+        sym (append-nil u.written)
+        ∙ ap (λ (ls : List ℕ). u.written ++ ls) (sym cleared)
+        ∙ u.text
         ∙ ap (λ (ps : List ℕ). head ++ lines_of before.deck options ps) places_over
 
     pub written_over : IsWritten (head ++ lines_of before.deck options places) (if any then Refused else Done) start out

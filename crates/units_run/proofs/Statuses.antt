@@ -1,5 +1,5 @@
 -- The status of a run that needs neither files nor input.
-use Rattle.std.proofs.Common.{◌≡◌, ◌∙◌, [], ℕ, List, Bool, false, Some, None, refl, sym, subst}
+use Rattle.std.proofs.Common.{◌≡◌, ◌∙◌, ℕ, List, Bool, false, Some, None, refl, subst}
 use Rattle.std.specs.declared.option.Option.{Option}
 use Rattle.units_io.specs.FileMap.{FileMap}
 use Rattle.units_io.specs.Named.{Pairs}

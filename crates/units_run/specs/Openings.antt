@@ -1,5 +1,5 @@
 -- What a run writes first.
-use Rattle.std.specs.Prelude.{◌≡◌, ◌⊎◌, ℕ, List}
+use Rattle.std.specs.Prelude.{ℕ, List}
 use Rattle.std.specs.declared.option.Option.{Option}
 use Rattle.session.specs.Outside.{GrowsAtLeast}
 use Rattle.units_run.specs.Plans.{Plan, Whole, Opened, Columns}

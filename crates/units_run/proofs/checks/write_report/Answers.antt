@@ -1,4 +1,4 @@
-use Rattle.std.proofs.Common.{◌≡◌, ◌∙◌, ◌++◌, ℕ, List, ap, refl, subst}
+use Rattle.std.proofs.Common.{◌≡◌, ◌∙◌, ◌++◌, List, ap, refl, subst}
 use Rattle.deck.specs.Decks.{Contents}
 use Rattle.deck.specs.KeyLists.{table_keys}
 use Rattle.deck.specs.PlacedKeys.{keys_there}

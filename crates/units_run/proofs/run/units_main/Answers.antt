@@ -16,7 +16,7 @@ use Rattle.units_run.proofs.Running.{cut_run, memory_done, memory_long, memory_r
 use Rattle.units_run.proofs.Seeing.{plan_sees}
 use Rattle.session.proofs.Blocks.{of_two}
 use Rattle.units_run.proofs.Planned.{column_most, false_by, input_files, no_column, not_both, or_true, session_most}
-use Rattle.units_run.proofs.Planned.{left_false, right_false, tells_needed, tells_told}
+use Rattle.units_run.proofs.Planned.{left_false, right_false, tells_needed}
 use Rattle.units_run.proofs.Running.{done_end, long_end, may_end_stated, neither, no_column_worked, no_fault}
 use Rattle.units_run.proofs.Running.{no_session_done, no_write, none_converted, not_long, opened_run, opened_talk}
 use Rattle.units_run.proofs.Running.{plan_course, plan_end, read_end, same_le, session_may_end, session_opens}
