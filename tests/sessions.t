@@ -347,6 +347,21 @@ A file that is loaded with notices, and one that is too long. A file that cannot
   $ apart units -q < .
   [4]
 
+Notices come first: those of the definition file before the banner, those of a loaded file before the next prompt.
+
+  $ file faulty.units 'm !' 'foo2 m' 'ok m'
+  $ printf ':load faulty.units\nok\nm\n' | units -f faulty.units 2>&1
+  faulty.units:2: bad name: foo2
+  2 units, 0 prefixes, 0 nonlinear units
+  You have: faulty.units:2: bad name: foo2
+  You have: You want: \t* 1 (esc)
+  \t/ 1 (esc)
+  You have:  (no-eol)
+  $ units -f faulty.units ok m 2>&1
+  faulty.units:2: bad name: foo2
+  \t* 1 (esc)
+  \t/ 1 (esc)
+
 The end: `quit`, `exit`, or that of the input, whether or not a line feed stands before it. Carriage returns at the
 ends of lines, comments and outer blanks are dropped; another carriage return and a NUL byte are no part of an
 expression. Input that comes byte by byte is answered alike.

@@ -42,6 +42,22 @@ pub record TakesExamples : Type 0 where
         from = Some (codes "yd");
         to = Some (codes "m");
       })
+  pub conversion_by_file : AreLine
+      (codes "-f" ∷ codes "first.units" ∷ codes "2 km" ∷ codes " yards " ∷ [])
+      (record no_line {
+        file = Some (codes "first.units");
+        from = Some (codes "2 km");
+        to = Some (codes " yards ");
+      })
+  pub letters_by_file : AreLine
+      (codes "-f" ∷ codes "first.units" ∷ codes "m" ∷ codes "s" ∷ [])
+      (record no_line { file = Some (codes "first.units"); from = Some (codes "m"); to = Some (codes "s") })
+  pub definition_by_file : AreLine (codes "-f" ∷ codes "first.units" ∷ codes "feet" ∷ [])
+      (record no_line { file = Some (codes "first.units"); from = Some (codes "feet") })
+  pub check_of_file : AreLine (codes "-c" ∷ codes "-f" ∷ codes "first.units" ∷ [])
+      (record no_line { check = true; file = Some (codes "first.units") })
+  pub session_by_file : AreLine (codes "-q" ∷ codes "-f" ∷ codes "first.units" ∷ [])
+      (record no_line { quiet = true; file = Some (codes "first.units") })
   pub letters_together : AreLine (codes "-qd12" ∷ codes "a" ∷ [])
       (record no_line { digits = Some 12; quiet = true; from = Some (codes "a") })
   pub digits_after_flags : AreLine (codes "-1t" ∷ codes "--digits=12" ∷ [])

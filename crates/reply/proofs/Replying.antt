@@ -1,5 +1,5 @@
 -- Replies, by what inquiries answer.
-use Rattle.std.proofs.Common.{◌≡◌, ◌∙◌, sym, ap, subst, ℕ, true, List, Option}
+use Rattle.std.proofs.Common.{◌≡◌, ◌∙◌, sym, ap, subst, ℕ, true, List, Option, IfOk}
 use Rattle.std.specs.Prelude.{Result, Ok, Err}
 use Rattle.std.specs.declared.alloc.AllocError.{AllocError}
 use Rattle.expr_tree.specs.Laws.{ToldLaw}
@@ -19,6 +19,7 @@ use Rattle.reply.specs.declared.failure.Failure.TheVariants.{Fault, OutOfMemory}
 use Rattle.reply.specs.declared.fault.ReplyFault.{ReplyFault}
 use Rattle.reply.specs.declared.form.Form.{Form}
 use Rattle.reply.specs.declared.options.Options.{Options}
+use Rattle.reply.specs.declared.reply.Reply.{Reply}
 use Rattle.reply.specs.Calls.{IsInquired, same}
 use Rattle.reply.specs.Conversions.{conversion}
 use Rattle.reply.specs.Faults.{fault_text, is_told}
@@ -34,6 +35,12 @@ use Rattle.reply.proofs.ToldFaults.{IsTold, conversion-told, text-told}
 told : {A : Type 0} (said : Result A ReplyFault) (fault : ReplyFault) → IsTold said → said ≡ Err fault
     → is_told fault ≡ true
 told said fault h e = subst IsTold e h
+
+-- what holds of the reply that is wanted holds of the one that is given
+pub reply-holds : (P : Reply → Type 0) (given : Result Reply AllocError) (wanted : Reply) → P wanted
+    → IfOk given (λ reply. reply ≡ wanted) → IfOk given P
+reply-holds P (Ok reply) wanted p h = subst P (sym h) p
+reply-holds P (Err fault) wanted p h = tt
 
 -- ---- conversions
 module _ (options : Options) (from to f g : List ℕ) (p : f ≡ trimmed from) (q : g ≡ trimmed to) (a b : Shown)

@@ -6,7 +6,6 @@ use Rattle.expr_tree.specs.Trees.{syntax}
 use Rattle.live_table.specs.declared.fault.QueryFault.{QueryFault}
 use Rattle.live_table.specs.declared.fault.QueryFault.TheVariants as query
 use Rattle.live_table.specs.Shown.{Follows, IsCutOff, Shown}
-use Rattle.live_table.specs.States.{Event}
 use Rattle.reply.specs.declared.failure.Failure.{Failure}
 use Rattle.reply.specs.declared.failure.Failure.TheVariants.{Fault, OutOfMemory}
 use Rattle.reply.specs.declared.fault.ReplyFault.{ReplyFault}

@@ -11,3 +11,7 @@ pub mod Faults
 pub mod Replies
 pub mod Calls
 pub mod Examples
+pub mod Quotients
+pub mod TextValues
+pub mod Grants
+pub mod GrantExamples

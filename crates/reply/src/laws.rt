@@ -1,8 +1,44 @@
-//! Laws of replies.
+//! Laws of replies. A function does nothing: its contract is the law.
 
 ghost use Rattle.reply.specs.Examples.{ExamplesLaw};
+ghost use Rattle.reply.specs.GrantExamples.{GrantExamplesLaw};
+ghost use Rattle.reply.specs.Grants.{GrantLaw};
+ghost use Rattle.reply.specs.Quotients.{QuotientLaw};
+ghost use Rattle.reply.specs.TextValues.{DenominatorLaw};
+
+use deck::tables_are_of_lines;
+use frac128::reduced_law;
+use table_names::kind_law;
 
 /// A few replies are those that were found by hand.
 pub fn examples_law()
     ensures { ExamplesLaw }
+{}
+
+/// Dividing gives a fraction if and only if it is the exact quotient.
+pub fn quotient_law()
+    ensures { QuotientLaw }
+{
+    reduced_law();
+}
+
+/// The value of a text has a denominator above 0.
+pub fn denominator_law()
+    ensures { DenominatorLaw }
+{
+    reduced_law();
+    tables_are_of_lines();
+}
+
+/// A reply grants exactly the conversions that are defined, and gives their exact values.
+pub fn grant_law()
+    ensures { GrantLaw }
+{
+    kind_law();
+    quotient_law();
+}
+
+/// A few texts are converted or refused as was found by hand.
+pub fn grant_examples_law()
+    ensures { GrantExamplesLaw }
 {}

@@ -20,7 +20,7 @@ mod telling;
 
 pub use asking::worths;
 pub use fault::ReplyFault;
-pub use laws::examples_law;
+pub use laws::{denominator_law, examples_law, grant_examples_law, grant_law, quotient_law};
 pub use options::Options;
 pub use reply::{FromValue, Reply, comparison_reply, convert_reply, definition_reply, from_value};
 pub use target::has_semicolon;

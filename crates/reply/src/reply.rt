@@ -10,6 +10,7 @@ ghost use Rattle.digits_print.specs.Styles.{IsStyle};
 ghost use Rattle.live_table.specs.Calls.{AreQueries};
 ghost use Rattle.reply.specs.Conversions as conversions;
 ghost use Rattle.reply.specs.Faults as faults;
+ghost use Rattle.reply.specs.Grants.{IsConversionReply};
 ghost use Rattle.reply.specs.Options.{IsPrintable, style_of};
 ghost use Rattle.reply.specs.declared.reply.FromValue.TheVariants.{Bad};
 ghost use Rattle.reply.specs.Replies as spec;
@@ -20,6 +21,7 @@ use crate::conversion::{Conversion, convert};
 use crate::failure::Failure;
 use crate::fault::ReplyFault;
 use crate::form::Form;
+use crate::laws::grant_law;
 use crate::lines::{put_conversion, put_definition};
 use crate::options::Options;
 use crate::telling::{fault_text, put_fault};
@@ -51,9 +53,10 @@ pub enum FromValue {
     Bad(Text),
 }
 
-/// The reply to the conversion of a text to another, both without the blanks at their ends. It makes the
-/// queries of FROM and then, where FROM has a value, those of TO, up to the first fault, and leaves the deck
-/// as it is. The only error is want of memory.
+/// The reply to the conversion of a text to another, both without the blanks at their ends. It is a refusal unless FROM
+/// has a value, TO is a unit, a function or a list that has one, the two conform and the numbers of the conversion are
+/// fractions of at most 127 bits; then it has exactly these numbers. It makes the queries of FROM and, if FROM has a
+/// value, those of TO, up to the first fault, and leaves the deck as it is. The only error is want of memory.
 pub fn convert_reply<L: Ledger>(
     alloc: Global,
     table: &mut LiveTable,
@@ -65,11 +68,14 @@ pub fn convert_reply<L: Ledger>(
     requires { IsPrintable options.now }
     ensures reply { IfOk result (λ reply.
         reply ≡ spec.conversion_reply (tables.table table.old.deck) options.now from.now to.now) }
+    ensures exact { IfOk result (λ reply.
+        IsConversionReply (tables.table table.old.deck) options.now from.now to.now reply) }
     ensures queries { AreQueries (spec.conversion_queries (tables.table table.old.deck) options.now from.now to.now)
         result table.old table.new steps.old steps.new }
     ensures deck { table.new.deck ≡ table.old.deck }
 {
     told_law();
+    grant_law();
     let form = Form::of(options);
     let from = trim(from);
     let to = trim(to);

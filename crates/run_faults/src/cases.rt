@@ -74,7 +74,16 @@ const SESSION: Case = Case {
     err: b"",
 };
 
-// The same with nothing but answers.
+// A session over definitions with a notice.
+const NOTED: Case = Case {
+    words: b"-f,main.units",
+    input: b"z\nm\n",
+    out: b"2 units, 0 prefixes, 0 nonlinear units\nYou have: You want: \t* 4\n\t/ 0.25\nYou have: ",
+    err: b"main.units:2: no file: gone.units\n",
+    ..SESSION
+};
+
+// A session that writes nothing but answers.
 const QUIET: Case = Case {
     words: b"-q,-f,s.units",
     out: b"\t* 1000\n\t/ 0.001\n",
@@ -113,29 +122,30 @@ pub(crate) const CASES: &[Case] = &[
         failing_fetches: &[4],
         ..UNREAD
     },
+    // The notices are written before the reply.
     Case {
         failing_out_puts: &[1],
         status: Status::WriteFault,
         out: b"",
-        err: b"",
         ..OVER_FILES
     },
     Case {
         failing_out_puts: &[2],
         status: Status::WriteFault,
         out: b"\t* 4\n\t/ ",
-        err: b"",
         ..OVER_FILES
     },
     Case {
         failing_err_puts: &[1],
         status: Status::WriteFault,
+        out: b"",
         err: b"",
         ..OVER_FILES
     },
     Case {
         failing_err_puts: &[5],
         status: Status::WriteFault,
+        out: b"",
         err: b"main.units:2: no file: gone.unit",
         ..OVER_FILES
     },
@@ -192,6 +202,21 @@ pub(crate) const CASES: &[Case] = &[
         status: Status::ReadFault,
         out: b"",
         ..QUIET
+    },
+    // The notices are written before the banner and the prompt.
+    NOTED,
+    Case {
+        failing_out_puts: &[1],
+        status: Status::WriteFault,
+        out: b"",
+        ..NOTED
+    },
+    Case {
+        failing_err_puts: &[5],
+        status: Status::WriteFault,
+        out: b"",
+        err: b"main.units:2: no file: gone.unit",
+        ..NOTED
     },
     // Lines, in pieces.
     Case { piece: 1, ..QUIET },

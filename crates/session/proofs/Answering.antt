@@ -1,5 +1,5 @@
 -- The answer to a line, at a point of a talk.
-use Rattle.std.proofs.Common.{◌≡◌, ◌++◌, ◌∷◌, [], ℕ, List, Bool, Bor, true, false, cond, refl, sym, ap, subst, ◌∙◌}
+use Rattle.std.proofs.Common.{◌≡◌, ◌++◌, ◌∷◌, [], ℕ, List, Bool, Bor, true, false, cond, inl, refl, sym, ap, subst, ◌∙◌}
 use Rattle.std.proofs.Common.{arith}
 use Rattle.std.proofs.Common.{append_assoc, Some, None, Ok, Err, IfOk, OnOk}
 use Rattle.std.specs.Prelude.{Result}
@@ -20,16 +20,16 @@ use Rattle.session.specs.Seen.{seen_command}
 use Rattle.session.specs.Sessions.{Known, State, dated_in, prompt, state_of}
 use Rattle.session.specs.Standing.{Base, IsAt, Begins, IsBefore, IsBroken}
 use Rattle.session.specs.Steps.{answer, answer_read, answer_to, blank_answer, conformable_answer, expression_answer}
-use Rattle.session.specs.Talks.{Talk, files_behind, with_answer, spoken}
+use Rattle.session.specs.Talks.{Talk, with_answer, spoken}
 use Rattle.session.specs.Telling.{TellsIf, when_told}
 use Rattle.session.specs.Watching.{is_full}
 use Rattle.session.specs.declared.answer.LineReply.{LineReply}
 use Rattle.session.specs.declared.command.Command.{Command as Declared}
 use Rattle.session.specs.declared.command.Command.TheVariants as read
 use Rattle.session.specs.declared.fault.SessionFault.{SessionFault}
-use Rattle.session.specs.declared.fault.SessionFault.TheVariants.{WriteFailed}
 use Rattle.session.specs.declared.said.Said.{Said}
-use Rattle.session.proofs.Breaking.{all_answered, left_of_line}
+use Rattle.session.proofs.Breaking.{left_of_line}
+use Rattle.session.proofs.Talking.{at_before}
 use Rattle.watch.specs.Watched.{subject}
 
 -- files that serve are as they were when nothing changes them
@@ -226,11 +226,14 @@ module _ (base : Base) (talk : Talk) (part : List ℕ) (said : Said) (session : 
         → IsBroken fault base talk (part ∷ [])
         (record { said = said_now; session = session_now; files = files_now; steps = steps_now })
     replied_broken fault said_now o e = record {
+      answered = part ∷ [];
+      rest = [];
+      split = refl;
       before = replied_before said_now o e;
       left = (
         asked.after.files,
         same.files ∙ ap (λ f. when_told f asked.after.files) at.files,
-        all_answered (fault ≡ WriteFailed) (files_behind talk) (part ∷ []),
+        inl refl,
       );
     }
 
@@ -241,10 +244,11 @@ module _ (base : Base) (talk : Talk) (part : List ℕ) (said : Said) (session : 
       → IsBroken fault base talk (part ∷ [])
       (record { said = said; session = session_now; files = files_now; steps = steps_now })
   unanswered A line heard fault session_now files_now steps_now kept = record {
-    before = record {
-      out = (spoken asked part, ap (λ t. t ++ spoken asked part) at.out);
-      err = (asked.err, ap (λ t. t ++ asked.err) at.err);
-    };
+    answered = [];
+    rest = part ∷ [];
+    split = refl;
+    before = at_before base talk talk []
+        (record { said = said; session = session; files = files; steps = steps }) at refl;
     left = left_of_line A talk part fault files_now
         (subst (λ old. LineKeeps {A = A} (saved_by part) (Err fault) old files_now) at.files
         (subst (λ l. LineKeeps {A = A} (saved_by_read l) (Err fault) files files_now) heard kept));

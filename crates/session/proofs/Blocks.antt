@@ -10,22 +10,22 @@ use Rattle.units_io.specs.Faults.{Rose}
 use Rattle.units_io.specs.FileMap.{FileMap}
 use Rattle.session.specs.Hearing.{is_last, heard}
 use Rattle.session.specs.Input.{whole_lines, lines_of}
-use Rattle.session.specs.Talks.{Talk, files_behind, talk_over, talk_on}
+use Rattle.session.specs.Talks.{Talk, talk_over, talk_on}
 use Rattle.session.specs.Hearing.{readable}
 use Rattle.session.specs.Telling.{when_told}
 use Rattle.session.specs.Outside.{Outside, taken_of, IsReadToEnd, TookMoreThan}
-use Rattle.session.specs.Written.{IsAll, IsFront, IsCut, IsCutShort, IsPart, IsPartBut, output_of, session_course}
-use Rattle.session.specs.Standing.{Base, Now, IsAt, Begins, IsBefore, IsBroken, Stands, Fed}
+use Rattle.session.specs.Written.{IsAll, IsCut, IsCutShort, IsFront, IsPart, IsPartBut, IsPartIf, output_of}
+use Rattle.session.specs.Written.{session_course}
+use Rattle.session.specs.Standing.{Base, Begins, BreaksOff, IsAt, IsBefore, Stands}
 use Rattle.session.specs.Waiting.{Opens, Waits, TookAtLeast}
 use Rattle.session.specs.Sessions.{Known}
 use Rattle.session.specs.declared.fault.SessionFault.{SessionFault}
 use Rattle.session.specs.declared.said.Said.{Said}
 use Rattle.std.proofs.lemmas.Bool.Decides.{nat_tests}
 use Rattle.session.proofs.Cutting.{take-front}
-use Rattle.session.proofs.Breaking.{none_answered}
-use Rattle.session.proofs.Talking.{heard_more, talk_more, at_before, talk-out, talk-err}
+use Rattle.session.proofs.HeardLines.{heard_more}
 
-grown_twice : (o : Option (List ℕ)) (xs ys : List ℕ) → grown (grown o xs) ys ≡ grown o (xs ++ ys)
+pub grown_twice : (o : Option (List ℕ)) (xs ys : List ℕ) → grown (grown o xs) ys ≡ grown o (xs ++ ys)
 grown_twice None xs ys = refl
 grown_twice (Some held) xs ys = ap Some (append_assoc held xs ys)
 
@@ -121,20 +121,6 @@ pub left_and_more : (taken bytes done left more : List ℕ) → bytes ≡ done +
 left_and_more taken bytes done left more e =
     sym (append_assoc (taken ++ done) left more) ∙ same_input taken bytes done left more e
 
--- what is before the talk over the whole input, whether it goes on, has ended, or failed
-pub fed_before : (result : Result Bool SessionFault) (base : Base) (first : Talk) (taken bytes left more : List ℕ)
-    (held : Option (List ℕ)) (now : Now) → Fed result base first taken bytes left more held now
-    → IsBefore base (talk_on first ((taken ++ bytes) ++ more)) now.said
-fed_before (Ok false) base first taken bytes left more held now fed =
-    let lines = talk_more first (taken ++ fed.0) fed.2.going (left ++ more) in
-    subst (λ i. IsBefore base (talk_on first i) now.said) (left_and_more taken bytes fed.0 left more fed.1)
-    (at_before base (talk_over first (whole_lines (taken ++ fed.0)))
-    (talk_on first ((taken ++ fed.0) ++ (left ++ more))) lines.0 now fed.2.at lines.1)
-fed_before (Ok true) base first taken bytes left more held now over =
-    at_before base (talk_on first ((taken ++ bytes) ++ more)) (talk_on first ((taken ++ bytes) ++ more)) [] now over.at
-    refl
-fed_before (Err fault) base first taken bytes left more held now broken = broken.before
-
 -- once the opening is written, the session waits for its first line
 pub opens : (first : Talk) (held : Option (List ℕ)) (said : Said) (session : Known) (before opening now : Outside)
     → Opens first said session before opening
@@ -187,6 +173,21 @@ module _ (first : Talk) (taken : List ℕ) (held : Option (List ℕ)) (session :
         (front_behind before.err now.err after.err told.err said.err.items w.err e);
   }
 
+  -- by how far the talk is answered
+  pub part_by : (failed : Type 0) (input : List ℕ) (said : Said) (new : Known) (after : Outside) (old : FileMap)
+      → before.files ≡ Some old
+      → BreaksOff failed written first (heard (lines_of input))
+      (record { said = said; session = new; files = after.files; steps = after.steps })
+      → GrowsByFront now.out after.out said.out.items → GrowsByFront now.err after.err said.err.items
+      → IsPartIf failed (session_course first input) before after
+  part_by failed input said new after old h broken o e = record {
+    answered = broken.answered;
+    rest = broken.rest;
+    split = broken.split;
+    front = fronts (talk_over first broken.answered) said after broken.before o e;
+    files = (broken.left.0, stay_told before.files after.files old broken.left.0 h broken.left.1, broken.left.2);
+  }
+
   -- the session waits again once what was said is written
   pub waits : (front : List ℕ) (held_now : Option (List ℕ)) (said : Said) (new : Known) (after : Outside)
       → Stands written first front held_now
@@ -236,50 +237,32 @@ module _ (first : Talk) (taken : List ℕ) (held : Option (List ℕ)) (session :
         going = w.going;
       })
 
-  cut_front : (input rest : List ℕ) (after : Outside) → input ≡ taken ++ rest → after.out ≡ now.out
-      → after.err ≡ now.err → IsFront (output_of (talk_on first input)) before after
-  cut_front input rest after p o e =
-      let more = talk_more first taken w.going rest in
-      subst (λ i. IsFront (output_of (talk_on first i)) before after) (sym p) (record {
-        out = front_more before.out after.out told.out (talk_on first (taken ++ rest)).out
-            (subst (λ (t : Talk). Begins told.out t.out) (sym more.1) (talk-out told more.0))
-            (front_all before.out after.out told.out (o ∙ w.out));
-        err = front_more before.err after.err told.err (talk_on first (taken ++ rest)).err
-            (subst (λ (t : Talk). Begins told.err t.err) (sym more.1) (talk-err told more.0))
-            (front_all before.err after.err told.err (e ∙ w.err));
-      })
-
   -- and what is left of it is a part
   pub cut_part : (input rest : List ℕ) (after : Outside) (old : FileMap) → before.files ≡ Some old
       → input ≡ taken ++ rest → after.out ≡ now.out → after.err ≡ now.err → after.files ≡ now.files
       → IsPart (session_course first input) before after
   cut_part input rest after old h p o e f =
-      let more = heard_more first taken w.going rest in
+      let more = heard_more taken w.going rest in
       record {
-        front = cut_front input rest after p o e;
-        files = (
-          told.state.files,
-          stay_told before.files after.files old told.state.files h (f ∙ w.files),
-          record {
-            answered = whole_lines taken;
-            rest = more.0;
-            front = ap (λ i. heard (lines_of i)) p ∙ more.1;
-            reached = refl;
-          },
-        );
+        answered = whole_lines taken;
+        rest = more.0;
+        split = ap (λ i. heard (lines_of i)) p ∙ more.1;
+        front = record {
+          out = front_all before.out after.out told.out (o ∙ w.out);
+          err = front_all before.err after.err told.err (e ∙ w.err);
+        };
+        files = stay_told before.files after.files old told.state.files h (f ∙ w.files);
       }
 
--- the opening alone is a front of the whole
-open_front : (first : Talk) (input : List ℕ) (said : Said) (session : Known) (before opening after : Outside)
+-- a front of what is said first
+open_front : (first : Talk) (said : Said) (session : Known) (before opening after : Outside)
     → Opens first said session before opening
     → GrowsByFront opening.out after.out said.out.items → GrowsByFront opening.err after.err said.err.items
-    → IsFront (output_of (talk_on first input)) before after
-open_front first input said session before opening after w o e = record {
-  out = front_more before.out after.out said.out.items (talk_on first input).out
-      (subst (λ t. Begins t (talk_on first input).out) w.at.out (talk-out first (heard (lines_of input))))
+    → IsFront (output_of first) before after
+open_front first said session before opening after w o e = record {
+  out = subst (GrowsByFront before.out after.out) (sym w.at.out)
       (subst (λ p. GrowsByFront p after.out said.out.items) w.out o);
-  err = front_more before.err after.err said.err.items (talk_on first input).err
-      (subst (λ t. Begins t (talk_on first input).err) w.at.err (talk-err first (heard (lines_of input))))
+  err = subst (GrowsByFront before.err after.err) (sym w.at.err)
       (subst (λ p. GrowsByFront p after.err said.err.items) w.err e);
 }
 
@@ -295,12 +278,11 @@ pub open_part : (first : Talk) (input : List ℕ) (said : Said) (session : Known
     → GrowsByFront opening.err after.err said.err.items → after.files ≡ opening.files
     → IsPartBut (session_course first input) before after
 open_part first input said session before opening after w o e f = record {
-  front = open_front first input said session before opening after w o e;
-  files = (
-    first.state.files,
-    f ∙ opened_files first said session before opening w,
-    none_answered (Rose before.store_faults after.store_faults) (files_behind first) (heard (lines_of input)),
-  );
+  answered = [];
+  rest = heard (lines_of input);
+  split = refl;
+  front = open_front first said session before opening after w o e;
+  files = (first.state.files, f ∙ opened_files first said session before opening w, inl refl);
 }
 
 le_from : (a b : ℕ) → nat_le a b ≡ true → a ≤ b
@@ -331,13 +313,6 @@ went input taken rest bytes more p q = append_assoc taken bytes more ∙ ap (λ 
 module _ (first : Talk) (taken : List ℕ) (held : Option (List ℕ)) (session : Known) (before now : Outside)
     (w : Waits first taken held session before now) where
   -- the same of the whole input
-  pub fronts_at : (i input : List ℕ) (said : Said) (after : Outside) → i ≡ input
-      → IsBefore (written first taken held session before now w) (talk_on first i) said
-      → GrowsByFront now.out after.out said.out.items → GrowsByFront now.err after.err said.err.items
-      → IsFront (output_of (talk_on first input)) before after
-  fronts_at i input said after p b o e = subst (λ t. IsFront (output_of (talk_on first t)) before after) p
-      (fronts first taken held session before now w (talk_on first i) said after b o e)
-
   pub whole_at : (i input : List ℕ) (said : Said) (new : Known) (after : Outside) (old : FileMap) → i ≡ input
       → before.files ≡ Some old → IsAt (written first taken held session before now w) (talk_on first i)
       (record { said = said; session = new; files = after.files; steps = after.steps })
@@ -355,15 +330,6 @@ heard_by input taken bytes more left all q last =
 -- or to its end
 pub all_heard : (input taken rest : List ℕ) → input ≡ taken ++ rest → rest ≡ [] → taken ≡ input
 all_heard input taken rest p z = sym (p ∙ ap (λ t. taken ++ t) z ∙ append-nil taken)
-
-pub ended_before : {A : Type 0} (result : Result A SessionFault) (base : Base) (first : Talk) (input : List ℕ)
-    (now : Now)
-    → MatchResult result (λ _. IsAt base (talk_on first input) now)
-    (λ fault. IsBroken fault base first (heard (lines_of input)) now)
-    → IsBefore base (talk_on first input) now.said
-ended_before (Ok done) base first input now at = at_before base (talk_on first input) (talk_on first input) [] now at
-    refl
-ended_before (Err fault) base first input now b = b.before
 
 pub rose_from : (first a b c : ℕ) → first ≤ a → a ≤ b → Rose b c → Rose first c
 rose_from first a b c e h r = omega (arith, e, h, r)

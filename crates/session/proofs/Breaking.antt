@@ -7,15 +7,15 @@ use Rattle.std.specs.declared.option.Option.{Option}
 use Rattle.std.proofs.lemmas.List.{append-nil}
 use Rattle.def_entry.specs.Cuts.{lacks}
 use Rattle.units_io.specs.FileMap.{FileMap}
-use Rattle.units_io.specs.Storing.{KeepsOthers}
 use Rattle.session.specs.Hearing.{heard, is_last, saved_by}
 use Rattle.session.specs.Input.{whole_lines, unfinished, lines_of}
-use Rattle.session.specs.Keeping.{AreBehindSome, AreLeft, KeepsAllBut, LineKeeps, SaveKeeps}
-use Rattle.session.specs.Standing.{Base, IsAt, IsBroken, Now, Stands}
-use Rattle.session.specs.Talks.{Talk, files_behind, talk_over}
+use Rattle.session.specs.Keeping.{AreLeft, KeepsAllBut, LineKeeps, SaveKeeps}
+use Rattle.session.specs.Standing.{Base, BreaksOff, IsAt, IsBefore, IsBroken, Now, Stands}
+use Rattle.session.specs.Talks.{Talk, talk_over}
 use Rattle.session.specs.declared.fault.SessionFault.{SessionFault}
 use Rattle.session.specs.declared.fault.SessionFault.TheVariants.{OutOfMemory, ReadFailed, WriteFailed}
-use Rattle.session.proofs.Talking.{at_before, before_more, heard_end, heard_feed, heard_more, next, talk-append}
+use Rattle.session.proofs.HeardLines.{heard_end, heard_feed, heard_more}
+use Rattle.session.proofs.Talking.{at_before, talk-append}
 
 -- files that nothing has changed
 all_but_same : (name : List ℕ) (old new : Option FileMap) → new ≡ old → KeepsAllBut name old new
@@ -39,132 +39,125 @@ pub line_saves : {A : Type 0} (named : Option (List ℕ)) (name : List ℕ) (res
     (old new : Option FileMap) → Some name ≡ named → SaveKeeps name result old new → LineKeeps named result old new
 line_saves named name result old new e k = subst (λ n. LineKeeps n result old new) e k
 
--- the files behind all of some lines
-pub all_answered : (failed : Type 0) (behind : List (List ℕ) → FileMap) (lines : List (List ℕ))
-    → AreLeft failed behind lines (behind lines)
-all_answered failed behind lines =
-    inl (record { answered = lines; rest = []; front = sym (append-nil lines); reached = refl })
+-- the files where the answers break off, by another cause
+pub left_by : (failed cause : Type 0) (rest : List (List ℕ)) (left files : FileMap) → (failed → cause)
+    → AreLeft failed rest left files → AreLeft cause rest left files
+left_by failed cause rest left files h (inl same) = inl same
+left_by failed cause rest left files h (inr spoilt) = inr (h spoilt.0, spoilt.1)
 
--- and before the first of them
-pub none_answered : (failed : Type 0) (behind : List (List ℕ) → FileMap) (lines : List (List ℕ))
-    → AreLeft failed behind lines (behind [])
-none_answered failed behind lines = inl (record { answered = []; rest = lines; front = refl; reached = refl })
+-- if no store failed
+pub left_whole : (failed : Type 0) (rest : List (List ℕ)) (left files : FileMap) → (failed → ⊥)
+    → AreLeft failed rest left files → files ≡ left
+left_whole failed rest left files h (inl same) = same
+left_whole failed rest left files h (inr spoilt) = absurd (h spoilt.0)
 
--- by another cause
-pub left_by : (failed cause : Type 0) (behind : List (List ℕ) → FileMap) (lines : List (List ℕ)) (files : FileMap)
-    → (failed → cause) → AreLeft failed behind lines files → AreLeft cause behind lines files
-left_by failed cause behind lines files h (inl some) = inl some
-left_by failed cause behind lines files h (inr spoilt) = inr (h spoilt.0, spoilt.1)
+-- before more lines
+left_more : (failed : Type 0) (rest after : List (List ℕ)) (left files : FileMap) → AreLeft failed rest left files
+    → AreLeft failed (rest ++ after) left files
+left_more failed rest after left files (inl same) = inl same
+left_more failed rest after left files (inr spoilt) = inr (
+  spoilt.0,
+  record {
+    line = spoilt.1.line;
+    later = spoilt.1.later ++ after;
+    name = spoilt.1.name;
+    next = ap (λ ls. ls ++ after) spoilt.1.next;
+    saves = spoilt.1.saves;
+    others = spoilt.1.others;
+  },
+)
 
--- where no store failed
-pub left_whole : (failed : Type 0) (behind : List (List ℕ) → FileMap) (lines : List (List ℕ)) (files : FileMap)
-    → (failed → ⊥) → AreLeft failed behind lines files → AreBehindSome behind lines files
-left_whole failed behind lines files h (inl some) = some
-left_whole failed behind lines files h (inr spoilt) = absurd (h spoilt.0)
-
--- what is left of some lines is left of more, those before them answered
-module _ (first : Talk) (before lines after all : List (List ℕ)) (e : all ≡ before ++ (lines ++ after)) where
-  joined : (front behind : List (List ℕ)) → lines ≡ front ++ behind → all ≡ (before ++ front) ++ (behind ++ after)
-  joined front behind f =
-      e ∙ ap (λ ls. before ++ (ls ++ after)) f ∙ ap (λ ls. before ++ ls) (append_assoc front behind after)
-      ∙ sym (append_assoc before front (behind ++ after))
-
-  same_files : (front : List (List ℕ))
-      → files_behind (talk_over first before) front ≡ files_behind first (before ++ front)
-  same_files front = ap (λ (t : Talk). t.state.files) (sym (talk-append first before front))
-
-  left_more : (failed : Type 0) (files : FileMap) → AreLeft failed (files_behind (talk_over first before)) lines files
-      → AreLeft failed (files_behind first) all files
-  left_more failed files (inl some) = inl (record {
-    answered = before ++ some.answered;
-    rest = some.rest ++ after;
-    front = joined some.answered some.rest some.front;
-    reached = some.reached ∙ same_files some.answered;
-  })
-  left_more failed files (inr spoilt) = inr (
-    spoilt.0,
-    record {
-      answered = before ++ spoilt.1.answered;
-      line = spoilt.1.line;
-      rest = spoilt.1.rest ++ after;
-      name = spoilt.1.name;
-      front = joined spoilt.1.answered (spoilt.1.line ∷ spoilt.1.rest) spoilt.1.front;
-      saves = spoilt.1.saves;
-      others = subst (λ (m : FileMap). KeepsOthers m files spoilt.1.name) (same_files spoilt.1.answered)
-          spoilt.1.others;
-    },
-  )
-
--- a line among others at which the answers break off
-broken_more : (fault : SessionFault) (base : Base) (first : Talk) (before : List (List ℕ)) (line : List ℕ)
-    (after all : List (List ℕ)) (now : Now) → all ≡ before ++ line ∷ after
-    → IsBroken fault base (talk_over first before) (line ∷ []) now → IsBroken fault base first all now
-broken_more fault base first before line after all now e b = record {
-  before =
-      before_more base (next (talk_over first before) line) (talk_over first all) after now.said b.before
-      (ap (talk_over first) e ∙ talk-append first before (line ∷ after));
+pub broken_by : (failed cause : Type 0) (base : Base) (talk : Talk) (lines : List (List ℕ)) (now : Now)
+    → (failed → cause) → BreaksOff failed base talk lines now → BreaksOff cause base talk lines now
+broken_by failed cause base talk lines now h b = record {
+  answered = b.answered;
+  rest = b.rest;
+  split = b.split;
+  before = b.before;
   left = (
     b.left.0,
     b.left.1,
-    left_more first before (line ∷ []) after all e (fault ≡ WriteFailed) b.left.0 b.left.2,
+    left_by failed cause b.rest (talk_over talk b.answered).state.files b.left.0 h b.left.2,
   );
 }
+
+-- all of some lines are answered
+pub broken_last : (failed : Type 0) (base : Base) (talk : Talk) (lines : List (List ℕ)) (now : Now)
+    → IsAt base (talk_over talk lines) now → BreaksOff failed base talk lines now
+broken_last failed base talk lines now at = record {
+  answered = lines;
+  rest = [];
+  split = sym (append-nil lines);
+  before = at_before base (talk_over talk lines) (talk_over talk lines) [] now at refl;
+  left = ((talk_over talk lines).state.files, at.files, inl refl);
+}
+
+-- a line among others at which the answers break off, those before it answered
+broken_more : (fault : SessionFault) (base : Base) (first : Talk) (before : List (List ℕ)) (line : List ℕ)
+    (after all : List (List ℕ)) (now : Now) → all ≡ before ++ line ∷ after
+    → IsBroken fault base (talk_over first before) (line ∷ []) now → IsBroken fault base first all now
+broken_more fault base first before line after all now e b =
+    let same : talk_over (talk_over first before) b.answered ≡ talk_over first (before ++ b.answered) =
+    sym (talk-append first before b.answered) in
+    record {
+      answered = before ++ b.answered;
+      rest = b.rest ++ after;
+      split =
+          e ∙ ap (λ ls. before ++ (ls ++ after)) b.split
+          ∙ ap (λ ls. before ++ ls) (append_assoc b.answered b.rest after)
+          ∙ sym (append_assoc before b.answered (b.rest ++ after));
+      before = subst (λ (t : Talk). IsBefore base t now.said) same b.before;
+      left = (
+        b.left.0,
+        b.left.1,
+        subst (λ (t : Talk). AreLeft (fault ≡ WriteFailed) (b.rest ++ after) t.state.files b.left.0) same
+            (left_more (fault ≡ WriteFailed) b.rest after (talk_over (talk_over first before) b.answered).state.files
+            b.left.0 b.left.2),
+      );
+    }
 
 -- they break off before the first of some lines
 pub broken_at : (fault : SessionFault) (base : Base) (talk : Talk) (lines : List (List ℕ)) (now : Now)
     → IsAt base talk now → IsBroken fault base talk lines now
 broken_at fault base talk lines now at = record {
-  before = at_before base talk (talk_over talk lines) lines now at refl;
-  left = (talk.state.files, at.files, none_answered (fault ≡ WriteFailed) (files_behind talk) lines);
+  answered = [];
+  rest = lines;
+  split = refl;
+  before = at_before base talk talk [] now at refl;
+  left = (talk.state.files, at.files, inl refl);
 }
 
 -- the files behind a line that was not answered
 pub left_of_line : (A : Type 0) (talk : Talk) (part : List ℕ) (fault : SessionFault) (files : Option FileMap)
     → LineKeeps {A = A} (saved_by part) (Err fault) (Some talk.state.files) files
-    → (m : FileMap) × (files ≡ Some m) × AreLeft (fault ≡ WriteFailed) (files_behind talk) (part ∷ []) m
+    → (m : FileMap) × (files ≡ Some m) × AreLeft (fault ≡ WriteFailed) (part ∷ []) talk.state.files m
 left_of_line A talk part fault files kept = by (saved_by part) refl fault kept
   where
     by : (named : Option (List ℕ)) → saved_by part ≡ named → (f : SessionFault)
         → LineKeeps {A = A} named (Err f) (Some talk.state.files) files
-        → (m : FileMap) × (files ≡ Some m) × AreLeft (f ≡ WriteFailed) (files_behind talk) (part ∷ []) m
-    by None e f k = (talk.state.files, k, none_answered (f ≡ WriteFailed) (files_behind talk) (part ∷ []))
-    by (Some name) e ReadFailed k =
-        (talk.state.files, k, none_answered (ReadFailed ≡ WriteFailed) (files_behind talk) (part ∷ []))
+        → (m : FileMap) × (files ≡ Some m) × AreLeft (f ≡ WriteFailed) (part ∷ []) talk.state.files m
+    by None e f k = (talk.state.files, k, inl refl)
+    by (Some name) e ReadFailed k = (talk.state.files, k, inl refl)
     by (Some name) e WriteFailed k = (
       k.0,
       k.1,
-      inr (
-        refl,
-        record {
-          answered = [];
-          line = part;
-          rest = [];
-          name = name;
-          front = refl;
-          saves = e;
-          others = k.2;
-        },
-      ),
+      inr (refl, record { line = part; later = []; name = name; next = refl; saves = e; others = k.2 }),
     )
-    by (Some name) e OutOfMemory k =
-        (talk.state.files, k, none_answered (OutOfMemory ≡ WriteFailed) (files_behind talk) (part ∷ []))
+    by (Some name) e OutOfMemory k = (talk.state.files, k, inl refl)
 
 module _ (fault : SessionFault) (base : Base) (first : Talk) (taken : List ℕ) (held : Option (List ℕ)) (now : Now)
     (s : Stands base first taken held now) where
   -- the answers break off behind the bytes taken
   pub broken_rest : (more : List ℕ) → IsBroken fault base first (heard (lines_of (taken ++ more))) now
   broken_rest more =
-      let rest = heard_more first taken s.going more in
+      let rest = heard_more taken s.going more in
       let talk = talk_over first (whole_lines taken) in
       record {
-        before =
-            at_before base talk (talk_over first (heard (lines_of (taken ++ more)))) rest.0 now s.at
-            (ap (talk_over first) rest.1 ∙ talk-append first (whole_lines taken) rest.0);
-        left = (
-          talk.state.files,
-          s.at.files,
-          inl (record { answered = whole_lines taken; rest = rest.0; front = rest.1; reached = refl }),
-        );
+        answered = whole_lines taken;
+        rest = rest.0;
+        split = rest.1;
+        before = at_before base talk talk [] now s.at refl;
+        left = (talk.state.files, s.at.files, inl refl);
       }
 
   -- or at a line
@@ -178,7 +171,7 @@ module _ (fault : SessionFault) (base : Base) (first : Talk) (taken : List ℕ) 
       (ap (λ t. heard (lines_of t))
       (append_assoc taken (piece ++ 10 ∷ behind) more
       ∙ ap (λ t. taken ++ t) (append_assoc piece (10 ∷ behind) more))
-      ∙ heard_feed first taken s.going piece clear (behind ++ more)) b
+      ∙ heard_feed taken s.going piece clear (behind ++ more)) b
 
   -- or at the last, which no line feed ends
   pub broken_end : (after : Now) → (unfinished taken ≡ [] → ⊥)
@@ -186,4 +179,4 @@ module _ (fault : SessionFault) (base : Base) (first : Talk) (taken : List ℕ) 
       → IsBroken fault base first (heard (lines_of taken)) after
   broken_end after h b =
       broken_more fault base first (whole_lines taken) (unfinished taken) [] (heard (lines_of taken)) after
-      (heard_end first taken s.going h) b
+      (heard_end taken s.going h) b

@@ -7,10 +7,10 @@ use Rattle.def_entry.specs.Cuts.{lacks}
 use Rattle.session.specs.Input.{Cut, cut_from, with_line, whole_lines, unfinished, lines_of, if_any}
 
 -- two parts of the bytes
-abbrev both : Cut → Cut → Cut
+abbrev pub both : Cut → Cut → Cut
 both a b = record { whole = a.whole ++ b.whole; open_line = b.open_line }
 
-cut-append : (part xs ys : List ℕ)
+pub cut-append : (part xs ys : List ℕ)
     → cut_from part (xs ++ ys) ≡ both (cut_from part xs) (cut_from (cut_from part xs).open_line ys)
 cut-append part [] ys = refl
 cut-append part (x ∷ xs) ys = by (cut-append [] xs ys) (cut-append (part ++ x ∷ []) xs ys) (x == 10)
@@ -26,7 +26,7 @@ cut-append part (x ∷ xs) ys = by (cut-append [] xs ys) (cut-append (part ++ x 
     by ends goes false = goes
 
 -- a piece without a line feed goes on with the line
-cut-piece : (part piece : List ℕ) → lacks 10 piece ≡ true
+pub cut-piece : (part piece : List ℕ) → lacks 10 piece ≡ true
     → cut_from part piece ≡ record { whole = []; open_line = part ++ piece }
 cut-piece part [] e = ap (λ t. record { whole = []; open_line = t }) (sym (append-nil part))
 cut-piece part (b ∷ piece) e = by (b == 10) (and_parts (not (b == 10)) (lacks 10 piece) e)

@@ -7,77 +7,56 @@ use Rattle.std.specs.declared.option.Option.{Option}
 use Rattle.std.proofs.lemmas.List.{append-nil}
 use Rattle.units_io.specs.Bytes.{GrowsByFront}
 use Rattle.units_io.specs.Faults.{Rose}
-use Rattle.units_io.specs.FileMap.{FileMap}
 use Rattle.session.specs.Hearing.{heard}
 use Rattle.session.specs.Input.{lines_of}
-use Rattle.session.specs.Keeping.{AreLeft}
 use Rattle.session.specs.Outside.{Outside, TookMoreThan}
 use Rattle.session.specs.Runs.{HasItsCause, end_of, fault_end, last_end}
 use Rattle.session.specs.Sessions.{Known}
-use Rattle.session.specs.Standing.{Base, IsAt, IsBroken, Now}
-use Rattle.session.specs.Talks.{Talk, files_behind, talk_on}
+use Rattle.session.specs.Talks.{Talk, talk_on, talk_over}
+use Rattle.session.specs.Telling.{when_told}
 use Rattle.session.specs.Waiting.{Opens}
 use Rattle.session.specs.Worlds.{FilesSeen, SinkSeen, SourceSeen, World, world_of}
-use Rattle.session.specs.Written.{Course, IsAll, IsEnded, IsFront, IsPart, IsPartBut, output_of, session_course}
+use Rattle.session.specs.Written.{IsAll, IsEnded, IsPart, IsPartBut, IsPartIf, output_of, session_course}
 use Rattle.session.specs.declared.fault.SessionFault.{SessionFault}
 use Rattle.session.specs.declared.fault.SessionFault.TheVariants.{OutOfMemory, ReadFailed, WriteFailed}
 use Rattle.session.specs.declared.over_source.SessionEnd.{SessionEnd}
 use Rattle.session.specs.declared.over_source.SessionEnd.TheVariants.{Done, NoMemory, ReadFault, WriteFault}
 use Rattle.session.specs.declared.over_source.SessionEnd.TheVariants.{InputTooLong}
 use Rattle.session.specs.declared.said.Said.{Said}
-use Rattle.session.proofs.Blocks.{any_since, either_rose, of_two, opened_files, stay_told}
-use Rattle.session.proofs.Breaking.{all_answered, left_by, left_whole}
-
--- the files that a store which failed may have spoilt, by what was answered
-abbrev pub Left : {A : Type 0} → Result A SessionFault → Talk → (input : List ℕ) → Option FileMap → Type 0
-Left result first input files =
-    (m : FileMap) × (files ≡ Some m)
-    × AreLeft (result ≡ Err WriteFailed) (files_behind first) (heard (lines_of input)) m
-
-pub broken_left : {A : Type 0} (result : Result A SessionFault) (fault : SessionFault) → result ≡ Err fault
-    → (base : Base) (first : Talk) (input : List ℕ) (now : Now) → IsBroken fault base first (heard (lines_of input)) now
-    → Left result first input now.files
-broken_left result fault e base first input now b = (
-  b.left.0,
-  b.left.1,
-  left_by (fault ≡ WriteFailed) (result ≡ Err WriteFailed) (files_behind first) (heard (lines_of input)) b.left.0
-      (λ is. e ∙ ap Err is) b.left.2,
-)
-
-pub whole_left : {A : Type 0} (result : Result A SessionFault) (base : Base) (first : Talk) (input : List ℕ) (now : Now)
-    → IsAt base (talk_on first input) now → Left result first input now.files
-whole_left result base first input now at = (
-  (talk_on first input).state.files,
-  at.files,
-  all_answered (result ≡ Err WriteFailed) (files_behind first) (heard (lines_of input)),
-)
+use Rattle.session.proofs.Blocks.{any_since, either_rose, of_two, opened_files}
+use Rattle.session.proofs.Breaking.{left_by, left_whole}
 
 same_end : (x y : SessionEnd) → Some x ≡ Some y → y ≡ x
 same_end x y e = cc
 
--- a part, where no store failed, and where one may have failed
+-- a part, if no store failed, and if one may have failed
 module _ (A : Type 0) (fed : Result A SessionFault) (first : Talk) (input : List ℕ) (start after : Outside)
-    (old : FileMap) (told : start.files ≡ Some old) (front : IsFront (output_of (talk_on first input)) start after)
-    (left : Left fed first input after.files) where
+    (part : IsPartIf (fed ≡ Err WriteFailed) (session_course first input) start after) where
   part_whole : (fed ≡ Err WriteFailed → ⊥) → IsPart (session_course first input) start after
   part_whole calm = record {
-    front = front;
-    files = (
-      left.0,
-      stay_told start.files after.files old left.0 told left.1,
-      left_whole (fed ≡ Err WriteFailed) (files_behind first) (heard (lines_of input)) left.0 calm left.2,
-    );
+    answered = part.answered;
+    rest = part.rest;
+    split = part.split;
+    front = part.front;
+    files =
+        part.files.1
+        ∙ ap (when_told start.files)
+        (left_whole (fed ≡ Err WriteFailed) part.rest (talk_over first part.answered).state.files part.files.0 calm
+        part.files.2);
   }
 
   pub part_but : (fed ≡ Err WriteFailed → Rose start.store_faults after.store_faults)
       → IsPartBut (session_course first input) start after
   part_but rose = record {
-    front = front;
+    answered = part.answered;
+    rest = part.rest;
+    split = part.split;
+    front = part.front;
     files = (
-      left.0,
-      stay_told start.files after.files old left.0 told left.1,
-      left_by (fed ≡ Err WriteFailed) (Rose start.store_faults after.store_faults) (files_behind first)
-          (heard (lines_of input)) left.0 rose left.2,
+      part.files.0,
+      part.files.1,
+      left_by (fed ≡ Err WriteFailed) (Rose start.store_faults after.store_faults) part.rest
+          (talk_over first part.answered).state.files part.files.0 rose part.files.2,
     );
   }
 
@@ -92,27 +71,19 @@ module _ (A : Type 0) (fed : Result A SessionFault) (first : Talk) (input : List
 
 -- what is left of a session that a block ended
 pub ended_by : (fed : Result Bool SessionFault) (ending : SessionEnd) (first : Talk) (input : List ℕ)
-    (start after : Outside) (old : FileMap) → start.files ≡ Some old → Some ending ≡ end_of fed
-    → IsFront (output_of (talk_on first input)) start after → Left fed first input after.files
+    (start after : Outside) → Some ending ≡ end_of fed
+    → IsPartIf (fed ≡ Err WriteFailed) (session_course first input) start after
     → (fed ≡ Ok true → IsAll (output_of (talk_on first input)) start after)
     → (fed ≡ Err ReadFailed → Rose start.fetch_faults after.fetch_faults)
     → (fed ≡ Err WriteFailed → Rose start.store_faults after.store_faults)
     → IsEnded (session_course first input) ending start after
-ended_by fed ending first input start after old told e front left all rose stored = by fed e left all rose stored
-  where
-    course : Course
-    course = session_course first input
-
-    by : (f : Result Bool SessionFault) → Some ending ≡ end_of f → Left f first input after.files
-        → (f ≡ Ok true → IsAll (output_of (talk_on first input)) start after)
-        → (f ≡ Err ReadFailed → Rose start.fetch_faults after.fetch_faults)
-        → (f ≡ Err WriteFailed → Rose start.store_faults after.store_faults) → IsEnded course ending start after
-    by (Ok false) q l w r s = cc
-    by (Ok true) q l w r s =
-        subst (λ (x : SessionEnd). IsEnded course x start after) (same_end ending Done q) (w refl)
-    by (Err fault) q l w r s =
-        subst (λ (x : SessionEnd). IsEnded course x start after) (same_end ending (fault_end fault) q)
-        (by_fault Bool (Err fault) first input start after old told front l fault refl r s)
+ended_by (Ok false) ending first input start after q part all rose stored = cc
+ended_by (Ok true) ending first input start after q part all rose stored =
+    subst (λ (x : SessionEnd). IsEnded (session_course first input) x start after) (same_end ending Done q) (all refl)
+ended_by (Err fault) ending first input start after q part all rose stored =
+    subst (λ (x : SessionEnd). IsEnded (session_course first input) x start after)
+    (same_end ending (fault_end fault) q)
+    (by_fault Bool (Err fault) first input start after part fault refl rose stored)
 
 -- the same of the whole input
 pub ended_at : (first : Talk) (i input : List ℕ) (ending : SessionEnd) (start after : Outside) → i ≡ input
@@ -203,13 +174,12 @@ nothing_put (Some held) out bytes e = (0, omega arith, e ∙ ap Some (sym (appen
 pub unwritten : (first : Talk) (input : List ℕ) (said : Said) (session : Known) (start now : Outside)
     → Opens first said session start now → IsPart (session_course first input) start now
 unwritten first input said session start now opened = record {
+  answered = [];
+  rest = heard (lines_of input);
+  split = refl;
   front = record {
-    out = nothing_put start.out now.out (talk_on first input).out opened.out;
-    err = nothing_put start.err now.err (talk_on first input).err opened.err;
+    out = nothing_put start.out now.out first.out opened.out;
+    err = nothing_put start.err now.err first.err opened.err;
   };
-  files = (
-    first.state.files,
-    opened_files first said session start now opened,
-    record { answered = []; rest = heard (lines_of input); front = refl; reached = refl },
-  );
+  files = opened_files first said session start now opened;
 }

@@ -1,10 +1,15 @@
--- The bytes of lines are those of the input.
-use Rattle.std.proofs.Common.{◌≡◌, ◌==◌, ◌++◌, ◌∷◌, [], ℕ, List, Bool, true, false, cond, refl, sym, ap, ◌∙◌}
-use Rattle.std.proofs.Common.{append_assoc, arith}
+-- The bytes of lines are those of the input, and no other cut gives them.
+use Rattle.std.proofs.Common.{◌≡◌, ◌==◌, ◌&&◌, ◌++◌, ◌∷◌, ◌∙◌, [], ℕ, List, Bool, true, false, cond, not, refl, sym}
+use Rattle.std.proofs.Common.{ap, ap₂, append_assoc, arith}
+use Rattle.std.specs.List.{list_all}
+use Rattle.std.proofs.lemmas.Bool.{and_parts}
 use Rattle.std.proofs.lemmas.Bool.Decides.{nat_tests}
 use Rattle.std.proofs.lemmas.List.{append-nil}
-use Rattle.session.specs.Input.{Cut, cut_from, with_line}
+use Rattle.std.proofs.lemmas.List.Folds.{list_all-append}
+use Rattle.def_entry.specs.Cuts.{lacks}
+use Rattle.session.specs.Input.{Cut, cut_from, unfinished, whole_lines, with_line}
 use Rattle.session.specs.Laws.{fed}
+use Rattle.session.proofs.Cutting.{both, cut-append, cut-piece}
 
 abbrev bytes_of : Cut → List ℕ
 bytes_of cut = fed cut.whole ++ cut.open_line
@@ -24,3 +29,46 @@ joined_from part (b ∷ bytes) = by (b == 10) refl (joined_from [] bytes) (joine
         append_assoc part (10 ∷ fed (cut_from [] bytes).whole) (cut_from [] bytes).open_line
         ∙ ap (λ t. part ++ 10 ∷ t) ends ∙ ap (λ n. part ++ n ∷ bytes) (sym (is_feed b e))
     by false e ends goes = goes ∙ append_assoc part (b ∷ []) bytes
+
+-- a byte that is no line feed
+still-clear : (part : List ℕ) (b : ℕ) → (b == 10) ≡ false → lacks 10 part ≡ true → lacks 10 (part ++ b ∷ []) ≡ true
+still-clear part b q e =
+    list_all-append (λ b. not (b == 10)) part (b ∷ []) ∙ ap₂ (λ (x y : Bool). x && (not y && true)) e q
+
+-- no line holds a line feed
+pub lines-clear : (part bytes : List ℕ) → lacks 10 part ≡ true → list_all (lacks 10) (cut_from part bytes).whole ≡ true
+lines-clear part [] e = refl
+lines-clear part (b ∷ bytes) e = by (b == 10) refl (lines-clear [] bytes refl) (lines-clear (part ++ b ∷ []) bytes)
+  where
+    by : (t : Bool) → (b == 10) ≡ t → list_all (lacks 10) (cut_from [] bytes).whole ≡ true
+        → (lacks 10 (part ++ b ∷ []) ≡ true → list_all (lacks 10) (cut_from (part ++ b ∷ []) bytes).whole ≡ true)
+        → list_all (lacks 10) (cond t (with_line part (cut_from [] bytes)) (cut_from (part ++ b ∷ []) bytes)).whole
+        ≡ true
+    by true q ends goes = ap₂ (λ (x y : Bool). x && y) e ends
+    by false q ends goes = goes (still-clear part b q e)
+
+pub rest-clear : (part bytes : List ℕ) → lacks 10 part ≡ true → lacks 10 (cut_from part bytes).open_line ≡ true
+rest-clear part [] e = e
+rest-clear part (b ∷ bytes) e = by (b == 10) refl (rest-clear [] bytes refl) (rest-clear (part ++ b ∷ []) bytes)
+  where
+    by : (t : Bool) → (b == 10) ≡ t → lacks 10 (cut_from [] bytes).open_line ≡ true
+        → (lacks 10 (part ++ b ∷ []) ≡ true → lacks 10 (cut_from (part ++ b ∷ []) bytes).open_line ≡ true)
+        → lacks 10 (cond t (with_line part (cut_from [] bytes)) (cut_from (part ++ b ∷ []) bytes)).open_line ≡ true
+    by true q ends goes = ends
+    by false q ends goes = goes (still-clear part b q e)
+
+-- lines without one are those of their bytes
+cut-of : (lines : List (List ℕ)) (rest : List ℕ) → list_all (lacks 10) lines ≡ true → lacks 10 rest ≡ true
+    → cut_from [] (fed lines ++ rest) ≡ record { whole = lines; open_line = rest }
+cut-of [] rest h k = cut-piece [] rest k
+cut-of (line ∷ lines) rest h k =
+    let parts : (lacks 10 line ≡ true) × (list_all (lacks 10) lines ≡ true) =
+    and_parts (lacks 10 line) (list_all (lacks 10) lines) h in
+    ap (cut_from []) (append_assoc line (10 ∷ fed lines) rest) ∙ cut-append [] line (10 ∷ (fed lines ++ rest))
+    ∙ ap (λ (c : Cut). both c (cut_from c.open_line (10 ∷ (fed lines ++ rest)))) (cut-piece [] line parts.0)
+    ∙ ap (with_line line) (cut-of lines rest parts.1 k)
+
+pub only-cut : (lines : List (List ℕ)) (rest : List ℕ) → list_all (lacks 10) lines ≡ true → lacks 10 rest ≡ true
+    → (whole_lines (fed lines ++ rest) ≡ lines) × (unfinished (fed lines ++ rest) ≡ rest)
+only-cut lines rest h k =
+    (ap (λ (c : Cut). c.whole) (cut-of lines rest h k), ap (λ (c : Cut). c.open_line) (cut-of lines rest h k))

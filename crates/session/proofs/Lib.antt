@@ -1,4 +1,5 @@
 pub mod Cutting
+pub mod HeardLines
 pub mod Talking
 pub mod Breaking
 pub mod Answering
@@ -12,6 +13,8 @@ pub mod Replying
 pub mod Counted
 pub mod Faulting
 pub mod Blocks
+pub mod TakingUp
+pub mod Growing
 pub mod Ending
 pub mod Writing
 pub mod TalkedThrough
@@ -20,3 +23,7 @@ pub mod DeckSizes
 pub mod TrialSizes
 pub mod Told
 pub mod Watches
+pub mod Caching
+pub mod OtherVersions
+pub mod Undoing
+pub mod AnsweredLines

@@ -12,18 +12,8 @@ use Rattle.session.specs.Steps.{answer}
 use Rattle.session.specs.Talks.{Talk, with_answer, spoken, talk_over, talk_on}
 use Rattle.session.specs.Standing.{Base, Now, IsAt, Begins, IsBefore, Stands, IsOver}
 use Rattle.session.specs.declared.said.Said.{Said}
-use Rattle.session.proofs.Cutting.{whole_piece, open_piece, whole_line, open_line, lines_line, lines_split}
-use Rattle.session.proofs.Cutting.{nothing_open, line_open, whole_split}
-
--- lines that end no session are heard, and what is behind them
-pub heard-going : (xs ys : List (List ℕ)) → list_any is_last xs ≡ false → heard (xs ++ ys) ≡ xs ++ heard ys
-heard-going [] ys e = refl
-heard-going (x ∷ xs) ys e = by (heard-going xs ys) (is_last x) e
-  where
-    by : (list_any is_last xs ≡ false → heard (xs ++ ys) ≡ xs ++ heard ys) → (d : Bool)
-        → (d || list_any is_last xs) ≡ false → x ∷ cond d [] (heard (xs ++ ys)) ≡ x ∷ (xs ++ heard ys)
-    by ih true g = cc
-    by ih false g = ap (λ t. x ∷ t) (ih g)
+use Rattle.session.proofs.Cutting.{nothing_open, open_line, open_piece, whole_line, whole_piece}
+use Rattle.session.proofs.HeardLines.{heard-going, heard_end, heard_feed, heard_more, last_among, last_feed}
 
 -- lines are answered one behind another
 pub talk-append : (talk : Talk) (xs ys : List (List ℕ)) → talk_over talk (xs ++ ys) ≡ talk_over (talk_over talk xs) ys
@@ -58,31 +48,9 @@ module _ (first : Talk) (taken : List ℕ) (going : list_any is_last (whole_line
   abbrev talked : Talk
   talked = talk_over first (whole_lines taken)
 
-  -- the whole lines are heard, and then more
-  pub heard_more : (more : List ℕ)
-      → (lines : List (List ℕ)) × (heard (lines_of (taken ++ more)) ≡ whole_lines taken ++ lines)
-  heard_more more =
-      let parts = lines_split taken more in
-      (heard parts.0, ap heard parts.1 ∙ heard-going (whole_lines taken) parts.0 going)
-
-  -- a talk that goes on is the begin of the talk over more
-  pub talk_more : (more : List ℕ) → (lines : List (List ℕ)) × (talk_on first (taken ++ more) ≡ talk_over talked lines)
-  talk_more more =
-      let parts = heard_more more in
-      (parts.0, ap (talk_over first) parts.1 ∙ talk-append first (whole_lines taken) parts.0)
-
-  -- the last line, which no line feed ends
-  pub heard_end : (unfinished taken ≡ [] → ⊥) → heard (lines_of taken) ≡ whole_lines taken ++ unfinished taken ∷ []
-  heard_end h =
-      ap heard (line_open taken h) ∙ heard-going (whole_lines taken) (unfinished taken ∷ []) going
-      ∙ ap (λ ls. whole_lines taken ++ unfinished taken ∷ ls) (same_cond (is_last (unfinished taken)))
-    where
-      same_cond : (d : Bool) → cond {A = List (List ℕ)} d [] [] ≡ []
-      same_cond true = refl
-      same_cond false = refl
-
   talk_end : (unfinished taken ≡ [] → ⊥) → talk_on first taken ≡ next talked (unfinished taken)
-  talk_end h = ap (talk_over first) (heard_end h) ∙ talk-append first (whole_lines taken) (unfinished taken ∷ [])
+  talk_end h = ap (talk_over first) (heard_end taken going h) ∙ talk-append first (whole_lines taken)
+      (unfinished taken ∷ [])
 
   -- no line is open at the end
   pub talk_ended : unfinished taken ≡ [] → talk_on first taken ≡ talked
@@ -94,33 +62,15 @@ module _ (first : Talk) (taken : List ℕ) (going : list_any is_last (whole_line
     abbrev line : List ℕ
     line = unfinished taken ++ piece
 
-    -- what follows once a line feed has come
-    pub heard_feed : (more : List ℕ)
-        → heard (lines_of (taken ++ (piece ++ 10 ∷ more)))
-        ≡ whole_lines taken ++ line ∷ cond (is_last line) [] (heard (lines_of more))
-    heard_feed more =
-        ap heard (lines_line taken piece clear more)
-        ∙ heard-going (whole_lines taken) (line ∷ lines_of more) going
-
     talk_feed : (more : List ℕ)
         → talk_on first (taken ++ (piece ++ 10 ∷ more))
         ≡ talk_over (next talked line) (cond (is_last line) [] (heard (lines_of more)))
     talk_feed more =
-        ap (talk_over first) (heard_feed more)
+        ap (talk_over first) (heard_feed taken going piece clear more)
         ∙ talk-append first (whole_lines taken) (line ∷ cond (is_last line) [] (heard (lines_of more)))
 
     pub over_feed : talk_over first (whole_lines (taken ++ (piece ++ 10 ∷ []))) ≡ next talked line
     over_feed = ap (talk_over first) (whole_line taken piece clear) ∙ talk-append first (whole_lines taken) (line ∷ [])
-
-    pub last_feed : list_any is_last (whole_lines (taken ++ (piece ++ 10 ∷ []))) ≡ is_last line
-    last_feed =
-        ap (list_any is_last) (whole_line taken piece clear)
-        ∙ list_any-append is_last (whole_lines taken) (line ∷ [])
-        ∙ ap (λ d. d || (is_last line || false)) going ∙ or_false (is_last line)
-      where
-        or_false : (d : Bool) → (d || false) ≡ d
-        or_false true = refl
-        or_false false = refl
 
 -- what is said at a point of a talk is before all that follows
 pub at_before : (base : Base) (talk more : Talk) (lines : List (List ℕ)) (now : Now) → IsAt base talk now
@@ -129,16 +79,6 @@ at_before base talk more lines now at e = record {
   out = begins-more _ talk.out more.out (begins-all _ talk.out at.out)
       (subst (λ (t : Talk). Begins talk.out t.out) (sym e) (talk-out talk lines));
   err = begins-more _ talk.err more.err (begins-all _ talk.err at.err)
-      (subst (λ (t : Talk). Begins talk.err t.err) (sym e) (talk-err talk lines));
-}
-
--- what is before a point of a talk is before all that follows
-pub before_more : (base : Base) (talk more : Talk) (lines : List (List ℕ)) (said : Said) → IsBefore base talk said
-    → more ≡ talk_over talk lines → IsBefore base more said
-before_more base talk more lines said b e = record {
-  out = begins-more _ talk.out more.out b.out
-      (subst (λ (t : Talk). Begins talk.out t.out) (sym e) (talk-out talk lines));
-  err = begins-more _ talk.err more.err b.err
       (subst (λ (t : Talk). Begins talk.err t.err) (sym e) (talk-err talk lines));
 }
 
@@ -163,7 +103,7 @@ module _ (base : Base) (first : Talk) (taken : List ℕ) (held : Option (List �
     unfolding readable
     fed_line held_now after d h a = record {
       at = subst (λ t. IsAt base t after) (sym (over_feed first taken s.going piece clear)) a;
-      going = last_feed first taken s.going piece clear ∙ sym d;
+      going = last_feed taken s.going piece clear ∙ sym d;
       part = h ∙ ap readable (sym (open_line taken piece clear));
     }
 
@@ -173,21 +113,9 @@ module _ (base : Base) (first : Talk) (taken : List ℕ) (held : Option (List �
         → IsOver base first (taken ++ (piece ++ 10 ∷ behind)) ((taken ++ (piece ++ 10 ∷ behind)) ++ more) after
     fed_last behind more after d a = record {
       at = subst (λ t. IsAt base t after) (sym (whole ∙ alone)) a;
-      last =
-          ap (λ t. list_any is_last (whole_lines t)) (sym (joined behind))
-          ∙ ap (list_any is_last) (whole_split front behind)
-          ∙ list_any-append is_last (whole_lines front) (cut_from (unfinished front) behind).whole
-          ∙ ap (λ d. d || list_any is_last (cut_from (unfinished front) behind).whole)
-          (last_feed first taken s.going piece clear ∙ sym d);
+      last = last_among taken s.going piece clear behind d;
     }
       where
-        front : List ℕ
-        front = taken ++ (piece ++ 10 ∷ [])
-
-        joined : (rest : List ℕ) → (taken ++ (piece ++ 10 ∷ [])) ++ rest ≡ taken ++ (piece ++ 10 ∷ rest)
-        joined rest =
-            append_assoc taken (piece ++ 10 ∷ []) rest ∙ ap (λ t. taken ++ t) (append_assoc piece (10 ∷ []) rest)
-
         regroup : (taken ++ (piece ++ 10 ∷ behind)) ++ more ≡ taken ++ (piece ++ 10 ∷ (behind ++ more))
         regroup =
             append_assoc taken (piece ++ 10 ∷ behind) more

@@ -13,38 +13,39 @@ use Rattle.session.specs.Input.{lines_of, whole_lines}
 use Rattle.session.specs.Outside.{Outside, outside_of}
 use Rattle.session.specs.Runs.{end_of, last_end}
 use Rattle.session.specs.Sessions.{Known}
-use Rattle.session.specs.Standing.{Base, Fed, IsAt, IsBroken, IsOver, Now, Stands, now_of}
+use Rattle.session.specs.Standing.{Base, BreaksOff, Fed, IsAt, IsBroken, IsOver, Now, Stands, now_of}
 use Rattle.session.specs.Talks.{Talk, talk_on, talk_over}
 use Rattle.session.specs.Waiting.{Waits}
-use Rattle.session.specs.Written.{IsAll, IsEnded, IsFront, IsPartBut, output_of, session_course}
+use Rattle.session.specs.Written.{IsAll, IsEnded, IsPartBut, IsPartIf, output_of, session_course}
 use Rattle.session.specs.declared.fault.SessionFault.{SessionFault}
 use Rattle.session.specs.declared.fault.SessionFault.TheVariants.{ReadFailed, WriteFailed}
 use Rattle.session.specs.declared.over_source.SessionEnd.{SessionEnd}
 use Rattle.session.specs.declared.said.Said.{Said}
-use Rattle.session.proofs.Blocks.{both_taken, ended_before, fed_before, front_all, fronts, fronts_at, left_and_more}
-use Rattle.session.proofs.Blocks.{same_input, waits, whole, whole_at, written}
-use Rattle.session.proofs.Ending.{Left, broken_left, by_fault, ended_by, part_but, whole_left}
-use Rattle.session.proofs.Talking.{heard_more}
+use Rattle.session.proofs.Blocks.{front_all, left_and_more, part_by, same_input, waits, whole, whole_at, written}
+use Rattle.session.proofs.Breaking.{broken_by, broken_last}
+use Rattle.session.proofs.Ending.{by_fault, ended_by, part_but}
+use Rattle.session.proofs.HeardLines.{heard_more}
+use Rattle.session.proofs.Talking.{at_before}
 
--- the files behind what was taken up, whether the session goes on, is over, or broke off
-fed_left : (result : Result Bool SessionFault) (base : Base) (first : Talk) (taken bytes left more : List ℕ)
+-- how far a talk is answered by what was taken up, whether the session goes on, is over, or broke off
+fed_broken : (result : Result Bool SessionFault) (base : Base) (first : Talk) (taken bytes left more : List ℕ)
     (held : Option (List ℕ)) (now : Now) → Fed result base first taken bytes left more held now
-    → Left result first ((taken ++ bytes) ++ more) now.files
-fed_left (Ok false) base first taken bytes left more held now fed =
-    let lines = heard_more first (taken ++ fed.0) fed.2.going (left ++ more) in (
-      (talk_over first (whole_lines (taken ++ fed.0))).state.files,
-      fed.2.at.files,
-      inl (record {
-        answered = whole_lines (taken ++ fed.0);
-        rest = lines.0;
-        front = ap (λ i. heard (lines_of i)) (sym (left_and_more taken bytes fed.0 left more fed.1)) ∙ lines.1;
-        reached = refl;
-      }),
-    )
-fed_left (Ok true) base first taken bytes left more held now over =
-    whole_left (Ok true) base first ((taken ++ bytes) ++ more) now over.at
-fed_left (Err fault) base first taken bytes left more held now broken =
-    broken_left (Err fault) fault refl base first ((taken ++ bytes) ++ more) now broken
+    → BreaksOff (result ≡ Err WriteFailed) base first (heard (lines_of ((taken ++ bytes) ++ more))) now
+fed_broken (Ok false) base first taken bytes left more held now fed =
+    let lines = heard_more (taken ++ fed.0) fed.2.going (left ++ more) in
+    let talk = talk_over first (whole_lines (taken ++ fed.0)) in
+    record {
+      answered = whole_lines (taken ++ fed.0);
+      rest = lines.0;
+      split = ap (λ i. heard (lines_of i)) (sym (left_and_more taken bytes fed.0 left more fed.1)) ∙ lines.1;
+      before = at_before base talk talk [] now fed.2.at refl;
+      left = (talk.state.files, fed.2.at.files, inl refl);
+    }
+fed_broken (Ok true) base first taken bytes left more held now over =
+    broken_last (Ok true ≡ Err WriteFailed) base first (heard (lines_of ((taken ++ bytes) ++ more))) now over.at
+fed_broken (Err fault) base first taken bytes left more held now broken =
+    broken_by (fault ≡ WriteFailed) (Err fault ≡ Err WriteFailed) base first
+    (heard (lines_of ((taken ++ bytes) ++ more))) now (λ is. ap Err is) broken
 
 -- where a line ended the session
 pub fed_over : (fed : Result Bool SessionFault) (base : Base) (first : Talk) (taken bytes left more : List ℕ)
@@ -59,15 +60,6 @@ pub fed_on : (fed : Result Bool SessionFault) (base : Base) (first : Talk) (take
     → (done : List ℕ) × (bytes ≡ done ++ left) × Stands base first (taken ++ done) held now
 fed_on fed base first taken bytes left more held now is up =
     subst (λ (r : Result Bool SessionFault). Fed r base first taken bytes left more held now) is up
-
--- a block has its last line where it ended the session
-pub last_heard : (taken block ready rest : List ℕ) → block ≡ ready ++ rest → (fed : Result Bool SessionFault)
-    (base : Base) (first : Talk) (left more : List ℕ) (held : Option (List ℕ)) (now : Now) → fed ≡ Ok true
-    → Fed fed base first (taken ++ ready) rest left more held now
-    → list_any is_last (whole_lines (taken ++ block)) ≡ true
-last_heard taken block ready rest b fed base first left more held now is up =
-    ap (λ t. list_any is_last (whole_lines t)) (sym (both_taken taken block ready rest b))
-    ∙ (fed_over fed base first (taken ++ ready) rest left more held now is up).last
 
 -- a session that waits within a block of its input takes up bytes of the rest, and what that gave is written
 module _ (first : Talk) (taken block ready rest left more : List ℕ) (b : block ≡ ready ++ rest)
@@ -86,26 +78,21 @@ module _ (first : Talk) (taken block ready rest left more : List ℕ) (b : block
   all_input = (taken ++ block) ++ more
 
   -- in part
-  front_written : GrowsByFront now.out after.out said.out.items → GrowsByFront now.err after.err said.err.items
-      → IsFront (output_of (talk_on first all_input)) start after
-  front_written o e =
-      fronts_at first (taken ++ ready) held session start now w (((taken ++ ready) ++ rest) ++ more) all_input said
-      after (same_input taken block ready rest more b)
-      (fed_before fed stood first (taken ++ ready) rest left more held_now stands_now up) o e
-
-  -- and the files are those behind some lines
-  files_left : Left fed first all_input after.files
-  files_left =
-      subst (λ i. Left fed first i after.files) (same_input taken block ready rest more b)
-      (fed_left fed stood first (taken ++ ready) rest left more held_now stands_now up)
+  part_if : (old : FileMap) → start.files ≡ Some old → GrowsByFront now.out after.out said.out.items
+      → GrowsByFront now.err after.err said.err.items
+      → IsPartIf (fed ≡ Err WriteFailed) (session_course first all_input) start after
+  part_if old told o e =
+      part_by first (taken ++ ready) held session start now w (fed ≡ Err WriteFailed) all_input said new after old told
+      (subst (λ i. BreaksOff (fed ≡ Err WriteFailed) stood first (heard (lines_of i)) stands_now)
+      (same_input taken block ready rest more b)
+      (fed_broken fed stood first (taken ++ ready) rest left more held_now stands_now up)) o e
 
   -- a part of what was said is written
   pub part_written : (old : FileMap) → start.files ≡ Some old → GrowsByFront now.out after.out said.out.items
       → GrowsByFront now.err after.err said.err.items
       → (fed ≡ Err WriteFailed → Rose start.store_faults after.store_faults)
       → IsPartBut (session_course first all_input) start after
-  part_written old told o e rose =
-      part_but Bool fed first all_input start after old told (front_written o e) files_left rose
+  part_written old told o e rose = part_but Bool fed first all_input start after (part_if old told o e) rose
 
   -- in full, and it is the last
   whole_written : (old : FileMap) → start.files ≡ Some old → after.out ≡ grown now.out said.out.items
@@ -123,9 +110,9 @@ module _ (first : Talk) (taken block ready rest left more : List ℕ) (b : block
       → (fed ≡ Err WriteFailed → Rose start.store_faults after.store_faults)
       → IsEnded (session_course first all_input) ending start after
   ended_written ending q old told o e rose stored =
-      ended_by fed ending first all_input start after old told q
-      (front_written (front_all now.out after.out said.out.items o) (front_all now.err after.err said.err.items e))
-      files_left (whole_written old told o e) rose stored
+      ended_by fed ending first all_input start after q
+      (part_if old told (front_all now.out after.out said.out.items o) (front_all now.err after.err said.err.items e))
+      (whole_written old told o e) rose stored
 
   -- in full, and the session goes on behind more of the block
   pub waits_on : after.out ≡ grown now.out said.out.items → after.err ≡ grown now.err said.err.items → fed ≡ Ok false
@@ -184,28 +171,27 @@ module _ (first : Talk) (input : List ℕ) (held : Option (List ℕ)) (session :
   abbrev stands_last : Now
   stands_last = now_of said new after.files after.steps
 
-  last_front : GrowsByFront now.out after.out said.out.items → GrowsByFront now.err after.err said.err.items
-      → IsFront (output_of (talk_on first input)) start after
-  last_front o e =
-      fronts first input held session start now w (talk_on first input) said after
-      (ended_before fed stood_last first input stands_last up) o e
-
-  last_left : Left fed first input after.files
-  last_left = by fed up
+  last_if : (old : FileMap) → start.files ≡ Some old → GrowsByFront now.out after.out said.out.items
+      → GrowsByFront now.err after.err said.err.items
+      → IsPartIf (fed ≡ Err WriteFailed) (session_course first input) start after
+  last_if old told o e =
+      part_by first input held session start now w (fed ≡ Err WriteFailed) input said new after old told (by fed up) o e
     where
       by : (r : Result A SessionFault)
           → MatchResult r (λ _. IsAt stood_last (talk_on first input) stands_last)
           (λ fault. IsBroken fault stood_last first (heard (lines_of input)) stands_last)
-          → Left r first input after.files
-      by (Ok done) at = whole_left (Ok done) stood_last first input stands_last at
-      by (Err fault) broken = broken_left (Err fault) fault refl stood_last first input stands_last broken
+          → BreaksOff (r ≡ Err WriteFailed) stood_last first (heard (lines_of input)) stands_last
+      by (Ok done) at = broken_last (Ok done ≡ Err WriteFailed) stood_last first (heard (lines_of input)) stands_last at
+      by (Err fault) broken =
+          broken_by (fault ≡ WriteFailed) (Err fault ≡ Err WriteFailed) stood_last first (heard (lines_of input))
+          stands_last (λ is. ap Err is) broken
 
   -- a part of what was said last is written
   pub last_part : (old : FileMap) → start.files ≡ Some old → GrowsByFront now.out after.out said.out.items
       → GrowsByFront now.err after.err said.err.items
       → (fed ≡ Err WriteFailed → Rose start.store_faults after.store_faults)
       → IsPartBut (session_course first input) start after
-  last_part old told o e rose = part_but A fed first input start after old told (last_front o e) last_left rose
+  last_part old told o e rose = part_but A fed first input start after (last_if old told o e) rose
 
   -- all of it is, and the session ends
   pub last_written : (ending : SessionEnd) → ending ≡ last_end fed → (old : FileMap) → start.files ≡ Some old
@@ -215,17 +201,17 @@ module _ (first : Talk) (input : List ℕ) (held : Option (List ℕ)) (session :
       → IsEnded (session_course first input) ending start after
   last_written ending q old told o e rose stored =
       subst (λ (x : SessionEnd). IsEnded (session_course first input) x start after) (sym q)
-      (by fed up last_left rose stored)
+      (by fed up
+      (last_if old told (front_all now.out after.out said.out.items o) (front_all now.err after.err said.err.items e))
+      rose stored)
     where
       by : (r : Result A SessionFault)
           → MatchResult r (λ _. IsAt stood_last (talk_on first input) stands_last)
           (λ fault. IsBroken fault stood_last first (heard (lines_of input)) stands_last)
-          → Left r first input after.files → (r ≡ Err ReadFailed → Rose start.fetch_faults after.fetch_faults)
+          → IsPartIf (r ≡ Err WriteFailed) (session_course first input) start after
+          → (r ≡ Err ReadFailed → Rose start.fetch_faults after.fetch_faults)
           → (r ≡ Err WriteFailed → Rose start.store_faults after.store_faults)
           → IsEnded (session_course first input) (last_end r) start after
-      by (Ok done) at l f s =
+      by (Ok done) at part f s =
           whole first input held session start now w (talk_on first input) said new after old told at o e
-      by (Err fault) broken l f s =
-          by_fault A (Err fault) first input start after old told
-          (last_front (front_all now.out after.out said.out.items o) (front_all now.err after.err said.err.items e)) l
-          fault refl f s
+      by (Err fault) broken part f s = by_fault A (Err fault) first input start after part fault refl f s

@@ -144,6 +144,6 @@ saved_name _ = None
 abbrev pub saved_in : List ℕ → Option (List ℕ)
 saved_in line = saved_name (command_of line)
 
--- it asks for a file
+-- it names a file
 abbrev pub names_file : Command → Bool
 names_file command = is_load command || is_save command

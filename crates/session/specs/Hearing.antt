@@ -1,6 +1,8 @@
 -- The lines that a session hears.
-use Rattle.std.specs.Prelude.{◌∷◌, [], ℕ, List, Bool, false, nat_le, length, if◌then◌else◌, Option, Some, None}
-use Rattle.session.specs.Commands.{command_of, is_quit, saved_in}
+use Rattle.std.specs.Prelude.{◌≡◌, ◌∷◌, [], ℕ, List, Bool, false, nat_le, length, if◌then◌else◌, Option, Some, None}
+use Rattle.std.specs.List.{list_any}
+use Rattle.session.specs.Commands.{command_of, is_quit, names_file, saved_in}
+use Rattle.session.specs.Input.{lines_of}
 
 -- the longest line that is read
 abbrev pub longest_line : ℕ
@@ -30,3 +32,15 @@ saved_by line = saved_by_read (readable line)
 abbrev pub heard : List (List ℕ) → List (List ℕ)
 heard [] = []
 heard (line ∷ lines) = line ∷ (if is_last line then [] else heard lines)
+
+-- a line that names a file, unless it is too long to be read
+abbrev pub names_file_read : Option (List ℕ) → Bool
+names_file_read None = false
+names_file_read (Some line) = names_file (command_of line)
+
+abbrev pub names_file_in : (line : List ℕ) → Bool
+names_file_in line = names_file_read (readable line)
+
+-- no line of an input that is heard names a file
+abbrev pub NamesNoFile : (input : List ℕ) → Type 0
+NamesNoFile input = list_any names_file_in (heard (lines_of input)) ≡ false

@@ -1,5 +1,5 @@
 -- What the files are where a line is not answered, and where a session breaks off.
-use Rattle.std.specs.Prelude.{◌≡◌, ◌⊎◌, ◌++◌, ◌∷◌, ℕ, List, Result, Ok, Err, Some, None, ⊤}
+use Rattle.std.specs.Prelude.{◌≡◌, ◌⊎◌, ◌∷◌, ℕ, List, Result, Ok, Err, Some, None, ⊤}
 use Rattle.std.specs.declared.option.Option.{Option}
 use Rattle.units_io.specs.FileMap.{FileMap}
 use Rattle.units_io.specs.Storing.{KeepsOthers}
@@ -25,25 +25,16 @@ abbrev pub LineKeeps : {A : Type 0} → (name : Option (List ℕ)) → Result A 
 LineKeeps None result old new = new ≡ old
 LineKeeps (Some name) result old new = SaveKeeps name result old new
 
--- the files once some of these lines are answered, the first ones; `behind` has what they are behind any lines
-pub record AreBehindSome (behind : List (List ℕ) → FileMap) (lines : List (List ℕ)) (files : FileMap) : Type 0 where
-  pub answered : List (List ℕ)
-  pub rest : List (List ℕ)
-  pub front : lines ≡ answered ++ rest
-  pub reached : files ≡ behind answered
-
--- the same, but for the file that the next line saves: of that nothing is said
-pub record AreSpoilt (behind : List (List ℕ) → FileMap) (lines : List (List ℕ)) (files : FileMap) : Type 0 where
-  pub answered : List (List ℕ)
+-- the next of these lines saves a file, and that file may be anything; every other is as it was left
+pub record IsSpoilt (rest : List (List ℕ)) (left files : FileMap) : Type 0 where
   pub line : List ℕ
-  pub rest : List (List ℕ)
+  pub later : List (List ℕ)
   pub name : List ℕ
-  pub front : lines ≡ answered ++ line ∷ rest
+  pub next : rest ≡ line ∷ later
   pub saves : saved_by line ≡ Some name
-  pub others : KeepsOthers (behind answered) files name
+  pub others : KeepsOthers left files name
 
--- the files where the answers to these lines break off: those behind some of them; only where a store failed, perhaps
--- with that one spoilt
-abbrev pub AreLeft : (failed : Type 0) → (behind : List (List ℕ) → FileMap) → (lines : List (List ℕ)) → FileMap
-    → Type 0
-AreLeft failed behind lines files = AreBehindSome behind lines files ⊎ (failed × AreSpoilt behind lines files)
+-- the files where the answers break off before these lines: as the answers left them, or, only if a store failed, with
+-- the file spoilt that the next line saves
+abbrev pub AreLeft : (failed : Type 0) → (rest : List (List ℕ)) → (left files : FileMap) → Type 0
+AreLeft failed rest left files = (files ≡ left) ⊎ (failed × IsSpoilt rest left files)

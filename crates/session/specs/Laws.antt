@@ -1,6 +1,7 @@
 -- Laws of the lines that a session hears.
 use Rattle.std.specs.Prelude.{◌≡◌, ◌++◌, ◌∷◌, [], ℕ, List, true, false, codes}
-use Rattle.std.specs.List.{list_any}
+use Rattle.std.specs.List.{list_all, list_any}
+use Rattle.def_entry.specs.Cuts.{lacks}
 use Rattle.session.specs.Hearing.{is_last, heard}
 use Rattle.session.specs.Input.{whole_lines, unfinished, lines_of}
 
@@ -12,6 +13,12 @@ fed (line ∷ lines) = line ++ 10 ∷ fed lines
 pub record LineLaws : Type 0 where
   -- no byte of an input is lost
   pub joined : (bytes : List ℕ) → fed (whole_lines bytes) ++ unfinished bytes ≡ bytes
+  -- no line holds a line feed
+  pub lines_clear : (bytes : List ℕ) → list_all (lacks 10) (whole_lines bytes) ≡ true
+  pub rest_clear : (bytes : List ℕ) → lacks 10 (unfinished bytes) ≡ true
+  -- and no other cut has these properties
+  pub only : (lines : List (List ℕ)) (rest : List ℕ) → list_all (lacks 10) lines ≡ true → lacks 10 rest ≡ true
+      → (whole_lines (fed lines ++ rest) ≡ lines) × (unfinished (fed lines ++ rest) ≡ rest)
   -- a session goes on behind lines of which none is the last
   pub on : (before lines : List (List ℕ)) → list_any is_last before ≡ false →
       heard (before ++ lines) ≡ before ++ heard lines

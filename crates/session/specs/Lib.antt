@@ -29,3 +29,6 @@ pub mod Trials
 pub mod Trialing
 pub mod Worlds
 pub mod Runs
+pub mod HistoryLaws
+pub mod CommandExamples
+pub mod AnswerExamples

@@ -1,7 +1,8 @@
 -- What is found outside of the program, and what is left there.
-use Rattle.std.specs.Prelude.{◌≡◌, ◌⊎◌, ◌+◌, ◌-◌, ◌^◌, ◌<◌, [], ℕ, List, true, length, take, Some, None}
+use Rattle.std.specs.Prelude.{◌≡◌, ◌⊎◌, ◌+◌, ◌++◌, ◌-◌, ◌^◌, ◌<◌, [], ℕ, List, true, length, take, Some, None}
 use Rattle.std.specs.declared.option.Option.{Option}
 use Rattle.std.specs.List.{list_any}
+use Rattle.units_io.specs.Bytes.{grown}
 use Rattle.units_io.specs.FileMap.{FileMap}
 use Rattle.units_io.specs.Faults.{Rose}
 use Rattle.session.specs.Hearing.{is_last}
@@ -41,6 +42,10 @@ IsReadToEnd input left = (left ≡ Some []) ⊎ (list_any is_last (whole_lines (
 -- more than so many bytes were taken between two counts, which stay at the end of their type
 abbrev pub TookMoreThan : (most before after : ℕ) → Type 0
 TookMoreThan most before after = (before + most < after) ⊎ (after ≡ 2 ^ 64 - 1)
+
+-- a told list of bytes has grown by these at its end, and perhaps by more
+abbrev pub GrowsAtLeast : (old new : Option (List ℕ)) → (bytes : List ℕ) → Type 0
+GrowsAtLeast old new bytes = (more : List ℕ) × (new ≡ grown old (bytes ++ more))
 
 -- a count that has not risen
 abbrev pub Rests : (before now : ℕ) → Type 0

@@ -6,8 +6,9 @@ use Rattle.units_io.specs.Faults.{Rose}
 use Rattle.units_io.specs.FileMap.{FileMap}
 use Rattle.session.specs.Hearing.{is_last}
 use Rattle.session.specs.Input.{whole_lines}
-use Rattle.session.specs.Outside.{Outside, IsReadToEnd, TookMoreThan}
+use Rattle.session.specs.Outside.{GrowsAtLeast, Outside, IsReadToEnd, TookMoreThan}
 use Rattle.session.specs.Sessions.{Known}
+use Rattle.session.specs.Standing.{Holds}
 use Rattle.session.specs.Talks.{Talk}
 use Rattle.session.specs.Waiting.{Opens, Waits}
 use Rattle.session.specs.Worlds.{World, outside}
@@ -29,18 +30,23 @@ pub record HasItsCause (ending : SessionEnd) (before after : World) : Type 0 whe
       ⊎ Rose before.files.store_faults after.files.store_faults
   pub too_long : ending ≡ InputTooLong → TookMoreThan 4294967296 before.source.taken after.source.taken
 
+-- each sink has all the bytes that it had
+pub record HaveGrown (before after : World) : Type 0 where
+  pub out : GrowsAtLeast before.out.written after.out.written []
+  pub err : GrowsAtLeast before.err.written after.err.written []
+
 -- a session that opens with what is said, and then answered the lines of a source, and ended so
 pub record IsSessionRun (said : Said) (session : Known) (ending : SessionEnd) (before after : World) : Type 0 where
-  -- at the end all is written that the session says over its whole input, and the files are those behind it; or a
-  -- front of it, with the files behind some of its lines, which where the input is too long, and where the source
-  -- failed, is exactly what is shown for the whole lines of the bytes taken; a store that failed can have spoilt the
-  -- one file that it named
+  -- at the end both sinks have all that the session says over its whole input, and the files are as it leaves them;
+  -- or the first lines are answered, each sink has a front of what is shown for these, and the files are as they leave
+  -- them; if the input is too long, or the source failed, these lines are the whole lines of the bytes taken, and all
+  -- is shown; a store that failed can have spoilt the one file that the next line saves
   pub told : (first : Talk) (input : List ℕ) (start : Outside) → before.source.left ≡ Some input →
       Opens first said session start (outside before) →
       IsEnded (session_course first input) ending start (outside after)
   -- a session that is done has read its input to the end, or to a line that ends it
-  pub heard : (first : Talk) (input : List ℕ) (start : Outside) → before.source.left ≡ Some input →
-      Opens first said session start (outside before) → ending ≡ Done → IsReadToEnd input after.source.left
+  pub heard : (input : List ℕ) → before.source.left ≡ Some input → ending ≡ Done →
+      IsReadToEnd input after.source.left
   -- every other ending has its cause
   pub caused : HasItsCause ending before after
 
@@ -52,9 +58,10 @@ pub record AreAnswered (held : Option (List ℕ)) (session : Known) (ending : Se
         start.store_faults ≤ before.files.store_faults →
         Waits first [] held session start (outside before) →
         IsEnded (session_course first input) ending start (outside after)
-    pub heard : (first : Talk) (input : List ℕ) (start : Outside) → before.source.left ≡ Some input →
-        Waits first [] held session start (outside before) → ending ≡ Done → IsReadToEnd input after.source.left
+    pub heard : (input : List ℕ) → before.source.left ≡ Some input → Holds [] held → ending ≡ Done →
+        IsReadToEnd input after.source.left
     pub caused : HasItsCause ending before after
+    pub grows : HaveGrown before after
 
 -- no count of faults has fallen
 pub record AreLater (before now : World) : Type 0 where
@@ -70,6 +77,7 @@ pub record GoesOn (block : List ℕ) (held : Option (List ℕ)) (session : Known
       Waits first taken held session start (outside before) →
       Waits first (taken ++ block) held_now session_now start (outside after)
   pub later : AreLater before after
+  pub grows : HaveGrown before after
 
 -- a line of a block of its input, or a fault at it, has ended a session that waits so
 pub record EndsInBlock (ending : SessionEnd) (block : List ℕ) (held : Option (List ℕ)) (session : Known)
@@ -78,10 +86,8 @@ pub record EndsInBlock (ending : SessionEnd) (block : List ℕ) (held : Option (
       start.fetch_faults ≤ before.files.fetch_faults → start.store_faults ≤ before.files.store_faults →
       Waits first taken held session start (outside before) →
       IsEnded (session_course first ((taken ++ block) ++ more)) ending start (outside after)
-  pub heard : (first : Talk) (taken : List ℕ) (start : Outside) →
-      Waits first taken held session start (outside before) → ending ≡ Done →
-      list_any is_last (whole_lines (taken ++ block)) ≡ true
   pub caused : HasItsCause ending before after
+  pub grows : HaveGrown before after
 
 -- a block was answered: the session goes on, or it has ended so
 abbrev pub IsBlockAnswered : Option SessionEnd → (block : List ℕ) → (held : Option (List ℕ)) → Known
@@ -99,6 +105,13 @@ pub record IsEndAnswered (ending : SessionEnd) (held : Option (List ℕ)) (sessi
       Waits first input held session start (outside before) →
       IsEnded (session_course first input) ending start (outside after)
   pub caused : HasItsCause ending before after
+  pub grows : HaveGrown before after
+
+-- how the lines of a block are cut: the session goes on behind all of it; or one of its lines is the last, if the
+-- session is done
+abbrev pub IsBlockCut : Option SessionEnd → (taken block : List ℕ) → (held : Option (List ℕ)) → Type 0
+IsBlockCut None taken block held = Holds (taken ++ block) held
+IsBlockCut (Some ending) taken block held = ending ≡ Done → list_any is_last (whole_lines (taken ++ block)) ≡ true
 
 -- how a session ends by a fault
 abbrev pub fault_end : SessionFault → SessionEnd

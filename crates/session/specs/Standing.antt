@@ -1,5 +1,5 @@
 -- Where a session stands while its input comes.
-use Rattle.std.specs.Prelude.{◌≡◌, ◌+◌, ◌++◌, ℕ, List, Bool, true, false, Result, Ok, Err, Some}
+use Rattle.std.specs.Prelude.{◌≡◌, ◌+◌, ◌++◌, ℕ, List, Bool, true, false, Result, Ok, Err, Some, ⊤}
 use Rattle.std.specs.declared.option.Option.{Option}
 use Rattle.std.specs.List.{list_any}
 use Rattle.units_io.specs.FileMap.{FileMap}
@@ -7,7 +7,7 @@ use Rattle.session.specs.Hearing.{heard, is_last, readable}
 use Rattle.session.specs.Input.{lines_of, whole_lines, unfinished}
 use Rattle.session.specs.Keeping.{AreLeft}
 use Rattle.session.specs.Sessions.{Known}
-use Rattle.session.specs.Talks.{Talk, files_behind, talk_over, talk_on}
+use Rattle.session.specs.Talks.{Talk, talk_over, talk_on}
 use Rattle.session.specs.declared.fault.SessionFault.{SessionFault}
 use Rattle.session.specs.declared.fault.SessionFault.TheVariants.{WriteFailed}
 use Rattle.session.specs.declared.said.Said.{Said}
@@ -45,13 +45,32 @@ pub record IsBefore (base : Base) (talk : Talk) (said : Said) : Type 0 where
   pub out : Begins (base.out ++ said.out.items) talk.out
   pub err : Begins (base.err ++ said.err.items) talk.err
 
--- the answers to these lines broke off by a fault: what is said is a front of the talk over them, and the files are
--- those behind some of them, but perhaps for one that could not be written
-pub record IsBroken (fault : SessionFault) (base : Base) (talk : Talk) (lines : List (List ℕ)) (now : Now) : Type 0
-  where
-    pub before : IsBefore base (talk_over talk lines) now.said
-    pub left : (m : FileMap) × (now.files ≡ Some m)
-        × AreLeft (fault ≡ WriteFailed) (files_behind talk) lines m
+-- the first of these lines are answered, and the others are not: what is said is a front of the talk over the answered
+-- ones, and the files are as that talk leaves them, or, only if a store failed, with the file spoilt that the next line
+-- saves
+pub record BreaksOff (failed : Type 0) (base : Base) (talk : Talk) (lines : List (List ℕ)) (now : Now) : Type 0 where
+  pub answered : List (List ℕ)
+  pub rest : List (List ℕ)
+  pub split : lines ≡ answered ++ rest
+  pub before : IsBefore base (talk_over talk answered) now.said
+  pub left : (m : FileMap) × (now.files ≡ Some m) × AreLeft failed rest (talk_over talk answered).state.files m
+
+-- the answers to these lines broke off by a fault
+abbrev pub IsBroken : SessionFault → Base → Talk → (lines : List (List ℕ)) → Now → Type 0
+IsBroken fault base talk lines now = BreaksOff (fault ≡ WriteFailed) base talk lines now
+
+-- no whole line of the bytes taken is the last, and the rest is held
+pub record Holds (taken : List ℕ) (held : Option (List ℕ)) : Type 0 where
+  pub going : list_any is_last (whole_lines taken) ≡ false
+  pub part : held ≡ readable (unfinished taken)
+
+-- bytes of an input were taken up: a front of them, with these left; or one of their lines is the last; or there was a
+-- fault
+abbrev pub IsTakenUp : Result Bool SessionFault → (taken bytes left : List ℕ) → (held : Option (List ℕ)) → Type 0
+IsTakenUp (Ok false) taken bytes left held =
+    (done : List ℕ) × (bytes ≡ done ++ left) × Holds (taken ++ done) held
+IsTakenUp (Ok true) taken bytes left held = list_any is_last (whole_lines (taken ++ bytes)) ≡ true
+IsTakenUp (Err _) taken bytes left held = ⊤
 
 -- the whole lines of the bytes taken are answered, none of them is the last, and the rest is held
 pub record Stands (base : Base) (first : Talk) (taken : List ℕ) (held : Option (List ℕ)) (now : Now) : Type 0 where

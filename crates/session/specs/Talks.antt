@@ -1,6 +1,5 @@
 -- A session as a fold over lines.
 use Rattle.std.specs.Prelude.{◌+◌, ◌++◌, ◌∷◌, [], ℕ, List, if◌then◌else◌}
-use Rattle.units_io.specs.FileMap.{FileMap}
 use Rattle.deck.specs.Messages.{messages}
 use Rattle.session.specs.Answers.{Answer}
 use Rattle.session.specs.Counting.{banner}
@@ -48,10 +47,6 @@ with_answer talk answer line = record {
 abbrev pub talk_over : Talk → List (List ℕ) → Talk
 talk_over talk [] = talk
 talk_over talk (line ∷ lines) = talk_over (with_answer talk (answer talk.state line) line) lines
-
--- the files once these lines are answered
-abbrev pub files_behind : Talk → List (List ℕ) → FileMap
-files_behind talk = λ lines. (talk_over talk lines).state.files
 
 -- a talk over a whole input, up to a line that ends it
 abbrev pub talk_on : Talk → (input : List ℕ) → Talk

@@ -1,12 +1,12 @@
 -- What is written, in full or in part.
-use Rattle.std.specs.Prelude.{◌≡◌, ◌+◌, ℕ, List, false}
+use Rattle.std.specs.Prelude.{◌≡◌, ◌+◌, ◌++◌, ℕ, List, false}
 use Rattle.std.specs.List.{list_any}
 use Rattle.units_io.specs.Bytes.{grown, GrowsByFront}
 use Rattle.units_io.specs.Faults.{Rose}
 use Rattle.units_io.specs.FileMap.{FileMap}
 use Rattle.session.specs.Hearing.{heard, is_last}
 use Rattle.session.specs.Input.{lines_of, whole_lines}
-use Rattle.session.specs.Keeping.{AreBehindSome, AreLeft}
+use Rattle.session.specs.Keeping.{AreLeft}
 use Rattle.session.specs.Outside.{Outside, Rests, taken_of}
 use Rattle.session.specs.Talks.{Talk, talk_over}
 use Rattle.session.specs.Telling.{when_told}
@@ -51,25 +51,31 @@ heard_in course = heard (lines_of course.input)
 abbrev pub whole : Course → Output
 whole course = course.shown (heard_in course)
 
--- the files once these lines are answered
-abbrev pub files_in : Course → List (List ℕ) → FileMap
-files_in course = λ lines. (course.shown lines).files
-
 abbrev pub IsCutShort : Course → Outside → Outside → Type 0
 IsCutShort course before after =
     let taken = taken_of course.input after.left in IsCut (course.shown (whole_lines taken)) taken before after
 
--- a part of a course: a front of its bytes on each sink, and the files behind some of its lines
+-- a part of a course: of the lines that are heard the first ones are answered; each sink has a front of what is shown
+-- for these, and the files are as they leave them
 pub record IsPart (course : Course) (before after : Outside) : Type 0 where
-  pub front : IsFront (whole course) before after
-  pub files : (m : FileMap) × (after.files ≡ when_told before.files m)
-      × AreBehindSome (files_in course) (heard_in course) m
+  pub answered : List (List ℕ)
+  pub rest : List (List ℕ)
+  pub split : heard_in course ≡ answered ++ rest
+  pub front : IsFront (course.shown answered) before after
+  pub files : after.files ≡ when_told before.files (course.shown answered).files
 
--- the same, but perhaps for the one file that the next line saves, where a store failed
-pub record IsPartBut (course : Course) (before after : Outside) : Type 0 where
-  pub front : IsFront (whole course) before after
+-- the same, or, only if a store failed, with the file spoilt that the next line saves
+pub record IsPartIf (failed : Type 0) (course : Course) (before after : Outside) : Type 0 where
+  pub answered : List (List ℕ)
+  pub rest : List (List ℕ)
+  pub split : heard_in course ≡ answered ++ rest
+  pub front : IsFront (course.shown answered) before after
   pub files : (m : FileMap) × (after.files ≡ when_told before.files m)
-      × AreLeft (Rose before.store_faults after.store_faults) (files_in course) (heard_in course) m
+      × AreLeft failed rest (course.shown answered).files m
+
+-- the same by the count of failed stores
+abbrev pub IsPartBut : Course → (before after : Outside) → Type 0
+IsPartBut course before after = IsPartIf (Rose before.store_faults after.store_faults) course before after
 
 -- the output of a talk
 abbrev pub output_of : Talk → Output

@@ -278,7 +278,7 @@ impl Session {
     /// Answers a line as it was read, without its line feed. `ReadFailed` comes only where a fetch failed and
     /// `WriteFailed` only where a store failed, which the files count, and `OutOfMemory` where there is no memory.
     /// After each the session is used no more, and the files are as before, but perhaps for the one that `WriteFailed`
-    /// is about.
+    /// is about. A line that names no file asks for none.
     pub fn line<F: Files, L: Ledger>(
         &mut self,
         alloc: Global,
@@ -294,6 +294,7 @@ impl Session {
             (file_faults (F.faults files.new) (F.store_faults files.new)) }
         ensures kept { LineKeeps (commands.saved_in line.now) result (F.files files.old) (F.files files.new) }
         ensures stores { commands.saved_in line.now ≡ None → F.store_faults files.new ≡ F.store_faults files.old }
+        ensures unasked { commands.names_file (commands.command_of line.now) ≡ false → files.new ≡ files.old }
     {
         match read_command(line) {
             Command::Load(name) => load(

@@ -1,7 +1,12 @@
 //! Laws of a session. A function does nothing: its contract is the law.
 
+ghost use Rattle.session.specs.AnswerExamples.{AnswerExamples};
+ghost use Rattle.session.specs.CommandExamples.{CommandExamples};
+ghost use Rattle.session.specs.HistoryLaws.{HistoryLaws, SaveLaw};
 ghost use Rattle.session.specs.Laws.{LineLaws};
 ghost use Rattle.session.specs.Queries.{LeavesLaw};
+
+use deck_save::saved_decks_are_given_back;
 
 /// The lines of an input, and which of them a session hears.
 pub fn line_laws()
@@ -12,3 +17,26 @@ pub fn line_laws()
 pub fn leaves_law()
     ensures { LeavesLaw }
 {}
+
+/// What some lines ask for.
+pub fn command_examples()
+    ensures { CommandExamples }
+{}
+
+/// What some lines are answered with.
+pub fn answer_examples()
+    ensures { AnswerExamples }
+{}
+
+/// Cached outcomes change no answer but that to `:stats`, versions of the deck change none but those to `:undo` and
+/// `:redo`, and an undo after an edit gives back the lines, the settings and the table.
+pub fn history_laws()
+    ensures { HistoryLaws }
+{}
+
+/// A load of what a session saved gives its definitions back.
+pub fn save_law()
+    ensures { SaveLaw }
+{
+    saved_decks_are_given_back();
+}

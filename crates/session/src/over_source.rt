@@ -1,7 +1,10 @@
 //! A session over a source: what a block of input gave is written in one piece, or in more where it is long.
 
-ghost use Rattle.std.specs.Prelude.{◌≡◌, ◌≤◌, ◌<◌, length};
+ghost use Rattle.std.specs.Prelude.{◌≡◌, ◌≤◌, ◌<◌, ◌⊎◌, ◌++◌, [], List, ℕ, Some, length};
+ghost use Rattle.session.specs.Hearing.{NamesNoFile};
+ghost use Rattle.session.specs.Outside.{GrowsAtLeast};
 ghost use Rattle.session.specs.Runs as spec;
+ghost use Rattle.session.specs.Standing.{Holds};
 ghost use Rattle.session.specs.Worlds.{SourceSeen, files_of, sink_of, source_of, world_of};
 
 use crate::fault::SessionFault;
@@ -33,12 +36,14 @@ const BLOCK: usize = 65_536;
 const MOST_INPUT: u64 = 4_294_967_296;
 
 /// Writes what is to be said before the first line, and then answers the lines of a source, block by block. What one
-/// block gave is written before more is taken, and as soon as it is long.
+/// block gave is written before more is taken, and as soon as it is long; notices are written before replies.
 ///
-/// `specs/Runs.antt` has all that holds of it: at the end all is written that the session says over its whole input;
-/// or a front of it, which where the input is too long, and where the source failed, is exactly what is shown for the
-/// whole lines of the bytes taken; the files are those behind the lines that were answered, but perhaps for one that
-/// could not be written; and every ending but `Done` and want of memory has its cause.
+/// `run`: `specs/Runs.antt` has all that holds of it. At the end both sinks have all that the session says over its
+/// whole input. With another ending the first lines are answered: each sink has a front of what is shown for these, and
+/// the files are as these leave them, but perhaps for one that could not be written; if the input is too long, or the
+/// source failed, these are the whole lines of the bytes taken, and all is shown. Every ending but `Done` and want of
+/// memory has its cause. `unasked`: if no line names a file, no file is asked for. `opening`: nothing is taken from the
+/// source before the opening is written. `order`: nothing is written to `out` before the opening's notices.
 pub fn run_session<S: Source, O: Sink, E: Sink, F: Files, L: Ledger>(
     alloc: Global,
     session: &mut Session,
@@ -49,13 +54,17 @@ pub fn run_session<S: Source, O: Sink, E: Sink, F: Files, L: Ledger>(
     files: &mut F,
     steps: &mut Steps<L>,
 ) -> SessionEnd
-    ensures { spec.IsSessionRun said.old session.old result
+    ensures run { spec.IsSessionRun said.old session.old result
         (world_of (source_of (S.left src.old) (S.taken src.old) (S.faults src.old))
         (sink_of (O.written out.old) (O.faults out.old)) (sink_of (E.written err.old) (E.faults err.old))
         (files_of (F.files files.old) (F.faults files.old) (F.store_faults files.old)) steps.old)
         (world_of (source_of (S.left src.new) (S.taken src.new) (S.faults src.new))
         (sink_of (O.written out.new) (O.faults out.new)) (sink_of (E.written err.new) (E.faults err.new))
         (files_of (F.files files.new) (F.faults files.new) (F.store_faults files.new)) steps.new) }
+    ensures unasked { (input : List ℕ) → S.left src.old ≡ Some input → NamesNoFile input → files.new ≡ files.old }
+    ensures opening { (src.new ≡ src.old) ⊎ (GrowsAtLeast (O.written out.old) (O.written out.new) said.old.out.items
+        × GrowsAtLeast (E.written err.old) (E.written err.new) said.old.err.items) }
+    ensures order { (out.new ≡ out.old) ⊎ GrowsAtLeast (E.written err.old) (E.written err.new) said.old.err.items }
 {
     let mut held = Held::new(alloc);
     let Ok(mut block) = vec![in alloc; 0u8; BLOCK] else {
@@ -94,13 +103,15 @@ fn answer_blocks<S: Source, O: Sink, E: Sink, F: Files, L: Ledger>(
 ) -> SessionEnd
     requires some { 0 < length block.old }
     requires small { length block.old ≤ 65536 }
-    ensures { spec.AreAnswered held.old session.old result
+    ensures run { spec.AreAnswered held.old session.old result
         (world_of (source_of (S.left src.old) (S.taken src.old) (S.faults src.old))
         (sink_of (O.written out.old) (O.faults out.old)) (sink_of (E.written err.old) (E.faults err.old))
         (files_of (F.files files.old) (F.faults files.old) (F.store_faults files.old)) steps.old)
         (world_of (source_of (S.left src.new) (S.taken src.new) (S.faults src.new))
         (sink_of (O.written out.new) (O.faults out.new)) (sink_of (E.written err.new) (E.faults err.new))
         (files_of (F.files files.new) (F.faults files.new) (F.store_faults files.new)) steps.new) }
+    ensures unasked { (input : List ℕ) → S.left src.old ≡ Some input → Holds [] held.old → NamesNoFile input →
+        files.new ≡ files.old }
 {
     let mut total = 0u64;
     while total <= MOST_INPUT {
@@ -133,11 +144,15 @@ fn answer_block<O: Sink, E: Sink, F: Files, L: Ledger>(
     steps: &mut Steps<L>,
     block: &[u8],
 ) -> Option<SessionEnd>
-    ensures { (was is : SourceSeen) → spec.IsBlockAnswered result block.now held.old session.old held.new session.new
+    ensures run { (was is : SourceSeen) →
+        spec.IsBlockAnswered result block.now held.old session.old held.new session.new
         (world_of was (sink_of (O.written out.old) (O.faults out.old)) (sink_of (E.written err.old) (E.faults err.old))
         (files_of (F.files files.old) (F.faults files.old) (F.store_faults files.old)) steps.old)
         (world_of is (sink_of (O.written out.new) (O.faults out.new)) (sink_of (E.written err.new) (E.faults err.new))
         (files_of (F.files files.new) (F.faults files.new) (F.store_faults files.new)) steps.new) }
+    ensures cut { (taken : List ℕ) → Holds taken held.old → spec.IsBlockCut result taken block.now held.new }
+    ensures unasked { (taken more : List ℕ) → Holds taken held.old → NamesNoFile ((taken ++ block.now) ++ more) →
+        files.new ≡ files.old }
 {
     let mut rest = block;
     while !rest.is_empty() {
@@ -164,11 +179,12 @@ fn answer_end<O: Sink, E: Sink, F: Files, L: Ledger>(
     files: &mut F,
     steps: &mut Steps<L>,
 ) -> SessionEnd
-    ensures { (was is : SourceSeen) → spec.IsEndAnswered result held.now session.old
+    ensures run { (was is : SourceSeen) → spec.IsEndAnswered result held.now session.old
         (world_of was (sink_of (O.written out.old) (O.faults out.old)) (sink_of (E.written err.old) (E.faults err.old))
         (files_of (F.files files.old) (F.faults files.old) (F.store_faults files.old)) steps.old)
         (world_of is (sink_of (O.written out.new) (O.faults out.new)) (sink_of (E.written err.new) (E.faults err.new))
         (files_of (F.files files.new) (F.faults files.new) (F.store_faults files.new)) steps.new) }
+    ensures unasked { (input : List ℕ) → Holds input held.now → NamesNoFile input → files.new ≡ files.old }
 {
     said.clear();
     let fed = feed_end(alloc, session, held, said, files, steps);

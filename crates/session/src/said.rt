@@ -52,8 +52,8 @@ impl Said {
         self.out.len() >= LONG || self.err.len() >= LONG
     }
 
-    /// Writes it, on each sink in one piece. `Failed` comes only where a sink failed, which has counted it; then a
-    /// front of the bytes stands on each.
+    /// Writes it, to each sink in one piece, and to `err` first: nothing is written to `out` before all of `err` is.
+    /// The only error is `Failed`, of a sink that has counted it; then each sink has a front of its bytes.
     pub fn write<O: Sink, E: Sink>(&self, out: &mut O, err: &mut E) -> Result<(), Failed>
         ensures whole { OnOk result ((O.written out.new ≡ grown (O.written out.old) self.now.out.items)
             × (E.written err.new ≡ grown (E.written err.old) self.now.err.items)) }
@@ -63,9 +63,10 @@ impl Said {
             (Rose (O.faults out.old) (O.faults out.new) ⊎ Rose (E.faults err.old) (E.faults err.new)) }
         ensures out_later { O.faults out.old ≤ O.faults out.new }
         ensures err_later { E.faults err.old ≤ E.faults err.new }
+        ensures order { (out.new ≡ out.old) ⊎ (E.written err.new ≡ grown (E.written err.old) self.now.err.items) }
     {
-        put_all(out, self.out.as_slice())?;
-        put_all(err, self.err.as_slice())
+        put_all(err, self.err.as_slice())?;
+        put_all(out, self.out.as_slice())
     }
 
     // Adds an answer, and the prompt for the next line unless it was the last.

@@ -6,11 +6,12 @@ ghost use Rattle.std.specs.Option.{option_copied};
 ghost use Rattle.units_io.specs.FileMap.{FileMap};
 ghost use Rattle.session.specs.Answering.{AreCounted, IsAnswered, file_faults, scene_of};
 ghost use Rattle.session.specs.Hearing.{heard, is_last, is_last_read, longest_line, readable, saved_by_read};
+ghost use Rattle.session.specs.Hearing.{NamesNoFile, names_file_in, names_file_read};
 ghost use Rattle.session.specs.Input.{lines_of};
 ghost use Rattle.session.specs.Keeping.{LineKeeps};
 ghost use Rattle.session.specs.Parts.{IsLine};
 ghost use Rattle.session.specs.Sessions.{state_of};
-ghost use Rattle.session.specs.Standing.{Base, IsAt, IsBroken, Stands, Fed, now_of};
+ghost use Rattle.session.specs.Standing.{Base, Fed, Holds, IsAt, IsBroken, IsTakenUp, Stands, now_of};
 ghost use Rattle.session.specs.Steps as spec;
 ghost use Rattle.session.specs.Talks.{Talk, with_answer, talk_on};
 
@@ -43,6 +44,10 @@ pub(crate) fn feed<F: Files, L: Ledger>(
         (now_of said.new session.new (F.files files.new) steps.new) }
     ensures faults { AreCounted result (file_faults (F.faults files.old) (F.store_faults files.old))
         (file_faults (F.faults files.new) (F.store_faults files.new)) }
+    ensures cut { (taken : List ℕ) → Holds taken held.old →
+        IsTakenUp result taken rest.old.now rest.new.now held.new }
+    ensures unasked { (taken more : List ℕ) → Holds taken held.old →
+        NamesNoFile ((taken ++ rest.old.now) ++ more) → files.new ≡ files.old }
     ensures shorter { 0 < length rest.old.now → length rest.new.now < length rest.old.now }
 {
     while let Some((piece, behind)) = cut_at(*rest, b'\n') {
@@ -82,6 +87,7 @@ pub(crate) fn feed_end<F: Files, L: Ledger>(
         (now_of said.new session.new (F.files files.new) steps.new)) }
     ensures faults { AreCounted result (file_faults (F.faults files.old) (F.store_faults files.old))
         (file_faults (F.faults files.new) (F.store_faults files.new)) }
+    ensures unasked { (input : List ℕ) → Holds input held.now → NamesNoFile input → files.new ≡ files.old }
 {
     if held.is_empty() {
         return Ok(());
@@ -112,6 +118,10 @@ fn end_line<F: Files, L: Ledger>(
         (now_of said.new session.new (F.files files.new) steps.new)) }
     ensures faults { AreCounted result (file_faults (F.faults files.old) (F.store_faults files.old))
         (file_faults (F.faults files.new) (F.store_faults files.new)) }
+    ensures last { (part : List ℕ) → held.old ≡ readable part →
+        IfOk result (λ done. (done ≡ is_last (part ++ piece.now)) × (held.new ≡ Some [])) }
+    ensures unasked { (part : List ℕ) → held.old ≡ readable part → names_file_in (part ++ piece.now) ≡ false →
+        files.new ≡ files.old }
 {
     if held.is_empty() {
         let done = reply(alloc, session, short(piece), said, files, steps);
@@ -159,6 +169,8 @@ fn reply<F: Files, L: Ledger>(
         (now_of said.new session.new (F.files files.new) steps.new)) }
     ensures faults { AreCounted result (file_faults (F.faults files.old) (F.store_faults files.old))
         (file_faults (F.faults files.new) (F.store_faults files.new)) }
+    ensures last { IfOk result (λ done. done ≡ is_last_read (option_copied line.entry)) }
+    ensures unasked { names_file_read (option_copied line.entry) ≡ false → files.new ≡ files.old }
 {
     let reply = match answer_line(alloc, session, line, files, steps) {
         Ok(reply) => reply,
@@ -188,6 +200,7 @@ fn answer_line<F: Files, L: Ledger>(
         (F.files files.new) }
     ensures faults { AreCounted result (file_faults (F.faults files.old) (F.store_faults files.old))
         (file_faults (F.faults files.new) (F.store_faults files.new)) }
+    ensures unasked { names_file_read (option_copied line.entry) ≡ false → files.new ≡ files.old }
 {
     match line {
         Some(line) => session.line(alloc, line, files, steps),

@@ -1,3 +1,4 @@
+mod CheckBlocks
 mod Examples
 mod Findings
 mod Joining

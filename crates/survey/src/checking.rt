@@ -1,10 +1,11 @@
 //! The check report.
 
 ghost use Rattle.std.specs.Prelude.{◌≡◌, ◌++◌, IfOk, OnOk};
+ghost use Rattle.deck.specs.KeyLists.{table_keys};
 ghost use Rattle.deck.specs.PlacedKeys.{key_there, keys_there};
 ghost use Rattle.deck.specs.Tables as tables;
 ghost use Rattle.def_entry.specs.declared.key.Kind.TheVariants as kinds;
-ghost use Rattle.live_table.specs.Calls.{AreQueries};
+ghost use Rattle.live_table.specs.Calls.{AreQueries, all_names};
 ghost use Rattle.live_table.specs.Shown.{IsRightTable};
 ghost use Rattle.reply.specs.Calls as call;
 ghost use Rattle.reply.specs.Inquiries as inquiries;
@@ -27,8 +28,8 @@ use std::alloc::{AllocError, Global};
 use std::sync::ledger::Ledger;
 use units_io::{Steps, Text};
 
-/// A line for each key that has a fault, in the order of keys. All names are asked for, and then what each key needs,
-/// and the deck is left as it is. The only error is want of memory.
+/// A line for each key that has a fault, in the order of keys, as one text. All names are asked for, and then what each
+/// key needs, and the deck is left as it is. The only error is want of memory.
 pub fn check_report<L: Ledger>(
     alloc: Global,
     table: &mut LiveTable,
@@ -42,12 +43,29 @@ pub fn check_report<L: Ledger>(
         table.old table.new steps.old steps.new }
     ensures deck { table.new.deck ≡ table.old.deck }
 {
-    key_lists_are_one();
-    let places = table.deck().key_places(alloc)?;
-    table.settle_all(alloc, steps)?;
+    let places = check_places(alloc, table, steps)?;
     let mut lines = Vec::new(alloc);
     put_checks(alloc, &mut lines, table, options, places.as_slice(), steps)?;
     Ok(Text::from(lines))
+}
+
+/// The places of the lines that define the keys of a check report, in its order. All names are asked for, and the deck
+/// is left as it is. The only error is want of memory.
+pub fn check_places<L: Ledger>(
+    alloc: Global,
+    table: &mut LiveTable,
+    steps: &mut Steps<L>,
+) -> Result<Vec<usize>, AllocError>
+    ensures keys { IfOk result (λ places. keys_there table.old.deck.lines places.items
+        ≡ table_keys (tables.table table.old.deck)) }
+    ensures queries { AreQueries (all_names (tables.table table.old.deck)) result
+        table.old table.new steps.old steps.new }
+    ensures deck { table.new.deck ≡ table.old.deck }
+{
+    key_lists_are_one();
+    let places = table.deck().key_places(alloc)?;
+    table.settle_all(alloc, steps)?;
+    Ok(places)
 }
 
 // Puts a line for each of the keys at some places that has a fault.
@@ -75,8 +93,8 @@ fn put_checks<L: Ledger>(
     Ok(())
 }
 
-// Puts the line of the key at a place, where it has a fault.
-fn put_check_at<L: Ledger>(
+/// Puts the line of the key at a place, if it has a fault.
+pub(crate) fn put_check_at<L: Ledger>(
     alloc: Global,
     lines: &mut Vec<u8>,
     table: &mut LiveTable,

@@ -2,6 +2,7 @@
 #![tactic(auto)]
 
 mod asking;
+mod check_blocks;
 mod checking;
 mod conforming;
 mod finding;
@@ -14,7 +15,8 @@ mod rows;
 mod searching;
 mod valued;
 
-pub use checking::check_report;
+pub use check_blocks::put_check_block;
+pub use checking::{check_places, check_report};
 pub use conforming::conformable_report;
 pub use laws::{examples_law, prefix_law};
 pub use replying::conformable_reply;

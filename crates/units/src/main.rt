@@ -5,22 +5,25 @@ mod environment;
 
 ghost use Rattle.std.specs.Prelude.{◌≡◌, ◌<◌};
 ghost use Rattle.units_run.specs.Endings.{IsStated, MayEndBy};
+ghost use Rattle.units_run.specs.Laws.{HasItsStatus};
 
 use environment::{collect_vars, collect_words};
 use std::marker::Brand;
 use std::process::ExitCode;
 use std::sync::ledger::{Blank, Ledger};
 use units_io::{DirFiles, StdSink, StdSource, Steps, Texts, Vars};
-use units_run::{Status, units_main};
+use units_run::{Status, status_law, units_main};
 
 // The run on the system's streams and files, with a count of steps that nobody reads. Which endings there may be is
-// decided by the words alone.
+// decided by the words alone; if these need neither files nor input, so is the one status of their run.
 fn run_on<L: Ledger>(rt: HostRuntime, words: &Texts, vars: &Vars, blank: Blank) -> Status
     requires name { blank.name ≡ L.name }
     requires parts { blank.parts ≡ L.parts }
     requires some { 0 < blank.parts }
-    ensures { IsStated result → MayEndBy words.now result }
+    ensures may { IsStated result → MayEndBy words.now result }
+    ensures status { HasItsStatus words.now vars.now result }
 {
+    status_law();
     let mut steps: Steps<L> = Steps::new(blank);
     let mut source = StdSource::new(rt.stdin());
     let mut out = StdSink::new(rt.stdout());

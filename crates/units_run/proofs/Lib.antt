@@ -1,9 +1,14 @@
 pub mod BuiltInDeck
+pub mod Checking
 pub mod Converting
+pub mod Granting
 pub mod Leading
 pub mod Needing
+pub mod Opening
 pub mod Planned
 pub mod RunEndings
+pub mod Reporting
 pub mod Running
+pub mod Statuses
 pub mod Working
 pub mod Seeing

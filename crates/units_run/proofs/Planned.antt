@@ -14,7 +14,8 @@ use Rattle.deck.specs.declared.fault.DeckFault.{DeckFault}
 use Rattle.deck.specs.declared.fault.DeckFault.TheVariants as fault
 use Rattle.session.specs.Telling.{TellsIf}
 use Rattle.units_run.specs.Definitions.{no_deck_line}
-use Rattle.units_run.specs.Needs.{converts_column, is_column, is_session, loads_file, most_input, needs_files}
+use Rattle.units_run.specs.Needs.{converts_column, is_column, is_session, loads_file, most_input}
+use Rattle.units_run.specs.Needs.{needs_definitions, needs_files}
 use Rattle.units_run.specs.Needs.{opens_session}
 use Rattle.units_run.specs.Planning.{IsPlanned}
 use Rattle.units_run.specs.Plans.{complaint}
@@ -72,6 +73,12 @@ loads_needed words line taken read none =
     ap loads_file read
     ∙ left_false (loads_file read_line) (is_session read_line)
     (sym (ap (λ b. b && (loads_file read_line || is_session read_line)) taken) ∙ none)
+
+-- nor do words that name no definition file
+pub loads_named : (words : List (List ℕ)) (line : CommandLine) → are_taken words ≡ true → line ≡ command_line_of words
+    → needs_definitions words ≡ false → loads_file line ≡ false
+loads_named words line taken read none =
+    ap loads_file read ∙ sym (ap (λ b. b && loads_file (command_line_of words)) taken) ∙ none
 
 -- what serves a need serves a lesser one
 pub tells_less : {X : Type 0} (needed less : Bool) (o : Option X) (x : X) → (needed ≡ false → less ≡ false)

@@ -8,7 +8,8 @@ use Rattle.units_io.specs.FileMap.{FileMap}
 use Rattle.units_io.specs.Named.{Pairs}
 use Rattle.session.specs.Hearing.{heard}
 use Rattle.session.specs.Input.{lines_of}
-use Rattle.session.specs.Outside.{Outside}
+use Rattle.std.proofs.lemmas.List.{append-nil}
+use Rattle.session.specs.Outside.{GrowsAtLeast, Outside}
 use Rattle.session.specs.Sessions.{Known}
 use Rattle.session.specs.Talks.{Talk}
 use Rattle.session.specs.Telling.{TellsIf, when_told}
@@ -132,23 +133,22 @@ opened_run want first files input end before after is ended =
     (sym is) (session_left (session_course first input) end before after ended)
 
 -- where nothing is written, what stands is a front of anything
-front_same : (o after : Option (List ℕ)) (xs : List ℕ) → after ≡ o → GrowsByFront o after xs
+pub front_same : (o after : Option (List ℕ)) (xs : List ℕ) → after ≡ o → GrowsByFront o after xs
 front_same o after xs e = (0, omega arith, e ∙ grown_none o)
 
--- where no line is answered, and nothing written, what stands is a part
+-- if no line is answered, and nothing written, that is a part
 unbegun : (want : plans.Plan) (files : FileMap) (input : List ℕ) (before after : Outside) → SeesFiles want files
     → after.out ≡ before.out → after.err ≡ before.err → after.files ≡ when_told before.files files
     → IsPart (plan_course want files input) before after
 unbegun want files input before after sees o e kept = record {
+  answered = [];
+  rest = heard (lines_of input);
+  split = refl;
   front = record {
-    out = front_same before.out after.out (whole (plan_course want files input)).out o;
-    err = front_same before.err after.err (whole (plan_course want files input)).err e;
+    out = front_same before.out after.out ((plan_course want files input).shown []).out o;
+    err = front_same before.err after.err ((plan_course want files input).shown []).err e;
   };
-  files = (
-    files,
-    kept,
-    record { answered = []; rest = heard (lines_of input); front = refl; reached = by want sees },
-  );
+  files = kept ∙ ap (when_told before.files) (by want sees);
 }
   where
     by : (w : plans.Plan) → SeesFiles w files → files ≡ (run_over w files input []).output.files
@@ -177,7 +177,7 @@ unmade_run (plans.Whole run) files input before after sees o e kept =
 unmade_run (plans.Opened talk) files input before after sees o e kept =
     unbegun (plans.Opened talk) files input before after sees o e kept
 unmade_run (plans.Columns work) files input before after sees o e kept =
-    (unbegun (plans.Columns work) files input before after sees o e kept).front
+    record { out = front_same before.out after.out _ o; err = front_same before.err after.err _ e }
 
 -- a whole plan that is written in part
 pub cut_run : (want : plans.Plan) (files : FileMap) (input : List ℕ) (said : Said) (status : Status)
@@ -186,15 +186,14 @@ pub cut_run : (want : plans.Plan) (files : FileMap) (input : List ℕ) (said : S
     → after.files ≡ when_told before.files files
     → IsLeftOf want (plan_course want files input) (plan_end want files input) WriteFault before after
 cut_run (plans.Whole run) files input said status before after planned out err kept = record {
+  answered = [];
+  rest = heard (lines_of input);
+  split = refl;
   front = record {
     out = subst (GrowsByFront before.out after.out) planned.out out;
     err = subst (GrowsByFront before.err after.err) planned.err err;
   };
-  files = (
-    files,
-    kept,
-    inl (record { answered = []; rest = heard (lines_of input); front = refl; reached = refl }),
-  );
+  files = (files, kept, inl refl);
 }
 cut_run (plans.Opened talk) files input said status before after planned out err kept = absurd planned
 cut_run (plans.Columns work) files input said status before after planned out err kept = absurd planned
@@ -327,3 +326,9 @@ no_fault InputTooLong read write = tt
 
 pub same_le : (n k : ℕ) → k ≡ n → n ≤ k
 same_le n k e = omega arith
+
+-- bytes that were written are at least those
+pub at_least : (before after : Option (List ℕ)) (bytes said : List ℕ) → said ≡ bytes → after ≡ grown before said
+    → GrowsAtLeast before after bytes
+at_least before after bytes said is all =
+    ([], all ∙ ap (grown before) (is ∙ sym (append-nil bytes)))

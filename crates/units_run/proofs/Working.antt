@@ -1,10 +1,9 @@
 -- Plans over a deck.
 use Rattle.std.proofs.Common.{◌≡◌, ◌+◌, ◌++◌, ◌&&◌, ◌||◌, ℕ, List, [], Bool, true, false, not, is_some, Some, unwrap_or}
 use Rattle.std.proofs.Common.{Option, Result, IfOk}
-use Rattle.std.proofs.Common.{sym, ap, subst, ◌∙◌, if◌then◌else◌}
+use Rattle.std.proofs.Common.{refl, sym, ap, subst, ◌∙◌, if◌then◌else◌}
 use Rattle.units_io.specs.FileMap.{FileMap}
 use Rattle.def_entry.specs.Tables.{Table}
-use Rattle.def_lines.specs.Words.{is_empty}
 use Rattle.command_line.specs.declared.fields.CommandLine.{CommandLine}
 use Rattle.deck.specs.Decks.{Contents}
 use Rattle.deck.specs.Tables.{table}
@@ -19,12 +18,14 @@ use Rattle.session.specs.declared.said.Said.{Said}
 use Rattle.survey.specs.Asked.{Asked}
 use Rattle.survey.specs.Checks.{check_report, check_queries}
 use Rattle.units_run.specs.Asked.{asked_for}
+use Rattle.units_run.specs.Checks.{report_of}
 use Rattle.units_run.specs.Options.{options_of}
 use Rattle.units_run.specs.Planning.{IsFor, IsPlan}
 use Rattle.units_run.specs.Work.{checked, checked_lines, fresh, from_plan, replied, work_by}
 use Rattle.def_lines.specs.Lines.{line_content}
+use Rattle.units_run.specs.declared.check_plan.CheckPlan.{CheckPlan}
 use Rattle.units_run.specs.declared.plan.Plan.{Plan}
-use Rattle.units_run.specs.declared.plan.Plan.TheVariants.{Whole}
+use Rattle.units_run.specs.declared.plan.Plan.TheVariants.{Whole, Check}
 use Rattle.units_run.specs.declared.status.Status.{Status}
 use Rattle.units_run.specs.declared.status.Status.TheVariants.{Done, Refused}
 
@@ -73,19 +74,19 @@ module _ (law : LeavesLaw) (deck : Contents) (before after : Shown) (old new : �
     steps = queries-counted asked.queries answer.1;
   }
 
-  -- a check
-  pub check-planned : (line : CommandLine) (notices report lines : List ℕ) (said : Said) (status : Status)
-      → notices ≡ lines_of_texts deck.notices → report ≡ check_report (table deck) (style_of (options_of line))
-      → Follows (check_queries (table deck)) before after old new → lines ≡ notices ++ report
-      → said.out.items ≡ lines → said.err.items ≡ [] → status ≡ (if is_empty lines then Done else Refused)
-      → IsPlan (checked line deck) m (Whole said status) old new
-  check-planned line notices report lines said status noticed is follows written out err ends =
-      let whole : lines ≡ checked_lines line deck =
-      written
-      ∙ (ap (λ (ls : List ℕ). ls ++ report) noticed ∙ ap (λ (ls : List ℕ). lines_of_texts deck.notices ++ ls) is) in
-      record {
-        out = out ∙ whole;
-        err = err;
-        ends = ends ∙ ap (λ (ls : List ℕ). if is_empty ls then Done else Refused) whole;
-        steps = queries-counted (check_queries (table deck)) follows;
-      }
+-- a check
+pub check_planned : (line : CommandLine) (plan : CheckPlan) (m : FileMap) (n : ℕ)
+    → plan.table ≡ fresh plan.table.deck → plan.notices.items ≡ lines_of_texts plan.table.deck.notices
+    → plan.options ≡ options_of line → IsPlan (checked line plan.table.deck) m (Check plan) n n
+check_planned line plan m n is noticed options =
+    let deck = plan.table.deck in
+    let report : checked_lines line deck ≡ report_of plan =
+    ap (λ (ls : List ℕ). ls ++ check_report (table deck) (style_of (options_of line))) (sym noticed)
+    ∙ ap (λ (o : Options). plan.notices.items ++ check_report (table deck) (style_of o)) (sym options) in
+    record {
+      out = report;
+      err = refl;
+      ends = refl;
+      asks = ap (newly (check_queries (table deck))) (sym is);
+      steps = refl;
+    }

@@ -1,5 +1,5 @@
 -- The built-in definitions.
-use Rattle.std.specs.Prelude.{ℕ, List, codes}
+use Rattle.std.specs.Prelude.{◌≡◌, ◌+◌, ◌*◌, ◌-◌, ◌^◌, ◌%◌, ℕ, List, codes, fold, length}
 use Rattle.units_run.specs.declared.built_in.TheConstants.{BUILT_IN}
 
 -- their text, which stands once, beside the code
@@ -9,3 +9,13 @@ built_in = BUILT_IN.now
 -- the name of their file, as it stands in notices
 abbrev pub built_in_name : List ℕ
 built_in_name = codes "builtin"
+
+-- a text as one number: its bytes are the digits, in base 256, the first one the highest
+abbrev pub number_of : List ℕ → ℕ
+number_of bytes = fold (λ n b. n * 256 + b) 0 bytes
+
+-- law: the text has this length, and its number leaves this by the prime 2 ^ 127 - 1, so that a constant with another
+-- byte is refused
+pub record PinnedText : Type 0 where
+  pub long : length built_in ≡ 1057
+  pub sum : number_of built_in % (2 ^ 127 - 1) ≡ 28873304339660549336200513564783994945

@@ -23,8 +23,8 @@ pub record IsRun (words : List (List ℕ)) (vars : Pairs) (ending : Status) (bef
   -- which stated endings there may be is decided by the words alone, whatever is told
   pub ends : IsStated ending → MayEndBy words ending
   -- a session that is done has read its input to the end, or to a line that ends it
-  pub heard : (files : FileMap) (input : List ℕ) → before.files.told ≡ Some files → before.source.left ≡ Some input →
-      opens_session words ≡ true → ending ≡ Done → IsReadToEnd input after.source.left
+  pub heard : (input : List ℕ) → before.source.left ≡ Some input → opens_session words ≡ true → ending ≡ Done →
+      IsReadToEnd input after.source.left
   -- a column that is converted, also where a cell is an error, has read its input to the end
   pub whole : (files : FileMap) (input : List ℕ) → TellsIf (needs_files words) before.files.told files →
       before.source.left ≡ Some input → converts_column words ≡ true → IsWorked ending →

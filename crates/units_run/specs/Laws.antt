@@ -3,10 +3,13 @@ use Rattle.std.specs.Prelude.{◌≡◌, ℕ, List, false}
 use Rattle.units_io.specs.FileMap.{FileMap}
 use Rattle.units_io.specs.Named.{Pairs}
 use Rattle.units_run.specs.Calls.{Call, run_of}
-use Rattle.units_run.specs.Endings.{MayEndBy}
+use Rattle.session.specs.Worlds.{World}
+use Rattle.units_run.specs.Endings.{IsStated, MayEndBy}
+use Rattle.units_run.specs.Headline.{IsRun}
 use Rattle.units_run.specs.Needs.{needs_files, needs_input}
 use Rattle.units_run.specs.Plans.{IsWhole}
 use Rattle.units_run.specs.Work.{plan_of}
+use Rattle.units_run.specs.declared.status.Status.{Status}
 
 -- law: what is not needed changes nothing
 pub record NeedLaws : Type 0 where
@@ -21,6 +24,17 @@ pub record NeedLaws : Type 0 where
       needs_input words ≡ false →
       run_of (record { words = words; vars = vars; files = files; input = input })
       ≡ run_of (record { words = words; vars = vars; files = files; input = other })
+
+-- words that need neither files nor input have the status of their run, whatever the files and the input are
+abbrev pub HasItsStatus : (words : List (List ℕ)) → Pairs → Status → Type 0
+HasItsStatus words vars ending =
+    needs_files words ≡ false → needs_input words ≡ false → IsStated ending → (files : FileMap) (input : List ℕ)
+    → ending ≡ (run_of (record { words = words; vars = vars; files = files; input = input })).status
+
+-- law: so they do also if nothing is told of the files and of the input
+abbrev pub StatusLaw : Type 0
+StatusLaw = (words : List (List ℕ)) (vars : Pairs) (ending : Status) (before after : World)
+    → IsRun words vars ending before after → HasItsStatus words vars ending
 
 -- law: a run ends as its words may
 abbrev pub EndingLaw : Type 0

@@ -1,13 +1,16 @@
 pub mod Asked
 pub mod BuiltIn
 pub mod Calls
+pub mod Checks
 pub mod Definitions
 pub mod Endings
 pub mod Examples
+pub mod Granted
 pub mod Headline
 pub mod Laws
 pub mod LeftAlone
 pub mod Needs
+pub mod Openings
 pub mod Options
 pub mod Planning
 pub mod Plans

@@ -12,6 +12,10 @@ is_session line = not (is_some line.trial) && not (is_some line.from || line.che
 abbrev pub loads_file : CommandLine → Bool
 loads_file line = not (is_some line.trial) && is_some line.file
 
+-- the words lead to a definition file
+abbrev pub needs_definitions : (words : List (List ℕ)) → Bool
+needs_definitions words = are_taken words && loads_file (command_line_of words)
+
 -- the words lead to a session
 abbrev pub opens_session : (words : List (List ℕ)) → Bool
 opens_session words = are_taken words && is_session (command_line_of words)

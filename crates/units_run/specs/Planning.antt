@@ -1,8 +1,10 @@
 -- A plan as the program has it.
-use Rattle.std.specs.Prelude.{◌≡◌, ◌+◌, ◌||◌, ◌≤◌, ℕ, List, Bool, true, Some, Result, Ok, Err, ⊤}
+use Rattle.std.specs.Prelude.{◌≡◌, ◌+◌, ◌||◌, ◌≤◌, [], ℕ, List, Bool, true, false, Some, Result, Ok, Err, ⊤}
+use Rattle.std.specs.Prelude.{if◌then◌else◌}
 use Rattle.std.specs.declared.option.Option.{Option}
 use Rattle.std.specs.declared.alloc.AllocError.{AllocError}
 use Rattle.units_io.specs.FileMap.{FileMap}
+use Rattle.def_lines.specs.Words.{is_empty}
 use Rattle.live_table.specs.Shown.{Follows, Shown}
 use Rattle.reply.specs.Options.{IsPrintable}
 use Rattle.reply.specs.declared.reply.Reply.{Reply}
@@ -13,14 +15,16 @@ use Rattle.session.specs.Waiting.{at_first}
 use Rattle.session.specs.declared.said.Said.{Said}
 use Rattle.survey.specs.Asked.{Asked}
 use Rattle.units_run.specs.Calls.{column_run}
+use Rattle.units_run.specs.Checks.{report_of, steps_of}
 use Rattle.units_run.specs.Endings.{IsConverted, MayEnd}
 use Rattle.units_run.specs.Plans as plans
 use Rattle.units_run.specs.declared.plan.Plan.{Plan}
 use Rattle.units_run.specs.Work.{fresh}
+use Rattle.units_run.specs.declared.check_plan.CheckPlan.{CheckPlan}
 use Rattle.units_run.specs.declared.column_plan.ColumnPlan.{ColumnPlan}
-use Rattle.units_run.specs.declared.plan.Plan.TheVariants.{Whole, Opened, Columns}
+use Rattle.units_run.specs.declared.plan.Plan.TheVariants.{Whole, Check, Opened, Columns}
 use Rattle.units_run.specs.declared.status.Status.{Status}
-use Rattle.units_run.specs.declared.status.Status.TheVariants.{NoFile}
+use Rattle.units_run.specs.declared.status.Status.TheVariants.{Done, Refused, NoFile}
 
 -- a whole run, as it is said, whose steps are taken
 pub record IsSaid (want : plans.WholeRun) (said : Said) (status : Status) (steps_old steps_new : ℕ) : Type 0 where
@@ -28,6 +32,14 @@ pub record IsSaid (want : plans.WholeRun) (said : Said) (status : Status) (steps
   pub err : said.err.items ≡ want.err
   pub ends : status ≡ want.status
   pub steps : steps_new ≡ steps_old + want.steps
+
+-- a check report is to be written so, and no step is taken yet
+pub record IsCheck (want : plans.WholeRun) (plan : CheckPlan) (steps_old steps_new : ℕ) : Type 0 where
+  pub out : want.out ≡ report_of plan
+  pub err : want.err ≡ []
+  pub ends : want.status ≡ (if is_empty want.out then Done else Refused)
+  pub asks : want.steps ≡ steps_of plan
+  pub steps : steps_new ≡ steps_old
 
 -- a column is to be converted so, and no step is taken yet
 pub record IsColumn (want : plans.ColumnWork) (plan : ColumnPlan) (steps_old steps_new : ℕ) : Type 0 where
@@ -43,6 +55,7 @@ pub record IsColumn (want : plans.ColumnWork) (plan : ColumnPlan) (steps_old ste
 -- the program's plan is this one
 abbrev pub IsPlan : plans.Plan → FileMap → Plan → (steps_old steps_new : ℕ) → Type 0
 IsPlan (plans.Whole run) files (Whole said status) steps_old steps_new = IsSaid run said status steps_old steps_new
+IsPlan (plans.Whole run) files (Check plan) steps_old steps_new = IsCheck run plan steps_old steps_new
 IsPlan (plans.Opened talk) files (Opened said session) steps_old steps_new =
     IsAt (at_first steps_old) talk (record { said = said; session = session; files = Some files; steps = steps_new })
 IsPlan (plans.Columns work) files (Columns plan) steps_old steps_new = IsColumn work plan steps_old steps_new
@@ -53,11 +66,13 @@ IsPlanned want files (Ok plan) steps_old steps_new = IsPlan want files plan step
 IsPlanned want files (Err _) steps_old steps_new = ⊤
 
 -- which plan there may be: a whole run by how it may end, which where the words lead to a session or to a column is
--- only since there is no deck; a session only where they lead to one, and a column only where they lead to one, with
--- options that can be printed and a number from 1
+-- only since there is no deck; a check only if they lead to neither; a session only where they lead to one, and a column
+-- only where they lead to one, with options that can be printed and a number from 1
 abbrev pub IsFor : (taken file session column : Bool) → Plan → Type 0
 IsFor taken file session column (Whole said status) =
     ((session || column) ≡ true → status ≡ NoFile) × MayEnd taken file session status
+IsFor taken file session column (Check plan) =
+    (taken ≡ true) × ((session || column) ≡ false) × IsPrintable plan.options
 IsFor taken file session column (Opened said opened) = (taken ≡ true) × (session ≡ true)
 IsFor taken file session column (Columns plan) =
     (taken ≡ true) × (column ≡ true) × IsPrintable plan.options × (1 ≤ plan.column)

@@ -3,6 +3,7 @@
 ghost use Rattle.std.specs.Prelude.{◌≡◌, ◌≤◌, ◌⊎◌, [], List, ℕ, Some};
 ghost use Rattle.reply.specs.Options.{IsPrintable};
 ghost use Rattle.session.specs.Outside.{TookMoreThan};
+ghost use Rattle.units_io.specs.Bytes.{grown};
 ghost use Rattle.units_io.specs.Faults.{Rose};
 ghost use Rattle.units_run.specs.Endings as spec;
 ghost use Rattle.units_run.specs.Planning as planning;
@@ -29,6 +30,8 @@ pub(crate) fn convert_column<S: Source, O: Sink, E: Sink, L: Ledger>(
     ensures told { planning.IsConversion plan result
         (planning.ends_of (S.left src.old) (O.written out.old) (E.written err.old) steps.old)
         (planning.ends_of (S.left src.new) (O.written out.new) (E.written err.new) steps.new) }
+    ensures noticed { ((src.new ≡ src.old) × (out.new ≡ out.old))
+        ⊎ (E.written err.new ≡ grown (E.written err.old) plan.notices.items) }
     ensures ends { spec.IsStated result → spec.IsWorked result }
     ensures whole { (input : List ℕ) → S.left src.old ≡ Some input → spec.IsWorked result → S.left src.new ≡ Some [] }
     ensures read { result ≡ Status.ReadFault → Rose (S.faults src.old) (S.faults src.new) }

@@ -1,7 +1,8 @@
 //! Laws of what words lead to, and some words. The functions here do nothing: their contracts are what is said.
 
+ghost use Rattle.units_run.specs.BuiltIn.{PinnedText};
 ghost use Rattle.units_run.specs.Examples.{RunExamples};
-ghost use Rattle.units_run.specs.Laws.{EndingLaw, NeedLaws};
+ghost use Rattle.units_run.specs.Laws.{EndingLaw, NeedLaws, StatusLaw};
 
 use command_line::{refused_examples, taken_examples};
 
@@ -13,6 +14,16 @@ pub fn need_laws()
 /// A run ends as its words may.
 pub fn ending_law()
     ensures { EndingLaw }
+{}
+
+/// Words that need neither files nor input end with the status of their run, whatever is told.
+pub fn status_law()
+    ensures { StatusLaw }
+{}
+
+/// The built-in text is this one.
+pub fn built_in_is_pinned()
+    ensures { PinnedText }
 {}
 
 /// Some words, and what they lead to.

@@ -4,6 +4,8 @@
 
 mod asking;
 mod built_in;
+mod check_plan;
+mod checks;
 mod column_plan;
 mod columns;
 mod definitions;
@@ -17,6 +19,6 @@ mod status;
 mod words_plan;
 mod work;
 
-pub use laws::{ending_law, need_laws, run_examples};
+pub use laws::{built_in_is_pinned, ending_law, need_laws, run_examples, status_law};
 pub use run::units_main;
 pub use status::Status;

@@ -5,6 +5,7 @@ ghost use Rattle.units_run.specs.Endings.{MayEnd};
 ghost use Rattle.units_run.specs.Planning.{IsFor, IsPlanned};
 ghost use Rattle.units_run.specs.Plans as spec;
 
+use crate::check_plan::CheckPlan;
 use crate::column_plan::ColumnPlan;
 use crate::status::Status;
 use session::{Said, Session};
@@ -15,6 +16,8 @@ use std::alloc::{AllocError, Global};
 pub(crate) enum Plan {
     /// All that a run writes, and its ending once that is written.
     Whole(Said, Status),
+    /// A check report that is to be written.
+    Check(CheckPlan),
     /// A session, and what stands before its first line.
     Opened(Said, Session),
     /// A column of the input that is to be converted.

@@ -1,32 +1,48 @@
 //! The run of the program.
-ghost use Rattle.std.specs.Prelude.{◌≡◌, ◌⊎◌, false};
+ghost use Rattle.std.specs.Prelude.{◌≡◌, ◌⊎◌, ℕ, List, Some, false};
 ghost use Rattle.units_run.specs.Endings as endings;
+ghost use Rattle.units_run.specs.Granted.{GrantsExactly};
 ghost use Rattle.units_run.specs.Headline as spec;
 ghost use Rattle.units_run.specs.LeftAlone.{OpensNone, TakesNone};
-ghost use Rattle.units_run.specs.Needs.{needs_files};
+ghost use Rattle.units_run.specs.Needs.{needs_definitions, needs_files};
+ghost use Rattle.units_run.specs.Openings as openings;
+ghost use Rattle.units_run.specs.Work.{plan_of};
+ghost use Rattle.session.specs.Hearing.{NamesNoFile};
+ghost use Rattle.session.specs.Outside.{GrowsAtLeast};
+ghost use Rattle.session.specs.Telling.{TellsIf};
 ghost use Rattle.session.specs.Worlds.{files_of, sink_of, source_of, world_of};
+ghost use Rattle.units_io.specs.FileMap.{FileMap};
 
+use crate::checks::write_check;
 use crate::columns::convert_column;
 use crate::halt::Halt;
 use crate::plan::Plan;
 use crate::status::Status;
 use crate::words_plan::make_plan;
+use reply::grant_law;
 use session::{SessionEnd, run_session};
 use std::alloc::Global;
 use std::mem;
 use std::sync::ledger::Ledger;
 use units_io::{Files, Sink, Source, Steps, Text, Vars};
 
-/// Does all that the program does: for every command line, variables, files and session input it writes exactly the
-/// stated replies, and any other ending is a counted fault, a stated limit or want of memory. The words are those after
-/// the program's name. The definitions of a run stay in memory, which the system takes back with the process.
+/// Does all that the program does: for every command line, set of files and session input it writes exactly the stated
+/// replies, each that of a fresh load of the definitions then in force; a conversion is granted exactly where full
+/// expansion is defined, conformable and within 127 bits, with that exact fraction as its value; any other ending is a
+/// counted fault, a stated limit or want of memory. The words are those after the program's name. The definitions of a
+/// run stay in memory, which the system takes back with the process.
 ///
-/// `run`: with a stated status (0 to 3) all bytes of the run stand on both sinks, its files and its count of steps are
-/// those of the run, and the status is its own; with any other each sink holds a front of its bytes, which where the
-/// input was too long (7), and where the source failed (4), is exactly what is shown for the whole lines of the bytes
-/// taken, and of a column no byte on `out`. `specs/Headline.antt` has all that holds of a run. `source`, `unasked`:
-/// nothing is taken outside of a session and of a column or without a deck, and no file is asked for where none is
-/// needed. `unread`: where no session is opened, and a fetch failed, nothing is taken and nothing is written.
+/// `run`: with a stated status (0 to 3) both sinks have all bytes of the run, its files and its count of steps are those
+/// of the run, and the status is its own. With another status each sink has a front of its bytes: if the input was too
+/// long (7), or the source failed (4), exactly what is shown for the whole lines of the bytes taken, and of a column no
+/// byte on `out`. `specs/Headline.antt` has all that holds of a run. `granted`: which conversions are granted, and with
+/// which numbers.
+///
+/// `source`: nothing is taken outside of a session and of a column, or if there is no deck. `opened`: nothing is taken
+/// before the opening of the session or the notices before a column are written, whatever the ending. `order`: nothing
+/// is written to `out` before the notices on `err`. `unasked`: no file is asked for if none is needed. `unnamed`: nor by
+/// a session of which no line names one. `unread`: if no session is opened, and a fetch failed, nothing is taken and
+/// nothing is written.
 pub fn units_main<S: Source, O: Sink, E: Sink, F: Files, L: Ledger>(
     alloc: Global,
     words: &[Text],
@@ -45,15 +61,26 @@ pub fn units_main<S: Source, O: Sink, E: Sink, F: Files, L: Ledger>(
         (sink_of (O.written out.new) (O.faults out.new)) (sink_of (E.written err.new) (E.faults err.new))
         (files_of (F.files files.new) (F.faults files.new) (F.store_faults files.new)) steps.new) }
     ensures source { TakesNone words.now vars.now result (F.files files.old) → src.new ≡ src.old }
+    ensures granted { GrantsExactly words.now vars.now result (F.files files.old) (O.written out.old) (O.written out.new) }
+    ensures opened { (m : FileMap) → TellsIf (needs_files words.now) (F.files files.old) m →
+        (src.new ≡ src.old) ⊎ openings.IsOpened (plan_of words.now vars.now m) (O.written out.old) (O.written out.new)
+        (E.written err.old) (E.written err.new) }
+    ensures order { (m : FileMap) → TellsIf (needs_files words.now) (F.files files.old) m →
+        (out.new ≡ out.old) ⊎ GrowsAtLeast (E.written err.old) (E.written err.new)
+        (openings.first_on_err (plan_of words.now vars.now m)) }
     ensures unasked { needs_files words.now ≡ false → files.new ≡ files.old }
+    ensures unnamed { (input : List ℕ) → S.left src.old ≡ Some input → needs_definitions words.now ≡ false →
+        NamesNoFile input → files.new ≡ files.old }
     ensures unread { OpensNone words.now vars.now result (F.files files.old) →
         (F.faults files.new ≡ F.faults files.old) ⊎ ((src.new ≡ src.old) × (out.new ≡ out.old) × (err.new ≡ err.old)) }
 {
+    grant_law();
     match make_plan(alloc, words, vars, files, steps) {
         Ok(Plan::Whole(said, status)) => match said.write(out, err) {
             Ok(()) => status,
             Err(_) => Status::WriteFault,
         },
+        Ok(Plan::Check(plan)) => write_check(alloc, plan, out, steps),
         Ok(Plan::Opened(said, session)) => {
             let mut said = said;
             let mut session = session;

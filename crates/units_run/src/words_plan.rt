@@ -7,7 +7,8 @@ ghost use Rattle.command_line.specs.Fields.{command_line_of};
 ghost use Rattle.deck.specs.Loading.{after_load};
 ghost use Rattle.session.specs.Telling.{TellsIf};
 ghost use Rattle.session.specs.Trials.{trial};
-ghost use Rattle.units_run.specs.Needs.{converts_column, is_column, is_session, loads_file, needs_files, opens_session};
+ghost use Rattle.units_run.specs.Needs.{converts_column, is_column, is_session, loads_file, needs_definitions, needs_files};
+ghost use Rattle.units_run.specs.Needs.{opens_session};
 ghost use Rattle.units_run.specs.Options as options;
 ghost use Rattle.units_run.specs.Planning.{IsFor, IsPlanned};
 ghost use Rattle.units_run.specs.Settings as settings;
@@ -45,6 +46,7 @@ pub(crate) fn make_plan<F: Files, L: Ledger>(
     ensures kept { F.files files.new ≡ F.files files.old }
     ensures stores { F.store_faults files.new ≡ F.store_faults files.old }
     ensures unasked { needs_files words.now ≡ false → files.new ≡ files.old }
+    ensures unloaded { needs_definitions words.now ≡ false → files.new ≡ files.old }
 {
     match read_words(alloc, words) {
         Ok(line) => line_plan(alloc, &line, vars, files, steps),

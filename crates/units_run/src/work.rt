@@ -3,7 +3,6 @@ ghost use Rattle.std.specs.Prelude.{◌≡◌, ◌≤◌, ◌&&◌, ◌||◌, �
 ghost use Rattle.std.specs.Prelude.{unwrap_or};
 ghost use Rattle.std.specs.Prelude.{if◌then◌else◌};
 ghost use Rattle.units_io.specs.FileMap.{FileMap};
-ghost use Rattle.def_lines.specs.Words.{is_empty};
 ghost use Rattle.def_lines.specs.Lines.{line_content};
 ghost use Rattle.units_run.specs.Endings.{MayEnd};
 ghost use Rattle.units_run.specs.Options.{HasColumn, HasDigits};
@@ -11,6 +10,7 @@ ghost use Rattle.units_run.specs.Planning.{IsFor, IsPlanned};
 ghost use Rattle.units_run.specs.Work as spec;
 
 use crate::asking::ask;
+use crate::check_plan::CheckPlan;
 use crate::column_plan::ColumnPlan;
 use crate::options::options_of;
 use crate::plan::Plan;
@@ -23,12 +23,11 @@ use session::{Said, Session, leaves_law, notice_lines};
 use std::alloc::{AllocError, Global};
 use std::mem;
 use std::sync::ledger::Ledger;
-use survey::check_report;
 use units_io::{Steps, Text};
 
 /// The plan of a command line over a deck: the reply to FROM where that stands, or the check, or else a session. The
-/// only error is want of memory. A table that was asked for a reply or a check stays in memory: the system takes that
-/// back with the process, at once.
+/// only error is want of memory. A table that was asked for a reply stays in memory: the system takes that back with the
+/// process, at once.
 pub(crate) fn work<L: Ledger>(
     alloc: Global,
     line: &CommandLine,
@@ -54,9 +53,7 @@ pub(crate) fn work<L: Ledger>(
         }
         None => {
             if line.check {
-                let plan = check_plan(alloc, line, &mut table, steps);
-                mem::forget(table);
-                return plan;
+                return check_plan(alloc, line, table);
             }
             session_plan(alloc, line, table)
         }
@@ -129,28 +126,18 @@ fn column_plan(
 }
 
 // The check report, with the notices at its head.
-fn check_plan<L: Ledger>(
-    alloc: Global,
-    line: &CommandLine,
-    table: &mut LiveTable,
-    steps: &mut Steps<L>,
-) -> Result<Plan, AllocError>
+fn check_plan(alloc: Global, line: &CommandLine, table: LiveTable) -> Result<Plan, AllocError>
     requires digits { HasDigits line.now }
-    requires fresh { table.old ≡ spec.fresh table.old.deck }
-    ensures told { (m : FileMap) → IsPlanned (spec.checked line.now table.old.deck) m result steps.old steps.new }
+    requires fresh { table ≡ spec.fresh table.deck }
+    ensures told { (m : FileMap) (n : ℕ) → IsPlanned (spec.checked line.now table.deck) m result n n }
     ensures kind { IfOk result (IsFor true false false false) }
 {
-    leaves_law();
-    let mut lines = notice_lines(alloc, table.deck())?;
-    let options = options_of(line);
-    let report = check_report(alloc, table, &options, steps)?;
-    lines.extend_from_slice(report.as_bytes())?;
-    let status = check_status(lines.as_slice());
-    let said = Said {
-        out: lines,
-        err: Vec::new(alloc),
-    };
-    Ok(Plan::Whole(said, status))
+    let notices = notice_lines(alloc, table.deck())?;
+    Ok(Plan::Check(CheckPlan {
+        notices,
+        table,
+        options: options_of(line),
+    }))
 }
 
 // A session over a table of which no name is settled.
@@ -184,17 +171,5 @@ fn reply_status(refused: bool) -> Status
         Status::Refused
     } else {
         Status::Done
-    }
-}
-
-// How a check report ends the run.
-fn check_status(report: &[u8]) -> Status
-    ensures is { result ≡ (if is_empty report.now then Status.Done else Status.Refused) }
-    ensures worked { MayEnd true false false result }
-{
-    if report.is_empty() {
-        Status::Done
-    } else {
-        Status::Refused
     }
 }

@@ -11,6 +11,11 @@ unfolding clap_on_literals is_utf8 line_content command_line_of are_parsed are_t
 returns c = record {
   no_words = (refl, refl);
   exact_file = (refl, refl);
+  conversion_by_file = (refl, refl);
+  letters_by_file = (refl, refl);
+  definition_by_file = (refl, refl);
+  check_of_file = (refl, refl);
+  session_by_file = (refl, refl);
   letters_together = (refl, refl);
   digits_after_flags = (refl, refl);
   digits_after_equals = (refl, refl);

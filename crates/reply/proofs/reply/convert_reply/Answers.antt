@@ -5,9 +5,10 @@ use Rattle.reply.specs.declared.reply.Reply.{Reply}
 use Rattle.reply.specs.Calls.{IsInquired, same}
 use Rattle.reply.specs.Conversions.{conversion}
 use Rattle.reply.specs.Faults.{is_told}
-use Rattle.reply.specs.Replies.{refusal}
+use Rattle.reply.specs.Grants.{IsConversionReply}
+use Rattle.reply.specs.Replies.{conversion_reply, refusal}
 use Rattle.reply.proofs.Replying.{conversion-cut, conversion-fault-told, conversion-granted, conversion-made}
-use Rattle.reply.proofs.Replying.{conversion-refused}
+use Rattle.reply.proofs.Replying.{conversion-refused, reply-holds}
 use Rattle.reply.proofs.reply.convert_reply.Goals as goal
 
 pub refusal-requires-clause-told : goal.refusal-requires-clause-told
@@ -31,6 +32,14 @@ returns-in-Ok-clause-reply g c =
     c.of-form.ensures.is c.in-Ok.conversion c.in-Ok.ensures.inquired)
     c.granted.ensures
 
+pub returns-in-Ok-clause-exact : goal.returns-in-Ok-clause-exact
+returns-in-Ok-clause-exact g c =
+    let t = table c.args.table.now.deck in
+    reply-holds (IsConversionReply t c.args.options.now c.args.from.now c.args.to.now) c.granted.result
+    (conversion_reply t c.args.options.now c.args.from.now c.args.to.now)
+    (c.grant_law.ensures c.args.table.now.deck c.args.options.now c.args.from.now c.args.to.now)
+    (returns-in-Ok-clause-reply g c)
+
 pub returns-in-Ok-clause-queries : goal.returns-in-Ok-clause-queries
 returns-in-Ok-clause-queries g c =
     conversion-made c.args.options.now c.args.from.now c.args.to.now c.trim-from.result.now c.trim-to.result.now
@@ -51,6 +60,14 @@ returns-in-Err-Fault-clause-reply g c =
     c.trim-to.result.now) (Err x) c.args.table.now c.convert.new.table c.args.steps.now c.convert.new.steps)
     c.in-Err-Fault.field-0-is c.in-Err-Fault.ensures.inquired))
     c.refusal.ensures
+
+pub returns-in-Err-Fault-clause-exact : goal.returns-in-Err-Fault-clause-exact
+returns-in-Err-Fault-clause-exact g c =
+    let t = table c.args.table.now.deck in
+    reply-holds (IsConversionReply t c.args.options.now c.args.from.now c.args.to.now) c.refusal.result
+    (conversion_reply t c.args.options.now c.args.from.now c.args.to.now)
+    (c.grant_law.ensures c.args.table.now.deck c.args.options.now c.args.from.now c.args.to.now)
+    (returns-in-Err-Fault-clause-reply g c)
 
 pub returns-in-Err-Fault-clause-queries : goal.returns-in-Err-Fault-clause-queries
 returns-in-Err-Fault-clause-queries g c =

@@ -1,8 +1,10 @@
-use Rattle.std.proofs.Common.{◌++◌, [], sym, ◌∙◌, arith}
-use Rattle.session.proofs.Blocks.{either_rose, later_than, rose_from, rose_since, stands}
+use Rattle.std.proofs.Common.{◌++◌, [], refl, sym, ◌∙◌, arith}
+use Rattle.session.proofs.Blocks.{either_rose, later_than, rose_from, rose_since, same_input, stands}
 use Rattle.session.proofs.Ending.{done_by, fed_cause, goes_on, write_cause}
 use Rattle.session.proofs.Faulting.{still}
-use Rattle.session.proofs.Writing.{ended_written, last_heard, part_written, waits_at_first, waits_behind, waits_on}
+use Rattle.session.proofs.Growing.{front_grows, grows_again, same_grows}
+use Rattle.session.proofs.TakingUp.{block_last, holds_behind, holds_first, holds_on, names_none_at}
+use Rattle.session.proofs.Writing.{ended_written, part_written, waits_at_first, waits_behind, waits_on}
 use Rattle.session.proofs.over_source.answer_block.Goals as goal
 
 pub loop-rest-init : goal.loop-rest-init
@@ -11,11 +13,15 @@ loop-rest-init g c = record {
   stores_later = omega arith;
   out_later = omega arith;
   err_later = omega arith;
+  out_grows = same_grows _;
+  err_grows = same_grows _;
+  holds = λ taken h. holds_first taken c.args.block.now _ h;
+  unasked = λ taken more h none. refl;
   waits = λ first taken start was is w. waits_at_first first taken c.args.block.now _ _ start was is _ _ _ _ _ _ w;
 }
 
-pub returns-in_default : goal.returns-in_default
-returns-in_default g c = λ was is. record {
+pub returns-in_default-clause-run : goal.returns-in_default-clause-run
+returns-in_default-clause-run g c = λ was is. record {
   told = λ first taken more start files told fetches stores w.
       let p = c.loop-rest.invariant.waits first taken start was.left is.left w in
       let s = stands first (taken ++ p.0) _ _ _ _ p.2 c.clear.new.self c.clear.ensures.out c.clear.ensures.err in
@@ -24,13 +30,16 @@ returns-in_default g c = λ was is. record {
       c.write.ensures.out c.write.ensures.err
       (λ failed. rose_from _ _ _ _ stores c.loop-rest.invariant.stores_later
       (c.feed-fed.ensures.faults.written failed));
-  heard = λ first taken start w done. cc;
   caused = write_cause _ _ (either_rose _ _ _ _ _ _ c.loop-rest.invariant.out_later c.loop-rest.invariant.err_later
       c.in_default.ensures.cause);
+  grows = record {
+    out = grows_again _ _ _ c.loop-rest.invariant.out_grows (front_grows _ _ _ c.write.ensures.out);
+    err = grows_again _ _ _ c.loop-rest.invariant.err_grows (front_grows _ _ _ c.write.ensures.err);
+  };
 }
 
-pub returns-in-Some : goal.returns-in-Some
-returns-in-Some g c = λ was is. record {
+pub returns-in-Some-clause-run : goal.returns-in-Some-clause-run
+returns-in-Some-clause-run g c = λ was is. record {
   told = λ first taken more start files told fetches stores w.
       let p = c.loop-rest.invariant.waits first taken start was.left is.left w in
       let s = stands first (taken ++ p.0) _ _ _ _ p.2 c.clear.new.self c.clear.ensures.out c.clear.ensures.err in
@@ -41,15 +50,13 @@ returns-in-Some g c = λ was is. record {
       (c.feed-fed.ensures.faults.cause failed))
       (λ failed. rose_from _ _ _ _ stores c.loop-rest.invariant.stores_later
       (c.feed-fed.ensures.faults.written failed));
-  heard = λ first taken start w done.
-      let p = c.loop-rest.invariant.waits first taken start was.left is.left w in
-      let s = stands first (taken ++ p.0) _ _ _ _ p.2 c.clear.new.self c.clear.ensures.out c.clear.ensures.err in
-      last_heard taken c.args.block.now p.0 c.loop-rest.rest.now p.1 c.feed-fed.result _ first c.feed-fed.new.rest.now
-      [] _ _ (done_by c.feed-fed.result c.in-Some.end c.in-Some.ensures done)
-      (c.feed-fed.ensures.told _ first (taken ++ p.0) [] s);
   caused = fed_cause _ _ c.feed-fed.result c.in-Some.end c.in-Some.ensures
       (λ failed. rose_since _ _ _ c.loop-rest.invariant.fetches_later (c.feed-fed.ensures.faults.cause failed))
       (λ failed. rose_since _ _ _ c.loop-rest.invariant.stores_later (c.feed-fed.ensures.faults.written failed));
+  grows = record {
+    out = grows_again _ _ _ c.loop-rest.invariant.out_grows (front_grows _ _ _ c.write.ensures.out);
+    err = grows_again _ _ _ c.loop-rest.invariant.err_grows (front_grows _ _ _ c.write.ensures.err);
+  };
 }
 
 pub loop-rest-preserved : goal.loop-rest-preserved
@@ -62,6 +69,17 @@ loop-rest-preserved g c = record {
   stores_later = later_than _ _ _ c.loop-rest.invariant.stores_later c.feed-fed.ensures.faults.later;
   out_later = later_than _ _ _ c.loop-rest.invariant.out_later c.write.ensures.out_later;
   err_later = later_than _ _ _ c.loop-rest.invariant.err_later c.write.ensures.err_later;
+  out_grows = grows_again _ _ _ c.loop-rest.invariant.out_grows (front_grows _ _ _ c.write.ensures.out);
+  err_grows = grows_again _ _ _ c.loop-rest.invariant.err_grows (front_grows _ _ _ c.write.ensures.err);
+  holds = λ taken h.
+      let p = c.loop-rest.invariant.holds taken h in
+      holds_on taken c.args.block.now p.0 c.loop-rest.rest.now c.feed-fed.new.rest.now _ p.1 c.feed-fed.result
+      (c.feed-fed.ensures.cut (taken ++ p.0) p.2) (goes_on c.feed-fed.result c.in_default-end_of.ensures);
+  unasked = λ taken more h none.
+      let p = c.loop-rest.invariant.holds taken h in
+      c.feed-fed.ensures.unasked (taken ++ p.0) more p.2
+      (names_none_at _ _ (same_input taken c.args.block.now p.0 c.loop-rest.rest.now more p.1) none)
+      ∙ c.loop-rest.invariant.unasked taken more h none;
   waits = λ first taken start was is w.
       let p = c.loop-rest.invariant.waits first taken start was is w in
       let s = stands first (taken ++ p.0) _ _ _ _ p.2 c.clear.new.self c.clear.ensures.out c.clear.ensures.err in
@@ -70,8 +88,8 @@ loop-rest-preserved g c = record {
       c.in-Ok.ensures.whole.0 c.in-Ok.ensures.whole.1 (goes_on c.feed-fed.result c.in_default-end_of.ensures);
 }
 
-pub returns : goal.returns
-returns g c = λ was is. record {
+pub returns-clause-run : goal.returns-clause-run
+returns-clause-run g c = λ was is. record {
   waits = λ first taken start w.
       let p = c.loop-rest.invariant.waits first taken start was.left is.left w in
       waits_behind first taken c.args.block.now p.0 c.loop-rest.rest.now _ _ start _ p.1
@@ -82,4 +100,37 @@ returns g c = λ was is. record {
     out = c.loop-rest.invariant.out_later;
     err = c.loop-rest.invariant.err_later;
   };
+  grows = record { out = c.loop-rest.invariant.out_grows; err = c.loop-rest.invariant.err_grows };
 }
+
+pub returns-in_default-clause-cut : goal.returns-in_default-clause-cut
+returns-in_default-clause-cut g c = λ taken h done. cc
+
+pub returns-in-Some-clause-cut : goal.returns-in-Some-clause-cut
+returns-in-Some-clause-cut g c = λ taken h done.
+    let p = c.loop-rest.invariant.holds taken h in
+    block_last taken c.args.block.now p.0 c.loop-rest.rest.now c.feed-fed.new.rest.now _ p.1 c.feed-fed.result
+    (c.feed-fed.ensures.cut (taken ++ p.0) p.2) (done_by c.feed-fed.result c.in-Some.end c.in-Some.ensures done)
+
+pub returns-clause-cut : goal.returns-clause-cut
+returns-clause-cut g c = λ taken h.
+    let p = c.loop-rest.invariant.holds taken h in
+    holds_behind taken c.args.block.now p.0 c.loop-rest.rest.now _ p.1 (sym c.is_empty.ensures ∙ c.loop-rest-test.false)
+    p.2
+
+pub returns-in_default-clause-unasked : goal.returns-in_default-clause-unasked
+returns-in_default-clause-unasked g c = λ taken more h none.
+    let p = c.loop-rest.invariant.holds taken h in
+    c.feed-fed.ensures.unasked (taken ++ p.0) more p.2
+    (names_none_at _ _ (same_input taken c.args.block.now p.0 c.loop-rest.rest.now more p.1) none)
+    ∙ c.loop-rest.invariant.unasked taken more h none
+
+pub returns-in-Some-clause-unasked : goal.returns-in-Some-clause-unasked
+returns-in-Some-clause-unasked g c = λ taken more h none.
+    let p = c.loop-rest.invariant.holds taken h in
+    c.feed-fed.ensures.unasked (taken ++ p.0) more p.2
+    (names_none_at _ _ (same_input taken c.args.block.now p.0 c.loop-rest.rest.now more p.1) none)
+    ∙ c.loop-rest.invariant.unasked taken more h none
+
+pub returns-clause-unasked : goal.returns-clause-unasked
+returns-clause-unasked g c = c.loop-rest.invariant.unasked

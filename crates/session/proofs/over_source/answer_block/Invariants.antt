@@ -1,6 +1,8 @@
-use Rattle.std.proofs.Common.{◌≡◌, ◌++◌, ◌≤◌, ℕ, List, length}
+use Rattle.std.proofs.Common.{◌≡◌, ◌++◌, ◌≤◌, [], ℕ, List, length}
 use Rattle.std.specs.declared.option.Option.{Option}
-use Rattle.session.specs.Outside.{Outside, outside_of}
+use Rattle.session.specs.Hearing.{NamesNoFile}
+use Rattle.session.specs.Outside.{GrowsAtLeast, Outside, outside_of}
+use Rattle.session.specs.Standing.{Holds}
 use Rattle.session.specs.Talks.{Talk}
 use Rattle.session.specs.Waiting.{Waits}
 use Rattle.session.proofs.over_source.answer_block.Given as goal
@@ -11,6 +13,12 @@ invariant-loop-rest g l = record {
   stores_later : g.F.Files.store_faults l.initial.files ≤ g.F.Files.store_faults l.files;
   out_later : g.O.Sink.faults l.initial.out ≤ g.O.Sink.faults l.out;
   err_later : g.E.Sink.faults l.initial.err ≤ g.E.Sink.faults l.err;
+  out_grows : GrowsAtLeast (g.O.Sink.written l.initial.out) (g.O.Sink.written l.out) [];
+  err_grows : GrowsAtLeast (g.E.Sink.written l.initial.err) (g.E.Sink.written l.err) [];
+  holds : (taken : List ℕ) → Holds taken l.initial.held →
+      (done : List ℕ) × (l.block ≡ done ++ l.rest) × Holds (taken ++ done) l.held;
+  unasked : (taken more : List ℕ) → Holds taken l.initial.held → NamesNoFile ((taken ++ l.block) ++ more) →
+      l.files ≡ l.initial.files;
   waits : (first : Talk) (taken : List ℕ) (start : Outside) (was is : Option (List ℕ)) →
       Waits first taken l.initial.held l.initial.session start
       (outside_of was (g.O.Sink.written l.initial.out) (g.E.Sink.written l.initial.err)

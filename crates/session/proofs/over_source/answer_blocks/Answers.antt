@@ -3,21 +3,24 @@ use Rattle.session.specs.Worlds.{source_of}
 use Rattle.session.proofs.Blocks.{all_heard, cut, cut_part, heard_by, later_than, loses, no_rest, none_left}
 use Rattle.session.proofs.Blocks.{rose_since, took_enough, took_more, went}
 use Rattle.session.proofs.Ending.{cause_since, ended_at, length_cause, read_cause}
+use Rattle.session.proofs.Growing.{grows_again}
+use Rattle.session.proofs.TakingUp.{names_none_at}
 use Rattle.session.proofs.over_source.answer_blocks.Goals as goal
 
-pub returns-in-Err : goal.returns-in-Err
-returns-in-Err g c = record {
+pub returns-in-Err-clause-run : goal.returns-in-Err-clause-run
+returns-in-Err-clause-run g c = record {
   told = λ first input start m q fm ff fs at.
       let p = c.loop-total.invariant.stands first input start q at in (
         cut_part first p.0 _ _ _ _ p.4 input p.1 _ m fm p.2 refl refl refl,
         λ calm. cut first p.0 _ _ _ _ p.4 input p.1 _ m fm p.2 (c.in-Err.ensures.kept ∙ p.3) refl refl refl refl,
       );
-  heard = λ first input start q at d. cc;
+  heard = λ input q h d. cc;
   caused = read_cause _ _ (rose_since _ _ _ c.loop-total.invariant.earlier c.in-Err.ensures.cause.failed);
+  grows = record { out = c.loop-total.invariant.out_grows; err = c.loop-total.invariant.err_grows };
 }
 
-pub returns-then-n-eq0 : goal.returns-then-n-eq0
-returns-then-n-eq0 g c =
+pub returns-then-n-eq0-clause-run : goal.returns-then-n-eq0-clause-run
+returns-then-n-eq0-clause-run g c =
     let old = source_of (g.S.Source.left c.loop-total.src) (g.S.Source.taken c.loop-total.src)
     (g.S.Source.faults c.loop-total.src) in
     let new = source_of (g.S.Source.left c.take.new.self) (g.S.Source.taken c.take.new.self)
@@ -29,21 +32,25 @@ returns-then-n-eq0 g c =
           let p = c.loop-total.invariant.stands first input start q at in
           ended_at first p.0 input c.answer_end.result start _
           (all_heard input p.0 p.1 p.2 (none_left _ p.1 p.3 (c.in-Ok.ensures.end c.if-n-eq0.true)))
-          ((c.answer_end.ensures old new).told first p.0 start m fm
+          ((c.answer_end.ensures.run old new).told first p.0 start m fm
           (later_than _ _ _ ff c.loop-total.invariant.later) (later_than _ _ _ fs c.loop-total.invariant.stores_later)
           p.4);
-      heard = λ first input start q at d.
-          let p = c.loop-total.invariant.stands first input start q at in
+      heard = λ input q h d.
+          let p = c.loop-total.invariant.holds input q h in
           let lost = loses _ _ p.1 (take c.in-Ok.n c.take.new.buf) p.3 c.in-Ok.ensures.bytes in
           inl (lost.1
           ∙ ap Some (no_rest _ _ _ lost.2 (none_left _ p.1 p.3 (c.in-Ok.ensures.end c.if-n-eq0.true))));
       caused = cause_since c.answer_end.result first_seen _ _ _ _ _ _ _ _ _ c.loop-total.invariant.out_later
           c.loop-total.invariant.err_later c.loop-total.invariant.later c.loop-total.invariant.stores_later
-          (c.answer_end.ensures first_seen new).caused;
+          (c.answer_end.ensures.run first_seen new).caused;
+      grows = record {
+        out = grows_again _ _ _ c.loop-total.invariant.out_grows (c.answer_end.ensures.run old new).grows.out;
+        err = grows_again _ _ _ c.loop-total.invariant.err_grows (c.answer_end.ensures.run old new).grows.err;
+      };
     }
 
-pub returns-in-Some : goal.returns-in-Some
-returns-in-Some g c =
+pub returns-in-Some-clause-run : goal.returns-in-Some-clause-run
+returns-in-Some-clause-run g c =
     let old = source_of (g.S.Source.left c.loop-total.src) (g.S.Source.taken c.loop-total.src)
     (g.S.Source.faults c.loop-total.src) in
     let new = source_of (g.S.Source.left c.take.new.self) (g.S.Source.taken c.take.new.self)
@@ -55,29 +62,34 @@ returns-in-Some g c =
           let p = c.loop-total.invariant.stands first input start q at in
           let lost = loses _ _ p.1 (take c.in-Ok.n c.take.new.buf) p.3 c.in-Ok.ensures.bytes in
           ended_at first _ input c.in-Some.end start _ (went input p.0 p.1 _ lost.0 p.2 lost.2)
-          ((c.in-Some.ensures old new).told first p.0 lost.0 start m fm
+          ((c.in-Some.ensures.run old new).told first p.0 lost.0 start m fm
           (later_than _ _ _ ff c.loop-total.invariant.later) (later_than _ _ _ fs c.loop-total.invariant.stores_later)
           p.4);
-      heard = λ first input start q at d.
-          let p = c.loop-total.invariant.stands first input start q at in
+      heard = λ input q h d.
+          let p = c.loop-total.invariant.holds input q h in
           let lost = loses _ _ p.1 (take c.in-Ok.n c.take.new.buf) p.3 c.in-Ok.ensures.bytes in
           heard_by input p.0 (take c.in-Ok.n c.take.new.buf) lost.0 _ (went input p.0 p.1 _ lost.0 p.2 lost.2) lost.1
-          ((c.in-Some.ensures old new).heard first p.0 start p.4 d);
+          (c.in-Some.ensures.cut p.0 p.4 d);
       caused = cause_since c.in-Some.end first_seen _ _ _ _ _ _ _ _ _ c.loop-total.invariant.out_later
           c.loop-total.invariant.err_later c.loop-total.invariant.later c.loop-total.invariant.stores_later
-          (c.in-Some.ensures first_seen new).caused;
+          (c.in-Some.ensures.run first_seen new).caused;
+      grows = record {
+        out = grows_again _ _ _ c.loop-total.invariant.out_grows (c.in-Some.ensures.run old new).grows.out;
+        err = grows_again _ _ _ c.loop-total.invariant.err_grows (c.in-Some.ensures.run old new).grows.err;
+      };
     }
 
-pub returns : goal.returns
-returns g c = record {
+pub returns-clause-run : goal.returns-clause-run
+returns-clause-run g c = record {
   told = λ first input start m q fm ff fs at.
       let p = c.loop-total.invariant.stands first input start q at in (
         cut_part first p.0 _ _ _ _ p.4 input p.1 _ m fm p.2 refl refl refl,
         cut first p.0 _ _ _ _ p.4 input p.1 _ m fm p.2 p.3 refl refl refl refl,
       );
-  heard = λ first input start q at d. cc;
+  heard = λ input q h d. cc;
   caused = length_cause _ _ (took_enough c.loop-total.total 4294967296 _ _ c.loop-total.invariant.counted
       (omega (arith, c.loop-total-test.false)));
+  grows = record { out = c.loop-total.invariant.out_grows; err = c.loop-total.invariant.err_grows };
 }
 
 pub loop-total-preserved : goal.loop-total-preserved
@@ -86,13 +98,30 @@ loop-total-preserved g c =
     (g.S.Source.faults c.loop-total.src) in
     let new = source_of (g.S.Source.left c.take.new.self) (g.S.Source.taken c.take.new.self)
     (g.S.Source.faults c.take.new.self) in
-    let behind = c.in_default.ensures old new in
+    let behind = c.in_default.ensures.run old new in
     record {
       later = later_than _ _ _ c.loop-total.invariant.later behind.later.fetches;
       stores_later = later_than _ _ _ c.loop-total.invariant.stores_later behind.later.stores;
       earlier = omega (arith, c.in-Ok.ensures.cause.later, c.loop-total.invariant.earlier);
       out_later = later_than _ _ _ c.loop-total.invariant.out_later behind.later.out;
       err_later = later_than _ _ _ c.loop-total.invariant.err_later behind.later.err;
+      out_grows = grows_again _ _ _ c.loop-total.invariant.out_grows behind.grows.out;
+      err_grows = grows_again _ _ _ c.loop-total.invariant.err_grows behind.grows.err;
+      holds = λ input q h.
+          let p = c.loop-total.invariant.holds input q h in
+          let lost = loses _ _ p.1 (take c.in-Ok.n c.take.new.buf) p.3 c.in-Ok.ensures.bytes in (
+            p.0 ++ take c.in-Ok.n c.take.new.buf,
+            lost.0,
+            sym (went input p.0 p.1 _ lost.0 p.2 lost.2),
+            lost.1,
+            c.in_default.ensures.cut p.0 p.4,
+          );
+      unasked = λ input q h none.
+          let p = c.loop-total.invariant.holds input q h in
+          let lost = loses _ _ p.1 (take c.in-Ok.n c.take.new.buf) p.3 c.in-Ok.ensures.bytes in
+          c.answer_block.ensures.unasked p.0 lost.0 p.4
+          (names_none_at _ _ (went input p.0 p.1 _ lost.0 p.2 lost.2) none)
+          ∙ c.loop-total.invariant.unasked input q h none;
       room = (omega (arith, c.loop-total.invariant.room.0), omega (arith, c.loop-total.invariant.room.1));
       counted = took_more c.loop-total.total c.in-Ok.n _ _ _ c.loop-total.invariant.counted c.in-Ok.ensures.count;
       stands = λ first input start q at.
@@ -105,3 +134,23 @@ loop-total-preserved g c =
             behind.waits first p.0 start p.4,
           );
     }
+
+pub returns-in-Err-clause-unasked : goal.returns-in-Err-clause-unasked
+returns-in-Err-clause-unasked g c = c.loop-total.invariant.unasked
+
+pub returns-then-n-eq0-clause-unasked : goal.returns-then-n-eq0-clause-unasked
+returns-then-n-eq0-clause-unasked g c = λ input q h none.
+    let p = c.loop-total.invariant.holds input q h in
+    c.answer_end.ensures.unasked p.0 p.4
+    (names_none_at _ _ (all_heard input p.0 p.1 p.2 (none_left _ p.1 p.3 (c.in-Ok.ensures.end c.if-n-eq0.true))) none)
+    ∙ c.loop-total.invariant.unasked input q h none
+
+pub returns-in-Some-clause-unasked : goal.returns-in-Some-clause-unasked
+returns-in-Some-clause-unasked g c = λ input q h none.
+    let p = c.loop-total.invariant.holds input q h in
+    let lost = loses _ _ p.1 (take c.in-Ok.n c.take.new.buf) p.3 c.in-Ok.ensures.bytes in
+    c.answer_block.ensures.unasked p.0 lost.0 p.4 (names_none_at _ _ (went input p.0 p.1 _ lost.0 p.2 lost.2) none)
+    ∙ c.loop-total.invariant.unasked input q h none
+
+pub returns-clause-unasked : goal.returns-clause-unasked
+returns-clause-unasked g c = c.loop-total.invariant.unasked

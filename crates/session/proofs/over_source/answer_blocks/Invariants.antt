@@ -1,5 +1,7 @@
 use Rattle.std.proofs.Common.{◌≡◌, ◌++◌, ◌≤◌, ◌-◌, ℕ, List, Some, length, ◌<◌, []}
-use Rattle.session.specs.Outside.{Outside, outside_of}
+use Rattle.session.specs.Hearing.{NamesNoFile}
+use Rattle.session.specs.Outside.{GrowsAtLeast, Outside, outside_of}
+use Rattle.session.specs.Standing.{Holds}
 use Rattle.session.specs.Talks.{Talk}
 use Rattle.session.specs.Waiting.{TookAtLeast, Waits}
 use Rattle.session.proofs.over_source.answer_blocks.Given as goal
@@ -13,6 +15,13 @@ invariant-loop-total g l = record {
   err_later : g.E.Sink.faults l.initial.err ≤ g.E.Sink.faults l.err;
   room : (0 < length l.block) × (length l.block ≤ 65536);
   counted : TookAtLeast l.total (g.S.Source.taken l.initial.src) (g.S.Source.taken l.src);
+  out_grows : GrowsAtLeast (g.O.Sink.written l.initial.out) (g.O.Sink.written l.out) [];
+  err_grows : GrowsAtLeast (g.E.Sink.written l.initial.err) (g.E.Sink.written l.err) [];
+  holds : (input : List ℕ) → g.S.Source.left l.initial.src ≡ Some input → Holds [] l.initial.held →
+      (taken : List ℕ) × (rest : List ℕ) × (input ≡ taken ++ rest) × (g.S.Source.left l.src ≡ Some rest)
+      × Holds taken l.held;
+  unasked : (input : List ℕ) → g.S.Source.left l.initial.src ≡ Some input → Holds [] l.initial.held →
+      NamesNoFile input → l.files ≡ l.initial.files;
   stands : (first : Talk) (input : List ℕ) (start : Outside) → g.S.Source.left l.initial.src ≡ Some input →
       Waits first [] l.initial.held l.initial.session start
       (outside_of (g.S.Source.left l.initial.src) (g.O.Sink.written l.initial.out) (g.E.Sink.written l.initial.err)

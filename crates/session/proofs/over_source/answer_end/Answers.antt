@@ -1,20 +1,25 @@
 use Rattle.session.proofs.Blocks.{rose_since, stands}
 use Rattle.session.proofs.Ending.{end_cause, write_cause}
+use Rattle.session.proofs.Growing.{front_grows}
 use Rattle.session.proofs.Writing.{last_part, last_written}
 use Rattle.session.proofs.over_source.answer_end.Goals as goal
 
-pub returns-in_default : goal.returns-in_default
-returns-in_default g c = λ was is. record {
+pub returns-in_default-clause-run : goal.returns-in_default-clause-run
+returns-in_default-clause-run g c = λ was is. record {
   told = λ first input start files told fetches stores w.
       let s = stands first input _ _ _ _ w c.clear.new.self c.clear.ensures.out c.clear.ensures.err in
       last_part first input _ _ _ _ w _ c.feed_end-fed.result c.feed_end-fed.new.said _ _
       (c.feed_end-fed.ensures.told _ first input s) files told c.write.ensures.out c.write.ensures.err
       (λ failed. rose_since _ _ _ stores (c.feed_end-fed.ensures.faults.written failed));
   caused = write_cause _ _ c.in_default.ensures.cause;
+  grows = record {
+    out = front_grows _ _ _ c.write.ensures.out;
+    err = front_grows _ _ _ c.write.ensures.err;
+  };
 }
 
-pub returns : goal.returns
-returns g c = λ was is. record {
+pub returns-clause-run : goal.returns-clause-run
+returns-clause-run g c = λ was is. record {
   told = λ first input start files told fetches stores w.
       let s = stands first input _ _ _ _ w c.clear.new.self c.clear.ensures.out c.clear.ensures.err in
       last_written first input _ _ _ _ w _ c.feed_end-fed.result c.feed_end-fed.new.said _ _
@@ -25,4 +30,14 @@ returns g c = λ was is. record {
   caused = end_cause _ _ c.feed_end-fed.result c.last_end.result c.last_end.ensures
       (λ failed. c.feed_end-fed.ensures.faults.cause failed)
       (λ failed. c.feed_end-fed.ensures.faults.written failed);
+  grows = record {
+    out = front_grows _ _ _ c.write.ensures.out;
+    err = front_grows _ _ _ c.write.ensures.err;
+  };
 }
+
+pub returns-in_default-clause-unasked : goal.returns-in_default-clause-unasked
+returns-in_default-clause-unasked g c = c.feed_end-fed.ensures.unasked
+
+pub returns-clause-unasked : goal.returns-clause-unasked
+returns-clause-unasked g c = c.feed_end-fed.ensures.unasked

@@ -1,39 +1,70 @@
-use Rattle.std.proofs.Common.{[], refl, arith, sym, ◌∙◌}
+use Rattle.std.proofs.Common.{[], inl, inr, refl, arith, sym, ◌∙◌}
 use Rattle.session.proofs.Blocks.{any_rose, open_part, opens}
 use Rattle.session.proofs.Ending.{memory_cause, unwritten, write_cause}
+use Rattle.session.proofs.Growing.{all_grows, grows_more, order_grows}
+use Rattle.session.proofs.HeardLines.{holds_none}
 use Rattle.session.proofs.Holding.{readable_short}
 use Rattle.session.proofs.over_source.run_session.Goals as goal
 
-pub returns-in_default : goal.returns-in_default
-returns-in_default g c = record {
+pub returns-in_default-clause-run : goal.returns-in_default-clause-run
+returns-in_default-clause-run g c = record {
   told = λ first input start q at. unwritten first input _ _ start _ at;
-  heard = λ first input start q at d. cc;
+  heard = λ input q d. cc;
   caused = memory_cause _ _;
 }
 
-pub returns-in-Err : goal.returns-in-Err
-returns-in-Err g c = record {
+pub returns-in_default-clause-opening : goal.returns-in_default-clause-opening
+returns-in_default-clause-opening g c = inl refl
+
+pub returns-in_default-clause-order : goal.returns-in_default-clause-order
+returns-in_default-clause-order g c = inl refl
+
+pub returns-in-Err-clause-run : goal.returns-in-Err-clause-run
+returns-in-Err-clause-run g c = record {
   told = λ first input start q at.
       open_part first input _ _ start _ _ at c.write.ensures.out c.write.ensures.err refl;
-  heard = λ first input start q at d. cc;
+  heard = λ input q d. cc;
   caused = write_cause _ _ c.in-Err.ensures.cause;
 }
 
-pub returns : goal.returns
-returns g c = record {
+pub returns-in-Err-clause-opening : goal.returns-in-Err-clause-opening
+returns-in-Err-clause-opening g c = inl refl
+
+pub returns-in-Err-clause-order : goal.returns-in-Err-clause-order
+returns-in-Err-clause-order g c = order_grows _ _ _ c.args.said.now.err.items c.write.ensures.order
+
+pub returns-clause-run : goal.returns-clause-run
+returns-clause-run g c = record {
   told = λ first input start q at.
-      c.answer_blocks.ensures.told first input start _ q (sym at.files ∙ at.at.files) at.faults at.stores
+      c.answer_blocks.ensures.run.told first input start _ q (sym at.files ∙ at.at.files) at.faults at.stores
       (opens first _ _ _ start _ _ at c.in-Ok-write.ensures.whole.0 c.in-Ok-write.ensures.whole.1 refl refl
       (c.new-held.ensures ∙ sym (readable_short [] (omega arith))));
-  heard = λ first input start q at.
-      c.answer_blocks.ensures.heard first input start q
-      (opens first _ _ _ start _ _ at c.in-Ok-write.ensures.whole.0 c.in-Ok-write.ensures.whole.1 refl refl
-      (c.new-held.ensures ∙ sym (readable_short [] (omega arith))));
+  heard = λ input q d.
+      c.answer_blocks.ensures.run.heard input q
+      (holds_none _ (c.new-held.ensures ∙ sym (readable_short [] (omega arith)))) d;
   caused = record {
-    read = c.answer_blocks.ensures.caused.read;
+    read = c.answer_blocks.ensures.run.caused.read;
     write = λ r.
         any_rose _ _ _ _ _ _ _ _ c.write.ensures.out_later c.write.ensures.err_later
-        (c.answer_blocks.ensures.caused.write r);
-    too_long = c.answer_blocks.ensures.caused.too_long;
+        (c.answer_blocks.ensures.run.caused.write r);
+    too_long = c.answer_blocks.ensures.run.caused.too_long;
   };
 }
+
+pub returns-clause-unasked : goal.returns-clause-unasked
+returns-clause-unasked g c = λ input q none.
+    c.answer_blocks.ensures.unasked input q
+    (holds_none _ (c.new-held.ensures ∙ sym (readable_short [] (omega arith)))) none
+
+pub returns-clause-opening : goal.returns-clause-opening
+returns-clause-opening g c = inr (
+  grows_more _ _ _ c.args.said.now.out.items (all_grows _ _ _ c.in-Ok-write.ensures.whole.0)
+      c.answer_blocks.ensures.run.grows.out,
+  grows_more _ _ _ c.args.said.now.err.items (all_grows _ _ _ c.in-Ok-write.ensures.whole.1)
+      c.answer_blocks.ensures.run.grows.err,
+)
+
+pub returns-clause-order : goal.returns-clause-order
+returns-clause-order g c =
+    inr (grows_more _ _ _ c.args.said.now.err.items (all_grows _ _ _ c.in-Ok-write.ensures.whole.1)
+    c.answer_blocks.ensures.run.grows.err)

@@ -7,6 +7,7 @@ use Rattle.session.specs.Standing.{now_of}
 use Rattle.session.specs.Talks.{talk_over}
 use Rattle.session.specs.declared.fault.SessionFault.TheVariants.{OutOfMemory}
 use Rattle.session.proofs.Feeding.{line_fed, line_lost, line_over, rest_held, rest_lost}
+use Rattle.session.proofs.HeardLines.{line_holds, line_last, line_names_none, rest_holds}
 use Rattle.session.proofs.talk.feed.Goals as goal
 
 pub returns-in-Ok-true-clause-told : goal.returns-in-Ok-true-clause-told
@@ -53,6 +54,17 @@ loop-piece-preserved g c = record {
     shorter 10 c.loop-piece.rest.now c.in-Some.piece.now c.in-Some.behind.now (sym c.in-Some.ensures),
     c.loop-piece.invariant.within,
   );
+  holds = λ taken h.
+      let p = c.loop-piece.invariant.holds taken h in
+      let last = c.in-Ok-false.ensures.last (unfinished (taken ++ p.0)) p.2.part in
+      line_holds taken c.args.rest.now.now p.0 c.loop-piece.rest.now c.loop-piece.held p.1 p.2 c.in-Some.piece.now
+      c.in-Some.behind.now (sym c.in-Some.ensures) c.end_line.new.held (sym c.in-Ok-false.field-0-test ∙ last.0) last.1;
+  unasked = λ taken more h none.
+      let p = c.loop-piece.invariant.holds taken h in
+      c.end_line.ensures.unasked (unfinished (taken ++ p.0)) p.2.part
+      (line_names_none taken c.args.rest.now.now p.0 c.loop-piece.rest.now c.loop-piece.held p.1 p.2
+      c.in-Some.piece.now c.in-Some.behind.now (sym c.in-Some.ensures) more none)
+      ∙ c.loop-piece.invariant.unasked taken more h none;
   fed = λ base first taken s.
       let p = c.loop-piece.invariant.fed base first taken s in
       let told = c.in-Ok-false.ensures.told base (talk_over first (whole_lines (taken ++ p.0)))
@@ -83,3 +95,57 @@ returns-in-Err-add-clause-told g c = λ base first taken more s.
     rest_lost base first taken c.args.rest.now.now p.0 c.loop-piece.rest.now c.loop-piece.held
     (now_of c.loop-piece.said c.loop-piece.session (g.F.Files.files c.loop-piece.files) c.loop-piece.steps) p.1 p.2
     OutOfMemory more
+
+pub returns-in-Ok-true-clause-cut : goal.returns-in-Ok-true-clause-cut
+returns-in-Ok-true-clause-cut g c = λ taken h.
+    let p = c.loop-piece.invariant.holds taken h in
+    let last = c.in-Ok-true.ensures.last (unfinished (taken ++ p.0)) p.2.part in
+    line_last taken c.args.rest.now.now p.0 c.loop-piece.rest.now c.loop-piece.held p.1 p.2 c.in-Some.piece.now
+    c.in-Some.behind.now (sym c.in-Some.ensures) (sym c.in-Ok-true.field-0-test ∙ last.0)
+
+pub returns-then-is_long-clause-cut : goal.returns-then-is_long-clause-cut
+returns-then-is_long-clause-cut g c = λ taken h.
+    let p = c.loop-piece.invariant.holds taken h in
+    let last = c.in-Ok-false.ensures.last (unfinished (taken ++ p.0)) p.2.part in
+    line_holds taken c.args.rest.now.now p.0 c.loop-piece.rest.now c.loop-piece.held p.1 p.2 c.in-Some.piece.now
+    c.in-Some.behind.now (sym c.in-Some.ensures) c.end_line.new.held (sym c.in-Ok-false.field-0-test ∙ last.0) last.1
+
+pub returns-in-Ok-clause-cut : goal.returns-in-Ok-clause-cut
+returns-in-Ok-clause-cut g c = λ taken h.
+    let p = c.loop-piece.invariant.holds taken h in (
+      c.args.rest.now.now,
+      sym (append-nil c.args.rest.now.now),
+      rest_holds taken c.args.rest.now.now p.0 c.loop-piece.rest.now c.loop-piece.held p.1 p.2
+          (sym c.cut_at.ensures ∙ ap (option_map seen_pair) c.in_default.is) c.add.new.self
+          (c.in-Ok.ensures (unfinished (taken ++ p.0)) p.2.part),
+    )
+
+pub returns-in-Ok-true-clause-unasked : goal.returns-in-Ok-true-clause-unasked
+returns-in-Ok-true-clause-unasked g c = λ taken more h none.
+    let p = c.loop-piece.invariant.holds taken h in
+    c.end_line.ensures.unasked (unfinished (taken ++ p.0)) p.2.part
+    (line_names_none taken c.args.rest.now.now p.0 c.loop-piece.rest.now c.loop-piece.held p.1 p.2
+    c.in-Some.piece.now c.in-Some.behind.now (sym c.in-Some.ensures) more none)
+    ∙ c.loop-piece.invariant.unasked taken more h none
+
+pub returns-in-Err-clause-unasked : goal.returns-in-Err-clause-unasked
+returns-in-Err-clause-unasked g c = λ taken more h none.
+    let p = c.loop-piece.invariant.holds taken h in
+    c.end_line.ensures.unasked (unfinished (taken ++ p.0)) p.2.part
+    (line_names_none taken c.args.rest.now.now p.0 c.loop-piece.rest.now c.loop-piece.held p.1 p.2
+    c.in-Some.piece.now c.in-Some.behind.now (sym c.in-Some.ensures) more none)
+    ∙ c.loop-piece.invariant.unasked taken more h none
+
+pub returns-then-is_long-clause-unasked : goal.returns-then-is_long-clause-unasked
+returns-then-is_long-clause-unasked g c = λ taken more h none.
+    let p = c.loop-piece.invariant.holds taken h in
+    c.end_line.ensures.unasked (unfinished (taken ++ p.0)) p.2.part
+    (line_names_none taken c.args.rest.now.now p.0 c.loop-piece.rest.now c.loop-piece.held p.1 p.2
+    c.in-Some.piece.now c.in-Some.behind.now (sym c.in-Some.ensures) more none)
+    ∙ c.loop-piece.invariant.unasked taken more h none
+
+pub returns-in-Ok-clause-unasked : goal.returns-in-Ok-clause-unasked
+returns-in-Ok-clause-unasked g c = c.loop-piece.invariant.unasked
+
+pub returns-in-Err-add-clause-unasked : goal.returns-in-Err-add-clause-unasked
+returns-in-Err-add-clause-unasked g c = c.loop-piece.invariant.unasked

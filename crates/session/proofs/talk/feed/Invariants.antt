@@ -1,5 +1,6 @@
 use Rattle.std.proofs.Common.{◌≡◌, ◌++◌, ◌≤◌, ℕ, List, length}
-use Rattle.session.specs.Standing.{Base, Stands, now_of}
+use Rattle.session.specs.Hearing.{NamesNoFile}
+use Rattle.session.specs.Standing.{Base, Holds, Stands, now_of}
 use Rattle.session.specs.Talks.{Talk}
 use Rattle.session.proofs.talk.feed.Given as goal
 
@@ -8,6 +9,10 @@ invariant-loop-piece g l = record {
   counted : g.F.Files.faults l.files ≡ g.F.Files.faults l.initial.files;
   later : g.F.Files.store_faults l.initial.files ≤ g.F.Files.store_faults l.files;
   within : length l.rest.now ≤ length l.initial.rest.now;
+  holds : (taken : List ℕ) → Holds taken l.initial.held →
+      (done : List ℕ) × (l.initial.rest.now ≡ done ++ l.rest.now) × Holds (taken ++ done) l.held;
+  unasked : (taken more : List ℕ) → Holds taken l.initial.held →
+      NamesNoFile ((taken ++ l.initial.rest.now) ++ more) → l.files ≡ l.initial.files;
   fed : (base : Base) (first : Talk) (taken : List ℕ) → Stands base first taken l.initial.held
       (now_of l.initial.said l.initial.session (g.F.Files.files l.initial.files) l.initial.steps)
       → (done : List ℕ) × (l.initial.rest.now ≡ done ++ l.rest.now) × Stands base first (taken ++ done) l.held

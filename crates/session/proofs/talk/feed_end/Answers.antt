@@ -1,9 +1,11 @@
-use Rattle.std.proofs.Common.{sym, ◌∙◌}
+use Rattle.std.proofs.Common.{ap, sym, ◌∙◌}
+use Rattle.session.specs.Hearing.{names_file_read}
 use Rattle.session.specs.Input.{whole_lines, unfinished}
 use Rattle.session.specs.Talks.{talk_over}
 use Rattle.session.proofs.Breaking.{broken_end}
 use Rattle.session.proofs.Talking.{end_line, end_open}
 use Rattle.session.proofs.Feeding.{empty_part, some_part}
+use Rattle.session.proofs.HeardLines.{end_names_none}
 use Rattle.session.proofs.talk.feed_end.Goals as goal
 
 pub returns-then-is_empty-clause-told : goal.returns-then-is_empty-clause-told
@@ -24,3 +26,17 @@ returns-in-Err-clause-told g c = λ base first input s.
     (some_part (unfinished input) (sym (c.is_empty.ensures (unfinished input) s.part) ∙ c.if-is_empty.false))
     (c.in-Err.ensures.told base (talk_over first (whole_lines input)) (unfinished input) (c.line.ensures.is ∙ s.part)
     s.at)
+
+pub returns-in-Ok-clause-unasked : goal.returns-in-Ok-clause-unasked
+returns-in-Ok-clause-unasked g c = λ input h none.
+    c.reply.ensures.unasked
+    (ap names_file_read (c.line.ensures.is ∙ h.part)
+    ∙ end_names_none input c.args.held.now h
+    (some_part (unfinished input) (sym (c.is_empty.ensures (unfinished input) h.part) ∙ c.if-is_empty.false)) none)
+
+pub returns-in-Err-clause-unasked : goal.returns-in-Err-clause-unasked
+returns-in-Err-clause-unasked g c = λ input h none.
+    c.reply.ensures.unasked
+    (ap names_file_read (c.line.ensures.is ∙ h.part)
+    ∙ end_names_none input c.args.held.now h
+    (some_part (unfinished input) (sym (c.is_empty.ensures (unfinished input) h.part) ∙ c.if-is_empty.false)) none)

@@ -10,7 +10,6 @@ use Rattle.deck.specs.Tables.{table}
 use Rattle.live_table.specs.Calls.{AreQueries, all_names}
 use Rattle.live_table.specs.Shown.{Follows, IsCutOff}
 use Rattle.live_table.proofs.Following.{follows_both}
-use Rattle.live_table.proofs.NameQueries.{cut_at_once}
 use Rattle.live_table.proofs.Runs.{run_law}
 use Rattle.survey.specs.Checks.{check_queries, queries_among}
 use Rattle.survey.proofs.checking.check_report.Goals as goal
@@ -19,58 +18,39 @@ pub returns-in_err-places-clause-queries : goal.returns-in_err-places-clause-que
 returns-in_err-places-clause-queries g c =
     let p = err_from_is_err_and c.from_residual.result c.from_residual.ensures.1 in
     subst (λ (r : Result (List ℕ) AllocError). AreQueries (check_queries (table c.args.table.now.deck)) r
-    c.args.table.now c.args.table.now c.args.steps.now c.args.steps.now) (sym p.1)
-    (cut_at_once (check_queries (table c.args.table.now.deck)) c.args.table.now c.args.steps.now
-    c.deck.ensures.right)
-
-pub returns-in_err-settle_all-clause-queries : goal.returns-in_err-settle_all-clause-queries
-returns-in_err-settle_all-clause-queries g c =
-    let p = err_from_is_err_and c.from_residual-in_err-settle_all.result c.from_residual-in_err-settle_all.ensures.1 in
-    subst (λ (r : Result (List ℕ) AllocError). AreQueries (check_queries (table c.args.table.now.deck)) r
-    c.args.table.now c.settle_all.new.self c.args.steps.now c.settle_all.new.steps) (sym p.1)
+    c.args.table.now c.check_places.new.table c.args.steps.now c.check_places.new.steps) (sym p.1)
     (run_law.cut_before (all_names (table c.args.table.now.deck))
     (queries_among (table c.args.table.now.deck) (table_keys (table c.args.table.now.deck)))
-    c.args.table.now c.settle_all.new.self c.args.steps.now c.settle_all.new.steps c.in_err-settle_all.ensures.after)
+    c.args.table.now c.check_places.new.table c.args.steps.now c.check_places.new.steps
+    c.in_err-places.ensures.queries)
 
 pub returns-in_err-put_checks-clause-queries : goal.returns-in_err-put_checks-clause-queries
 returns-in_err-put_checks-clause-queries g c =
+    let deck = c.args.table.now.deck in
     let p = err_from_is_err_and c.from_residual-in_err-put_checks.result c.from_residual-in_err-put_checks.ensures.1 in
-    let keys : keys_there c.args.table.now.deck.lines c.as_slice.result.now ≡ table_keys (table c.args.table.now.deck) =
-    ap (keys_there c.args.table.now.deck.lines) c.as_slice.ensures.value
-    ∙ subst (λ (d : Contents). keys_there d.lines c.in_ok-places.places.items ≡ table_keys (table d))
-    c.deck.ensures.deck
-    (c.key_lists_are_one.ensures (table c.deck.result.now)
-    (keys_there c.deck.result.now.lines c.in_ok-places.places.items)
-    (c.in_ok-places.ensures {u = tt}).all) in
-    subst (λ (r : Result (List ℕ) AllocError). AreQueries (check_queries (table c.args.table.now.deck)) r
-    c.args.table.now c.put_checks.new.table c.args.steps.now c.put_checks.new.steps) (sym p.1)
-    (run_law.cut_behind (all_names (table c.args.table.now.deck))
-    (queries_among (table c.args.table.now.deck) (table_keys (table c.args.table.now.deck)))
-    c.args.table.now c.settle_all.new.self c.put_checks.new.table c.args.steps.now c.settle_all.new.steps
-    c.put_checks.new.steps c.settle_all.ensures.deck c.in_ok-settle_all.ensures.after
-    (subst (λ (ks : List Key). IsCutOff (queries_among (table c.args.table.now.deck) ks) c.settle_all.new.self
-    c.put_checks.new.table c.settle_all.new.steps c.put_checks.new.steps) keys
+    let keys : keys_there deck.lines c.as_slice.result.now ≡ table_keys (table deck) =
+    ap (keys_there deck.lines) c.as_slice.ensures.value ∙ c.in_ok-places.ensures.keys in
+    subst (λ (r : Result (List ℕ) AllocError). AreQueries (check_queries (table deck)) r c.args.table.now
+    c.put_checks.new.table c.args.steps.now c.put_checks.new.steps) (sym p.1)
+    (run_law.cut_behind (all_names (table deck)) (queries_among (table deck) (table_keys (table deck)))
+    c.args.table.now c.check_places.new.table c.put_checks.new.table c.args.steps.now c.check_places.new.steps
+    c.put_checks.new.steps c.check_places.ensures.deck c.in_ok-places.ensures.queries
+    (subst (λ (ks : List Key). IsCutOff (queries_among (table deck) ks) c.check_places.new.table
+    c.put_checks.new.table c.check_places.new.steps c.put_checks.new.steps) keys
     (subst (λ (d : Contents). IsCutOff (queries_among (table d) (keys_there d.lines c.as_slice.result.now))
-    c.settle_all.new.self
-    c.put_checks.new.table c.settle_all.new.steps c.put_checks.new.steps) c.settle_all.ensures.deck
-    c.in_err-put_checks.ensures.queries)))
+    c.check_places.new.table c.put_checks.new.table c.check_places.new.steps c.put_checks.new.steps)
+    c.check_places.ensures.deck c.in_err-put_checks.ensures.queries)))
 
 pub returns-clause-queries : goal.returns-clause-queries
 returns-clause-queries g c =
-    let keys : keys_there c.args.table.now.deck.lines c.as_slice.result.now ≡ table_keys (table c.args.table.now.deck) =
-    ap (keys_there c.args.table.now.deck.lines) c.as_slice.ensures.value
-    ∙ subst (λ (d : Contents). keys_there d.lines c.in_ok-places.places.items ≡ table_keys (table d))
-    c.deck.ensures.deck
-    (c.key_lists_are_one.ensures (table c.deck.result.now)
-    (keys_there c.deck.result.now.lines c.in_ok-places.places.items)
-    (c.in_ok-places.ensures {u = tt}).all) in
-    follows_both (all_names (table c.args.table.now.deck))
-    (queries_among (table c.args.table.now.deck) (table_keys (table c.args.table.now.deck)))
-    c.args.table.now c.settle_all.new.self c.put_checks.new.table c.args.steps.now c.settle_all.new.steps
-    c.put_checks.new.steps c.in_ok-settle_all.ensures.after
-    (subst (λ (ks : List Key). Follows (queries_among (table c.args.table.now.deck) ks) c.settle_all.new.self
-    c.put_checks.new.table c.settle_all.new.steps c.put_checks.new.steps) keys
+    let deck = c.args.table.now.deck in
+    let keys : keys_there deck.lines c.as_slice.result.now ≡ table_keys (table deck) =
+    ap (keys_there deck.lines) c.as_slice.ensures.value ∙ c.in_ok-places.ensures.keys in
+    follows_both (all_names (table deck)) (queries_among (table deck) (table_keys (table deck))) c.args.table.now
+    c.check_places.new.table c.put_checks.new.table c.args.steps.now c.check_places.new.steps c.put_checks.new.steps
+    c.in_ok-places.ensures.queries
+    (subst (λ (ks : List Key). Follows (queries_among (table deck) ks) c.check_places.new.table
+    c.put_checks.new.table c.check_places.new.steps c.put_checks.new.steps) keys
     (subst (λ (d : Contents). Follows (queries_among (table d) (keys_there d.lines c.as_slice.result.now))
-    c.settle_all.new.self
-    c.put_checks.new.table c.settle_all.new.steps c.put_checks.new.steps) c.settle_all.ensures.deck
-    c.in_ok-put_checks.ensures.queries))
+    c.check_places.new.table c.put_checks.new.table c.check_places.new.steps c.put_checks.new.steps)
+    c.check_places.ensures.deck c.in_ok-put_checks.ensures.queries))

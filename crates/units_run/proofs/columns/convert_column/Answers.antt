@@ -1,4 +1,4 @@
-use Rattle.std.proofs.Common.{◌∙◌, List, sym, ap, subst, arith}
+use Rattle.std.proofs.Common.{◌∙◌, List, inl, inr, refl, sym, ap, subst, arith}
 use Rattle.units_io.specs.Bytes.{grown, GrowsByFront}
 use Rattle.session.specs.Outside.{Outside}
 use Rattle.column_convert.specs.Rows.{ColumnRow}
@@ -58,3 +58,10 @@ pub returns-clause-ends : goal.returns-clause-ends
 returns-clause-ends g c = λ s.
     subst IsWorked (sym c.status_of.ensures)
     (ends_worked c.run_columns-end.result (subst IsStated c.status_of.ensures s))
+
+pub returns-in_default-clause-noticed : goal.returns-in_default-clause-noticed
+returns-in_default-clause-noticed g c = inl (refl, refl)
+
+pub returns-clause-noticed : goal.returns-clause-noticed
+returns-clause-noticed g c =
+    inr (c.in-Ok.ensures.all ∙ ap (grown (g.E.Sink.written c.args.err.now)) c.as_slice.ensures.value)

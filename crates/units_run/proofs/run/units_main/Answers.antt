@@ -16,11 +16,16 @@ use Rattle.units_run.proofs.Running.{cut_run, memory_done, memory_long, memory_r
 use Rattle.units_run.proofs.Seeing.{plan_sees}
 use Rattle.session.proofs.Blocks.{of_two}
 use Rattle.units_run.proofs.Planned.{column_most, false_by, input_files, no_column, not_both, or_true, session_most}
-use Rattle.units_run.proofs.Planned.{tells_needed, tells_told}
+use Rattle.units_run.proofs.Planned.{left_false, right_false, tells_needed}
 use Rattle.units_run.proofs.Running.{done_end, long_end, may_end_stated, neither, no_column_worked, no_fault}
 use Rattle.units_run.proofs.Running.{no_session_done, no_write, none_converted, not_long, opened_run, opened_talk}
 use Rattle.units_run.proofs.Running.{plan_course, plan_end, read_end, same_le, session_may_end, session_opens}
 use Rattle.units_run.proofs.Running.{taken_may_end, takes_opens, tells_stay, unread_run, whole_run, write_end}
+use Rattle.units_run.specs.Checks.{report_of}
+use Rattle.units_run.proofs.Granting.{granted_by}
+use Rattle.units_run.proofs.Opening.{check_order, column_opening, column_order, session_opening, session_order}
+use Rattle.units_run.proofs.Opening.{whole_order}
+use Rattle.units_run.proofs.Checking.{check_run, check_short, check_unread, check_worked}
 use Rattle.units_run.proofs.Converting.{planned_column, worked_may_end}
 use Rattle.units_run.proofs.run.units_main.Goals as goal
 
@@ -35,7 +40,7 @@ returns-in-Ok-clause-run g c =
           (rw planned.field-0-is at (planned.ensures.told m s)) c.in-Ok.ensures.whole.0 c.in-Ok.ensures.whole.1
           (planned.ensures.kept ∙ tells_stay _ _ m s);
       ends = λ ends. kind.1;
-      heard = λ m input t q opens done.
+      heard = λ input q opens done.
           absurd (no_session_done _ (converts_column c.args.words.now) planned.status kind.0 opens done);
       whole = λ m input s q column over.
           absurd (no_column_worked (opens_session c.args.words.now) _ planned.status kind.0 column over);
@@ -44,6 +49,33 @@ returns-in-Ok-clause-run g c =
       too_long = λ is. absurd (subst IsStated is stated);
       complete = λ s f o e w.
           no_fault planned.status (λ is. subst IsStated is stated) (λ is. subst IsStated is stated);
+      kept = λ none. planned.ensures.kept;
+      stores = λ none. planned.ensures.stores;
+    }
+
+pub returns-in-Ok-Check-clause-run : goal.returns-in-Ok-Check-clause-run
+returns-in-Ok-Check-clause-run g c =
+    let planned = c.in-Ok-Check in
+    let kind = rw planned.field-0-is at planned.ensures.kind in
+    let ended = c.write_check.ensures in
+    let report = report_of planned.plan in
+    let unread = check_unread report c.write_check.result _ _ ended.written in
+    record {
+      leaves = λ m input s q.
+          check_run (plan_of c.args.words.now c.args.vars.now m) m input planned.plan c.write_check.result _ _ _
+          (rw planned.field-0-is at (planned.ensures.told m s)) ended.written ended.steps refl
+          (planned.ensures.kept ∙ tells_stay _ _ m s);
+      ends = λ stated.
+          taken_may_end _ (loads_file (command_line_of c.args.words.now)) _ false c.write_check.result kind.0
+          (left_false (opens_session c.args.words.now) (converts_column c.args.words.now) kind.1)
+          (worked_may_end _ c.write_check.result
+          (check_worked report c.write_check.result _ _ ended.written stated));
+      heard = λ input q opens done. absurd (not_both _ opens (left_false (opens_session c.args.words.now) (converts_column c.args.words.now) kind.1));
+      whole = λ m input s q column over. absurd (not_both _ column (right_false (opens_session c.args.words.now) (converts_column c.args.words.now) kind.1));
+      read = λ is. absurd (unread is);
+      write = λ is. inl (ended.write is);
+      too_long = λ is. absurd (check_short report c.write_check.result _ _ ended.written is);
+      complete = λ s f o e w. no_fault c.write_check.result unread (λ is. o (ended.write is));
       kept = λ none. planned.ensures.kept;
       stores = λ none. planned.ensures.stores;
     }
@@ -70,7 +102,7 @@ returns-in-Ok-Opened-clause-run g c =
     } in
     let opened = c.in-Ok-Opened in
     let kind = rw opened.field-0-is at opened.ensures.kind in
-    let ended = c.run_session-end.ensures in
+    let ended = c.run_session-end.ensures.run in
     let is = sym c.status_of.ensures in
     let opens : (OpensNone c.args.words.now c.args.vars.now c.status_of.result (g.F.Files.files c.args.files.now) → ⊥) =
     session_opens _ _ _ opened.said opened.session c.run_session-end.result _ _ _ kind.1 is
@@ -110,13 +142,7 @@ returns-in-Ok-Opened-clause-run g c =
           taken_may_end _ (loads_file (command_line_of c.args.words.now)) _ true c.status_of.result kind.0 kind.1
           (subst (MayEnd true _ true) is
           (session_may_end _ c.run_session-end.result (subst IsStated c.status_of.ensures stated)));
-      heard = λ m input t q need done.
-          let want = plan_of c.args.words.now c.args.vars.now m in
-          let plan = rw opened.field-0-is at (opened.ensures.told m (tells_told _ _ m t)) in
-          let talk =
-          opened_talk want m opened.said opened.session before _ plan refl refl opened.ensures.kept t
-          (same_le _ _ opened.ensures.calm) (same_le _ _ opened.ensures.stores) in
-          ended.heard talk.0 input before q talk.2 (done_end c.run_session-end.result (is ∙ done));
+      heard = λ input q need done. ended.heard input q (done_end c.run_session-end.result (is ∙ done));
       whole = λ m input s q column over. absurd (no_column c.args.words.now kind.1 column);
       read = read;
       write = write;
@@ -188,7 +214,7 @@ returns-in-Ok-Columns-clause-run g c =
           taken_may_end _ (loads_file (command_line_of c.args.words.now)) _ false c.convert_column.result is_for.0
           (false_by _ (λ opens. no_column c.args.words.now opens is_for.1))
           (worked_may_end _ c.convert_column.result (ended.ends stated));
-      heard = λ m input t q opens done. absurd (no_column c.args.words.now opens is_for.1);
+      heard = λ input q opens done. absurd (no_column c.args.words.now opens is_for.1);
       whole = λ m input s q column over. ended.whole input q over;
       read = λ so. inl (ended.read so);
       write = λ so. of_two (ended.write so);
@@ -248,7 +274,7 @@ returns-in-Err-ReadFault-clause-run g c =
           unread_run (plan_of c.args.words.now c.args.vars.now m) m input _ _
           (plan_sees c.args.words.now c.args.vars.now m) refl refl (c.make_plan.ensures.kept ∙ tells_stay _ _ m s) rose;
       ends = λ stated. absurd stated;
-      heard = λ m input t q opens done. cc;
+      heard = λ input q opens done. cc;
       whole = λ m input s q column over. absurd over;
       read = λ is. inr rose;
       write = λ is. absurd (no_write is);
@@ -264,7 +290,7 @@ returns-clause-run g c = record {
       unmade_run (plan_of c.args.words.now c.args.vars.now m) m input _ _
       (plan_sees c.args.words.now c.args.vars.now m) refl refl (c.make_plan.ensures.kept ∙ tells_stay _ _ m s);
   ends = λ stated. absurd stated;
-  heard = λ m input t q opens done. absurd (memory_done done);
+  heard = λ input q opens done. absurd (memory_done done);
   whole = λ m input s q column over. absurd over;
   read = λ is. absurd (memory_read is);
   write = λ is. absurd (memory_write is);
@@ -282,7 +308,7 @@ returns-in-Ok-Whole-clause-run g c =
           (rw planned.field-0-is at (planned.ensures.told m s)) c.write.ensures.out c.write.ensures.err
           (planned.ensures.kept ∙ tells_stay _ _ m s);
       ends = λ stated. absurd stated;
-      heard = λ m input t q opens done. cc;
+      heard = λ input q opens done. cc;
       whole = λ m input s q column over. absurd over;
       read = λ is. cc;
       write = λ is. of_two c.in-Err.ensures.cause;
@@ -291,3 +317,117 @@ returns-in-Ok-Whole-clause-run g c =
       kept = λ none. planned.ensures.kept;
       stores = λ none. planned.ensures.stores;
     }
+
+pub returns-in-Ok-clause-granted : goal.returns-in-Ok-clause-granted
+returns-in-Ok-clause-granted g c =
+    granted_by c.grant_law.ensures c.args.words.now c.args.vars.now _ _ _ (returns-in-Ok-clause-run g c)
+
+pub returns-in-Ok-Whole-clause-granted : goal.returns-in-Ok-Whole-clause-granted
+returns-in-Ok-Whole-clause-granted g c =
+    granted_by c.grant_law.ensures c.args.words.now c.args.vars.now _ _ _ (returns-in-Ok-Whole-clause-run g c)
+
+pub returns-in-Ok-Check-clause-granted : goal.returns-in-Ok-Check-clause-granted
+returns-in-Ok-Check-clause-granted g c =
+    granted_by c.grant_law.ensures c.args.words.now c.args.vars.now _ _ _ (returns-in-Ok-Check-clause-run g c)
+
+pub returns-in-Ok-Opened-clause-granted : goal.returns-in-Ok-Opened-clause-granted
+returns-in-Ok-Opened-clause-granted g c =
+    granted_by c.grant_law.ensures c.args.words.now c.args.vars.now _ _ _ (returns-in-Ok-Opened-clause-run g c)
+
+pub returns-in-Ok-Columns-clause-granted : goal.returns-in-Ok-Columns-clause-granted
+returns-in-Ok-Columns-clause-granted g c =
+    granted_by c.grant_law.ensures c.args.words.now c.args.vars.now _ _ _ (returns-in-Ok-Columns-clause-run g c)
+
+pub returns-in-Err-ReadFault-clause-granted : goal.returns-in-Err-ReadFault-clause-granted
+returns-in-Err-ReadFault-clause-granted g c =
+    granted_by c.grant_law.ensures c.args.words.now c.args.vars.now _ _ _ (returns-in-Err-ReadFault-clause-run g c)
+
+pub returns-clause-granted : goal.returns-clause-granted
+returns-clause-granted g c =
+    granted_by c.grant_law.ensures c.args.words.now c.args.vars.now _ _ _ (returns-clause-run g c)
+
+pub returns-in-Ok-clause-order : goal.returns-in-Ok-clause-order
+returns-in-Ok-clause-order g c = λ m s.
+    let planned = c.in-Ok-Whole in
+    whole_order (plan_of c.args.words.now c.args.vars.now m) m planned.said planned.status _ _ _ _
+    (rw planned.field-0-is at (planned.ensures.told m s)) c.write.ensures.order
+
+pub returns-in-Ok-Whole-clause-order : goal.returns-in-Ok-Whole-clause-order
+returns-in-Ok-Whole-clause-order g c = λ m s.
+    let planned = c.in-Ok-Whole in
+    whole_order (plan_of c.args.words.now c.args.vars.now m) m planned.said planned.status _ _ _ _
+    (rw planned.field-0-is at (planned.ensures.told m s)) c.write.ensures.order
+
+pub returns-in-Ok-Check-clause-order : goal.returns-in-Ok-Check-clause-order
+returns-in-Ok-Check-clause-order g c = λ m s.
+    let planned = c.in-Ok-Check in
+    inr
+    (check_order (plan_of c.args.words.now c.args.vars.now m) m planned.plan _ _ _ _
+    (rw planned.field-0-is at (planned.ensures.told m s)) refl)
+
+pub returns-in-Ok-Opened-clause-order : goal.returns-in-Ok-Opened-clause-order
+returns-in-Ok-Opened-clause-order g c = λ m s.
+    let opened = c.in-Ok-Opened in
+    session_order (plan_of c.args.words.now c.args.vars.now m) m opened.said opened.session _ _ _ _
+    (rw opened.field-0-is at (opened.ensures.told m s)) c.run_session-end.ensures.order
+
+pub returns-in-Ok-Opened-clause-opened : goal.returns-in-Ok-Opened-clause-opened
+returns-in-Ok-Opened-clause-opened g c = λ m s.
+    let opened = c.in-Ok-Opened in
+    session_opening (plan_of c.args.words.now c.args.vars.now m) m opened.said opened.session _ _ _ _ _ _
+    (rw opened.field-0-is at (opened.ensures.told m s)) c.run_session-end.ensures.opening
+
+pub returns-in-Ok-Opened-clause-unnamed : goal.returns-in-Ok-Opened-clause-unnamed
+returns-in-Ok-Opened-clause-unnamed g c = λ input q none names.
+    c.run_session-end.ensures.unasked input q names ∙ c.in-Ok-Opened.ensures.unloaded none
+
+pub returns-in-Ok-Columns-clause-order : goal.returns-in-Ok-Columns-clause-order
+returns-in-Ok-Columns-clause-order g c = λ m s.
+    let columns = c.in-Ok-Columns in
+    column_order (plan_of c.args.words.now c.args.vars.now m) m columns.plan _ _ _ _
+    (rw columns.field-0-is at (columns.ensures.told m s)) c.convert_column.ensures.noticed
+
+pub returns-in-Ok-Columns-clause-opened : goal.returns-in-Ok-Columns-clause-opened
+returns-in-Ok-Columns-clause-opened g c = λ m s.
+    let columns = c.in-Ok-Columns in
+    column_opening (plan_of c.args.words.now c.args.vars.now m) m columns.plan _ _ _ _ _ _
+    (rw columns.field-0-is at (columns.ensures.told m s)) c.convert_column.ensures.noticed
+
+pub returns-in-Ok-clause-opened : goal.returns-in-Ok-clause-opened
+returns-in-Ok-clause-opened g c = λ m s. inl refl
+
+pub returns-in-Ok-Whole-clause-opened : goal.returns-in-Ok-Whole-clause-opened
+returns-in-Ok-Whole-clause-opened g c = λ m s. inl refl
+
+pub returns-in-Ok-Check-clause-opened : goal.returns-in-Ok-Check-clause-opened
+returns-in-Ok-Check-clause-opened g c = λ m s. inl refl
+
+pub returns-in-Err-ReadFault-clause-opened : goal.returns-in-Err-ReadFault-clause-opened
+returns-in-Err-ReadFault-clause-opened g c = λ m s. inl refl
+
+pub returns-clause-opened : goal.returns-clause-opened
+returns-clause-opened g c = λ m s. inl refl
+
+pub returns-in-Err-ReadFault-clause-order : goal.returns-in-Err-ReadFault-clause-order
+returns-in-Err-ReadFault-clause-order g c = λ m s. inl refl
+
+pub returns-clause-order : goal.returns-clause-order
+returns-clause-order g c = λ m s. inl refl
+
+pub returns-in-Ok-clause-unnamed : goal.returns-in-Ok-clause-unnamed
+returns-in-Ok-clause-unnamed g c = λ input q none names. c.in-Ok-Whole.ensures.unloaded none
+
+pub returns-in-Ok-Whole-clause-unnamed : goal.returns-in-Ok-Whole-clause-unnamed
+returns-in-Ok-Whole-clause-unnamed g c = λ input q none names. c.in-Ok-Whole.ensures.unloaded none
+
+pub returns-in-Ok-Check-clause-unnamed : goal.returns-in-Ok-Check-clause-unnamed
+returns-in-Ok-Check-clause-unnamed g c = λ input q none names. c.in-Ok-Check.ensures.unloaded none
+
+pub returns-in-Ok-Columns-clause-unnamed : goal.returns-in-Ok-Columns-clause-unnamed
+returns-in-Ok-Columns-clause-unnamed g c = λ input q none names. c.in-Ok-Columns.ensures.unloaded none
+
+pub returns-in-Err-ReadFault-clause-unnamed : goal.returns-in-Err-ReadFault-clause-unnamed
+returns-in-Err-ReadFault-clause-unnamed g c = λ input q none names. c.make_plan.ensures.unloaded none
+
+pub returns-clause-unnamed : goal.returns-clause-unnamed
+returns-clause-unnamed g c = λ input q none names. c.make_plan.ensures.unloaded none

@@ -8,7 +8,8 @@ use Rattle.units_run.specs.Planning.{IsPlan, IsPlanned}
 use Rattle.units_run.specs.Plans as plans
 use Rattle.units_run.specs.Plans.{complaint}
 use Rattle.units_run.specs.declared.status.Status.TheVariants.{Usage}
-use Rattle.units_run.proofs.Planned.{loads_needed, no_lead, plan_taken, plan_untaken, tells_less}
+use Rattle.units_run.proofs.Planned.{loads_named, loads_needed, no_lead, plan_taken, plan_untaken}
+use Rattle.units_run.proofs.Planned.{tells_less}
 use Rattle.units_run.proofs.words_plan.make_plan.Goals as goal
 
 pub returns-in-Ok-clause-told : goal.returns-in-Ok-clause-told
@@ -36,3 +37,8 @@ returns-in_ok-complaint-in-Err-Usage-clause-kind g c =
     (opens_session words) (converts_column words)
     (λ leads. absurd (no_lead words untaken leads))
     (subst (λ (b : Bool). MayEnd b (loads_file (command_line_of words)) (opens_session words) Usage) (sym untaken) refl)
+
+pub returns-in-Ok-clause-unloaded : goal.returns-in-Ok-clause-unloaded
+returns-in-Ok-clause-unloaded g c = λ none.
+    let read = c.in-Ok.ensures in
+    c.line_plan.ensures.unasked (loads_named c.args.words.now c.in-Ok.line read.taken read.read none)

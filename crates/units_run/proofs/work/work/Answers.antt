@@ -56,24 +56,23 @@ returns-in_default-clause-kind g c =
 pub returns-then-line-clause-told : goal.returns-then-line-clause-told
 returns-then-line-clause-told g c = λ m.
     let line = c.args.line.now in
-    let old = c.args.steps.now in
-    let new = c.check_plan-plan.new.steps in
-    subst (λ (from : Option (List ℕ)). IsPlanned (work_by from line c.args.deck m) m c.check_plan-plan.result old new)
+    let n = c.args.steps.now in
+    subst (λ (from : Option (List ℕ)). IsPlanned (work_by from line c.args.deck m) m c.check_plan.result n n)
     (sym c.in-None.is)
     (subst
     (λ (b : Bool). IsPlanned (if b then checked line c.args.deck else opened_over line c.args.deck m) m
-    c.check_plan-plan.result old new)
+    c.check_plan.result n n)
     (sym c.if-line.true)
-    (subst (λ (t : Shown). IsPlanned (checked line t.deck) m c.check_plan-plan.result old new) c.new-table.ensures
-    (c.check_plan-plan.ensures.told m)))
+    (subst (λ (t : Shown). IsPlanned (checked line t.deck) m c.check_plan.result n n) c.new-table.ensures
+    (c.check_plan.ensures.told m n)))
 
 pub returns-then-line-clause-kind : goal.returns-then-line-clause-kind
 returns-then-line-clause-kind g c =
-    work_kind c.check_plan-plan.result c.args.line.now.from c.args.line.now.check c.args.line.now.column false false
+    work_kind c.check_plan.result c.args.line.now.from c.args.line.now.check c.args.line.now.column false false
     (ap (λ (from : Option (List ℕ)). not (is_some from || c.args.line.now.check)) c.in-None.is
     ∙ ap not c.if-line.true)
     (ap (λ (from : Option (List ℕ)). is_some from && is_some c.args.line.now.column) c.in-None.is)
-    c.check_plan-plan.ensures.kind
+    c.check_plan.ensures.kind
 
 pub returns-else-line-clause-told : goal.returns-else-line-clause-told
 returns-else-line-clause-told g c = λ m.

@@ -1,10 +1,10 @@
-use Rattle.std.proofs.Common.{◌≡◌, ◌∙◌, [], Some, false, IfOk, OnOk, map, sym, subst, ap, refl, arith}
+use Rattle.std.proofs.Common.{◌≡◌, ◌∙◌, [], Some, false, IfOk, OnOk, map, sym, subst, ap, refl, arith, true≢false}
 use Rattle.units_io.specs.FileMap.{FileMap}
 use Rattle.deck.specs.Decks.{Contents}
 use Rattle.deck_save.specs.Saved.{saved_file}
 use Rattle.session.specs.Answering.{IsAnswered, scene_of}
 use Rattle.session.specs.Answers.{files_saved, saved_line}
-use Rattle.session.specs.Commands.{Command, command_of, is_load, is_quit, is_save, saved_in, saved_name}
+use Rattle.session.specs.Commands.{Command, command_of, is_load, is_quit, is_save, names_file, saved_in, saved_name}
 use Rattle.session.specs.Parts.{IsLine, IsSaid}
 use Rattle.session.specs.Sessions.{Known, known_dated, state_of}
 use Rattle.session.specs.Steps.{answer_to}
@@ -105,3 +105,9 @@ returns-in-Save-clause-kept g c =
 
 pub returns-in_default-clause-kept : goal.returns-in_default-clause-kept
 returns-in_default-clause-kept g c = line_same (saved_in c.args.line.now) c.perform.result _ _ refl
+
+pub returns-in-Load-clause-unasked : goal.returns-in-Load-clause-unasked
+returns-in-Load-clause-unasked g c = λ none. absurd (true≢false (ap names_file (c.in-Load.ensures {u = tt}) ∙ none))
+
+pub returns-in-Save-clause-unasked : goal.returns-in-Save-clause-unasked
+returns-in-Save-clause-unasked g c = λ none. absurd (true≢false (ap names_file (c.in-Save.ensures {u = tt}) ∙ none))

@@ -1,0 +1,147 @@
+-- Two quantities: the conversion of one to the other, and its exact quotients.
+use Rattle.std.proofs.Common.{◌≡◌, ◌∙◌, ◌&&◌, ◌==◌, arith, refl, sym, ap, ap₂, subst, ℤ, pos, negsuc, suc, unsigned_abs}
+use Rattle.std.proofs.Common.{Bool, true, false, true≢false, not, if◌then◌else◌, Option, Some, None, Result, Ok, Err}
+use Rattle.std.proofs.lemmas.Bool.{eqb-true}
+use Rattle.frac128.specs.declared.fault.FracFault.{FracFault}
+use Rattle.frac128.specs.Fraction.{Fraction, whole}
+use Rattle.frac128.specs.Sign.{is_zero}
+use Rattle.frac128.specs.Steps.{over}
+use Rattle.quantity.specs.Amount.{Amount, are_reciprocal, conform}
+use Rattle.reply.specs.declared.conversion.Conversion.{Conversion}
+use Rattle.reply.specs.declared.conversion.Conversion.TheVariants.{Linear, Reciprocal, Inverse, Split, Unlike}
+use Rattle.reply.specs.declared.fault.ReplyFault.{ReplyFault}
+use Rattle.reply.specs.declared.ratio.Ratio.{Ratio}
+use Rattle.reply.specs.Conversions.{compared, is_granted, linear, reciprocal}
+use Rattle.reply.specs.Grants.{AreFactors, IsBackFactor, IsUnitConversion}
+use Rattle.reply.specs.Quotients.{QuotientLaw}
+use Rattle.reply.specs.Ratios.{backward, ratio_of, reciprocal_ratio}
+use Rattle.reply.proofs.Inquiring.{bound, no-ok, ok-same, split-steps}
+
+-- ---- the two quotients of two numbers
+zero-is : (z : ℤ) → (unsigned_abs z == 0) ≡ true → z ≡ pos 0
+zero-is (pos n) h = ap pos (eqb-true n 0 h)
+zero-is (negsuc k) h = let n : suc k ≡ 0 = eqb-true (suc k) 0 h in absurd (omega arith)
+
+module _ (law : QuotientLaw) (x y : Fraction) where
+  abbrev ratio_by : Result Fraction FracFault → Result (Option Fraction) FracFault → Result Ratio FracFault
+  ratio_by forward back = bound forward (λ f. bound back (λ b. Ok (record { forward = f; back = b })))
+
+  abbrev back_by : (zero : Bool) → Result Fraction FracFault → Result (Option Fraction) FracFault
+  back_by zero quotient = if zero then Ok None else bound quotient (λ w. Ok (Some w))
+
+  back-of : (zero : Bool) → is_zero x ≡ zero → (q : Result Fraction FracFault) → over y x ≡ q → (b : Option Fraction)
+      → back_by zero q ≡ Ok b → IsBackFactor x y b
+  back-of true e q is b h = subst (IsBackFactor x y) (ok-same None b h) e
+  back-of false e (Ok w) is b h = subst (IsBackFactor x y) (ok-same (Some w) b h) ((law y x w).0 is)
+  back-of false e (Err fault) is b h = absurd (no-ok fault b h)
+
+  -- a divisor is not 0
+  not-zero : (w : Fraction) → over y x ≡ Ok w → is_zero x ≡ false
+  not-zero w h = go (is_zero x) refl
+    where
+      go : (b : Bool) → is_zero x ≡ b → b ≡ false
+      go true e = absurd (((law y x w).0 h).divisor (zero-is x.num e))
+      go false e = refl
+
+  of-back : (b : Option Fraction) → IsBackFactor x y b → backward x y ≡ Ok b
+  of-back None h = ap (λ z. back_by z (over y x)) h
+  of-back (Some w) h =
+      let is : over y x ≡ Ok w = (law y x w).1 h in
+      ap₂ back_by (not-zero w is) is
+
+  factors-of : (r : Ratio) → ratio_of x y ≡ Ok r → AreFactors x y r
+  factors-of r h = go (over x y) refl (backward x y) refl h
+    where
+      go : (f : Result Fraction FracFault) → over x y ≡ f → (b : Result (Option Fraction) FracFault)
+          → backward x y ≡ b → ratio_by f b ≡ Ok r → AreFactors x y r
+      go (Ok f) e (Ok b) is h =
+          let same : (record { forward = f; back = b }) ≡ r = ok-same _ r h in
+          record {
+            forward = (law x y r.forward).0 (e ∙ ap (λ (s : Ratio). Ok s.forward) same);
+            back = subst (λ (s : Ratio). IsBackFactor x y s.back) same (back-of (is_zero x) refl (over y x) refl b is);
+          }
+      go (Ok f) e (Err fault) is h = absurd (no-ok fault r h)
+      go (Err fault) e b is h = absurd (no-ok fault r h)
+
+  of-factors : (r : Ratio) → AreFactors x y r → ratio_of x y ≡ Ok r
+  of-factors r q = ap₂ ratio_by ((law x y r.forward).1 q.forward) (of-back r.back q.back)
+
+-- ---- two quantities
+-- the conversion by the three tests
+abbrev pub conversion_by : (x y : Amount) (conforming opposite strict : Bool) → Result Conversion ReplyFault
+conversion_by x y conforming opposite strict =
+    if conforming then linear (ratio_of x.value y.value)
+    else (if opposite && not strict then reciprocal (reciprocal_ratio x.value y.value) else Ok (Unlike x y))
+
+module _ (law : QuotientLaw) (strict : Bool) (x y : Amount) where
+  module _ (c : Conversion) where
+    linear-of : conform x.exponents y.exponents ≡ true → (q : Result Ratio FracFault) → ratio_of x.value y.value ≡ q
+        → linear q ≡ Ok c → IsUnitConversion strict x y c
+    linear-of conforming (Ok r) e h =
+        subst (IsUnitConversion strict x y) (ok-same (Linear r) c h)
+        (record { conformable = conforming; factors = factors-of law x.value y.value r e })
+    linear-of conforming (Err fault) e h = absurd (no-ok _ c h)
+
+    reciprocal-of : conform x.exponents y.exponents ≡ false → are_reciprocal x.exponents y.exponents ≡ true
+        → strict ≡ false → (q : Result Ratio FracFault) → reciprocal_ratio x.value y.value ≡ q
+        → reciprocal q ≡ Ok c → IsUnitConversion strict x y c
+    reciprocal-of unlike opposite lenient (Ok r) e h =
+        let inverse = split-steps (over (whole (pos 1)) x.value) (λ i. ratio_of i y.value) r e in
+        subst (IsUnitConversion strict x y) (ok-same (Reciprocal r) c h) (
+          lenient,
+          record {
+            unlike = unlike;
+            opposite = opposite;
+            inverse = inverse.0;
+            inverted = (law (whole (pos 1)) x.value inverse.0).0 inverse.1;
+            factors = factors-of law inverse.0 y.value r inverse.2;
+          },
+        )
+    reciprocal-of unlike opposite lenient (Err fault) e h = absurd (no-ok _ c h)
+
+    not-unlike : {A : Type 0} → ◌≡◌ {A = Result Conversion ReplyFault} (Ok (Unlike x y)) (Ok c)
+        → is_granted c ≡ true → A
+    not-unlike h g = absurd (true≢false (sym (ap is_granted (ok-same (Unlike x y) c h) ∙ g)))
+
+    pub conversion-of : compared strict x y ≡ Ok c → is_granted c ≡ true → IsUnitConversion strict x y c
+    conversion-of h g =
+        go (conform x.exponents y.exponents) refl (are_reciprocal x.exponents y.exponents) refl strict refl h
+      where
+        go : (a : Bool) → conform x.exponents y.exponents ≡ a → (o : Bool) → are_reciprocal x.exponents y.exponents ≡ o
+            → (s : Bool) → strict ≡ s → conversion_by x y a o s ≡ Ok c → IsUnitConversion strict x y c
+        go true conforming o opposite s is h = linear-of conforming (ratio_of x.value y.value) refl h
+        go false conforming true opposite false is h =
+            reciprocal-of conforming opposite is (reciprocal_ratio x.value y.value) refl h
+        go false conforming true opposite true is h = not-unlike h g
+        go false conforming false opposite s is h = not-unlike h g
+
+  pub of-conversion : (c : Conversion) → IsUnitConversion strict x y c → compared strict x y ≡ Ok c
+  of-conversion (Linear r) h =
+      ap (λ a. conversion_by x y a (are_reciprocal x.exponents y.exponents) strict) h.conformable
+      ∙ ap linear (of-factors law x.value y.value r h.factors)
+  of-conversion (Reciprocal r) h =
+      let is = h.1 in
+      ap (λ a. conversion_by x y a (are_reciprocal x.exponents y.exponents) strict) is.unlike
+      ∙ ap₂ (conversion_by x y false) is.opposite h.0
+      ∙ ap (λ i. reciprocal (bound i (λ v. ratio_of v y.value)))
+      ((law (whole (pos 1)) x.value is.inverse).1 is.inverted)
+      ∙ ap reciprocal (of-factors law is.inverse y.value r is.factors)
+  of-conversion (Inverse z) h = absurd h
+  of-conversion (Split list counts) h = absurd h
+  of-conversion (Unlike p q) h = absurd h
+
+module _ (strict : Bool) (x y : Amount) where
+  pub conversion-granted : (c : Conversion) → IsUnitConversion strict x y c → is_granted c ≡ true
+  conversion-granted (Linear r) h = refl
+  conversion-granted (Reciprocal r) h = refl
+  conversion-granted (Inverse z) h = refl
+  conversion-granted (Split list counts) h = refl
+  conversion-granted (Unlike p q) h = absurd h
+
+  -- to a quantity of the value 0 there is none
+  pub none-to-zero : y.value.num ≡ pos 0 → (c : Conversion) → IsUnitConversion strict x y c → ⊥
+  none-to-zero zero (Linear r) h = h.factors.forward.divisor zero
+  none-to-zero zero (Reciprocal r) h = h.1.factors.forward.divisor zero
+  none-to-zero zero (Inverse z) h = h
+  none-to-zero zero (Split list counts) h = h
+  none-to-zero zero (Unlike p q) h = h

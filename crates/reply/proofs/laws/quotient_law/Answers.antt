@@ -1,0 +1,5 @@
+use Rattle.reply.proofs.Dividing.{quotient-law}
+use Rattle.reply.proofs.laws.quotient_law.Goals as goal
+
+pub returns : goal.returns
+returns c = quotient-law c.reduced_law.ensures

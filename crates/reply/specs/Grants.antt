@@ -1,0 +1,120 @@
+-- Which conversions are granted, and what they come to.
+use Rattle.std.specs.Prelude.{◌≡◌, ◌↔◌, ℕ, pos, Bool, true, false, All, List, Option, Some, None, Ok}
+use Rattle.frac128.specs.Fraction.{Fraction, whole}
+use Rattle.frac128.specs.Sign.{is_positive, is_zero}
+use Rattle.quantity.specs.Amount.{Amount, are_reciprocal, conform}
+use Rattle.unit_list.specs.Amounts.{numbers_of}
+use Rattle.unit_list.specs.Splits.{number_counts}
+use Rattle.def_lines.specs.Blanks.{trimmed}
+use Rattle.def_entry.specs.declared.key.Kind.TheVariants as kind
+use Rattle.def_entry.specs.Keys.{key}
+use Rattle.def_entry.specs.Tables.{Table}
+use Rattle.deck.specs.Decks.{Contents}
+use Rattle.deck.specs.Tables as deck
+use Rattle.tree_eval.specs.Expanded.{Callable, Callee}
+use Rattle.tree_eval.specs.Value.{unapplied}
+use Rattle.table_names.specs.Faults.{key_fault}
+use Rattle.table_names.specs.Meanings.{key_meaning}
+use Rattle.reply.specs.declared.conversion.Conversion.{Conversion}
+use Rattle.reply.specs.declared.conversion.Conversion.TheVariants.{Linear, Reciprocal, Inverse, Split}
+use Rattle.reply.specs.declared.options.Options.{Options}
+use Rattle.reply.specs.declared.ratio.Ratio.{Ratio}
+use Rattle.reply.specs.declared.reply.Reply.{Reply}
+use Rattle.reply.specs.declared.target.Target.{Target}
+use Rattle.reply.specs.declared.target.Target.TheVariants.{Function, Parts, Unit}
+use Rattle.reply.specs.Lines.{conversion_text}
+use Rattle.reply.specs.Options.{form_of}
+use Rattle.reply.specs.Quotients.{IsQuotient}
+use Rattle.reply.specs.Replies.{comparison_reply, conversion_reply}
+use Rattle.reply.specs.Targets.{parts_of, target}
+use Rattle.reply.specs.TextValues.{AreValuesOf, IsValueOf}
+
+-- the number after `/`: how often FROM goes into TO; if FROM is 0 there is none
+abbrev pub IsBackFactor : (from to : Fraction) → Option Fraction → Type 0
+IsBackFactor from to None = is_zero from ≡ true
+IsBackFactor from to (Some back) = IsQuotient to from back
+
+-- the two numbers of a reply: after `*` how often TO goes into FROM, and after `/` how often FROM goes into TO
+pub record AreFactors (from to : Fraction) (ratio : Ratio) : Type 0 where
+  pub forward : IsQuotient from to ratio.forward
+  pub back : IsBackFactor from to ratio.back
+
+-- a linear conversion: x conforms to y
+pub record IsLinearConversion (x y : Amount) (ratio : Ratio) : Type 0 where
+  pub conformable : conform x.exponents y.exponents ≡ true
+  pub factors : AreFactors x.value y.value ratio
+
+-- a reciprocal conversion: x does not conform to y, but their product is dimensionless, and 1 over x is converted
+pub record IsReciprocalConversion (x y : Amount) (ratio : Ratio) : Type 0 where
+  pub unlike : conform x.exponents y.exponents ≡ false
+  pub opposite : are_reciprocal x.exponents y.exponents ≡ true
+  pub inverse : Fraction
+  pub inverted : IsQuotient (whole (pos 1)) x.value inverse
+  pub factors : AreFactors inverse y.value ratio
+
+-- x in terms of y; with `strict` no conversion is reciprocal
+abbrev pub IsUnitConversion : (strict : Bool) (x y : Amount) → Conversion → Type 0
+IsUnitConversion strict x y (Linear ratio) = IsLinearConversion x y ratio
+IsUnitConversion strict x y (Reciprocal ratio) = (strict ≡ false) × IsReciprocalConversion x y ratio
+IsUnitConversion strict x y _ = ⊥
+
+module _ (table : Table) where
+  -- to a unit: it has a value, and x is converted to that
+  pub record ConvertsToUnit (strict : Bool) (to : List ℕ) (x : Amount) (c : Conversion) : Type 0 where
+    pub y : Amount
+    pub evaluates : IsValueOf table to y
+    pub converts : IsUnitConversion strict x y c
+
+  -- to a function: its names have no fault, and its inverse at x evaluates to y
+  pub record ConvertsToFunction (name : List ℕ) (x y : Amount) : Type 0 where
+    pub names : key_fault table (key kind.Func name) ≡ None
+    pub function : Callable
+    pub meaning : key_meaning table (key kind.Func name) ≡ Callee function
+    pub evaluates : unapplied function x ≡ Ok y
+
+  -- to a list: each of its parts has a value above 0 to which x conforms, and x has counts of these
+  pub record ConvertsToList (round : Bool) (list : List ℕ) (x : Amount) (counts : List Fraction) : Type 0 where
+    pub units : List Amount
+    pub evaluates : AreValuesOf table (parts_of list) units
+    pub conformable : All (λ unit. conform x.exponents unit.exponents ≡ true) units
+    pub positive : All (λ unit. is_positive unit.value ≡ true) units
+    pub counted : number_counts round x.value (numbers_of units) ≡ Ok counts
+
+-- by what the target means
+abbrev pub ConvertsTo : Table → Options → (to : List ℕ) → Target → Amount → Conversion → Type 0
+ConvertsTo table options to Unit x c = ConvertsToUnit table options.strict to x c
+ConvertsTo table options to Function x (Inverse y) = ConvertsToFunction table to x y
+ConvertsTo table options to (Parts list) x (Split text counts) =
+    (text ≡ list) × ConvertsToList table options.round list x counts
+ConvertsTo table options to _ x _ = ⊥
+
+module _ (table : Table) (options : Options) (from to : List ℕ) where
+  -- FROM has a value, and this is its conversion to TO
+  pub record IsConversion (c : Conversion) : Type 0 where
+    pub x : Amount
+    pub evaluates : IsValueOf table (trimmed from) x
+    pub converts : ConvertsTo table options (trimmed to) (target table (trimmed to)) x c
+
+  -- FROM can be converted to TO
+  abbrev pub IsGranted : Type 0
+  IsGranted = (c : Conversion) × IsConversion c
+
+  -- the reply to FROM and TO
+  pub record IsConversionReply (reply : Reply) : Type 0 where
+    -- it is no refusal if and only if the conversion is granted
+    pub exactly : (reply.refused ≡ false) ↔ IsGranted
+    -- then it has the numbers of that conversion
+    pub conversion : (c : Conversion) → IsConversion c
+        → reply
+        ≡ (record { text = conversion_text (form_of options) (trimmed from) (trimmed to) c; refused = false })
+    -- if TO is a unit and both texts have values, it is the reply for these values
+    pub comparison : target table (trimmed to) ≡ Unit → (x y : Amount) → IsValueOf table (trimmed from) x
+        → IsValueOf table (trimmed to) y → reply ≡ comparison_reply options (trimmed from) (trimmed to) x y
+    -- to a unit of the value 0 no conversion is granted
+    pub zero : target table (trimmed to) ≡ Unit → (y : Amount) → IsValueOf table (trimmed to) y
+        → y.value.num ≡ pos 0 → reply.refused ≡ true
+
+-- law: the reply over the definitions of a deck grants exactly these conversions
+abbrev pub GrantLaw : Type 0
+GrantLaw = (d : Contents) (options : Options) (from to : List ℕ)
+    → IsConversionReply (deck.table d) options from to (conversion_reply (deck.table d) options from to)

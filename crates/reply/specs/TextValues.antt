@@ -1,0 +1,30 @@
+-- The values of texts.
+use Rattle.std.specs.Prelude.{◌≡◌, ⊤, ℕ, List, [], ◌∷◌, None, Ok}
+use Rattle.expr_tree.specs.Parsed.{parsed}
+use Rattle.expr_tree.specs.Syntax.{Syntax}
+use Rattle.expr_tree.specs.Words.{words_in}
+use Rattle.quantity.specs.Amount.{Amount}
+use Rattle.unit_list.specs.Amounts.{HasDenominator}
+use Rattle.def_entry.specs.Tables.{Table}
+use Rattle.deck.specs.Decks.{Contents}
+use Rattle.deck.specs.Tables as deck
+use Rattle.tree_eval.specs.Value.{value}
+use Rattle.table_names.specs.Faults.{name_fault}
+use Rattle.table_names.specs.Meanings.{expansion}
+
+-- x is the value of a text: the text is an expression, its names have no fault, and its full expansion evaluates to x
+pub record IsValueOf (table : Table) (text : List ℕ) (x : Amount) : Type 0 where
+  pub tree : Syntax
+  pub parses : parsed None text ≡ Ok tree
+  pub names : name_fault table (words_in tree) ≡ None
+  pub evaluates : value (expansion table tree) None ≡ Ok x
+
+-- the values of texts, in order
+abbrev pub AreValuesOf : Table → List (List ℕ) → List Amount → Type 0
+AreValuesOf table [] [] = ⊤
+AreValuesOf table (text ∷ texts) (x ∷ xs) = IsValueOf table text x × AreValuesOf table texts xs
+AreValuesOf table _ _ = ⊥
+
+-- law: over the definitions of a deck each value is a fraction, with a denominator above 0
+abbrev pub DenominatorLaw : Type 0
+DenominatorLaw = (d : Contents) (text : List ℕ) (x : Amount) → IsValueOf (deck.table d) text x → HasDenominator x

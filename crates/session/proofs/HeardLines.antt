@@ -1,0 +1,165 @@
+-- The lines of an input that a session hears, as its bytes are taken up.
+use Rattle.std.proofs.Common.{◌≡◌, ◌++◌, ◌∷◌, ◌||◌, ◌∙◌, [], ℕ, List, Bool, true, false, cond, refl, sym, ap, subst}
+use Rattle.std.proofs.Common.{append_assoc, Some, None, Option}
+use Rattle.std.specs.List.{list_any}
+use Rattle.std.proofs.lemmas.List.{append-nil}
+use Rattle.std.proofs.lemmas.List.Folds.{list_any-append}
+use Rattle.def_entry.specs.Cuts.{cut_at, lacks}
+use Rattle.def_entry.proofs.CutTexts.{cut-is, cut-none}
+use Rattle.session.specs.Hearing.{NamesNoFile, heard, is_last, names_file_in, readable}
+use Rattle.session.specs.Input.{cut_from, lines_of, unfinished, whole_lines}
+use Rattle.session.specs.Standing.{Holds}
+use Rattle.session.proofs.Cutting.{line_open, lines_line, lines_split, open_line, open_piece, whole_line, whole_piece}
+use Rattle.session.proofs.Cutting.{whole_split}
+
+-- lines that end no session are heard, and so are those after them
+pub heard-going : (xs ys : List (List ℕ)) → list_any is_last xs ≡ false → heard (xs ++ ys) ≡ xs ++ heard ys
+heard-going [] ys e = refl
+heard-going (x ∷ xs) ys e = by (heard-going xs ys) (is_last x) e
+  where
+    by : (list_any is_last xs ≡ false → heard (xs ++ ys) ≡ xs ++ heard ys) → (d : Bool)
+        → (d || list_any is_last xs) ≡ false → x ∷ cond d [] (heard (xs ++ ys)) ≡ x ∷ (xs ++ heard ys)
+    by ih true g = cc
+    by ih false g = ap (λ t. x ∷ t) (ih g)
+
+or-false : (d : Bool) → (d || false) ≡ d
+or-false true = refl
+or-false false = refl
+
+module _ (taken : List ℕ) (going : list_any is_last (whole_lines taken) ≡ false) where
+  -- the whole lines are heard, and then more
+  pub heard_more : (more : List ℕ)
+      → (lines : List (List ℕ)) × (heard (lines_of (taken ++ more)) ≡ whole_lines taken ++ lines)
+  heard_more more =
+      let parts = lines_split taken more in
+      (heard parts.0, ap heard parts.1 ∙ heard-going (whole_lines taken) parts.0 going)
+
+  -- the last line, which no line feed ends
+  pub heard_end : (unfinished taken ≡ [] → ⊥) → heard (lines_of taken) ≡ whole_lines taken ++ unfinished taken ∷ []
+  heard_end h =
+      ap heard (line_open taken h) ∙ heard-going (whole_lines taken) (unfinished taken ∷ []) going
+      ∙ ap (λ ls. whole_lines taken ++ unfinished taken ∷ ls) (same_cond (is_last (unfinished taken)))
+    where
+      same_cond : (d : Bool) → cond {A = List (List ℕ)} d [] [] ≡ []
+      same_cond true = refl
+      same_cond false = refl
+
+  module _ (piece : List ℕ) (clear : lacks 10 piece ≡ true) where
+    abbrev line : List ℕ
+    line = unfinished taken ++ piece
+
+    -- what follows once a line feed has come
+    pub heard_feed : (more : List ℕ)
+        → heard (lines_of (taken ++ (piece ++ 10 ∷ more)))
+        ≡ whole_lines taken ++ line ∷ cond (is_last line) [] (heard (lines_of more))
+    heard_feed more =
+        ap heard (lines_line taken piece clear more)
+        ∙ heard-going (whole_lines taken) (line ∷ lines_of more) going
+
+    pub last_feed : list_any is_last (whole_lines (taken ++ (piece ++ 10 ∷ []))) ≡ is_last line
+    last_feed =
+        ap (list_any is_last) (whole_line taken piece clear)
+        ∙ list_any-append is_last (whole_lines taken) (line ∷ [])
+        ∙ ap (λ d. d || (is_last line || false)) going ∙ or-false (is_last line)
+
+    -- a last line is one of the whole lines, whatever follows it
+    pub last_among : (behind : List ℕ) → true ≡ is_last line
+        → list_any is_last (whole_lines (taken ++ (piece ++ 10 ∷ behind))) ≡ true
+    last_among behind d =
+        ap (λ t. list_any is_last (whole_lines t)) (sym joined)
+        ∙ ap (list_any is_last) (whole_split front behind)
+        ∙ list_any-append is_last (whole_lines front) (cut_from (unfinished front) behind).whole
+        ∙ ap (λ d. d || list_any is_last (cut_from (unfinished front) behind).whole) (last_feed ∙ sym d)
+      where
+        front : List ℕ
+        front = taken ++ (piece ++ 10 ∷ [])
+
+        joined : (taken ++ (piece ++ 10 ∷ [])) ++ behind ≡ taken ++ (piece ++ 10 ∷ behind)
+        joined =
+            append_assoc taken (piece ++ 10 ∷ []) behind ∙ ap (λ t. taken ++ t) (append_assoc piece (10 ∷ []) behind)
+
+-- if none of some lines has a property, one among them has it not
+none-among : (p : List ℕ → Bool) (before : List (List ℕ)) (line : List ℕ) (after : List (List ℕ))
+    → list_any p (before ++ line ∷ after) ≡ false → p line ≡ false
+none-among p before line after h =
+    first-false (p line) (list_any p after)
+    (second-false (list_any p before) (p line || list_any p after)
+    (sym (list_any-append p before (line ∷ after)) ∙ h))
+  where
+    first-false : (a b : Bool) → (a || b) ≡ false → a ≡ false
+    first-false true b e = cc
+    first-false false b e = refl
+
+    second-false : (a b : Bool) → (a || b) ≡ false → b ≡ false
+    second-false true b e = cc
+    second-false false b e = e
+
+-- nothing is taken yet
+pub holds_none : (held : Option (List ℕ)) → held ≡ readable [] → Holds [] held
+holds_none held h = record { going = refl; part = h }
+
+-- so much of a block is taken up, and the rest is to come
+module _ (taken block ready rest : List ℕ) (held : Option (List ℕ)) (b : block ≡ ready ++ rest)
+    (h : Holds (taken ++ ready) held) where
+  whole : (tail : List ℕ) → rest ≡ tail → (taken ++ ready) ++ tail ≡ taken ++ block
+  whole tail r = append_assoc taken ready tail ∙ ap (λ t. taken ++ t) (ap (λ t. ready ++ t) (sym r) ∙ sym b)
+
+  -- no line feed is in the rest
+  pub rest_holds : cut_at 10 rest ≡ None → (held_now : Option (List ℕ))
+      → held_now ≡ readable (unfinished (taken ++ ready) ++ rest) → Holds (taken ++ block) held_now
+  rest_holds cut held_now e =
+      let clear : lacks 10 rest ≡ true = cut-none 10 rest cut in
+      subst (λ t. Holds t held_now) (whole rest refl) (record {
+        going = ap (list_any is_last) (whole_piece (taken ++ ready) rest clear) ∙ h.going;
+        part = e ∙ ap readable (sym (open_piece (taken ++ ready) rest clear));
+      })
+
+  -- one is
+  module _ (piece behind : List ℕ) (cut : cut_at 10 rest ≡ Some (piece, behind)) where
+    abbrev ended : List ℕ
+    ended = unfinished (taken ++ ready) ++ piece
+
+    parts : (rest ≡ piece ++ 10 ∷ behind) × (lacks 10 piece ≡ true)
+    parts = cut-is 10 rest piece behind cut
+
+    -- the line that it ends is the last
+    pub line_last : true ≡ is_last ended → list_any is_last (whole_lines (taken ++ block)) ≡ true
+    line_last d =
+        ap (λ t. list_any is_last (whole_lines t)) (sym (whole (piece ++ 10 ∷ behind) parts.0))
+        ∙ last_among (taken ++ ready) h.going piece parts.1 behind d
+
+    -- or it is not, and the session goes on
+    pub line_holds : (held_now : Option (List ℕ)) → false ≡ is_last ended → held_now ≡ Some []
+        → (done : List ℕ) × (block ≡ done ++ behind) × Holds (taken ++ done) held_now
+    unfolding readable
+    line_holds held_now d e = (
+      ready ++ (piece ++ 10 ∷ []),
+      b ∙ ap (λ t. ready ++ t) parts.0
+          ∙ sym (append_assoc ready (piece ++ 10 ∷ []) behind
+          ∙ ap (λ t. ready ++ t) (append_assoc piece (10 ∷ []) behind)),
+      subst (λ t. Holds t held_now) (append_assoc taken ready (piece ++ 10 ∷ [])) (record {
+        going = last_feed (taken ++ ready) h.going piece parts.1 ∙ sym d;
+        part = e ∙ ap readable (sym (open_line (taken ++ ready) piece parts.1));
+      }),
+    )
+
+    -- if no line of the input names a file, this one does not
+    pub line_names_none : (more : List ℕ) → NamesNoFile ((taken ++ block) ++ more) → names_file_in ended ≡ false
+    line_names_none more none =
+        none-among names_file_in (whole_lines (taken ++ ready)) ended
+        (cond (is_last ended) [] (heard (lines_of (behind ++ more))))
+        (ap (list_any names_file_in) (sym (heard_feed (taken ++ ready) h.going piece parts.1 (behind ++ more)))
+        ∙ ap (λ t. list_any names_file_in (heard (lines_of t))) regroup ∙ none)
+      where
+        regroup : (taken ++ ready) ++ (piece ++ 10 ∷ (behind ++ more)) ≡ (taken ++ block) ++ more
+        regroup =
+            ap (λ t. (taken ++ ready) ++ t) (sym (append_assoc piece (10 ∷ behind) more))
+            ∙ sym (append_assoc (taken ++ ready) (piece ++ 10 ∷ behind) more)
+            ∙ ap (λ t. t ++ more) (whole (piece ++ 10 ∷ behind) parts.0)
+
+-- nor does the last line, which no line feed ends
+pub end_names_none : (input : List ℕ) (held : Option (List ℕ)) → Holds input held → (unfinished input ≡ [] → ⊥)
+    → NamesNoFile input → names_file_in (unfinished input) ≡ false
+end_names_none input held h some none =
+    none-among names_file_in (whole_lines input) (unfinished input) []
+    (ap (list_any names_file_in) (sym (heard_end input h.going some)) ∙ none)

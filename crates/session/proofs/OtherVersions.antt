@@ -1,0 +1,148 @@
+-- The versions of the deck change no answer but those to `:undo` and `:redo`.
+use Rattle.std.proofs.Common.{◌≡◌, ◌∙◌, ◌+◌, ◌++◌, refl, sym, ap, ap₂, subst, ℕ, Bool, true, false, true≢false, List}
+use Rattle.std.proofs.Common.{[]}
+use Rattle.std.proofs.Common.{◌∷◌, Option, Some, None, Result, Ok, Err, if◌then◌else◌, length, nat_le}
+use Rattle.std.specs.List.{list_any}
+use Rattle.def_entry.specs.declared.key.Key.{Key}
+use Rattle.def_entry.specs.Keys.{key_of}
+use Rattle.def_lines.specs.Blanks.{trimmed}
+use Rattle.deck.specs.Decks.{Contents}
+use Rattle.deck.specs.Edits.{after_define, after_drop, after_switch}
+use Rattle.deck.specs.declared.fault.DeckFault.{DeckFault}
+use Rattle.deck.specs.Loading.{after_append}
+use Rattle.session.specs.Answers.{Answer, editing, watching}
+use Rattle.session.specs.Commands as command
+use Rattle.session.specs.Commands.{DeckEdit, Define, DropLast, Edit, Locale, Redo, Set, Undo, command_of}
+use Rattle.session.specs.EditResults.{drop_result, edit_result, edited_by}
+use Rattle.session.specs.Editing.{notice_lines, with_locale, with_variable}
+use Rattle.session.specs.Hearing.{is_last, longest_line, readable}
+use Rattle.session.specs.HistoryLaws.{AreSameButVersions, IsSameButVersions, VersionsLaw, VersionsTalkLaw}
+use Rattle.session.specs.HistoryLaws.{asks_undo_or_redo, is_undo_or_redo, with_versions}
+use Rattle.session.specs.Sessions.{State, dated_in, prompt}
+use Rattle.session.specs.Steps.{answer, answer_read, answer_to, blank_answer, conformable_answer, expression_answer}
+use Rattle.session.specs.Talks.{Talk, with_answer}
+use Rattle.session.specs.Versions.{Versions}
+use Rattle.session.specs.Watching.{is_full}
+use Rattle.session.proofs.Caching.{or-first, or-second}
+use Rattle.watch.specs.Watched.{Subject, subject}
+
+module _ (state : State) (versions : Versions) where
+  abbrev dated_otherwise : State
+  dated_otherwise = with_versions versions state
+
+  abbrev AlikeBut : (State → Answer) → Type 0
+  AlikeBut of = IsSameButVersions (of state) (of dated_otherwise)
+
+  blank-dated : (pending : Option (List ℕ)) → AlikeBut (blank_answer pending)
+  blank-dated None = record { out = refl; err = refl; newly = refl; versions = versions; after = refl }
+  blank-dated (Some from) = record { out = refl; err = refl; newly = refl; versions = versions; after = refl }
+
+  conformable-dated : (pending : Option (List ℕ)) → AlikeBut (conformable_answer pending)
+  conformable-dated None = record { out = refl; err = refl; newly = refl; versions = versions; after = refl }
+  conformable-dated (Some from) = record { out = refl; err = refl; newly = refl; versions = versions; after = refl }
+
+  expression-dated : (pending : Option (List ℕ)) (text : List ℕ) → AlikeBut (expression_answer pending text)
+  expression-dated None text = record { out = refl; err = refl; newly = refl; versions = versions; after = refl }
+  expression-dated (Some from) text =
+      record { out = refl; err = refl; newly = refl; versions = versions; after = refl }
+
+  watching-dated : (full : Bool) (s : Subject) → AlikeBut (watching full s)
+  watching-dated true s = record { out = refl; err = refl; newly = refl; versions = versions; after = refl }
+  watching-dated false s = record { out = refl; err = refl; newly = refl; versions = versions; after = refl }
+
+  result-dated : (outcome : Result Contents DeckFault) (named notices : List ℕ)
+      → IsSameButVersions (editing (edit_result outcome named (dated_in state.session)) notices state)
+      (editing (edit_result outcome named (dated_in dated_otherwise.session)) notices dated_otherwise)
+  result-dated (Ok deck) named notices =
+      record { out = refl; err = refl; newly = refl; versions = _; after = refl }
+  result-dated (Err fault) named notices =
+      record { out = refl; err = refl; newly = refl; versions = versions; after = refl }
+
+  drop-dated : (key : Option Key) (text : List ℕ)
+      → IsSameButVersions (editing (drop_result key text (dated_in state.session)) [] state)
+      (editing (drop_result key text (dated_in dated_otherwise.session)) [] dated_otherwise)
+  drop-dated None text = record { out = refl; err = refl; newly = refl; versions = versions; after = refl }
+  drop-dated (Some key) text = result-dated (after_drop key state.session.table.deck) text []
+
+  edited-dated : (edit : DeckEdit) → is_undo_or_redo edit ≡ false
+      → IsSameButVersions (editing (edited_by edit (dated_in state.session)) [] state)
+      (editing (edited_by edit (dated_in dated_otherwise.session)) [] dated_otherwise)
+  edited-dated (Define line) h = result-dated (after_define (trimmed line) state.session.table.deck) [] []
+  edited-dated (DropLast text) h = drop-dated (key_of text) text
+  edited-dated (Set name value) h =
+      let deck = state.session.table.deck in
+      result-dated (Ok (after_switch (with_variable deck.settings name value) deck)) [] []
+  edited-dated (Locale locale) h =
+      let deck = state.session.table.deck in
+      result-dated (Ok (after_switch (with_locale deck.settings locale) deck)) [] []
+  edited-dated Undo h = absurd (true≢false h)
+  edited-dated Redo h = absurd (true≢false h)
+
+pub versions-law : VersionsLaw
+unfolding answer_to
+versions-law state versions command.Blank h = blank-dated state versions state.session.pending
+versions-law state versions command.Quit h =
+    record { out = refl; err = refl; newly = refl; versions = versions; after = refl }
+versions-law state versions command.Conformable h = conformable-dated state versions state.session.pending
+versions-law state versions (command.Search text) h =
+    record { out = refl; err = refl; newly = refl; versions = versions; after = refl }
+versions-law state versions (Edit edit) h = edited-dated state versions edit h
+versions-law state versions (command.Load name) h =
+    let outcome = after_append state.files name state.session.table.deck in
+    result-dated state versions outcome name (notice_lines outcome)
+versions-law state versions (command.Save name) h =
+    record { out = refl; err = refl; newly = refl; versions = versions; after = refl }
+versions-law state versions (command.Watch from to) h =
+    watching-dated state versions (is_full state.session.watched) (subject from to)
+versions-law state versions command.Unwatch h =
+    record { out = refl; err = refl; newly = refl; versions = versions; after = refl }
+versions-law state versions command.Stats h =
+    record { out = refl; err = refl; newly = refl; versions = versions; after = refl }
+versions-law state versions (command.Unknown word) h =
+    record { out = refl; err = refl; newly = refl; versions = versions; after = refl }
+versions-law state versions (command.Bad word) h =
+    record { out = refl; err = refl; newly = refl; versions = versions; after = refl }
+versions-law state versions (command.Expression text) h =
+    expression-dated state versions state.session.pending text
+
+-- the prompt does not depend on them
+prompt-dated : (state : State) (versions : Versions)
+    → prompt (with_versions versions state).session ≡ prompt state.session
+unfolding prompt
+prompt-dated state versions = refl
+
+read-line : (state : State) (versions : Versions) (line : List ℕ) → asks_undo_or_redo (command_of line) ≡ false
+    → IsSameButVersions (answer state line) (answer (with_versions versions state) line)
+unfolding readable
+read-line state versions line h = go (nat_le (length line) longest_line)
+  where
+    go : (short : Bool)
+        → IsSameButVersions (answer_read state (if short then Some line else None))
+        (answer_read (with_versions versions state) (if short then Some line else None))
+    go true = versions-law state versions (command_of line) h
+    go false = record { out = refl; err = refl; newly = refl; versions = versions; after = refl }
+
+-- one line more
+talk-line : (a b : Talk) (line : List ℕ) → asks_undo_or_redo (command_of line) ≡ false → AreSameButVersions a b
+    → AreSameButVersions (with_answer a (answer a.state line) line) (with_answer b (answer b.state line) line)
+talk-line a b line h d =
+    let said : IsSameButVersions (answer a.state line) (answer b.state line) =
+    subst (λ s. IsSameButVersions (answer a.state line) (answer s line)) (sym d.state)
+    (read-line a.state d.versions line h) in
+    record {
+      out = ap₂ (λ x y. x ++ y) d.out
+          (ap₂ (λ x (s : State). x ++ (if is_last line then [] else prompt s.session)) said.out said.after
+          ∙ ap (λ p. (answer a.state line).out ++ (if is_last line then [] else p))
+          (prompt-dated (answer a.state line).after said.versions));
+      err = ap₂ (λ x y. x ++ y) d.err said.err;
+      steps = ap₂ (λ (x y : ℕ). x + y) d.steps said.newly;
+      versions = said.versions;
+      state = said.after;
+    }
+
+pub versions-talk : VersionsTalkLaw
+versions-talk a b [] h d = d
+versions-talk a b (line ∷ lines) h d =
+    versions-talk (with_answer a (answer a.state line) line) (with_answer b (answer b.state line) line) lines
+    (or-second (asks_undo_or_redo (command_of line)) (list_any (λ line. asks_undo_or_redo (command_of line)) lines) h)
+    (talk-line a b line (or-first (asks_undo_or_redo (command_of line)) _ h) d)

@@ -1,0 +1,5 @@
+use Rattle.session.proofs.AnsweredLines.{examples}
+use Rattle.session.proofs.laws.answer_examples.Goals as goal
+
+pub returns : goal.returns
+returns c = examples

@@ -1,0 +1,74 @@
+-- Some lines, and what they are answered with, whatever the session is.
+use Rattle.std.specs.Prelude.{◌≡◌, ◌+◌, ◌++◌, ◌∷◌, [], ℕ, List, false, true, take, drop, Some, None, Ok, Err, codes}
+use Rattle.units_io.specs.FileMap.{file_of, with_file}
+use Rattle.def_entry.specs.Keys.{key}
+use Rattle.def_entry.specs.declared.key.Kind.TheVariants as kind
+use Rattle.deck.specs.Decks.{Contents}
+use Rattle.deck.specs.Edits.{after_switch}
+use Rattle.deck.specs.Tables.{last_place}
+use Rattle.deck_lines.specs.Limits.{pass_limit}
+use Rattle.deck_lines.specs.Marks.{plain_line}
+use Rattle.deck_save.specs.Saved.{saved_file}
+use Rattle.deck_save.specs.declared.fault.SaveFault.TheVariants.{TooLong}
+use Rattle.session.specs.Answers.{Answer, saying}
+use Rattle.session.specs.Editing.{with_locale, with_variable}
+use Rattle.session.specs.Hearing.{readable}
+use Rattle.session.specs.HistoryLaws.{deck_in}
+use Rattle.session.specs.Sessions.{State}
+use Rattle.session.specs.Steps.{answer}
+use Rattle.session.specs.Watching.{is_full}
+
+-- a line on `out`, and nothing changes
+abbrev pub IsOnly : (line : List ℕ) → (reply : List ℕ) → State → Type 0
+IsOnly line reply state = answer state line ≡ saying reply state
+
+-- the deck once a line is answered
+abbrev pub deck_after : State → (line : List ℕ) → Contents
+deck_after state line = deck_in (answer state line).after
+
+pub record AnswerExamples : Type 0 where
+  pub quit : (state : State) → IsOnly (codes "quit") [] state
+  pub blank : (state : State) → state.session.pending ≡ None → IsOnly (codes " # no text") [] state
+  pub long : (state : State) (line : List ℕ) → readable line ≡ None → IsOnly line (codes "line too long\n") state
+  -- refusals
+  pub unknown : (state : State) → IsOnly (codes ":exit") (codes "unknown command: :exit\n") state
+  pub bad : (state : State) → IsOnly (codes ":set SYSTEM") (codes "bad command: :set\n") state
+  pub no_key : (state : State) → IsOnly (codes ":drop") (codes "bad command: :drop\n") state
+  pub no_such_key : (state : State)
+      → last_place (deck_in state).settings (deck_in state).lines (key kind.Prefix (codes "k")) ≡ None
+      → IsOnly (codes ":drop k-") (codes "no such definition: k-\n") state
+  pub bad_form : (state : State) → IsOnly (codes ":define m") (codes "bad definition\n") state
+  pub bad_name : (state : State) → IsOnly (codes ":define 1a m") (codes "bad name: 1a\n") state
+  pub deck_full : (state : State) → pass_limit ((deck_in state).lines ++ plain_line 0 (codes "m !") ∷ []) ≡ true
+      → IsOnly (codes ":define m !") (codes "deck full\n") state
+  pub no_undo : (state : State) → state.session.versions.past ≡ []
+      → IsOnly (codes ":undo") (codes "nothing to undo\n") state
+  pub no_redo : (state : State) → state.session.versions.future ≡ []
+      → IsOnly (codes ":redo") (codes "nothing to redo\n") state
+  pub no_file : (state : State) → file_of state.files (codes "my units") ≡ None
+      → IsOnly (codes ":load my units") (codes "no file: my units\n") state
+  pub too_long : (state : State) → saved_file (deck_in state) ≡ Err TooLong
+      → IsOnly (codes ":save mine") (codes "file too long: mine\n") state
+  pub many_watches : (state : State) → is_full state.session.watched ≡ true
+      → IsOnly (codes ":watch ft ; m") (codes "too many watches\n") state
+  -- edits
+  pub define : (state : State) → pass_limit ((deck_in state).lines ++ plain_line 0 (codes "m !") ∷ []) ≡ false
+      → (deck_after state (codes ":define m !")).lines
+      ≡ (deck_in state).lines ++ plain_line 0 (codes "m !") ∷ []
+  pub drop_last : (state : State) (place : ℕ)
+      → last_place (deck_in state).settings (deck_in state).lines (key kind.Prefix (codes "k")) ≡ Some place
+      → (deck_after state (codes ":drop k-")).lines
+      ≡ take place (deck_in state).lines ++ drop (place + 1) (deck_in state).lines
+  pub set : (state : State) → deck_after state (codes ":set SYSTEM us")
+      ≡ after_switch (with_variable (deck_in state).settings (codes "SYSTEM") (codes "us")) (deck_in state)
+  pub locale : (state : State) → deck_after state (codes ":locale en_GB")
+      ≡ after_switch (with_locale (deck_in state).settings (codes "en_GB")) (deck_in state)
+  -- and what edits nothing
+  pub save : (state : State) (text : List ℕ) → saved_file (deck_in state) ≡ Ok text
+      → answer state (codes ":save mine") ≡ record {
+        out = [];
+        err = [];
+        newly = 0;
+        after = record { session = state.session; files = with_file state.files (codes "mine") text };
+      }
+  pub unwatch : (state : State) → (answer state (codes ":unwatch")).after.session.watched ≡ []

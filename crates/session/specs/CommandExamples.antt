@@ -1,0 +1,46 @@
+-- Some lines, and what they ask for.
+use Rattle.std.specs.Prelude.{◌≡◌, [], ℕ, List, codes}
+use Rattle.session.specs.Commands.{Bad, Blank, Command, Conformable, Define, DropLast, Edit, Expression, Load, Locale}
+use Rattle.session.specs.Commands.{Quit, Redo, Save, Search, Set, Stats, Undo, Unknown, Unwatch, Watch, command_of}
+
+-- the word of a command that lacks what it needs
+abbrev pub IsBad : (line word : List ℕ) → Type 0
+IsBad line word = command_of line ≡ Bad word
+
+pub record CommandExamples : Type 0 where
+  pub blank : command_of (codes " \t# no text\r") ≡ Blank
+  pub quit : command_of (codes " quit ") ≡ Quit
+  pub exit : command_of (codes "exit # done") ≡ Quit
+  pub conformable : command_of (codes "?") ≡ Conformable
+  pub search : command_of (codes "search  foot ") ≡ Search (codes "foot")
+  pub expression : command_of (codes " 2 km # far") ≡ Expression (codes "2 km")
+  pub search_alone : command_of (codes "search") ≡ Expression (codes "search")
+  -- each word with its arguments
+  pub define : command_of (codes ":define  yard 3 ft ") ≡ Edit (Define (codes "yard 3 ft"))
+  pub drop : command_of (codes ":drop k-") ≡ Edit (DropLast (codes "k-"))
+  pub drop_alone : command_of (codes ":drop") ≡ Edit (DropLast [])
+  pub set : command_of (codes ":set SYSTEM  us 2") ≡ Edit (Set (codes "SYSTEM") (codes "us 2"))
+  pub locale : command_of (codes ":locale en_GB") ≡ Edit (Locale (codes "en_GB"))
+  pub undo : command_of (codes ":undo") ≡ Edit Undo
+  pub redo : command_of (codes ":redo") ≡ Edit Redo
+  pub load : command_of (codes ":load my units") ≡ Load (codes "my units")
+  pub save : command_of (codes ":save my units") ≡ Save (codes "my units")
+  pub stats : command_of (codes ":stats") ≡ Stats
+  pub watch : command_of (codes ":watch 1 ft ; m ; s") ≡ Watch (codes "1 ft") (codes "m ; s")
+  pub unwatch : command_of (codes ":unwatch") ≡ Unwatch
+  -- words that lack an argument, or have one too many
+  pub no_definition : IsBad (codes ":define") (codes ":define")
+  pub no_value : IsBad (codes ":set SYSTEM") (codes ":set")
+  pub no_locale : IsBad (codes ":locale ") (codes ":locale")
+  pub undo_some : IsBad (codes ":undo 2") (codes ":undo")
+  pub redo_some : IsBad (codes ":redo 2") (codes ":redo")
+  pub no_file : IsBad (codes ":load") (codes ":load")
+  pub no_target : IsBad (codes ":save") (codes ":save")
+  pub stats_of : IsBad (codes ":stats m") (codes ":stats")
+  pub no_to : IsBad (codes ":watch ft") (codes ":watch")
+  pub blank_from : IsBad (codes ":watch ; m") (codes ":watch")
+  pub list_as_to : IsBad (codes ":watch ft ; ?") (codes ":watch")
+  pub unwatch_one : IsBad (codes ":unwatch ft") (codes ":unwatch")
+  -- and words that are none of them
+  pub unknown : command_of (codes ":quit now") ≡ Unknown (codes ":quit")
+  pub prefix : command_of (codes ":und") ≡ Unknown (codes ":und")

@@ -1,0 +1,142 @@
+-- Laws of what came before a line. Outcomes that are cached change no answer but that to `:stats`; the versions of the
+-- deck change none but those to `:undo` and `:redo`; an undo gives back what an edit changed, and a load gives back
+-- what was saved.
+use Rattle.std.specs.Prelude.{◌≡◌, ℕ, List, Bool, true, false, Ok}
+use Rattle.std.specs.List.{list_any}
+use Rattle.deck.specs.Decks.{Contents}
+use Rattle.deck.specs.Loading.{after_append, after_load}
+use Rattle.deck.specs.Tables.{table as table_in}
+use Rattle.deck.specs.declared.settings.Settings.{Settings}
+use Rattle.deck_save.specs.Laws.{CanBeSaved, IsGivenBack}
+use Rattle.edit_history.specs.Versions.{version_of}
+use Rattle.live_table.specs.Shown.{Shown}
+use Rattle.live_table.specs.States.{Kept}
+use Rattle.session.specs.Answers.{Answer}
+use Rattle.session.specs.Commands.{Command, DeckEdit, Edit, Load, Redo, Save, Stats, Undo, command_of}
+use Rattle.session.specs.EditResults.{Made, edited_by}
+use Rattle.session.specs.Sessions.{State, dated_in, known}
+use Rattle.session.specs.Steps.{answer_to}
+use Rattle.session.specs.Talks.{Talk, talk_over}
+use Rattle.session.specs.Versions.{Versions}
+
+-- a state with these outcomes cached, and this count of names that were settled
+abbrev pub with_cache : Kept → (reductions : ℕ) → State → State
+with_cache cached reductions state =
+    let session = state.session in
+    let table : Shown = record { deck = session.table.deck; kept = cached; reductions = reductions } in
+    record {
+      session = known session.options table session.pending session.versions session.watched;
+      files = state.files;
+    }
+
+-- a state with these versions before and after the present one
+abbrev pub with_versions : Versions → State → State
+with_versions versions state =
+    let session = state.session in
+    record {
+      session = known session.options session.table session.pending versions session.watched;
+      files = state.files;
+    }
+
+abbrev pub asks_stats : Command → Bool
+asks_stats Stats = true
+asks_stats _ = false
+
+abbrev pub is_undo_or_redo : DeckEdit → Bool
+is_undo_or_redo Undo = true
+is_undo_or_redo Redo = true
+is_undo_or_redo _ = false
+
+abbrev pub asks_undo_or_redo : Command → Bool
+asks_undo_or_redo (Edit edit) = is_undo_or_redo edit
+asks_undo_or_redo _ = false
+
+-- two answers have the same bytes, and the states after them differ in the cache and its count alone
+pub record IsSameButCached (a b : Answer) : Type 0 where
+  pub out : b.out ≡ a.out
+  pub err : b.err ≡ a.err
+  pub cached : Kept
+  pub reductions : ℕ
+  pub after : b.after ≡ with_cache cached reductions a.after
+
+-- two answers have the same bytes and settle as many names, and the states after them differ in their versions alone
+pub record IsSameButVersions (a b : Answer) : Type 0 where
+  pub out : b.out ≡ a.out
+  pub err : b.err ≡ a.err
+  pub newly : b.newly ≡ a.newly
+  pub versions : Versions
+  pub after : b.after ≡ with_versions versions a.after
+
+-- the same of two talks
+pub record AreSameButCached (a b : Talk) : Type 0 where
+  pub out : b.out ≡ a.out
+  pub err : b.err ≡ a.err
+  pub cached : Kept
+  pub reductions : ℕ
+  pub state : b.state ≡ with_cache cached reductions a.state
+
+pub record AreSameButVersions (a b : Talk) : Type 0 where
+  pub out : b.out ≡ a.out
+  pub err : b.err ≡ a.err
+  pub steps : b.steps ≡ a.steps
+  pub versions : Versions
+  pub state : b.state ≡ with_versions versions a.state
+
+-- a deck has the lines and the settings of another, and so the table that all replies are made from
+pub record IsRestored (before after : Contents) : Type 0 where
+  pub version : version_of after ≡ version_of before
+  pub table : table_in after ≡ table_in before
+
+-- the deck of a state
+abbrev pub deck_in : State → Contents
+deck_in state = state.session.table.deck
+
+-- the state after a command and then an undo
+abbrev pub after_undone : State → Command → State
+after_undone state command = (answer_to (answer_to state command).after (Edit Undo)).after
+
+-- law: what is cached, and how much was counted, changes no answer but that to `:stats`
+abbrev pub CacheLaw : Type 0
+CacheLaw = (state : State) (cached : Kept) (reductions : ℕ) (command : Command) → asks_stats command ≡ false
+    → IsSameButCached (answer_to state command) (answer_to (with_cache cached reductions state) command)
+
+-- law: nor the answers to many lines, if none of them asks for it
+abbrev pub CacheTalkLaw : Type 0
+CacheTalkLaw = (a b : Talk) (lines : List (List ℕ)) → list_any (λ line. asks_stats (command_of line)) lines ≡ false
+    → AreSameButCached a b → AreSameButCached (talk_over a lines) (talk_over b lines)
+
+-- law: versions change no answer but those to `:undo` and `:redo`
+abbrev pub VersionsLaw : Type 0
+VersionsLaw = (state : State) (versions : Versions) (command : Command) → asks_undo_or_redo command ≡ false
+    → IsSameButVersions (answer_to state command) (answer_to (with_versions versions state) command)
+
+-- law: nor the answers to many lines, if none of them is one of these
+abbrev pub VersionsTalkLaw : Type 0
+VersionsTalkLaw = (a b : Talk) (lines : List (List ℕ))
+    → list_any (λ line. asks_undo_or_redo (command_of line)) lines ≡ false
+    → AreSameButVersions a b → AreSameButVersions (talk_over a lines) (talk_over b lines)
+
+-- law: an undo after an edit that was made gives back the lines, the settings and the table
+abbrev pub UndoLaw : Type 0
+UndoLaw = (state : State) (edit : DeckEdit) (deck : Contents) (versions : Versions) → is_undo_or_redo edit ≡ false
+    → edited_by edit (dated_in state.session) ≡ Made deck versions
+    → IsRestored (deck_in state) (deck_in (after_undone state (Edit edit)))
+
+-- law: so does an undo after a load that was made
+abbrev pub UndoLoadLaw : Type 0
+UndoLoadLaw = (state : State) (name : List ℕ) (deck : Contents) → after_append state.files name (deck_in state) ≡ Ok
+    deck
+    → IsRestored (deck_in state) (deck_in (after_undone state (Load name)))
+
+pub record HistoryLaws : Type 0 where
+  pub cache : CacheLaw
+  pub cache_talk : CacheTalkLaw
+  pub versions : VersionsLaw
+  pub versions_talk : VersionsTalkLaw
+  pub undo : UndoLaw
+  pub undo_load : UndoLoadLaw
+
+-- law: a load of what a session saved, as a run with that file makes it, gives its definitions back, under all settings
+abbrev pub SaveLaw : Type 0
+SaveLaw = (state : State) (name : List ℕ) (settings : Settings) → CanBeSaved (deck_in state)
+    → IsGivenBack (deck_in state) settings (after_load (answer_to state (Save name)).after.files name settings)

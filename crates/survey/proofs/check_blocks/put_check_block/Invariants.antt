@@ -1,0 +1,15 @@
+use Rattle.std.proofs.Common.{◌≤◌, ◌-◌, length}
+use Rattle.reply.specs.Options.{style_of}
+use Rattle.survey.proofs.Places.{line_at, queries_at}
+use Rattle.survey.proofs.Surveying.{IsUnderway}
+use Rattle.survey.proofs.check_blocks.put_check_block.Given as goal
+
+abbrev pub invariant-loop-done : goal.invariant-loop-done
+invariant-loop-done g l = record {
+  within : l.done ≤ length l.places;
+  at : IsUnderway (line_at l.fn.table.deck (style_of l.options)) (queries_at l.fn.table.deck) l.places l.done
+      l.fn.lines.items l.lines.items l.fn.table l.table l.fn.steps l.steps;
+}
+
+abbrev pub decreases-loop-done : goal.decreases-loop-done
+decreases-loop-done g l = length l.places - l.done

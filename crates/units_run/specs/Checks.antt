@@ -1,0 +1,27 @@
+-- A check report as it is written.
+use Rattle.std.specs.Prelude.{◌≡◌, ◌++◌, ℕ, List, true, false}
+use Rattle.std.specs.declared.option.Option.{Option}
+use Rattle.deck.specs.Tables.{table}
+use Rattle.def_lines.specs.Words.{is_empty}
+use Rattle.reply.specs.Options.{style_of}
+use Rattle.session.specs.Queries.{newly}
+use Rattle.survey.specs.Checks.{check_queries, check_report}
+use Rattle.units_io.specs.Bytes.{grown, GrowsByFront}
+use Rattle.units_run.specs.declared.check_plan.CheckPlan.{CheckPlan}
+use Rattle.units_run.specs.declared.status.Status.{Status}
+use Rattle.units_run.specs.declared.status.Status.TheVariants.{Done, Refused, WriteFault, NoMemory}
+
+-- the bytes of a planned report, and how many names it newly settles
+abbrev pub report_of : CheckPlan → List ℕ
+report_of plan = plan.notices.items ++ check_report (table plan.table.deck) (style_of plan.options)
+
+abbrev pub steps_of : CheckPlan → ℕ
+steps_of plan = newly (check_queries (table plan.table.deck)) plan.table
+
+-- what of these bytes is on a sink, by the ending: all of them, and any byte makes it a refusal; or a front of them
+abbrev pub IsWritten : List ℕ → Status → (before after : Option (List ℕ)) → Type 0
+IsWritten bytes Done before after = (is_empty bytes ≡ true) × (after ≡ grown before bytes)
+IsWritten bytes Refused before after = (is_empty bytes ≡ false) × (after ≡ grown before bytes)
+IsWritten bytes WriteFault before after = GrowsByFront before after bytes
+IsWritten bytes NoMemory before after = GrowsByFront before after bytes
+IsWritten bytes ending before after = ⊥
