@@ -73,6 +73,7 @@ QUICK = [
     Check("sources", ("tools/lint_sources.py",)),
     Check("definitions", ("tools/definitions.py",)),
     Check("documents", ("tools/check_documents.py",)),
+    Check("record of tests", ("tools/tested.py",)),
 ]
 AFTER_PROOFS = [
     Check("want of memory", ("tools/check_memory.sh",)),
