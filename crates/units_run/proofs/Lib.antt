@@ -1,6 +1,7 @@
 pub mod BuiltInDeck
 pub mod Checking
 pub mod Converting
+pub mod FileRuns
 pub mod Granting
 pub mod Leading
 pub mod Needing

@@ -5,6 +5,7 @@ pub mod Checks
 pub mod Definitions
 pub mod Endings
 pub mod Examples
+pub mod FileExamples
 pub mod Granted
 pub mod Headline
 pub mod Laws

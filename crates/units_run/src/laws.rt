@@ -2,9 +2,11 @@
 
 ghost use Rattle.units_run.specs.BuiltIn.{PinnedText};
 ghost use Rattle.units_run.specs.Examples.{RunExamples};
+ghost use Rattle.units_run.specs.FileExamples.{FileExamples};
 ghost use Rattle.units_run.specs.Laws.{EndingLaw, NeedLaws, StatusLaw};
 
 use command_line::{refused_examples, taken_examples};
+use deck::key_lists_are_one;
 
 /// Files and input that the words do not need change nothing.
 pub fn need_laws()
@@ -32,4 +34,12 @@ pub fn run_examples()
 {
     taken_examples();
     refused_examples();
+}
+
+/// Some runs over a file of a few lines, from the words to the bytes.
+pub fn file_examples()
+    ensures { FileExamples }
+{
+    taken_examples();
+    key_lists_are_one();
 }

@@ -19,6 +19,8 @@ mod status;
 mod words_plan;
 mod work;
 
-pub use laws::{built_in_is_pinned, ending_law, need_laws, run_examples, status_law};
+pub use laws::{
+    built_in_is_pinned, ending_law, file_examples, need_laws, run_examples, status_law,
+};
 pub use run::units_main;
 pub use status::Status;

@@ -1,4 +1,4 @@
-use Rattle.std.proofs.Common.{◌∙◌, ◌++◌, ◌||◌, Bool, List, ap, arith, not, refl, subst, sym, ℕ}
+use Rattle.std.proofs.Common.{◌∙◌, ◌++◌, ◌||◌, List, ap, arith, not, refl, subst, sym, ℕ}
 use Rattle.def_lines.specs.Words.{is_empty}
 use Rattle.units_io.specs.Bytes.{grown, GrowsByFront}
 use Rattle.units_run.specs.Checks.{IsWritten}

@@ -1,0 +1,30 @@
+-- Some runs over a file of a few lines, found by hand.
+use Rattle.std.specs.Prelude.{◌≡◌, ◌∷◌, ℕ, List, [], Some, codes}
+use Rattle.units_io.specs.FileMap.{FileMap, file_of}
+use Rattle.units_io.specs.Named.{Pairs}
+use Rattle.units_run.specs.Calls.{Run, run_of}
+use Rattle.units_run.specs.declared.status.Status.{Status}
+use Rattle.units_run.specs.declared.status.Status.TheVariants.{Done, Refused}
+
+-- a run with this on each sink, and this status
+abbrev pub IsRunWith : Run → (out err : List ℕ) → Status → Type 0
+IsRunWith run out err status = (run.output.out ≡ out) × (run.output.err ≡ err) × (run.status ≡ status)
+
+-- the run of these words over a file `first.units` of this text, whatever the other files and the variables are
+abbrev pub Gives : (words : List (List ℕ)) → (text input out err : List ℕ) → Status → Type 0
+Gives words text input out err status =
+    (vars : Pairs) (files : FileMap) → file_of files (codes "first.units") ≡ Some text
+    → IsRunWith (run_of (record { words = words; vars = vars; files = files; input = input })) out err status
+
+pub record FileExamples : Type 0 where
+  -- a definition that is asked for and refused, with a notice of the file
+  pub defined : Gives (codes "-f" ∷ codes "first.units" ∷ codes "feet" ∷ []) (codes "m !\nfeet\n") []
+      (codes "unknown unit: feet\n") (codes "first.units:2: bad definition\n") Refused
+  -- a check that finds something, with a notice at its head, and one that finds nothing
+  pub checked : Gives (codes "-c" ∷ codes "-f" ∷ codes "first.units" ∷ []) (codes "feet\nft 12 in\n") []
+      (codes "first.units:1: bad definition\nft: unknown unit: in in ft\n") [] Refused
+  pub sound : Gives (codes "-c" ∷ codes "-f" ∷ codes "first.units" ∷ []) (codes "m !\n") [] [] [] Done
+  -- a session with an edit and an undo, to its end, though its replies are refusals
+  pub session : Gives (codes "-q" ∷ codes "-f" ∷ codes "first.units" ∷ []) (codes "feet\nm !\n")
+      (codes ":define a b\na\n\n:undo\na\n\n") (codes "unknown unit: b in a\nunknown unit: a\n")
+      (codes "first.units:1: bad definition\n") Done
