@@ -66,8 +66,8 @@ IsPlanned want files (Ok plan) steps_old steps_new = IsPlan want files plan step
 IsPlanned want files (Err _) steps_old steps_new = ⊤
 
 -- which plan there may be: a whole run by how it may end, which where the words lead to a session or to a column is
--- only since there is no deck; a check only if they lead to neither; a session only where they lead to one, and a column
--- only where they lead to one, with options that can be printed and a number from 1
+-- only since there is no deck; a check only if they lead to neither; a session only where they lead to one, and a
+-- column only where they lead to one, with options that can be printed and a number from 1
 abbrev pub IsFor : (taken file session column : Bool) → Plan → Type 0
 IsFor taken file session column (Whole said status) =
     ((session || column) ≡ true → status ≡ NoFile) × MayEnd taken file session status

@@ -3,8 +3,8 @@
 use live_table::LiveTable;
 use reply::Options;
 
-/// A check report that is to be written: the notices of the definitions, which are its head, their table, and how faults
-/// are written.
+/// A check report that is to be written: the notices of the definitions, which are its head, their table, and how
+/// faults are written.
 pub struct CheckPlan {
     pub notices: Vec<u8>,
     pub table: LiveTable,

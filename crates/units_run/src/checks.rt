@@ -87,7 +87,8 @@ fn write_blocks<O: Sink, L: Ledger>(
 ) -> Status
     requires printable { IsPrintable options.now }
     requires right { IsRightTable table.old }
-    ensures written { spec.IsWritten (lines.old.items ++ check_among (tables.table table.old.deck) (style_of options.now)
+    ensures written { spec.IsWritten (lines.old.items
+        ++ check_among (tables.table table.old.deck) (style_of options.now)
         (keys_there table.old.deck.lines places.now)) result (O.written out.old) (O.written out.new) }
     ensures queries { IsWorked result → Follows
         (queries_among (tables.table table.old.deck) (keys_there table.old.deck.lines places.now))

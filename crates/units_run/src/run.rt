@@ -32,16 +32,16 @@ use units_io::{Files, Sink, Source, Steps, Text, Vars};
 /// counted fault, a stated limit or want of memory. The words are those after the program's name. The definitions of a
 /// run stay in memory, which the system takes back with the process.
 ///
-/// `run`: with a stated status (0 to 3) both sinks have all bytes of the run, its files and its count of steps are those
-/// of the run, and the status is its own. With another status each sink has a front of its bytes: if the input was too
-/// long (7), or the source failed (4), exactly what is shown for the whole lines of the bytes taken, and of a column no
-/// byte on `out`. `specs/Headline.antt` has all that holds of a run. `granted`: which conversions are granted, and with
-/// which numbers.
+/// `run`: with a stated status (0 to 3) both sinks have all bytes of the run, its files and its count of steps are
+/// those of the run, and the status is its own. With another status each sink has a front of its bytes: if the input
+/// was too long (7), or the source failed (4), exactly what is shown for the whole lines of the bytes taken, and of a
+/// column no byte on `out`. `specs/Headline.antt` has all that holds of a run. `granted`: which conversions are
+/// granted, and with which numbers.
 ///
 /// `source`: nothing is taken outside of a session and of a column, or if there is no deck. `opened`: nothing is taken
 /// before the opening of the session or the notices before a column are written, whatever the ending. `order`: nothing
-/// is written to `out` before the notices on `err`. `unasked`: no file is asked for if none is needed. `unnamed`: nor by
-/// a session of which no line names one. `unread`: if no session is opened, and a fetch failed, nothing is taken and
+/// is written to `out` before the notices on `err`. `unasked`: no file is asked for if none is needed. `unnamed`: nor
+/// by a session of which no line names one. `unread`: if no session is opened, and a fetch failed, nothing is taken and
 /// nothing is written.
 pub fn units_main<S: Source, O: Sink, E: Sink, F: Files, L: Ledger>(
     alloc: Global,
@@ -61,7 +61,8 @@ pub fn units_main<S: Source, O: Sink, E: Sink, F: Files, L: Ledger>(
         (sink_of (O.written out.new) (O.faults out.new)) (sink_of (E.written err.new) (E.faults err.new))
         (files_of (F.files files.new) (F.faults files.new) (F.store_faults files.new)) steps.new) }
     ensures source { TakesNone words.now vars.now result (F.files files.old) → src.new ≡ src.old }
-    ensures granted { GrantsExactly words.now vars.now result (F.files files.old) (O.written out.old) (O.written out.new) }
+    ensures granted { GrantsExactly words.now vars.now result (F.files files.old)
+        (O.written out.old) (O.written out.new) }
     ensures opened { (m : FileMap) → TellsIf (needs_files words.now) (F.files files.old) m →
         (src.new ≡ src.old) ⊎ openings.IsOpened (plan_of words.now vars.now m) (O.written out.old) (O.written out.new)
         (E.written err.old) (E.written err.new) }

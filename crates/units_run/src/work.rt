@@ -26,8 +26,8 @@ use std::sync::ledger::Ledger;
 use units_io::{Steps, Text};
 
 /// The plan of a command line over a deck: the reply to FROM where that stands, or the check, or else a session. The
-/// only error is want of memory. A table that was asked for a reply stays in memory: the system takes that back with the
-/// process, at once.
+/// only error is want of memory. A table that was asked for a reply stays in memory: the system takes that back with
+/// the process, at once.
 pub(crate) fn work<L: Ledger>(
     alloc: Global,
     line: &CommandLine,

@@ -44,7 +44,8 @@ returns-then-is_empty-clause-written g c =
     c.args.table.now c.args.steps.now c.loop-done.rest.now c.loop-done.lines.items c.loop-done.any
     (g.O.Sink.written c.loop-done.out) c.loop-done.table c.loop-done.steps c.loop-done.invariant.at c.in-Ok.done
     c.put_check_block.new.lines.items c.put_check_block.new.table c.put_check_block.new.steps c.in-Ok.ensures.lines
-    c.put_check_block.ensures.deck c.in-Ok.ensures.queries _ c.clear.new.self.items (g.O.Sink.written c.put_all.new.sink)
+    c.put_check_block.ensures.deck c.in-Ok.ensures.queries _ c.clear.new.self.items
+    (g.O.Sink.written c.put_all.new.sink)
     c.has_bytes-any.result refl c.clear.ensures.items
     (c.in-Ok-put_all.ensures.all ∙ ap (grown (g.O.Sink.written c.loop-done.out)) c.as_slice.ensures.value)
     (c.has_bytes-any.ensures
@@ -59,7 +60,8 @@ returns-then-is_empty-clause-queries g c = λ worked.
     c.args.table.now c.args.steps.now c.loop-done.rest.now c.loop-done.lines.items c.loop-done.any
     (g.O.Sink.written c.loop-done.out) c.loop-done.table c.loop-done.steps c.loop-done.invariant.at c.in-Ok.done
     c.put_check_block.new.lines.items c.put_check_block.new.table c.put_check_block.new.steps c.in-Ok.ensures.lines
-    c.put_check_block.ensures.deck c.in-Ok.ensures.queries _ c.clear.new.self.items (g.O.Sink.written c.put_all.new.sink)
+    c.put_check_block.ensures.deck c.in-Ok.ensures.queries _ c.clear.new.self.items
+    (g.O.Sink.written c.put_all.new.sink)
     c.has_bytes-any.result refl c.clear.ensures.items
     (c.in-Ok-put_all.ensures.all ∙ ap (grown (g.O.Sink.written c.loop-done.out)) c.as_slice.ensures.value)
     (c.has_bytes-any.ensures
@@ -74,7 +76,8 @@ loop-done-preserved g c = record {
       c.args.table.now c.args.steps.now c.loop-done.rest.now c.loop-done.lines.items c.loop-done.any
       (g.O.Sink.written c.loop-done.out) c.loop-done.table c.loop-done.steps c.loop-done.invariant.at c.in-Ok.done
       c.put_check_block.new.lines.items c.put_check_block.new.table c.put_check_block.new.steps c.in-Ok.ensures.lines
-      c.put_check_block.ensures.deck c.in-Ok.ensures.queries _ c.clear.new.self.items (g.O.Sink.written c.put_all.new.sink)
+      c.put_check_block.ensures.deck c.in-Ok.ensures.queries _ c.clear.new.self.items
+      (g.O.Sink.written c.put_all.new.sink)
       c.has_bytes-any.result refl c.clear.ensures.items
       (c.in-Ok-put_all.ensures.all ∙ ap (grown (g.O.Sink.written c.loop-done.out)) c.as_slice.ensures.value)
       (c.has_bytes-any.ensures

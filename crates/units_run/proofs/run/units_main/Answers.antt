@@ -70,8 +70,14 @@ returns-in-Ok-Check-clause-run g c =
           (left_false (opens_session c.args.words.now) (converts_column c.args.words.now) kind.1)
           (worked_may_end _ c.write_check.result
           (check_worked report c.write_check.result _ _ ended.written stated));
-      heard = λ input q opens done. absurd (not_both _ opens (left_false (opens_session c.args.words.now) (converts_column c.args.words.now) kind.1));
-      whole = λ m input s q column over. absurd (not_both _ column (right_false (opens_session c.args.words.now) (converts_column c.args.words.now) kind.1));
+      heard = λ input q opens done.
+          absurd
+          (not_both _ opens
+          (left_false (opens_session c.args.words.now) (converts_column c.args.words.now) kind.1));
+      whole = λ m input s q column over.
+          absurd
+          (not_both _ column
+          (right_false (opens_session c.args.words.now) (converts_column c.args.words.now) kind.1));
       read = λ is. absurd (unread is);
       write = λ is. inl (ended.write is);
       too_long = λ is. absurd (check_short report c.write_check.result _ _ ended.written is);
