@@ -26,7 +26,7 @@ chain() {
 for lines in 12500 25000 50000 100000; do
     chain $lines > "$folder/chain.units"
     best=999999999999
-    for round in 1 2 3 4 5; do
+    for _ in 1 2 3 4 5; do
         from=$(date +%s%N)
         "$program" --exact -f "$folder/chain.units" last first > "$folder/out.txt" || exit 1
         to=$(date +%s%N)

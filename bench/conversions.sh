@@ -1,7 +1,8 @@
 #!/usr/bin/env bash
-# Times conversions beside GNU units, in one run: over GNU's own definitions, over the example, the check of GNU's
-# definitions, and one query of the last of a chain of 60,000 names. Prints the milliseconds of a run, those of the
-# processor and those that passed, each the lowest of some rounds, and the part of GNU's time.
+# Times conversions beside GNU units, in one run: over GNU's own definitions, over the library of share/units (and GNU
+# units over its own definitions), over the example, the check of GNU's definitions, and one query of the last of a
+# chain of 60,000 names. Prints the milliseconds of a run, those of the processor and those that passed, each the lowest
+# of some rounds, and the part of GNU's time.
 #   bench/conversions.sh [GNU [DEFINITIONS]]
 # GNU is the command of GNU units, and DEFINITIONS its file; without them the command `units` and Debian's file.
 set -u
@@ -37,8 +38,9 @@ def timed(command, runs):
     return [min(times) / runs * 1e3 for times in zip(*rounds)]
 
 
-def beside(what, runs, *words):
-    ours, theirs = timed([program, *words], runs), timed([gnu, *words], runs)
+def beside(what, runs, *words, of_gnu=None):
+    """Prints the times of both programs with some words, or of GNU units with words of its own."""
+    ours, theirs = timed([program, *words], runs), timed([gnu, *(of_gnu or words)], runs)
     for name, times in (("", ours), ("  GNU units", theirs)):
         print(f"{name or what:44} {times[0]:9.2f} ms of the processor {times[1]:9.2f} ms passed", flush=True)
     print(f"  the part of GNU's time{'':21} {ours[0] / theirs[0]:9.3f}{'':21} {ours[1] / theirs[1]:9.3f}", flush=True)
@@ -52,6 +54,9 @@ with tempfile.NamedTemporaryFile("w", suffix=".units") as file:
     file.write("".join(line + "\n" for line in chain(60_000)))
     file.flush()
     beside("a conversion over GNU's definitions", 20, "-f", definitions, "10 meters", "feet")
+    library = f"{root}/share/units/standard.units"
+    own = ["-f", definitions, "10 meters", "feet"]
+    beside("a conversion over the library", 20, "-f", library, "10 meters", "feet", of_gnu=own)
     beside("a conversion over the example", 50, "-f", f"{root}/examples/first.units", "yd", "m")
     beside("the check of GNU's definitions", 5, "--check", "-f", definitions)
     beside("one query on a chain of 60,000 names", 1, "-f", file.name, "u_60000", "u_0")

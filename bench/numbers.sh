@@ -18,7 +18,7 @@ from fractions import Fraction
 
 program, folder = sys.argv[1:]
 CALLS = 200_000
-PYTHON = """
+MODEL = """
 import operator, sys
 from fractions import Fraction
 steps = {"add": operator.add, "mul": operator.mul, "cmp": lambda x, y: (x > y) - (x < y)}
@@ -84,7 +84,7 @@ for word, kind, operands in RUNS:
         with open(path, "w", encoding="ascii") as calls:
             calls.writelines(f"{step} {x} {y}\n" for x, y in pairs)
         ours, answers = seconds([program], path)
-        theirs, wanted = seconds([sys.executable, "-c", PYTHON], path)
+        theirs, wanted = seconds([sys.executable, "-c", MODEL], path)
         taken.append((ours, theirs))
     (spare, their_spare), (ours, theirs) = taken
     overflows = answers.count(b"overflow")

@@ -1,10 +1,10 @@
 #!/usr/bin/env bash
-# Tries bin/units in scratch copies of the repository: which program it runs, and what it says where it has none. The
-# built program stands in for a released one. The last line is `N passed, M failed`.
+# Tries bin/units and tools/build.sh in scratch copies of the repository: which program runs, and what a user reads if
+# there is none. The last line is `N passed, M failed`.
 set -u
 script=$(readlink -f "${BASH_SOURCE[0]}") || exit
 root=${script%/*/*}
-if ! program=$("$root/tools/built.sh" --here units); then
+if ! program=$("$root/tools/built.sh" units); then
     echo "0 passed, 1 failed"
     exit 1
 fi
@@ -16,7 +16,7 @@ passed=0 failed=0
 
 # A path without rt.
 mkdir path
-for tool in awk bash cat cmp cp cut date find mkdir mv readlink rm sed sh sha256sum sleep sort tail touch xargs; do
+for tool in awk bash cat cmp cp cut date find head mkdir mv readlink rm sed sh sha256sum sleep sort tail touch xargs; do
     ln -s "$(command -v $tool)" path/
 done
 
@@ -35,7 +35,8 @@ cp "$program" two/release/units-x86_64-linux
 yard='--exact -f two/examples/first.units yd m'
 answer=$'\t* 1143|1250\n\t/ 1250|1143\n'
 
-# expect NAME STATUS OUT ERR COMMAND: a shell command ends so, writes this, and says something like this pattern.
+# expect NAME STATUS OUT ERR COMMAND: a shell command ends with this status, writes this, and its standard error matches
+# this pattern.
 expect() {
     local name=$1 status=$2 out=$3 err=$4 got
     # shellcheck disable=SC2123 # this very path
@@ -77,26 +78,36 @@ if [ "$(id -u)" = 0 ]; then as_other="$(command -v setpriv) --reuid=65534 --regi
 rm -rf three/crates/units/out
 expect 'a release that nobody may write beside' 0 "$answer" '' "$as_other three/bin/units $yard"
 
+one_line='units: *tools/build.sh*'
 echo '// an edit' >> two/crates/units_run/src/run.rt
-expect 'other sources and no toolchain' 127 '' '*not built yet*no command rt*README.md*' "two/bin/units $yard"
+expect 'other sources and no toolchain' 127 '' "$one_line needs the toolchain*CONTRIBUTING.md*" "two/bin/units $yard"
+fake_rt 'echo started >> '"$folder"'/started'
+expect 'other sources: no build starts' 126 '' "$one_line*an hour or more*" "PATH=\$PATH:$folder/rt two/bin/units $yard"
+expect 'rt was not called' 1 '' '' '[ -e started ]'
+expect 'one line on standard error' 0 $'1\n' '' "{ PATH=\$PATH:$folder/rt two/bin/units $yard || :; } 2>&1 | sed -n '\$='"
 sed -i '$d' two/crates/units_run/src/run.rt
 expect 'the sources as before' 0 "$answer" '' "two/bin/units $yard"
 echo 'more' >> two/release/units-x86_64-linux
-expect 'a release that was changed' 127 '' '*not built yet*' "two/bin/units $yard"
+expect 'a release that was changed' 127 '' "$one_line" "two/bin/units $yard"
+rm -r two/release
+expect 'no release' 126 '' 'units: no program is built from these sources; tools/build.sh*' "PATH=\$PATH:$folder/rt two/bin/units $yard"
 
+expect 'a build without a toolchain' 127 '' '*no command rt*' 'one/tools/build.sh'
+expect 'a build of no program' 2 '' '*no such program*' 'one/tools/build.sh frac128'
 fake_rt 'exit 1'
-expect 'a proof that fails' 126 '' '*units_io was not proved*build.log*' "PATH=\$PATH:$folder/rt one/bin/units $yard"
+expect 'a proof that fails' 126 '' '*units_io was not proved*build.log*' "PATH=\$PATH:$folder/rt one/tools/build.sh"
 fake_rt "if [ \$1 = run ]; then cp $program out/units; : > out/units.stamp; fi"
-expect 'a build' 0 "$answer" '*an hour or more*units_io is proved (1 of *units is proved*' "PATH=\$PATH:$folder/rt one/bin/units $yard"
-expect 'what was built' 0 "$answer" '' "one/bin/units $yard"
+expect 'a build' 0 '' '*units_io is proved (1 of *units is proved*' "PATH=\$PATH:$folder/rt one/tools/build.sh"
+expect 'the built program' 0 "$answer" '' "one/bin/units $yard"
+expect 'a build of what is built' 0 '' '*already built*' "PATH=\$PATH:$folder/rt one/tools/build.sh"
 echo '// an edit' >> one/crates/units_run/src/run.rt
-expect 'what was built, older than its sources' 127 '' '*is older than its sources*no command rt*' "one/bin/units $yard"
+expect 'a built program that is older than its sources' 127 '' "$one_line" "one/bin/units $yard"
 chmod -R a-w one
-expect 'a build that cannot be written' 126 '' '*cannot be written*' "PATH=\$PATH:$folder/rt $as_other one/bin/units $yard"
+expect 'a build that cannot be written' 126 '' '*cannot be written*' "PATH=\$PATH:$folder/rt $as_other one/tools/build.sh"
 chmod -R u+w one
 fake_rt "if [ \$1 = run ]; then echo half > out/units; kill -INT -- -\$(cut -d ' ' -f 5 /proc/\$PPID/stat); sleep 5; fi"
 # shellcheck disable=SC2086,SC2123
-(PATH=$folder/path:$folder/rt; set -m; one/bin/units $yard) > /dev/null 2>&1 < /dev/null
+(PATH=$folder/path:$folder/rt; set -m; one/tools/build.sh) > /dev/null 2>&1 < /dev/null
 expect 'an interrupted build' 0 '' '' "cmp $program one/crates/units/out/units"
 
 echo "$passed passed, $failed failed"

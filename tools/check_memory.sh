@@ -8,7 +8,7 @@ script=$(readlink -f "${BASH_SOURCE[0]}") || exit
 root=${script%/*/*}
 fail() { echo "check_memory: $*"; echo "0 passed, 1 failed"; exit 1; }
 command -v gcc > /dev/null || fail 'there is no command gcc, so this was not tried'
-program=$("$root/tools/built.sh" --here units) || fail 'the program is not built'
+program=$("$root/tools/built.sh" units) || fail 'the program is not built'
 
 folder=$(mktemp -d)
 trap 'rm -rf "$folder"' EXIT

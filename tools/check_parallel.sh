@@ -1,5 +1,5 @@
 #!/usr/bin/env bash
-# Converts a column in blocks by GNU parallel, as README.md says, and compares the bytes with those of one run.
+# Converts a column in blocks by GNU parallel, as docs/COLUMNS.md says, and compares the bytes with those of one run.
 #
 #     tools/check_parallel.sh [ROWS]
 #
@@ -28,7 +28,7 @@ ln -s "$program" units
 export HOME=$folder PATH=$folder:$PATH
 passed=0 failed=0
 
-# The line of README.md, with options of parallel.
+# The line of docs/COLUMNS.md, with options of parallel.
 in_blocks() {
     sed -u 1q | units --header --column 2 feet m
     parallel "$@" --pipe --keep-order units --column 2 feet m

@@ -4,7 +4,7 @@
 set -u
 script=$(readlink -f "${BASH_SOURCE[0]}") || exit
 root=${script%/*/*}
-if ! program=$("$root/tools/built.sh" --here units); then
+if ! program=$("$root/tools/built.sh" units); then
     echo "0 passed, 1 failed"
     exit 1
 fi
@@ -66,7 +66,7 @@ cut_off() {
     exec {answers}<&-
     # It may have ended before it is given the last line.
     trap '' PIPE
-    printf '2 yd\nin\nm\n' >&"${COPROC[1]}" 2> /dev/null
+    printf '2 yd\nin\nm\n' 1>&"${COPROC[1]}" 2> /dev/null
     wait "$pid"
 }
 

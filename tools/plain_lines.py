@@ -53,7 +53,7 @@ def is_long(numeral):
 
 def tokens_of(text):
     """The tokens and their places."""
-    tokens, places, at = [], [], 0
+    tokens, places, at, end = [], [], 0, 0
     while at < len(text):
         after_numeral = at > 0 and tokens and tokens[-1].kind in ("numeral", "long") and end == at
         numeral, word = NUMERAL.match(text, at), WORD.match(text, at)

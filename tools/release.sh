@@ -1,10 +1,10 @@
 #!/usr/bin/env bash
-# The released program, release/units-x86_64-linux, and release/MADE_FROM, which has its checksum, that of its sources
-# and the toolchain.
+# The released program, release/units-x86_64-linux, and release/MADE_FROM, which has its version, its checksum, that of
+# its sources and the toolchain.
 #   tools/release.sh             makes both from what `rt ci` proved and built
 #   tools/release.sh --check     whether they are whole and of the present sources, by its status; it builds nothing
 #   tools/release.sh --compare   after `rt ci`: whether the program is byte for byte what that built. Two kits may
-#                                compile the same sources otherwise, and then it says so
+#                                compile the same sources differently; then it says so
 #   tools/release.sh --sources   prints the checksum of the present sources
 set -u
 script=$(readlink -f "${BASH_SOURCE[0]}") || exit
@@ -16,13 +16,15 @@ out=$root/crates/units/out
 
 sum_of() { sha256sum "$1" | cut -d ' ' -f 1; }
 
-# named WORD: what MADE_FROM has behind this word.
+# named WORD: what follows this word in MADE_FROM.
 named() { sed -n "s/^$1 //p" "$made_from" 2> /dev/null; }
+
+# version: the newest version of CHANGELOG.md that has a number.
+version() { sed -n 's/^## \[\{0,1\}\([0-9][0-9.]*\).*/\1/p' "$root/CHANGELOG.md" | head -n 1; }
 
 is_whole() { [ -x "$released" ] && [ "$(sum_of "$released")" = "$(named program)" ]; }
 
-# is_proved: whether what stands in out/ is what `rt ci` leaves: the program as two compilers build it, and what it
-# wrote.
+# is_proved: whether out/ has what `rt ci` leaves: the program as two compilers build it, and what it wrote.
 is_proved() {
     [ -x "$out/units" ] && [ -x "$out/units.by-rattle" ] && cmp -s "$out/stdout" "$root/crates/units/stdout" \
         && ! [ "$out/units" -nt "$out/stdout" ] && ! is_outdated "$out/units" units
@@ -38,6 +40,7 @@ make() {
     mkdir -p "$root/release"
     cp "$out/units" "$released.new" && mv "$released.new" "$released" || exit
     {
+        echo "version $(version)"
         echo "program $(sum_of "$released")"
         echo "sources $(sum_of_sources units)"
         echo "toolchain $toolchain"

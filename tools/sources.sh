@@ -5,15 +5,15 @@
 # lines_of NAME: the lines of crates.txt of the crate and of those below it, the lowest first.
 lines_of() {
     awk -F: -v name="$1" '
-        function tell(crate, words, count, i) {
+        function print_from_lowest(crate, words, count, i) {
             if (!(crate in line) || crate in seen) return
             seen[crate]
             count = split(uses[crate], words, " ")
-            for (i = 1; i <= count; i++) tell(words[i])
+            for (i = 1; i <= count; i++) print_from_lowest(words[i])
             print line[crate]
         }
         /^[^#]/ { split($1, head, " "); line[head[1]] = $0; uses[head[1]] = $2 }
-        END { tell(name) }
+        END { print_from_lowest(name) }
     ' "$root/crates.txt"
 }
 
@@ -41,4 +41,10 @@ is_outdated() {
     local folders
     mapfile -t folders < <(folders_of "$2")
     [ -n "$(cd "$root" && find "${folders[@]}" -newer "$1" -print -quit)" ]
+}
+
+# is_built NAME: whether the program is built here, by a build that was finished, from the present sources.
+is_built() {
+    local program=$root/crates/$1/out/$1
+    [ -x "$program" ] && ! [ -e "$program.before" ] && ! is_outdated "$program" "$1"
 }

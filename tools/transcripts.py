@@ -9,10 +9,11 @@ are what it writes, on both streams, with `  [STATUS]` last where its status is 
 ends in ` (esc)` has Python's escapes for bytes that do not print, one in ` (no-eol)` has no line
 feed, ` (glob)` knows `*` and `?`, and ` (re)` is a regular expression.
 
-The commands of a file run in one shell, in a fresh folder of their own, with nothing to read. The
-programs of the repository stand on its PATH under their plain names, and BUILTIN is a file of the
-definitions that are built in. Each difference is shown, and the last line is `N passed, M failed`,
-cases counted.
+The commands of a file run in one shell, in a fresh folder of their own, with an empty input. The
+proved programs of the repository and the scripts of bin/ are on its PATH by their plain names. BUILTIN
+is a file with the built-in definitions, LIBRARY is the standard library of definitions. Each
+difference is shown. A file that uses a program which is not built is skipped and named. The last line
+is `N passed, M failed, K skipped`, cases counted.
 """
 
 import difflib
@@ -24,6 +25,7 @@ import signal
 import subprocess
 import sys
 import tempfile
+from concurrent.futures import ThreadPoolExecutor
 from dataclasses import dataclass, field
 from pathlib import Path
 
@@ -31,6 +33,9 @@ ROOT = Path(__file__).resolve().parent.parent
 TESTS = ROOT / "tests"
 MANUAL = ROOT / "share/man/man1"
 BUILT_IN = ROOT / "crates/units_run/src/built_in.rt"
+LIBRARY = ROOT / "share/units/standard.units"
+BUILT = ROOT / "tools/built.sh"
+COMMANDS = ["qunits", "units-lint"]
 SECONDS = 120  # for all commands of a file
 INDENT = b"  "
 UNPRINTABLE = re.compile(rb"[\x00-\x09\x0b-\x1f\x7f-\xff]")
@@ -40,14 +45,14 @@ ESCAPED, UNENDED = b" (esc)\n", b" (no-eol)\n"
 
 @dataclass
 class Case:
-    """A command, the lines of the file behind it, and the comments that follow."""
+    """A command, the output that it has to have, and the comments that follow."""
 
     at: int
     command: list[bytes] = field(default_factory=list)
     wanted: list[bytes] = field(default_factory=list)
     comments: list[bytes] = field(default_factory=list)
 
-    def told(self):
+    def lines(self):
         first, *rest = self.command
         return [INDENT + b"$ " + first, *(INDENT + b"> " + line for line in rest)]
 
@@ -63,7 +68,7 @@ def read_cases(text):
         elif not line.startswith(INDENT) or case is None:
             (case.comments if case else head).append(line)
         elif case.comments:
-            raise ValueError(f"line {at} is indented, and no command stands before it")
+            raise ValueError(f"line {at} is indented, and no command precedes it")
         elif line.startswith(INDENT + b"> ") and not case.wanted:
             case.command.append(line[4:])
         else:
@@ -72,7 +77,7 @@ def read_cases(text):
 
 
 def script_of(cases, salt):
-    """The commands, with a line of the salt and the status behind each."""
+    """The commands, each followed by one that prints the salt and its status."""
     return b"".join(b"".join(case.command) + b"echo " + salt + b" $?\n" for case in cases)
 
 
@@ -100,15 +105,15 @@ def shown(text, status):
 
 
 def matches(want, got):
-    """Whether a line of a transcript stands for this line, as `shown` has it."""
+    """Whether a line of a transcript matches this line, as `shown` has it."""
     if want == got or escaped(want) == got:
         return True
     if want.endswith(ESCAPED):
         try:
-            meant = want.removesuffix(ESCAPED).decode("unicode_escape").encode("latin-1")
+            unescaped = want.removesuffix(ESCAPED).decode("unicode_escape").encode("latin-1")
         except ValueError:
             return False
-        return escaped(meant + b"\n") == got
+        return escaped(unescaped + b"\n") == got
     for mark, pattern in [(b" (glob)\n", fnmatch.translate), (b" (re)\n", str)]:
         if want.endswith(mark) and not STATUS.fullmatch(got):
             text = want.removesuffix(mark).decode(errors="surrogateescape")
@@ -118,7 +123,7 @@ def matches(want, got):
 
 
 def agreed(wanted, got):
-    """The lines that came, with the wanted one in the place of each that it stands for."""
+    """The lines that came, with the wanted line in place of each that it matches."""
     lines, rest = [], wanted
     for line in got:
         at = next((i for i, want in enumerate(rest) if matches(want, line)), None)
@@ -127,28 +132,47 @@ def agreed(wanted, got):
     return lines
 
 
-def programs():
-    """The names of the repository's programs, each with its place where it is built."""
+def names_of_programs():
+    """The names of the repository's programs, in the order of crates.txt."""
     for line in (ROOT / "crates.txt").read_text().splitlines():
         name = line.partition("#")[0].partition(":")[0].split()[:1]
-        folder = ROOT / "crates" / "".join(name)
-        if name and (folder / "src/main.rt").exists():
-            yield name[0], folder / "out" / name[0]
+        if name and (ROOT / "crates" / name[0] / "src/main.rt").exists():
+            yield name[0]
+
+
+def program(name):
+    """The path of a proved program of the present sources, or none."""
+    done = subprocess.run([BUILT, name], stdout=subprocess.PIPE, stderr=subprocess.DEVNULL, check=False)
+    return Path(done.stdout.decode().strip()) if done.returncode == 0 else None
 
 
 def put_programs(folder):
-    """Puts the programs into a folder; one that is not built says so in its place."""
-    for name, place in programs():
-        if os.access(place, os.X_OK):
-            (folder / name).symlink_to(place)
-            continue
-        missing = folder / name
-        missing.write_text(f'#!/bin/sh\necho "{name}: the program is not built" >&2\nexit 127\n')
-        missing.chmod(0o755)
+    """Puts the programs and the commands of bin/ into a folder, and gives the names of the programs that are not
+    built."""
+    missing = set()
+    for name in names_of_programs():
+        path = program(name)
+        if path:
+            (folder / name).symlink_to(path)
+        else:
+            missing.add(name)
+    for command in COMMANDS:
+        if (ROOT / "bin" / command).exists():
+            (folder / command).symlink_to(ROOT / "bin" / command)
+    return missing
+
+
+def absent_programs(cases, missing):
+    """The programs that the commands use and that are not built."""
+    script = b"\n".join(line for case in cases for line in case.command).decode(errors="replace")
+    words = set(re.findall(r"[\w.-]+", script))
+    if words & set(COMMANDS):
+        words.add("units")
+    return sorted(words & missing)
 
 
 def built_in():
-    """The definitions that are built in: the one literal of its file, in which a backslash stands twice."""
+    """The built-in definitions: the one literal of its file, in which a backslash is written twice."""
     literal = re.search(rb' = b"(.*?)^";$', BUILT_IN.read_bytes(), re.DOTALL | re.MULTILINE)
     return literal.group(1).replace(rb"\\", b"\\")
 
@@ -161,6 +185,7 @@ def run_shell(script, room, path):
     environment = {
         "PATH": f"{path}:{os.environ.get('PATH', os.defpath)}",
         "BUILTIN": str(path.parent / "builtin.units"),
+        "LIBRARY": str(LIBRARY),
         "HOME": str(work),
         "TMPDIR": str(work),
         "LANG": "C",
@@ -192,55 +217,77 @@ def run_shell(script, room, path):
         return output.read(), stopped
 
 
-def run_file(file, path):
-    """Runs a transcript, shows its differences, and gives how many cases passed and failed."""
-    name = os.path.relpath(file, ROOT)
-    try:
-        head, cases = read_cases(file.read_bytes())
-    except (OSError, ValueError) as fault:
-        print(f"{name}: {fault}")
-        return 0, 1
-    if not cases:
-        print(f"{name}: there is no case")
-        return 0, 1
-    salt = b"transcript-" + secrets.token_hex(8).encode()
-    with tempfile.TemporaryDirectory(prefix="transcript-") as room:
-        output, stopped = run_shell(script_of(cases, salt), Path(room), path)
-    answers = answers_in(output, salt)
+@dataclass
+class Report:
+    """The differences of a transcript, and how many of its cases passed, failed and were skipped."""
+
+    text: bytes = b""
+    passed: int = 0
+    failed: int = 0
+    skipped: int = 0
+
+
+def compare(name, head, cases, answers):
+    """The report on the cases that have an answer."""
     before, after, failed = list(head), list(head), 0
     for case, (text, status) in zip(cases, answers):
         got = agreed(case.wanted, shown(text, status))
         failed += got != case.wanted
-        before += [*case.told(), *(INDENT + line for line in case.wanted), *case.comments]
-        after += [*case.told(), *(INDENT + line for line in got), *case.comments]
+        before += [*case.lines(), *(INDENT + line for line in case.wanted), *case.comments]
+        after += [*case.lines(), *(INDENT + line for line in got), *case.comments]
     files = name.encode(), b"what came"
     difference = difflib.diff_bytes(difflib.unified_diff, before, after, *files)
-    sys.stdout.buffer.write(b"".join(difference))
+    return Report(b"".join(difference), len(answers) - failed, failed)
+
+
+def run_file(file, path, missing):
+    """Runs a transcript, and reports where it differs."""
+    name = os.path.relpath(file, ROOT)
+    try:
+        head, cases = read_cases(file.read_bytes())
+    except (OSError, ValueError) as fault:
+        return Report(f"{name}: {fault}\n".encode(), failed=1)
+    if not cases:
+        return Report(f"{name}: there is no case\n".encode(), failed=1)
+    absent = absent_programs(cases, missing)
+    if absent:
+        text = f"{name}: skipped, since {' and '.join(absent)} is not built; tools/build.sh builds a program\n"
+        return Report(text.encode(), skipped=len(cases))
+    salt = b"transcript-" + secrets.token_hex(8).encode()
+    with tempfile.TemporaryDirectory(prefix="transcript-") as room:
+        output, stopped = run_shell(script_of(cases, salt), Path(room), path)
+    answers = answers_in(output, salt)
+    report = compare(name, head, cases, answers)
     lost = cases[len(answers) :]
     if lost:
         why = stopped or "ended the shell, or is no whole command"
-        print(f"{name}: the command in line {lost[0].at} {why}; {len(lost)} cases have no answer")
-    sys.stdout.flush()
-    return len(answers) - failed, failed + len(lost)
+        text = f"{name}: the command in line {lost[0].at} {why}; {len(lost)} cases have no answer\n"
+        report.text += text.encode()
+        report.failed += len(lost)
+    return report
 
 
 def main():
     files = [Path(word).resolve() for word in sys.argv[1:]]
     files = files or [*sorted(TESTS.glob("*.t")), *sorted(MANUAL.glob("*.1"))]
-    passed = failed = 0
+    total = Report()
     with tempfile.TemporaryDirectory(prefix="transcripts-") as folder:
         path = Path(folder) / "programs"
         path.mkdir()
-        put_programs(path)
+        missing = put_programs(path)
         (path.parent / "builtin.units").write_bytes(built_in())
-        for file in files:
-            well, ill = run_file(file, path)
-            passed, failed = passed + well, failed + ill
+        with ThreadPoolExecutor(os.cpu_count()) as pool:
+            for report in pool.map(lambda file: run_file(file, path, missing), files):
+                sys.stdout.buffer.write(report.text)
+                sys.stdout.flush()
+                total.passed += report.passed
+                total.failed += report.failed
+                total.skipped += report.skipped
     if not files:
         print(f"there is no transcript in {TESTS}")
-        failed = 1
-    print(f"{passed} passed, {failed} failed")
-    sys.exit(1 if failed else 0)
+        total.failed = 1
+    print(f"{total.passed} passed, {total.failed} failed, {total.skipped} skipped")
+    sys.exit(1 if total.failed else 0)
 
 
 if __name__ == "__main__":

@@ -1,15 +1,63 @@
-# Completion of units for bash.
-_units() {
-    local word=${COMP_WORDS[COMP_CWORD]} before=${COMP_WORDS[COMP_CWORD - 1]}
+# Completions of units, qunits and units-lint for bash.
+
+# _units_names COMMAND FILE LOCALE: the names that the command converts. An empty file is the built-in definitions.
+_units_names() {
+    local program
+    program=$(type -P "$1") || return
+    if [ "${program##*/}" = qunits ]; then
+        "$program" --names ${2:+-f "$2"} ${3:+-l "$3"}
+    else
+        "${program%/*}/qunits" --names -f "$2" ${3:+-l "$3"}
+    fi
+}
+
+# _units_expression COMMAND WORD: the last name in the word, which may begin with a quote.
+_units_expression() {
+    local word=${2#[\"\']} file='' locale='' option='' at tail
+    for ((at = 1; at < COMP_CWORD; at++)); do
+        case ${COMP_WORDS[at]} in
+            -f | --file) option='file' ;;
+            -l | --locale) option='locale' ;;
+            =) ;; # bash takes --file=NAME as three words
+            *) case $option in file) file=${COMP_WORDS[at]} ;; locale) locale=${COMP_WORDS[at]} ;; esac
+                option='' ;;
+        esac
+    done
+    tail=${word##*[-+*/|^;~()[:space:]]}
+    if [ -z "$tail" ]; then return; fi
+    mapfile -t COMPREPLY < <(compgen -P "${word%"$tail"}" -W \
+        "$(_units_names "$1" "${file/#\~\//$HOME/}" "$locale" 2> /dev/null | sed 's/[\\$"'\''`]/\\&/g')" -- "$tail")
+}
+
+_units_files() {
+    mapfile -t COMPREPLY < <(compgen -f -- "$1")
+    compopt -o filenames 2> /dev/null
+}
+
+_units_words() {
+    local word=${COMP_WORDS[COMP_CWORD]} before=${COMP_WORDS[COMP_CWORD - 1]} options
     COMPREPLY=()
-    case $before in
-        -f | --file) mapfile -t COMPREPLY < <(compgen -f -- "$word") && compopt -o filenames; return ;;
-        -l | --locale) mapfile -t COMPREPLY < <(compgen -W 'en_US en_GB' -- "$word"); return ;;
-        -d | --digits | --column | --trial) return ;;
+    if [ "$word" = = ]; then
+        word=''
+    elif [ "$before" = = ] && [ "$COMP_CWORD" -gt 2 ]; then
+        before=${COMP_WORDS[COMP_CWORD - 2]}
+    fi
+    options='--digits --exact --one-line --compact --terse --quiet --strict --round --verbose --file --locale --check
+        --column --header --trial'
+    case ${1##*/} in
+        qunits) options+=' --why --names --new --help --version' ;;
+        units-lint) options='--help --statuses --dimensions --locale --program' ;;
     esac
-    case $word in
-        -*) mapfile -t COMPREPLY < <(compgen -W '--digits --exact --one-line --compact --terse --quiet --strict --round
-                --verbose --file --locale --check --column --header --trial -d -1 -t -q -s -r -v -f -l -c' -- "$word") ;;
+    case ${1##*/}:$before in
+        *:-f | *:--file | *:--program) _units_files "$word" ;;
+        *:-l | *:--locale) mapfile -t COMPREPLY < <(compgen -W 'en_US en_GB' -- "$word") ;;
+        *:-d | *:--digits | *:--column | *:--trial) ;;
+        *)
+            case ${1##*/}:$word in
+                *:-*) mapfile -t COMPREPLY < <(compgen -W "$options" -- "$word") ;;
+                units-lint:*) _units_files "$word" ;;
+                *) _units_expression "$1" "$word" ;;
+            esac ;;
     esac
 }
-complete -F _units units
+complete -F _units_words units qunits units-lint

@@ -1,0 +1,342 @@
+`qunits` runs `units` over the standard library, or over the user's own file, on words as people say them.
+
+  $ apart() { "$@" 2> err; status=$?; sed 's/^/err: /' err; return $status; }
+
+Conversions without quotes: `to`, `into`, `->` and `=` separate FROM and UNIT.
+
+  $ apart qunits 60 mph to km/h
+  \t* 96.56064 (esc)
+  \t/ 0.010356187 (esc)
+  $ apart qunits 5 ft + 6 in to cm
+  \t* 167.64 (esc)
+  \t/ 0.0059651634 (esc)
+  $ for separator in into '->' =; do apart qunits -t 1 mile $separator km; done
+  1.609344
+  1.609344
+  1.609344
+  $ apart qunits -t 2.5 cup to cooking
+  2;8;0
+  $ apart qunits -t 8 l / 100 km to l/km
+  0.08
+  $ apart qunits "tempF(350)" to tempC
+  \t176.66667 (esc)
+  $ apart qunits 5.5 ft to "ft;in"
+  \t5 ft + 6 in (esc)
+  $ apart qunits -t "60 mph to km/h"
+  96.56064
+
+One word each: FROM and UNIT, as for `units`. A number and a unit are FROM alone.
+
+  $ apart qunits "1 acre" m^2
+  \t* 4046.8564 (esc)
+  \t/ 0.00024710538 (esc)
+  $ apart qunits -t yd m
+  0.9144
+  $ apart qunits 100 kWh
+  \tDefinition: 3.6e+08 kg m^2 / s^2 (esc)
+  $ apart qunits 1e3 in
+  \tDefinition: 25.4 m (esc)
+  $ apart qunits 2 m ft
+  \tDefinition: 0.6096 m^2 (esc)
+  err: qunits: for a conversion: qunits 2 m to ft
+  $ apart qunits "1 acre" ""
+  \tDefinition: 4046.8564 m^2 (esc)
+  $ apart qunits ""
+  syntax error at 0
+  [1]
+
+`in` is the inch. Between two units it means `to`, unless another word does.
+
+  $ apart qunits -t 5 ft in cm
+  152.4
+  $ apart qunits -t 5 in in cm
+  12.7
+  $ apart qunits -t 5 ft + 6 in in cm
+  167.64
+  $ apart qunits -t 30 ft in in
+  360
+  $ apart qunits -t 5 in to cm
+  12.7
+  $ apart qunits -t ft in
+  12
+  $ apart qunits 5 ft + 6 in
+  \tDefinition: 1.6764 m (esc)
+  $ apart qunits 6 in + 5 ft
+  \tDefinition: 1.6764 m (esc)
+  $ apart qunits -t 2 lbf in to lbf ft
+  0.16666667
+  $ apart qunits 3 m in / s
+  \tDefinition: 0.0762 m^2 / s (esc)
+  $ apart qunits 2 m / in
+  \tDefinition: 78.740157 (esc)
+
+A UNIT of several words, and names that people write as two words.
+
+  $ apart qunits -t 3 N m to lbf ft
+  2.2126864
+  $ apart qunits -t 1 cup to fluid ounces
+  8
+  $ apart qunits -t 43560 square feet to acre
+  1
+  $ apart qunits -t 1 acre to square feet
+  43560
+  $ apart qunits nosuch units to m
+  unknown unit: nosuch
+  [1]
+
+Fractions of whole numbers are numbers, and so is a whole number with a fraction. (`units` divides by `4 in`.)
+
+  $ apart qunits 3/4 in
+  \tDefinition: 0.01905 m (esc)
+  $ apart qunits -t "5/8 in" mm
+  15.875
+  $ apart qunits -t 2 1/2 cups to fluid ounces
+  20
+  $ apart qunits -t -5 3/4 in to in
+  -5.75
+  $ apart qunits -t 1 ft + 1 1/2in to 1/2 in
+  27
+  $ apart qunits -t 6 ft to "1/4 ft;in"
+  24;0
+  $ apart qunits -t 1/2 / s to Hz
+  0.5
+  $ apart qunits 3/4
+  \tDefinition: 0.75 (esc)
+
+The units that conform, with and without `to`.
+
+  $ qunits 1 acre to '?' | grep -c '^.hectare'
+  1
+  $ qunits 1 acre '?' | grep -c '^.hectare'
+  1
+
+Options come before FROM or after UNIT, and are those of `units`. Each keeps its quoting.
+
+  $ apart qunits -d 3 60 mph to km/h
+  \t* 96.6 (esc)
+  \t/ 0.0104 (esc)
+  $ apart qunits 60 mph to km/h -d3 -t
+  96.6
+  $ apart qunits 60 mph to km/h --exact --one-line
+  \t* 301752|3125 (esc)
+  $ apart qunits -1 60 mph to km/h
+  \t* 96.56064 (esc)
+  $ apart qunits -vd3 1 mile to km
+  \t1 mile = 1.61 km (esc)
+  \t1 mile = (1 / 0.621) km (esc)
+  $ apart qunits -l en_GB -t 1 gallon to liter
+  4.54609
+  $ apart qunits --locale=en_GB -t 1 gallon to liter
+  4.54609
+  $ printf 'id,len\na,10\n' | apart qunits --header --column 2 feet to m
+  id,len
+  a,3.048
+  $ qunits --check
+  $ qunits --trial 3
+  definitions 4, edits 3, reply bytes 43, settled 3 of 4, reductions 4
+
+A minus after the first word of FROM is a difference; in front it is a sign. `-1` before a unit may be either.
+
+  $ apart qunits -t 5 ft -1 in to cm
+  149.86
+  $ apart qunits -t 5 min -s to s
+  299
+  $ apart qunits -5 m to ft
+  \t* -16.404199 (esc)
+  \t/ -0.06096 (esc)
+  $ apart qunits -1 mile to km
+  err: qunits: -1 may be a number: write --one-line for the option, or -- before FROM
+  [2]
+  $ apart qunits 1 mile to km -1
+  err: qunits: -1 may be a number: write --one-line for the option, or -- before FROM
+  [2]
+  $ apart qunits -t -- -1 mile to km
+  -1.609344
+  $ apart qunits -t -12 mile to km
+  -19.312128
+
+Words that are refused.
+
+  $ qunits 5 m to 2>&-
+  [2]
+  $ apart qunits 5 m to
+  err: qunits: no unit follows to
+  [2]
+  $ apart qunits 5 m to ft into in
+  err: qunits: to and into: one conversion at a time
+  [2]
+  $ apart qunits --nosuch 5 m to ft
+  err: units: usage: units [options] [FROM [TO]]
+  [2]
+  $ apart qunits -x 5 m to ft
+  err: units: usage: units [options] [FROM [TO]]
+  [2]
+  $ apart qunits '\n' to m
+  unknown unit: \n
+  [1]
+  $ apart qunits 5 m to '\t' to '\n'
+  err: qunits: to and to: one conversion at a time
+  [2]
+  $ apart qunits -d
+  err: units: usage: units [options] [FROM [TO]]
+  [2]
+
+A file of one's own, and words with an `-f`.
+
+  $ mkdir 'a folder'
+  $ printf 'm !\ntwo 2 m\n' > 'a folder/small.units'
+  $ apart qunits -f 'a folder/small.units' two m
+  \t* 2 (esc)
+  \t/ 0.5 (esc)
+  $ apart qunits --file='a folder/small.units' -t 3 two + m to m
+  7
+  $ apart qunits -t 3 two to m -f 'a folder/small.units'
+  6
+  $ apart qunits -f 'a folder/small.units' two m -t
+  2
+  $ apart qunits two m -f 'a folder/small.units' -t
+  2
+  $ apart qunits -f 'a folder/small.units' -c
+  $ apart qunits -f nosuch.units 1 m to ft
+  err: units: no file: nosuch.units
+  [3]
+  $ mkdir -p .config/units
+  $ printf 'm !\nmine 5 m\n' > .config/units/my.units
+  $ apart qunits -t mine m
+  5
+  $ XDG_CONFIG_HOME=/nonexistent apart qunits -t mine m
+  unknown unit: mine
+  [1]
+  $ qunits --names
+  m
+  mine
+  $ apart qunits --new
+  err: qunits: */.config/units/my.units exists already (glob)
+  [2]
+  $ rm -r .config
+
+The first file of one's own includes the standard library, and has nothing that the check reports.
+
+  $ apart qunits --new
+  */.config/units/my.units (glob)
+  $ echo 'mug 350 ml' >> .config/units/my.units
+  $ apart qunits -t 2 mug to ml
+  700
+  $ apart qunits -t 1 acre to m^2
+  4046.8564
+  $ sed -i 's/^#\([^ ]\)/\1/' .config/units/my.units
+  $ apart qunits --check
+  $ apart qunits -t 1 demimug to ml
+  175
+  $ apart qunits "tempRe(80)" to tempC
+  \t100 (esc)
+  $ apart qunits -t 30 day to weeks
+  4;2;0
+  $ rm -r .config
+  $ mkdir .config && touch .config/units
+  $ qunits --new 2> /dev/null
+  [5]
+  $ rm -r .config
+
+Sessions: the words of a session go to `units` as they are.
+
+  $ printf '1 acre\nm^2\nto m\n' | apart qunits -q
+  \t* 4046.8564 (esc)
+  \t/ 0.00024710538 (esc)
+  unknown unit: to
+  $ echo 1 ft | qunits | grep -c 'nonlinear units'
+  1
+  $ ls -A
+  a folder
+  err
+
+Hints on standard error, unless `-q` or `-t` is given.
+
+  $ apart qunits 1 acer to m^2
+  unknown unit: acer
+  err: qunits: similar names: acre
+  [1]
+  $ apart qunits 1 US gallon to liter
+  unknown unit: US
+  err: qunits: similar names: us_gallon uk_gallon usgallon
+  [1]
+  $ apart qunits 60 mph km/h
+  \tDefinition: 7.4506667 m^2 / s^2 (esc)
+  err: qunits: for a conversion: qunits 60 mph to km/h
+  $ apart qunits 5 ft 6 in
+  \tDefinition: 0.2322576 m^2 (esc)
+  $ apart qunits 5 ft lbf
+  \tDefinition: 6.7790897 kg m^2 / s^2 (esc)
+  $ apart qunits 98.6 degF to K
+  \t* 54.777778 (esc)
+  \t/ 0.018255578 (esc)
+  err: qunits: for a temperature, not a difference: qunits 'tempF(98.6)' to K
+  $ apart qunits -q 1 acer to m^2
+  unknown unit: acer
+  [1]
+  $ apart qunits 350 F to C | tail -n 1
+  err: qunits: for a temperature, not a difference: qunits 'tempF(350)' to tempC
+  $ apart qunits 5 ft 6 in to cm
+  conformability error
+  \t0.2322576 m^2 (esc)
+  \t0.01 m (esc)
+  err: qunits: a blank multiplies; "+" adds, as in 5 ft + 6 in
+  [1]
+
+Statuses from 4 to 7 have a reason.
+
+  $ apart qunits -f . m ft
+  err: qunits: a file or standard input could not be read
+  [4]
+  $ { qunits m to ft > /dev/full; } 2>&1
+  qunits: the output could not be written
+  [5]
+  $ { echo m | qunits > /dev/full; } 2>&1
+  qunits: the output could not be written
+  [5]
+  $ sh -c 'ulimit -f 0; qunits m to ft 2>&1 > file' | cat
+  qunits: the output could not be written
+  $ yes 1 | head -c 16777217 | apart qunits --column 1 ft m
+  err: qunits: the input is too long for one run; convert a long column in blocks by parallel --pipe (see units(1))
+  [7]
+
+What another program in the place of `units` is called with, and a status that the real one seldom has.
+
+  $ mkdir bin && cp "$(command -v qunits)" bin/ && ln -s "${LIBRARY%/units/*}" share
+  $ printf '#!/bin/sh\nprintf "<%%s>" "$@"; echo\nexit $STATUS\n' > bin/units && chmod +x bin/units
+  $ STATUS=6 apart bin/qunits -f 'a  b' "it's" '5 $x' -q
+  <-f><a  b><-q><--><it's><5 $x>
+  err: qunits: there was not enough memory
+  [6]
+  $ STATUS=0 apart bin/qunits --digits=3 -d ' ' 5  '*' "m  s" to "a\\b" --locale '' -f*
+  <--digits=3><-d>< ><--locale><><-f*><--><5 * m  s><a\b>
+  $ STATUS=1 apart bin/qunits -tf x 5 m to ft --check
+  <-tf><x><--check><--><5 m><ft>
+  [1]
+
+The chain of definitions, if the program for it is there.
+
+  $ apart bin/qunits --why 3 dyn
+  err: qunits: units-why, which --why needs, is not installed
+  [2]
+  $ apart bin/qunits --why
+  err: qunits: --why needs an expression
+  [2]
+  $ cp bin/units bin/units-why
+  $ STATUS=3 apart bin/qunits --why -f x 3 dyn to N
+  <-f><x><--><3 dyn><N>
+  [3]
+
+Help, the version, and the names that may be converted.
+
+  $ qunits --help | head -n 1
+  usage: qunits [OPTIONS] FROM to UNIT    qunits 60 mph to km/h    ("into", "->" and "=" separate them too)
+  $ qunits --help | tail -n 1
+  "in" is the inch, but means "to" between two units if there is no "to". Quote ? * ( ) ; and -> for the shell.
+  $ qunits --version
+  qunits* (glob)
+  $ apart qunits --names -f nosuch.units
+  err: units: no file: nosuch.units
+  [3]
+  $ qunits --names | grep -cxE 'acre|tempC|hms|kilo'
+  3

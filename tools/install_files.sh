@@ -1,0 +1,122 @@
+# shellcheck shell=bash disable=SC2154 # tools/install.sh sets root, prefix, name and work, and reads this file
+# What tools/install.sh installs: the arrays modes, sources and places, one element for each file.
+modes=() sources=() places=()
+
+# add MODE SOURCE PLACE
+add() {
+    [ -r "$2" ] || give_up "the repository lacks $2"
+    modes+=("$1") sources+=("$2") places+=("$3")
+}
+
+# add_edited MODE SOURCE PLACE SCRIPT: a copy that was edited by sed.
+add_edited() {
+    local copy=$work/edited.${#places[@]}
+    sed -E "$4" "$2" > "$copy"
+    add "$1" "$copy" "$3"
+}
+
+# add_all MODE FOLDER FILE..: files that keep their names.
+add_all() {
+    local mode=$1 folder=$2 file
+    shift 2
+    for file in "$@"; do add "$mode" "$file" "$folder/${file##*/}"; done
+}
+
+# is_system_prefix: whether bash and zsh look for completions under the prefix, and /etc goes with it.
+is_system_prefix() { [[ $prefix = /usr || $prefix = /usr/local ]]; }
+
+# zsh_folder: where zsh looks under the prefix. Debian's zsh leaves /usr/share/zsh/site-functions out.
+zsh_folder() {
+    if [ "$prefix" = /usr ] && [ -e /etc/debian_version ]; then
+        echo "$prefix/share/zsh/vendor-completions"
+    else
+        echo "$prefix/share/zsh/site-functions"
+    fi
+}
+
+# fish_folder: where fish looks. Without XDG_DATA_DIRS that is no folder under /usr/local.
+fish_folder() {
+    case $prefix in /usr/local) echo /etc/fish/completions ;; *) echo "$prefix/share/fish/vendor_completions.d" ;; esac
+}
+
+# as_replacement TEXT: the text in the right side of a command s#..#..# of sed.
+as_replacement() { printf '%s\n' "$1" | sed 's/[&#\\]/\\&/g'; }
+
+# as_roff TEXT: a path in a manual page, where a plain - is a hyphen.
+as_roff() { as_replacement "${1//-/\\-}"; }
+
+add_programs() {
+    local program
+    program=$("$root/tools/built.sh" units) || give_up 'there is no program to install'
+    add 755 "$program" "$prefix/bin/$name"
+    add_edited 755 "$root/bin/qunits" "$prefix/bin/qunits" "s/^name=units .*/name=$name/"
+    add_all 644 "$prefix/share/qunits" "$root/share/qunits/functions.sh" "$root/share/qunits/first.units"
+    if [ -e "$root/tools/lint_units.py" ]; then
+        add_edited 755 "$root/bin/units-lint" "$prefix/bin/units-lint" "s/^name=units .*/name=$name/"
+        add_all 644 "$prefix/share/$name/lint" "$root"/tools/{lint_units,unit_answers,unit_files,unit_names}.py
+    fi
+}
+
+add_library() {
+    add_all 644 "$prefix/share/$name" "$root"/share/units/*.units "$root/release/MADE_FROM"
+    if [ -e "$root/tools/import_gnu.sh" ]; then add_all 755 "$prefix/share/$name" "$root/tools/import_gnu.sh"; fi
+}
+
+# add_pages: the manual pages, which name the program and its documents as they are installed.
+add_pages() {
+    local page edits
+    edits="s#\\bdocs/([A-Z_]+\\.md)#$(as_roff "$prefix/share/doc/$name/docs")/\\1#g
+        s#\\btools/import_gnu\\.sh#$(as_roff "$prefix/share/$name")/import_gnu.sh#g"
+    if [ "$name" != units ]; then
+        edits+="
+            s#^\\.TH UNITS #.TH $(as_replacement "${name^^}") #
+            s#^units \\\\- #$(as_roff "$name") \\\\- #
+            s#^(\\.[BI]R? )units\\b#\\1$(as_roff "$name")#
+            s#^(  \\\$ |.*\\| )units #\\1$name #"
+    fi
+    add_edited 644 "$root/share/man/man1/units.1" "$prefix/share/man/man1/$name.1" "$edits"
+    add_edited 644 "$root/share/man/man1/qunits.1" "$prefix/share/man/man1/qunits.1" "$edits"
+    while read -r page; do
+        add 644 "$root/$page" "$prefix/share/doc/$name/$page"
+    done < <(grep -ohE '\bdocs/[A-Z_]+\.md' "$root"/share/man/man1/*.1 | sort -u)
+}
+
+add_documents() {
+    local file
+    for file in README.md CHANGELOG.md COPYING.md; do
+        if [ -e "$root/$file" ]; then add_all 644 "$prefix/share/doc/$name" "$root/$file"; fi
+    done
+    add_all 644 "$prefix/share/doc/$name/examples" "$root"/examples/*
+}
+
+# add_completions: each file of completions is for all commands, under the name of each.
+add_completions() {
+    local completions=$root/share/completions command edits="s/\\bunits qunits\\b/$name qunits/"
+    for command in "$name" qunits units-lint; do
+        add_edited 644 "$completions/units.bash" "$prefix/share/bash-completion/completions/$command" "$edits"
+        add_edited 644 "$completions/units.fish" "$(fish_folder)/$command.fish" "$edits"
+    done
+    add_edited 644 "$completions/_units" "$(zsh_folder)/_$name" "$edits"
+    if [ "$name" = units ] && is_system_prefix; then
+        add 644 "$completions/unclaim.bash" /etc/bash_completion.d/units
+    fi
+}
+
+# add_vim_files: Vim looks under /usr/share/vim/vimfiles, Neovim under share/nvim/site of each usual prefix.
+add_vim_files() {
+    local file place
+    for file in "$root"/share/vim/*/*.vim; do
+        place=${file#"$root/share/vim/"}
+        add_edited 644 "$file" "$prefix/share/vim/vimfiles/$place" "s/makeprg=units\b/makeprg=$name/"
+        add_edited 644 "$file" "$prefix/share/nvim/site/$place" "s/makeprg=units\b/makeprg=$name/"
+    done
+}
+
+collect_files() {
+    add_programs
+    add_library
+    add_pages
+    add_documents
+    add_completions
+    add_vim_files
+}

@@ -1,0 +1,206 @@
+#!/usr/bin/env bash
+# Builds the Debian package and the tarball of a release, and their checksums:
+#
+#     tools/package.sh [FOLDER]
+#
+# writes exact-units_VERSION-1_amd64.deb, exact-units-VERSION-x86_64-linux.tar.gz and SHA256SUMS to FOLDER, which is
+# `out` in the repository if it is not given. The version and the date are those of share/man/man1/units.1.
+#
+# The package is called exact-units, and so is its program: Debian's package `units` has /usr/bin/units, registers no
+# alternative for it, and stays installed beside this one. Two builds of the same sources are equal byte for byte,
+# whatever the folder, the time and the umask; SOURCE_DATE_EPOCH replaces the date.
+#
+# The program contains code of crates of the Rattle kit. Their licences are read from the kit, so `rt` has to be on the
+# path. Exit status: 0 if all files were written, 1 if something is missing, 2 for wrong arguments.
+set -eu
+script=$(readlink -f "${BASH_SOURCE[0]}")
+root=${script%/*/*}
+. "$root/tools/sources.sh"
+name=exact-units
+maintainer=${MAINTAINER:-Juniperwall maintainers <maintainers@users.noreply.juniperwall.example>}
+umask 022
+export LC_ALL=C TZ=UTC
+
+fail() {
+    echo "package: $1" >&2
+    exit "${2:-1}"
+}
+
+# heading_field NUMBER: a quoted field of the .TH line of the manual page: 1 is the date, 2 the name and the version.
+heading_field() { sed -n '/^\.TH /{s/^[^"]*//;p;q;}' "$root/share/man/man1/units.1" | cut -d '"' -f $((2 * $1)); }
+
+# named WORD: what release/MADE_FROM has after this word.
+named() { sed -n "s/^$1 //p" "$root/release/MADE_FROM"; }
+
+# kit_crates: the crates of the kit that are linked into the program, directly or through another one, sorted.
+kit_crates() {
+    local pending=() seen=' ' crate
+    mapfile -t pending < <(lines_of units | cut -d : -f 2 | tr ' ' '\n' | grep . | sort -u)
+    pending+=(std)
+    while [ "${#pending[@]}" -gt 0 ]; do
+        crate=${pending[0]}
+        pending=("${pending[@]:1}")
+        if [ ! -d "$kit/rlibs/$crate.rlib" ] || [[ $seen = *" $crate "* ]]; then continue; fi
+        seen+="$crate "
+        mapfile -t -O "${#pending[@]}" pending < <(grep -a '^dep ' "$kit/rlibs/$crate.rlib/format" | cut -d ' ' -f 2)
+    done
+    tr ' ' '\n' <<< "$seen" | grep . | sort
+}
+
+# licence_files CRATE: the licences that apply. If there is a choice of MIT and Apache, that of MIT.
+licence_files() {
+    local file
+    for file in "$kit/rattle/$1"/LICENSE*; do
+        if [ ! -e "$file" ]; then continue; fi
+        if [ "${file##*/}" != LICENSE-APACHE ] || [ ! -e "$kit/rattle/$1/LICENSE-MIT" ]; then echo "$file"; fi
+    done
+}
+
+# print_licence FILE FORM: the text of a licence. Debian has the Apache licence in a place of its own, and its packages
+# refer to that: so does the form `debian`.
+print_licence() {
+    if [ "$2" = debian ] && head -n 1 "$1" | grep -q 'Apache License'; then
+        echo 'The Apache License, Version 2.0, is in /usr/share/common-licenses/Apache-2.0.'
+    else
+        cat "$1"
+    fi
+}
+
+# kit_licences FORM: what the kit states of each crate, and the text of its licence.
+kit_licences() {
+    local crate file files silent=()
+    while read -r crate; do
+        mapfile -t files < <(licence_files "$crate")
+        if [ "${#files[@]}" = 0 ]; then
+            silent+=("$crate")
+            continue
+        fi
+        printf '\n\n--- The crate %s of the kit ---\n\n' "$crate"
+        sed -n '3{s/`//g;p;}' "$kit/rattle/$crate/README.md" 2> /dev/null | fold -s -w 78 | sed 's/ *$//'
+        for file in "${files[@]}"; do
+            echo
+            print_licence "$file" "$1"
+        done
+    done < <(kit_crates)
+    if [ "${#silent[@]}" -gt 0 ]; then
+        printf '\n\n--- Other crates of the kit ---\n\nThe kit states no licence for these: %s.\n' "${silent[*]}"
+    fi
+}
+
+# write_copyright FORM: the licence of the program and those of the crates in it.
+write_copyright() {
+    printf 'exact units %s\n\n' "$version"
+    cat "$root/COPYING.md"
+    printf '\n\nThe program was built by %s and contains code of the following crates of that kit.\n' \
+        "$(named toolchain)"
+    kit_licences "$1"
+}
+
+# set_times FOLDER: the date of the release for all that is below the folder.
+set_times() { find "$1" -exec touch --no-dereference --date "@$epoch" {} +; }
+
+# stage_files: the installed files below $stage, in the places that Debian has for them.
+stage_files() {
+    local share=$stage/usr/share page
+    DESTDIR=$stage "$root/tools/install.sh" --prefix /usr --name "$name" > /dev/null
+    if [ -d "$share/zsh/site-functions" ]; then mv "$share/zsh/site-functions" "$share/zsh/vendor-completions"; fi
+    rm -f "$share/$name/installed"
+    install -m 755 "$program" "$stage/usr/bin/$name"
+    find "$share/man" -type f -name '*.1' | while read -r page; do gzip -9n "$page"; done
+    mkdir -p "$share/doc/$name" "$share/lintian/overrides"
+    write_copyright debian > "$share/doc/$name/copyright"
+    gzip -9nc "$root/CHANGELOG.md" > "$share/doc/$name/changelog.gz"
+    printf '%s (%s-1) unstable; urgency=medium\n\n  * Release %s; changelog.gz says what it changes.\n\n -- %s  %s\n' \
+        "$name" "$version" "$version" "$maintainer" "$(date -R -d "@$epoch")" \
+        | gzip -9nc > "$share/doc/$name/changelog.Debian.gz"
+    cat > "$share/lintian/overrides/$name" <<- END
+		# The program is the released one byte for byte, so that its checksum can be compared. Strip would change it.
+		$name: unstripped-binary-or-object [usr/bin/$name]
+	END
+    find "$stage" -type d -exec chmod 755 {} +
+}
+
+write_control() {
+    mkdir "$stage/DEBIAN"
+    (cd "$stage" && find usr -type f -print0 | sort -z | xargs -0 md5sum) > "$stage/DEBIAN/md5sums"
+    cat > "$stage/DEBIAN/control" <<- END
+		Package: $name
+		Version: $version-1
+		Architecture: amd64
+		Maintainer: $maintainer
+		Installed-Size: $(find "$stage/usr" -type f -printf '%s\n' | awk '{ n += int(($1 + 1023) / 1024) } END { print n }')
+		Depends: libc6 (>= 2.34)
+		Recommends: python3, rlwrap
+		Suggests: parallel, units
+		Section: utils
+		Priority: optional
+		Description: unit converter that computes in exact fractions
+		 It reads the definition files of GNU units, computes in reduced fractions of
+		 127 bits, and answers exactly or refuses by name. Columns of CSV files and
+		 sessions with live definitions are part of it. The program is proved to meet
+		 its contracts. The program is called exact-units, and qunits is the command
+		 for every day; Debian's own units may be installed beside it.
+	END
+}
+
+build_package() {
+    stage=$work/package
+    mkdir "$stage"
+    stage_files
+    write_control
+    set_times "$stage"
+    SOURCE_DATE_EPOCH=$epoch dpkg-deb --root-owner-group --threads-max=1 -Zxz --build "$stage" \
+        "$work/${name}_$version-1_amd64.deb" > /dev/null
+}
+
+# build_tarball: the layout of the repository without the sources: bin/units is the program itself.
+build_tarball() {
+    local top=$work/$name-$version part
+    mkdir "$top" "$top/bin" "$top/tools"
+    install -m 755 "$program" "$top/bin/units"
+    for part in bin/qunits bin/units-lint tools/install.sh tools/import_gnu.sh tools/lint_units.py; do
+        install -m 755 "$root/$part" "$top/$part"
+    done
+    install -m 644 "$root/tools/install_files.sh" "$root"/tools/unit_*.py "$top/tools"
+    cp -R "$root/share" "$root/docs" "$root/examples" "$root/README.md" "$root/CHANGELOG.md" "$root/COPYING.md" "$top"
+    find "$top" -name __pycache__ -prune -exec rm -rf {} +
+    write_copyright full > "$top/LICENCES"
+    mkdir "$top/release"
+    cp "$root/release/MADE_FROM" "$top/release"
+    cat > "$top/tools/built.sh" <<- 'END'
+		#!/bin/sh
+		# Prints the path of the program: in this tarball it is built already.
+		cd "${0%/*}/.." && echo "$PWD/bin/units"
+	END
+    chmod 755 "$top/tools/built.sh"
+    tar --create --sort=name --format=ustar --owner=0 --group=0 --numeric-owner --mode=u+rwX,go+rX,go-w \
+        --mtime="@$epoch" --directory "$work" "$name-$version" | gzip -9n > "$work/$name-$version-x86_64-linux.tar.gz"
+}
+
+case ${1-} in
+    -h | --help) sed -n '2,/^set/s/^# \{0,1\}//p' "$script" | sed '$d'; exit ;;
+    -?*) fail "there is no option $1; see tools/package.sh --help" 2 ;;
+esac
+if [ "$#" -gt 1 ]; then fail 'at most one folder is taken' 2; fi
+folder=${1:-$root/out}
+for file in COPYING.md CHANGELOG.md bin/qunits tools/lint_units.py; do
+    if [ ! -e "$root/$file" ]; then fail "$file is missing"; fi
+done
+command -v dpkg-deb > /dev/null || fail 'dpkg-deb is not on the path'
+kit=$(readlink -f "$(command -v rt || fail 'rt, which has the licences of its crates, is not on the path')")
+kit=${kit%/*/*}
+version=$(heading_field 2)
+version=${version#units }
+if ! [[ $version =~ ^[0-9]+\.[0-9]+\.[0-9]+$ ]]; then fail "the .TH line of units.1 has no version"; fi
+epoch=${SOURCE_DATE_EPOCH:-$(date -d "$(heading_field 1)" +%s)}
+program=$root/release/units-x86_64-linux
+"$root/tools/release.sh" --check >&2 || fail 'a package has the released program: make a release of these sources first'
+
+work=$(mktemp -d)
+trap 'rm -rf "$work"' EXIT
+build_package
+build_tarball
+mkdir -p "$folder"
+(cd "$work" && sha256sum "$name"[_-]*.deb "$name"-*.tar.gz > SHA256SUMS)
+mv "$work"/*.deb "$work"/*.tar.gz "$work/SHA256SUMS" "$folder"
+cat "$folder/SHA256SUMS"

@@ -1,0 +1,29 @@
+#!/usr/bin/env bash
+# Installs the Debian packages that the checks and comparisons use beyond the toolchain. No check needs all of them:
+# one that lacks its package is skipped by name.
+#   tools/packages.sh            installs them all (as root)
+#   tools/packages.sh --list     prints their names, one a line
+set -eu
+
+packages=(
+    # linters of bin/check
+    shellcheck pyflakes3
+    # shells, completions and line editing
+    bash-completion zsh fish rlwrap man-db mandoc
+    # packages and recipes
+    lintian debootstrap parallel openssh-server pv miller
+    # comparisons with other programs
+    units python3-pint
+    # memory checks of the C library
+    valgrind
+    # the page in a browser
+    chromium firefox-esr binaryen
+    # editors
+    vim-nox neovim
+)
+
+case "${1-}" in
+    '') apt-get update -q && DEBIAN_FRONTEND=noninteractive apt-get install -yq --no-install-recommends "${packages[@]}" ;;
+    --list) printf '%s\n' "${packages[@]}" ;;
+    *) sed -n '2,/^set/s/^# \{0,1\}//p' "$0" >&2; exit 2 ;;
+esac

@@ -1,0 +1,251 @@
+"""Reads definition files of units: their lines, includes and blocks, and what their comments say of a definition.
+
+Lines that have no effect are passed over: the program says why they have none.
+
+The comment `#= STATUS: SOURCE` says how exact a definition is, and `#: UNIT` what it conforms to. A comment on the line
+of a definition holds for that definition. A comment on a line of its own holds for the definitions after it, up to the
+next blank line.
+"""
+
+from __future__ import annotations
+
+import re
+from dataclasses import dataclass, field
+from enum import Enum
+from pathlib import Path
+
+BLANKS = " \t"
+DEEPEST_INCLUDE = 16
+NOTE = re.compile(r"#([=:])[ \t]*([^#]*)")
+ENDS = {"endlocale": {"locale"}, "endvar": {"var", "varnot"}, "endutf8": {"utf8"}}
+
+
+class Kind(Enum):
+    UNIT = "unit"
+    PREFIX = "prefix"
+    FUNCTION = "function"
+    LIST = "list"
+
+
+@dataclass(frozen=True)
+class Place:
+    """A physical line of a file."""
+
+    file: str
+    number: int
+
+    def __str__(self):
+        return f"{self.file}:{self.number}"
+
+
+@dataclass(frozen=True)
+class Block:
+    """A block of a locale or a variable, or of UTF-8, which always holds."""
+
+    directive: str
+    variable: str = ""
+    values: tuple[str, ...] = ()
+
+    def holds(self, locale, variables):
+        if self.directive == "locale":
+            return locale in self.values
+        if self.directive == "utf8":
+            return True
+        return (variables.get(self.variable) in self.values) == (self.directive == "var")
+
+    def excludes(self, other):
+        """Whether this block and the other one never hold together."""
+        if self.directive == other.directive == "locale":
+            return self.values != other.values
+        if self.variable != other.variable or "utf8" in (self.directive, other.directive):
+            return False
+        mine, others = set(self.values), set(other.values)
+        if self.directive == other.directive:
+            return self.directive == "var" and not mine & others
+        return mine <= others if self.directive == "var" else others <= mine
+
+
+@dataclass(frozen=True)
+class Definition:
+    """A definition. The text is that after the name; the status and the unit are those of its comments, if any."""
+
+    kind: Kind
+    name: str
+    text: str
+    place: Place
+    blocks: tuple[Block, ...] = ()
+    status: str | None = None
+    unit: str | None = None
+    comment: str = ""
+
+    @property
+    def key(self):
+        """The name as the program writes it in reports, with a mark of its kind."""
+        marks = {Kind.UNIT: "{}", Kind.PREFIX: "{}-", Kind.FUNCTION: "{}()", Kind.LIST: "!unitlist {}"}
+        return marks[self.kind].format(self.name)
+
+
+@dataclass(frozen=True)
+class Opening:
+    """The line that opens a block, with the blocks around it."""
+
+    block: Block
+    blocks: tuple[Block, ...]
+
+
+@dataclass(frozen=True)
+class Setting:
+    """A line that sets a variable where it is not set."""
+
+    variable: str
+    value: str
+    blocks: tuple[Block, ...]
+
+
+@dataclass(frozen=True)
+class LogicalLine:
+    """A line with the lines that continue it. `is_blank` is said of a line without a comment, too."""
+
+    number: int
+    text: str
+    comment: str
+    is_blank: bool
+
+
+@dataclass
+class Deck:
+    """The lines of a file and its includes, in order, and the files by their names."""
+
+    lines: list[Definition | Opening | Setting] = field(default_factory=list)
+    files: list[str] = field(default_factory=list)
+
+    @property
+    def definitions(self):
+        return [line for line in self.lines if isinstance(line, Definition)]
+
+    def active(self, locale, variables):
+        """The definitions that count under a locale and variables, in order."""
+        variables, holding, found = dict(variables), {}, []
+        for line in self.lines:
+            if not all(holding[id(block)] for block in line.blocks):
+                if isinstance(line, Opening):
+                    holding[id(line.block)] = False
+            elif isinstance(line, Opening):
+                holding[id(line.block)] = line.block.holds(locale, variables)
+            elif isinstance(line, Setting):
+                variables.setdefault(line.variable, line.value)
+            else:
+                found.append(line)
+        return found
+
+
+def logical_lines(text):
+    """The logical lines of a text. A comment ends a physical line before a backslash can continue it."""
+    parts, comments, start = [], [], 1
+    for number, physical in enumerate(text.split("\n"), 1):
+        if not parts:
+            start = number
+        kept, mark, comment = physical.removesuffix("\r").partition("#")
+        comments += [mark + comment] * bool(mark)
+        kept = kept.rstrip(BLANKS)
+        if kept.endswith("\\"):
+            parts.append(kept[:-1] + " ")
+            continue
+        whole = ("".join(parts) + kept).strip(BLANKS)
+        yield LogicalLine(start, whole, " ".join(comments), not whole and not comments)
+        parts, comments = [], []
+    if parts:
+        yield LogicalLine(start, "".join(parts).strip(BLANKS), " ".join(comments), False)
+
+
+def notes_of(comment):
+    """The status and the unit that a comment names, each None if it names none."""
+    found = {mark: text.strip() for mark, text in NOTE.findall(comment)}
+    return found.get("="), found.get(":")
+
+
+def words_of(text):
+    return [word for word in re.split("[ \t]+", text) if word]
+
+
+def key_of(line):
+    """The kind, the name and the text of a definition line. The name or the text is empty if the line has none."""
+    if line.startswith("!"):
+        words = re.split("[ \t]+", line[1:].strip(BLANKS), maxsplit=2)
+        return Kind.LIST, "".join(words[1:2]), "".join(words[2:])
+    line = line.removeprefix("+").lstrip(BLANKS)
+    name = re.split(r"[ \t(\[]", line, maxsplit=1)[0]
+    text = line[len(name) :]
+    if text[:1] in ("(", "["):
+        return Kind.FUNCTION, name, text
+    if name.endswith("-"):
+        return Kind.PREFIX, name[:-1], text.strip(BLANKS)
+    return Kind.UNIT, name, text.strip(BLANKS)
+
+
+class FileReader:
+    """Reads one file into a deck."""
+
+    def __init__(self, deck, file, blocks, depth):
+        self.deck, self.file, self.outer, self.depth = deck, file, blocks, depth
+        self.opened = []  # the blocks of this file
+        self.group = (None, None)
+
+    @property
+    def blocks(self):
+        return (*self.outer, *self.opened)
+
+    def read(self, text):
+        self.deck.files.append(self.file)
+        for line in logical_lines(text):
+            if line.is_blank:
+                self.group = (None, None)
+            elif not line.text:
+                self.group = tuple(new or old for new, old in zip(notes_of(line.comment), self.group))
+            elif line.text.startswith("!"):
+                self.direct(line)
+            else:
+                self.define(line)
+
+    def define(self, line):
+        kind, name, text = key_of(line.text)
+        if name and text:
+            notes = [own or shared for own, shared in zip(notes_of(line.comment), self.group)]
+            place = Place(self.file, line.number)
+            self.deck.lines.append(Definition(kind, name, text, place, self.blocks, *notes, line.comment))
+
+    def direct(self, line):
+        word, *rest = words_of(line.text[1:]) or [""]
+        if word == "include" and len(rest) == 1:
+            read_into(self.deck, self.file, rest[0], self.blocks, self.depth + 1)
+        elif word == "unitlist":
+            self.define(line)
+        elif word == "set" and len(rest) > 1:
+            value = re.split("[ \t]+", line.text[1:].strip(BLANKS), maxsplit=2)[2]
+            self.deck.lines.append(Setting(rest[0], value, self.blocks))
+        elif word == "locale" and len(rest) == 1:
+            self.open(Block(word, "", tuple(rest)))
+        elif word in ("var", "varnot") and len(rest) > 1:
+            self.open(Block(word, rest[0], tuple(rest[1:])))
+        elif word == "utf8" and not rest:
+            self.open(Block(word))
+        elif self.opened and not rest and self.opened[-1].directive in ENDS.get(word, ()):
+            self.opened.pop()
+
+    def open(self, block):
+        self.deck.lines.append(Opening(block, self.blocks))
+        self.opened.append(block)
+
+
+def read_into(deck, includer, name, blocks, depth):
+    """Reads an included file into a deck, if it is there and not too deep."""
+    file = name if name.startswith("/") else includer[: includer.rfind("/") + 1] + name
+    if depth <= DEEPEST_INCLUDE and Path(file).is_file():
+        FileReader(deck, file, blocks, depth).read(Path(file).read_bytes().decode(errors="surrogateescape"))
+
+
+def read_deck(file):
+    """The deck of a file with its includes. Raises OSError if a file cannot be read."""
+    deck, file = Deck(), str(file)
+    FileReader(deck, file, (), 0).read(Path(file).read_bytes().decode(errors="surrogateescape"))
+    return deck
