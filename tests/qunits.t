@@ -102,6 +102,19 @@ Fractions of whole numbers are numbers, and so is a whole number with a fraction
   0.5
   $ apart qunits 3/4
   \tDefinition: 0.75 (esc)
+  $ apart qunits -t 1½ ft to in
+  18
+  $ apart qunits -t 1 ½ ft to in
+  18
+  $ apart qunits -t 2¾ in + ½ in to ¼ in
+  13
+  $ for locale in C C.UTF-8; do LC_ALL=$locale apart qunits 1½ in; done
+  \tDefinition: 0.0381 m (esc)
+  \tDefinition: 0.0381 m (esc)
+  $ apart qunits -t 5 km² to m^2
+  5000000
+  $ apart qunits -t 5 m^3 to dm³
+  5000
 
 The units that conform, with and without `to`.
 
@@ -281,6 +294,43 @@ Hints on standard error, unless `-q` or `-t` is given.
   \t0.2322576 m^2 (esc)
   \t0.01 m (esc)
   err: qunits: a blank multiplies; "+" adds, as in 5 ft + 6 in
+  [1]
+  $ qunits 5 foot 3 to cm 2>&1 > /dev/null
+  qunits: a blank multiplies; "+" adds, as in 5 ft + 6 in
+  $ qunits a pint to ml 2>&1 > /dev/null
+  qunits: write a number in place of "a", as in 1 pint
+  $ for from in 350F 350°F '350 °F' '350 degrees F' '350 degF'; do qunits $from to C 2>&1 > /dev/null; done | uniq -c
+        5 qunits: for a temperature, not a difference: qunits 'tempF(350)' to tempC
+  $ qunits 300 K to C 2>&1 > /dev/null
+  qunits: for a temperature, not a difference: qunits 300 K to tempC
+  [1]
+  $ qunits 3e8 m/s to c 2>&1 > /dev/null
+  $ printf '98.6\n' | apart qunits --column 1 degF to degC
+  54.777778
+  err: qunits: for temperatures, not differences: tempF to tempC
+  $ printf '98.6\n' | apart qunits --column 1 tempF to tempC
+  37
+  $ for pair in '8 fl oz to ml' '32 oz to l' '75 cl to oz'; do qunits $pair 2>&1 > /dev/null; done | uniq -c
+        3 qunits: oz is a mass; the fluid ounce is floz
+  $ for pair in '80 ft lb to J' '30 lb/in^2 to kPa' '5 N to kg'; do qunits $pair 2>&1 > /dev/null; done | uniq -c
+        3 qunits: lb and kg are masses; the forces are lbf and kgf
+  $ qunits 5 kg to m 2>&1 > /dev/null
+  [1]
+  $ for word in KG KM KB Kilometers; do qunits 5 $word 2>&1 > /dev/null; done
+  qunits: similar names: kg
+  qunits: similar names: km
+  qunits: similar names: kB kb
+  qunits: similar names: kilometers
+  [1]
+  $ for words in "5'10\"" '6 x 330 ml' '20% of 50 kg' '5 EUR' '1,000 m' 'ft and in'; do
+  >     qunits $words to m 2>&1 > /dev/null
+  > done
+  qunits: feet and inches are written in letters, as in 5 ft + 10 in
+  qunits: "*" multiplies, as in 6 "*" 330 ml
+  qunits: write "*" for of, as in "20% * 50 kg"
+  qunits: there are no currencies
+  qunits: a number has no comma: write 1.5 or 1000
+  qunits: "+" adds; to split a quantity, write a list such as "ft;in" after to
   [1]
 
 Statuses from 4 to 7 have a reason.

@@ -29,7 +29,12 @@ if is_built "$name"; then
     exit
 fi
 if [ "$name" = units ] && "$root/tools/release.sh" --check > /dev/null; then
-    record release/units-x86_64-linux
+    # bin/units prefers the static program, which starts faster. Checks get the dynamic one, into which they load code.
+    if [ -x "$root/release/units-x86_64-linux-static" ]; then
+        record release/units-x86_64-linux-static
+    else
+        record release/units-x86_64-linux
+    fi
     echo "$root/release/units-x86_64-linux"
     exit
 fi

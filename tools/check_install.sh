@@ -88,7 +88,7 @@ else
 fi
 expect 'the modes' 0 '' 'find $HOME/.local -type d ! -perm 755
     find $HOME/.local -type f ! -perm 644 ! -path "*/bin/*" ! -name import_gnu.sh'
-for page in units qunits; do
+for page in units qunits units-lint; do
     if command -v man > /dev/null; then
         expect "the page of $page" 0 "*$page - *" "man -M \$HOME/.local/share/man $page"
     else

@@ -8,8 +8,10 @@
 #
 #   --name NAME   the name of the program, its manual page and its folders; otherwise units
 #   --setup       have your bash, zsh and Vim load the files too, if PREFIX is not a place where they look
-#   --uninstall   remove what was installed, by the list in PREFIX/share/NAME/installed
-#   --force       overwrite or remove files that this script did not install, or that were changed since
+#   --uninstall   remove what was installed, by the list in PREFIX/share/NAME/installed; what qunits wrote for you stays
+#                 in ~/.config/units (your definitions) and ~/.local/state/units (the history)
+#   --force       overwrite or remove files that this script did not install, or that were changed since; they are
+#                 not restored by --uninstall
 #
 # If DESTDIR is set, all files go below that folder, and PREFIX is the place from which they will be used.
 # Nothing is put in place before all of it is checked and copied. The status is 0 if all was done, 1 if nothing was,
@@ -101,7 +103,7 @@ check_all() {
     problems=$(for place in "${places[@]}"; do problem_of "$place"; done | sort -u)
     if [ "$problems" ]; then
         while read -r line; do say "$line"; done <<< "$problems"
-        give_up 'nothing was installed (--force overwrites files)'
+        give_up 'nothing was installed (--name installs the program under another name; --force overwrites files)'
     fi
 }
 

@@ -64,18 +64,23 @@ add_library() {
 
 # add_pages: the manual pages, which name the program and its documents as they are installed.
 add_pages() {
-    local page edits
-    edits="s#\\bdocs/([A-Z_]+\\.md)#$(as_roff "$prefix/share/doc/$name/docs")/\\1#g
+    local page place_edits edits
+    place_edits="s#\\bdocs/([A-Z_]+\\.md)#$(as_roff "$prefix/share/doc/$name/docs")/\\1#g
         s#\\btools/import_gnu\\.sh#$(as_roff "$prefix/share/$name")/import_gnu.sh#g"
+    edits=$place_edits
     if [ "$name" != units ]; then
         edits+="
             s#^\\.TH UNITS #.TH $(as_replacement "${name^^}") #
             s#^units \\\\- #$(as_roff "$name") \\\\- #
-            s#^(\\.[BI]R? )units\\b#\\1$(as_roff "$name")#
+            s#^(\\.[BI]R? )units( |\$)#\\1$(as_roff "$name")\\2#
             s#^(  \\\$ |.*\\| )units #\\1$name #"
     fi
     add_edited 644 "$root/share/man/man1/units.1" "$prefix/share/man/man1/$name.1" "$edits"
     add_edited 644 "$root/share/man/man1/qunits.1" "$prefix/share/man/man1/qunits.1" "$edits"
+    if [ -e "$root/tools/lint_units.py" ]; then
+        add_edited 644 "$root/share/man/man1/units-lint.1" "$prefix/share/man/man1/units-lint.1" "$place_edits
+            s#^\\.BR units \\(1\\)#.BR $(as_roff "$name") (1)#"
+    fi
     while read -r page; do
         add 644 "$root/$page" "$prefix/share/doc/$name/$page"
     done < <(grep -ohE '\bdocs/[A-Z_]+\.md' "$root"/share/man/man1/*.1 | sort -u)

@@ -261,6 +261,7 @@ def findings_of(file, options):
 
 def parsed_options():
     parser = argparse.ArgumentParser(
+        prog="units-lint",
         description=__doc__.partition("\n\n")[0], epilog=__doc__.partition("FILE..\n\n")[2],
         formatter_class=argparse.RawDescriptionHelpFormatter,
     )  # fmt: skip

@@ -25,6 +25,7 @@ sys.path.insert(0, str(Path(__file__).resolve().parent))
 from proof_progress import prove  # noqa: E402
 
 ROOT = Path(__file__).resolve().parent.parent
+WORKERS = 4  # more than two processors have work for, since the checks of terminals mostly wait
 RESULT = re.compile(r"(\d+) passed, (\d+) failed(?:, (\d+) skipped)?")
 
 
@@ -54,7 +55,7 @@ class Result:
         return f"{self.passed} passed, {self.failed} failed, {self.skipped} skipped"
 
 
-# The longest ones first, since two run at a time.
+# The longest ones first.
 QUICK = [
     Check("transcripts", ("tools/transcripts.py",)),
     Check("statuses", ("tools/check_statuses.sh",)),
@@ -76,6 +77,7 @@ QUICK = [
 AFTER_PROOFS = [
     Check("want of memory", ("tools/check_memory.sh",)),
     Check("want of memory in edits", ("tools/check_edits.py",)),
+    Check("static program", ("tools/check_static.sh",)),
     Check("C library", ("tools/check_c_library.sh",)),
     Check("release", ("tools/release.sh", "--compare")),
 ]
@@ -132,7 +134,7 @@ def quick_checks() -> list[Check]:
 
 def check_quickly(crates: list[str]) -> tuple[Result, list[str]]:
     print("bin/check: every check that needs no proof; about a minute on two processors", flush=True)
-    total, failed = run_all(quick_checks(), workers=2)
+    total, failed = run_all(quick_checks(), WORKERS)
     if crates:
         print(f"bin/check: rt ci {' '.join(crates)}; minutes to an hour, by how much is below these crates", flush=True)
         result = prove(ROOT, crates, result_of_proofs)
@@ -146,7 +148,7 @@ def check_all() -> tuple[Result, list[str]]:
     total = prove(ROOT, [], result_of_proofs)
     failed = ["proofs"] if total.failed else []
     checks = quick_checks() + [check for check in AFTER_PROOFS if check.exists()]
-    result, names = run_all(checks, workers=2)
+    result, names = run_all(checks, WORKERS)
     return total + result, failed + names
 
 

@@ -1,6 +1,15 @@
 # shellcheck shell=sh disable=SC2034,SC2154 # bin/qunits sets and reads from, to, reply and status
 # Functions of bin/qunits: the names of a library, what people write in another way than units reads it, and hints.
 
+# write_own_file: what --new does.
+write_own_file() {
+    if [ -e "$own" ]; then refuse "$own exists already"; fi
+    case $file in *[[:space:]\#\|]*) refuse "!include cannot name a path with blanks: $file" ;; esac
+    mkdir -p "${own%/*}" && sed "s|^!include .*|!include $file|" "$root/share/qunits/first.units" > "$own.new" &&
+        mv "$own.new" "$own" && echo "$own" && exit
+    rm -f "$own.new"; say "could not write $own"; exit 5
+}
+
 # list_names: the units, functions and lists of the file. Each name holds a printing character of ASCII or a leading
 # byte of UTF-8, so these searches find all of them.
 list_names() {
@@ -10,8 +19,12 @@ list_names() {
 }
 
 # with_fractions TEXT: 3/4 in is 3|4 in, and 2 1/2 cups are (2+1|2) cups. For units each of them divides by the unit.
+# 1½ cups and 1 ½ cups are (1+½) cups, where units multiplies; m² is m^2.
 with_fractions() {
     printf '%s\n' "$1" | sed -E '
+        s#²#^2#g
+        s#³#^3#g
+        s#(^|[ (;-])([0-9]+) ?(½|¼|¾|⅓|⅔|⅛|⅜|⅝|⅞)#\1(\2+\3)#g
         s#(^|[ (;-])([0-9]+) ([0-9]+)/([0-9]+)( [^-+*/^|; 0-9.)]|[a-df-zA-DF-Z])#\1(\2+\3|\4)\5#g
         s#(^|[ (;-])([0-9]+)/([0-9]+)( [^-+*/^|; 0-9.)]|[a-df-zA-DF-Z])#\1\2|\3\4#g'
 }
@@ -32,26 +45,39 @@ ask_joined() {
     esac
 }
 
-# scale_of WORD: F or C, if people use the word for a temperature.
+# scale_of WORD: F, C or K, if people use the word for a temperature.
 scale_of() {
-    case $1 in
-        F | degF | °F | tempF | [Ff]ahrenheit) echo F ;;
-        C | degC | °C | tempC | [Cc]elsius | [Cc]entigrade) echo C ;;
+    case ${1#degrees } in
+        F | f | degF | °F | tempF | [Ff]ahrenheit) echo F ;;
+        C | c | degC | °C | tempC | [Cc]elsius | [Cc]entigrade) echo C ;;
+        K | [Kk]elvin | [Kk]elvins) echo K ;;
     esac
 }
 
 # hint_at_temperature: whether both sides may mean a temperature. As units, degF and degC are differences.
 hint_at_temperature() {
-    scale=$(scale_of "${from##* }")
     target=$(scale_of "$to")
-    case $scale:$target:$to in
-        [FC]:[FC]:*) target=temp$target ;;
-        [FC]::K | [FC]::[Kk]elvin) target=$to ;;
+    if [ ! "$target" ]; then return 1; fi
+    reading=$(printf '%s\n' "$from" | sed -nE 's/^(-?[0-9.]+) ?((degrees?|deg) )?((°)?[A-Za-z]+)$/\1 \4/p')
+    number=${reading%% *}
+    scale=$(scale_of "${reading#* }")
+    case $number:$scale:$target in
+        ?*:K:[FC]) say "for a temperature, not a difference: qunits $number K to temp$target" ;;
+        ?*:[FC]:[FC]) say "for a temperature, not a difference: qunits 'temp$scale($number)' to temp$target" ;;
+        ?*:[FC]:K) say "for a temperature, not a difference: qunits 'temp$scale($number)' to $to" ;;
         *) return 1 ;;
     esac
-    case $from in
-        *' '*) say "for a temperature, not a difference: qunits 'temp$scale(${from% *})' to $target" ;;
-        *) return 1 ;;
+}
+
+# hint_at_column: as hint_at_temperature, for a column of numbers.
+hint_at_column() {
+    scale=$(scale_of "$from")
+    target=$(scale_of "$to")
+    case $from:$scale:$target in
+        temp* | [Cc]elsius:* | [Ff]ahrenheit:* | °*) ;;
+        *:[FC]:[FC]) say "for temperatures, not differences: temp$scale to temp$target" ;;
+        *:[FC]:K) say "for temperatures, not differences: temp$scale to $to" ;;
+        *:K:[FC]) say "for temperatures, not differences: $from to temp$target" ;;
     esac
 }
 
@@ -79,6 +105,9 @@ similar_names() {
         }' | sort -n | head -n 6 | cut -d ' ' -f 2 | paste -s -d ' ' -
 }
 
+# conforms FROM TO: whether the library converts it.
+conforms() { "$program" -ts -f "$file" ${locale:+-l "$locale"} -- "$1" "$2" > /dev/null 2>&1; }
+
 # hint_at_conversion: whether FROM is a quantity and a unit that it can be converted to, such as 60 mph km/h.
 hint_at_conversion() {
     quantity=${from% *}
@@ -87,22 +116,70 @@ hint_at_conversion() {
         ::*[0-9]*' '*[!-+*/^\|\(]) ;;
         *) return 1 ;;
     esac
-    if is_number "${quantity##* }"; then return 1; fi
-    "$program" -ts -f "$file" ${locale:+-l "$locale"} -- "$quantity" "$last_unit" > /dev/null 2>&1 || return
+    if is_number "${quantity##* }" || ! conforms "$quantity" "$last_unit"; then return 1; fi
     say "for a conversion: qunits $quantity to $last_unit"
+}
+
+# hint_at_article: whether FROM begins with a or an, which units reads as a prefix.
+hint_at_article() {
+    case $from in
+        'a '[a-z]* | 'an '[a-z]*) say "write a number in place of \"${from%% *}\", as in 1 ${from#* }" ;;
+        *) return 1 ;;
+    esac
+}
+
+# hint_at_product: whether FROM is 5 ft 10 in or 5 foot 3, which units multiplies.
+hint_at_product() {
+    case $reply in 'unknown unit: '*) return 1 ;; esac
+    case $to:$from in
+        ?*:[0-9]*[A-Za-z]' '[0-9]*) ;;
+        *) return 1 ;;
+    esac
+    printf '%s\n' "$from" | grep -qE '^[0-9.]+ ?[A-Za-z]+ [0-9.]+( ?[A-Za-z]+)?$' || return
+    say 'a blank multiplies; "+" adds, as in 5 ft + 6 in'
+}
+
+# hint_at_ounces_and_pounds: whether a mass is meant as a volume or as a force.
+hint_at_ounces_and_pounds() {
+    case "$from $to" in *oz* | *ounce* | *lb* | *pound* | *kg*) ;; *) return ;; esac
+    fluid_ounces='s/(fl(uid)? )?\b(oz|ounces?)\b/floz/g'
+    if conforms "$(printf '%s\n' "$from" | sed -E "$fluid_ounces")" "$(printf '%s\n' "$to" | sed -E "$fluid_ounces")"
+    then
+        say 'oz is a mass; the fluid ounce is floz'
+    elif conforms "($from) gravity" "$to" || conforms "$from" "($to) gravity"; then
+        say 'lb and kg are masses; the forces are lbf and kgf'
+    fi
+}
+
+# names_in_other_case WORD: what the library knows, if the first letter or all are small.
+names_in_other_case() {
+    capital=${1%"${1#?}"}
+    small=$(printf '%s\n' "$capital" | tr '[:upper:]' '[:lower:]')${1#?}
+    for other in "$small" "$(printf '%s\n' "$1" | tr '[:upper:]' '[:lower:]')"; do
+        if [ "$other" != "$1" ] && conforms "1 $other" "$other"; then printf '%s\n' "$other"; fi
+    done | uniq | paste -s -d ' ' -
+}
+
+# hint_at_unknown WORD: what may be meant by an unknown word.
+hint_at_unknown() {
+    case $1 in
+        x | X | by) say '"*" multiplies, as in 6 "*" 330 ml' && return ;;
+        *\'* | *\"*) say 'feet and inches are written in letters, as in 5 ft + 10 in' && return ;;
+        and) say '"+" adds; to split a quantity, write a list such as "ft;in" after to' && return ;;
+        of) say 'write "*" for of, as in "20% * 50 kg"' && return ;;
+        [Dd]ollars | [Ee]uros | USD | EUR | GBP) say 'there are no currencies' && return ;;
+    esac
+    similar=$(similar_names "${joined:-${1%% in *}}")
+    if [ ! "$similar" ]; then similar=$(names_in_other_case "${1%% in *}"); fi
+    if [ "$similar" ]; then say "similar names: $similar"; fi
 }
 
 # hint: on standard error, what may be meant.
 hint() {
-    if hint_at_temperature || hint_at_conversion; then return; fi
-    case $reply in
-        'unknown unit: '*)
-            word=${reply#unknown unit: }
-            similar=$(similar_names "${joined:-${word%% in *}}")
-            if [ "$similar" ]; then say "similar names: $similar"; fi ;;
-        'conformability error'*)
-            case $from in
-                [0-9]*' '[a-z]*' '[0-9]*) say 'a blank multiplies; "+" adds, as in 5 ft + 6 in' ;;
-            esac ;;
+    if hint_at_temperature || hint_at_conversion || hint_at_article || hint_at_product; then return; fi
+    case $reply:$from in
+        'unknown unit: '*) hint_at_unknown "${reply#unknown unit: }" ;;
+        'conformability error'*) hint_at_ounces_and_pounds ;;
+        'syntax error'*:*[0-9],[0-9]*) say 'a number has no comma: write 1.5 or 1000' ;;
     esac
 }

@@ -1,0 +1,96 @@
+"""A headless Firefox, driven over its Marionette protocol."""
+
+from __future__ import annotations
+
+import base64
+import json
+import socket
+import subprocess
+import tempfile
+import time
+from pathlib import Path
+
+KEYS = {"Enter": "\ue007", "Tab": "\ue004", "Escape": "\ue00c", "ArrowDown": "\ue015", "ArrowUp": "\ue013"}
+CONNECTION_SECONDS = 60
+
+
+class Firefox:
+    name = "Firefox"
+    command = "firefox-esr"
+
+    def __init__(self) -> None:
+        self._profile = tempfile.TemporaryDirectory(ignore_cleanup_errors=True)
+        with socket.socket() as unused:
+            unused.bind(("127.0.0.1", 0))
+            port = unused.getsockname()[1]
+        Path(self._profile.name, "user.js").write_text(f'user_pref("marionette.port", {port});\n')
+        self._process = subprocess.Popen(
+            [self.command, "--headless", "--marionette", "--no-remote", "--profile", self._profile.name],
+            stdout=subprocess.DEVNULL, stderr=subprocess.DEVNULL)
+        self._socket = self._connect(port)
+        self._received, self._count = b"", 0
+        self._message()
+        self.call("WebDriver:NewSession", capabilities={})
+        self.call("WebDriver:SetTimeouts", script=600_000)
+
+    @staticmethod
+    def _connect(port: int) -> socket.socket:
+        for _ in range(CONNECTION_SECONDS * 10):
+            try:
+                return socket.create_connection(("127.0.0.1", port))
+            except ConnectionRefusedError:
+                time.sleep(0.1)
+        raise TimeoutError("Firefox does not answer")
+
+    def _receive(self) -> None:
+        piece = self._socket.recv(1 << 16)
+        if not piece:
+            raise EOFError("the browser ended")
+        self._received += piece
+
+    def _message(self) -> list:
+        while b":" not in self._received:
+            self._receive()
+        digits, self._received = self._received.split(b":", 1)
+        length = int(digits)
+        while len(self._received) < length:
+            self._receive()
+        message, self._received = self._received[:length], self._received[length:]
+        return json.loads(message)
+
+    def call(self, method: str, **params: object) -> dict:
+        self._count += 1
+        message = json.dumps([0, self._count, method, params]).encode()
+        self._socket.sendall(str(len(message)).encode() + b":" + message)
+        _, _, fault, result = self._message()
+        if fault:
+            raise RuntimeError(fault)
+        return result
+
+    def open(self, url: str) -> None:
+        for address in ("about:blank", url):
+            self.call("WebDriver:Navigate", url=address)
+
+    def value(self, expression: str) -> object:
+        return self.call("WebDriver:ExecuteScript", script=f"return ({expression})", args=[])["value"]
+
+    def _press_all(self, keys: list[str]) -> None:
+        actions = [{"type": kind, "value": key} for key in keys for kind in ("keyDown", "keyUp")]
+        self.call("WebDriver:PerformActions", actions=[{"type": "key", "id": "keyboard", "actions": actions}])
+
+    def type(self, text: str) -> None:
+        self._press_all(list(text))
+
+    def press(self, key: str) -> None:
+        self._press_all([KEYS[key]])
+
+    def picture(self, path: Path) -> None:
+        path.write_bytes(base64.b64decode(self.call("WebDriver:TakeScreenshot", full=False)["value"]))
+
+    def close(self) -> None:
+        try:
+            self.call("Marionette:Quit", flags=["eForceQuit"])
+        except (EOFError, ConnectionError):
+            pass
+        self._process.wait(20)
+        self._profile.cleanup()
