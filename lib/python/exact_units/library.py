@@ -14,6 +14,7 @@ from .quantity import Quantity, read_dimension
 
 _DONE, _NO_MEMORY, _NO_ROOM, _CLOSED = 0, 1, 2, 3
 _LONGEST_FILE = 16_777_216
+_DEEPEST_INCLUDE = 16
 
 
 class _Table(Structure):
@@ -218,16 +219,21 @@ def _read_with_includes(main: bytes) -> Dict[bytes, bytes]:
     if text is None:
         raise NoSuchFile(f"no file: {os.fsdecode(main)}")
     files = {main: text}
-    waiting = [main]
-    while waiting:
-        includer = waiting.pop()
-        for word in _included_words(files[includer]):
-            name = word if word.startswith(b"/") else includer[: includer.rfind(b"/") + 1] + word
+    includers = [main]
+    for _ in range(_DEEPEST_INCLUDE):
+        names = [_beside(includer, word) for includer in includers for word in _included_words(files[includer])]
+        includers = []
+        for name in names:
             found = None if name in files else _read(name)
             if found is not None:
                 files[name] = found
-                waiting.append(name)
+                includers.append(name)
     return files
+
+
+def _beside(includer: bytes, word: bytes) -> bytes:
+    """Return the name by which the library looks for an included file."""
+    return word if word.startswith(b"/") else includer[: includer.rfind(b"/") + 1] + word
 
 
 def _read(name: bytes) -> Optional[bytes]:
