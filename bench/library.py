@@ -71,11 +71,13 @@ def main() -> None:
 
     import pint
 
+    # pint takes no number in the target, so its pairs differ in the source alone.
     registry = pint.UnitRegistry()
-    by_pint = least(lambda: each(lambda i: registry(f"{i + 1} mile/hour").to(f"{i % 97 + 1} m/s"), 500))
+    by_pint = least(lambda: each(lambda i: registry(f"{i + 1} mile/hour").to("m/s"), 500))
     report("a new pair from Python, µs, beside pint", from_python, by_pint, "at most 1/3", 1 / 3)
 
-    numbers = [random.Random(3).uniform(0, 1e6) for _ in range(1_000_000)]
+    rng = random.Random(3)
+    numbers = [round(rng.uniform(1, 1e6), 6) for _ in range(1_000_000)]
     table = "".join(f"{x!r}\n" for x in numbers).encode()
     column = least(lambda: each(lambda _: library.convert_column(numbers, "mile/hour", "m/s"), 1) / 1e6)
     program = [os.environ["EXACT_UNITS_PROGRAM"], "--file", DEFINITIONS, "--column", "1", "mile/hour", "m/s"]

@@ -3,6 +3,7 @@
 from __future__ import annotations
 
 import os
+import re
 from fractions import Fraction
 from typing import Iterable, Iterator, List, Mapping, Optional, Tuple, Union
 
@@ -13,7 +14,8 @@ from .quantity import Quantity, read_fraction, show_fraction
 Real = Union[int, float, Fraction]
 
 _FOLDER = os.path.dirname(os.path.abspath(__file__))
-_COMMANDS = frozenset(("search", "quit", "exit", "help", "conformable"))
+# What a session does not take as an expression, and what is more than one line.
+_SPECIAL = re.compile(r"[\n\r\0;#]|\A[:?]|\A(?:search|quit|exit|help|conformable)(?:\s|\Z)")
 _LONGEST = 60_000
 
 
@@ -205,9 +207,9 @@ def _line(text: str) -> str:
 
 def _expression(text: str) -> str:
     """Return a text without the blanks around it, if both back ends take it as an expression."""
-    text = _line(text)
-    if text[0] in ":?#" or ";" in text or "#" in text or text.split(None, 1)[0] in _COMMANDS:
-        raise NotAnExpression(f"not an expression: {text[:40]!r}")
+    text = text.strip(" \t")
+    if not text or len(text) > _LONGEST or _SPECIAL.search(text):
+        raise NotAnExpression(f"not an expression: {_line(text)[:40]!r}")
     return text
 
 
