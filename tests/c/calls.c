@@ -178,6 +178,18 @@ static void edits(units_table *table) {
 #undef TURN
 }
 
+/* Functions that call each other, one more than may. */
+static void deep_calls(units_table *table) {
+    check(units_define(table, TEXT("f_1(x) x"), buffer, sizeof buffer, &length) == UNITS_DONE, "f_1");
+    for (int i = 2; i <= 17; i++) {
+        char line[64];
+        snprintf(line, sizeof line, "f_%d(x) f_%d(x)", i, i - 1);
+        check(units_define(table, TEXT(line), buffer, sizeof buffer, &length) == UNITS_DONE, line);
+    }
+    value(table, "f_16(1)", UNITS_DONE, "");
+    value(table, "f_17(1)", UNITS_CALLS_TOO_DEEP, "calls too deep: f_17");
+}
+
 /* A buffer that is too short: the length is told, and nothing else is written. */
 static void rooms(units_table *table) {
     uint8_t small[4] = "wxyz";
@@ -219,6 +231,7 @@ static void openings(void) {
     values(&table);
     edits(&table);
     rooms(&table);
+    deep_calls(&table);
     check(units_close(&table) == UNITS_DONE, "to close");
     check(units_close(&table) == UNITS_CLOSED, "to close again");
     given.variables_count = 0;
