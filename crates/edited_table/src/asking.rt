@@ -1,0 +1,90 @@
+//! Conversions and values. They count no steps, and change neither the deck nor the history.
+
+ghost use Rattle.std.specs.Prelude.{◌≡◌, ◌<◌, IfOk};
+ghost use Rattle.deck.specs.Tables as tables;
+ghost use Rattle.reply.specs.Options.{IsPrintable};
+ghost use Rattle.reply.specs.Replies as replies;
+
+use crate::edited_table::EditedTable;
+use live_table::LiveTable;
+use reply::{FromValue, Options, Reply, convert_reply, from_value};
+use std::alloc::{AllocError, Global};
+use std::marker::Brand;
+use std::sync::ledger::{Blank, Ledger};
+use units_io::Steps;
+
+impl EditedTable {
+    /// The reply to a conversion. The only error is want of memory.
+    pub fn convert(
+        &mut self,
+        alloc: Global,
+        options: &Options,
+        from: &[u8],
+        to: &[u8],
+    ) -> Result<Reply, AllocError>
+        requires { IsPrintable options.now }
+        ensures reply { IfOk result (λ reply.
+            reply ≡ replies.conversion_reply (tables.table self.old.table.deck) options.now from.now to.now) }
+        ensures deck { self.new.table.deck ≡ self.old.table.deck }
+        ensures history { self.new.history ≡ self.old.history }
+    {
+        counted_conversion::<Brand>(alloc, &mut self.table, options, from, to, Blank::new(1))
+    }
+
+    /// The value of an expression, or the text of its first fault. The only error is want of memory.
+    pub fn value(
+        &mut self,
+        alloc: Global,
+        options: &Options,
+        expression: &[u8],
+    ) -> Result<FromValue, AllocError>
+        requires { IsPrintable options.now }
+        ensures value { IfOk result (λ value.
+            value ≡ replies.from_value (tables.table self.old.table.deck) options.now expression.now) }
+        ensures deck { self.new.table.deck ≡ self.old.table.deck }
+        ensures history { self.new.history ≡ self.old.history }
+    {
+        counted_value::<Brand>(alloc, &mut self.table, options, expression, Blank::new(1))
+    }
+}
+
+// A conversion with a count of steps that nobody reads.
+fn counted_conversion<L: Ledger>(
+    alloc: Global,
+    table: &mut LiveTable,
+    options: &Options,
+    from: &[u8],
+    to: &[u8],
+    blank: Blank,
+) -> Result<Reply, AllocError>
+    requires name { blank.name ≡ L.name }
+    requires parts { blank.parts ≡ L.parts }
+    requires some { 0 < blank.parts }
+    requires printable { IsPrintable options.now }
+    ensures reply { IfOk result (λ reply.
+        reply ≡ replies.conversion_reply (tables.table table.old.deck) options.now from.now to.now) }
+    ensures deck { table.new.deck ≡ table.old.deck }
+{
+    let mut steps: Steps<L> = Steps::new(blank);
+    convert_reply(alloc, table, options, from, to, &mut steps)
+}
+
+// A value with a count of steps that nobody reads.
+fn counted_value<L: Ledger>(
+    alloc: Global,
+    table: &mut LiveTable,
+    options: &Options,
+    expression: &[u8],
+    blank: Blank,
+) -> Result<FromValue, AllocError>
+    requires name { blank.name ≡ L.name }
+    requires parts { blank.parts ≡ L.parts }
+    requires some { 0 < blank.parts }
+    requires printable { IsPrintable options.now }
+    ensures value { IfOk result (λ value.
+        value ≡ replies.from_value (tables.table table.old.deck) options.now expression.now) }
+    ensures deck { table.new.deck ≡ table.old.deck }
+{
+    let mut steps: Steps<L> = Steps::new(blank);
+    from_value(alloc, table, options, expression, &mut steps)
+}

@@ -1,0 +1,58 @@
+//! A live table and its history.
+
+ghost use Rattle.std.specs.Prelude.{◌≡◌};
+ghost use Rattle.edited_table.specs.Edited.{unedited};
+
+use deck::Deck;
+use edit_history::History;
+use live_table::LiveTable;
+use std::alloc::Global;
+use std::marker::Model;
+
+/// A live table together with the history of its edits, which is always one of the table's deck.
+pub struct EditedTable {
+    pub(crate) table: LiveTable,
+    pub(crate) history: History,
+}
+
+// By hand, so that a function that drops one proves nothing about its parts.
+impl Drop for EditedTable {
+    fn drop(self) {
+        let EditedTable {
+            table: _,
+            history: _,
+        } = self;
+    }
+}
+
+impl Model for EditedTable {
+    ghost use Rattle.edit_history.specs.Histories.{Follows};
+    ghost use Rattle.edited_table.specs.Edited.{Edited, edited_code};
+
+    ghost Value = { Edited };
+
+    ghost coded = { edited_code };
+
+    ghost view = { λ e. record { table = e.table; history = e.history } };
+
+    ghost invariant = { λ e. Follows e.history e.table.deck };
+}
+
+impl EditedTable {
+    /// A table over this deck with no name settled and no edit made. It takes no memory.
+    pub fn new(alloc: Global, deck: Deck) -> EditedTable
+        ensures { result ≡ unedited deck }
+    {
+        EditedTable {
+            table: LiveTable::new(alloc, deck),
+            history: History::new(alloc),
+        }
+    }
+
+    /// The live table.
+    pub fn table(&self) -> &LiveTable
+        ensures { result.now ≡ self.now.table }
+    {
+        &self.table
+    }
+}

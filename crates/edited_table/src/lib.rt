@@ -1,0 +1,8 @@
+//! A live table together with the history of its edits.
+#![tactic(auto)]
+
+mod asking;
+mod edited_table;
+mod editing;
+
+pub use edited_table::EditedTable;

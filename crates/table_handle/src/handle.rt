@@ -1,0 +1,80 @@
+//! An edited table behind a pointer that may be null.
+
+ghost use Rattle.std.specs.Prelude.{◌≡◌, IfOk, Option, None, Some};
+ghost use Rattle.edited_table.specs.Edited.{Edited};
+ghost use Rattle.table_handle.specs.Owned.{edited_coded, handle_owns};
+
+use crate::parts::Parts;
+use edited_table::EditedTable;
+use std::alloc::Global;
+use std::marker::Model;
+use std::mem;
+use std::ptr::null_mut;
+
+/// An edited table on the heap, or none. It has the layout of a C struct with one pointer. Contracts see the table.
+///
+/// Dropping a handle does not free its table: take it first.
+#[repr(C)]
+#[derive(Drop)]
+pub struct Handle {
+    at: *mut u8,
+    alloc: Global,
+    pub ghost held: { Option Edited } by { edited_coded },
+}
+
+impl Model for Handle {
+    ghost also_owns = { λ h. handle_owns h.alloc h.at h.held };
+}
+
+impl Handle {
+    /// Gives this table to a handle without one.
+    pub fn put(&mut self, table: Box<EditedTable, Global>)
+        requires { self.old.held ≡ None }
+        ensures { self.new.held ≡ Some table.value }
+    {
+        *self = Handle::of_parts(Parts::of(table));
+    }
+
+    /// Takes the table out of a handle that has one.
+    pub fn take(&mut self, alloc: Global) -> Box<EditedTable, Global>
+        requires { self.old.held ≡ None → ⊥ }
+        ensures table { self.old.held ≡ Some result.value }
+        ensures none { self.new.held ≡ None }
+    {
+        let whole = mem::replace(self, Handle::empty(alloc));
+        whole.into_parts().into_box()
+    }
+
+    // A handle without a table.
+    fn empty(alloc: Global) -> Handle
+        ensures { result.held ≡ None }
+    {
+        Handle {
+            at: null_mut(),
+            alloc,
+        }
+    }
+
+    // The parts of a box as a handle.
+    fn of_parts(parts: Parts<EditedTable, Global>) -> Handle
+        ensures { result.held ≡ Some parts.value }
+    {
+        let Parts { ptr, alloc } = parts;
+        Handle {
+            at: ptr as *mut u8,
+            alloc,
+        }
+    }
+
+    // The parts of the box behind a handle that has one.
+    fn into_parts(self) -> Parts<EditedTable, Global>
+        requires { self.held ≡ None → ⊥ }
+        ensures { self.held ≡ Some result.value }
+    {
+        let Handle { at, alloc } = self;
+        Parts {
+            ptr: at as *mut EditedTable,
+            alloc,
+        }
+    }
+}

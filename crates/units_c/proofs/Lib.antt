@@ -1,0 +1,4 @@
+mod EditOutcomes
+mod Exported
+mod Held
+mod Replied

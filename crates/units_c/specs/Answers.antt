@@ -1,0 +1,60 @@
+-- What calls answer: a status, and a text that they hand out.
+use Rattle.std.specs.Prelude.{◌≡◌, ◌<◌, ◌≤◌, ℕ, List, Result, Ok, Err, length, take, if◌then◌else◌}
+use Rattle.def_entry.specs.Tables.{Table}
+use Rattle.def_lines.specs.Blanks.{trimmed}
+use Rattle.quantity.specs.Amount.{Amount}
+use Rattle.quantity.specs.Text.{powers_text}
+use Rattle.reply.specs.Faults.{fault_text}
+use Rattle.reply.specs.Inquiries.{text_worth}
+use Rattle.reply.specs.Options.{style_of}
+use Rattle.reply.specs.Replies.{conversion_reply, converting}
+use Rattle.reply.specs.declared.fault.ReplyFault.{ReplyFault}
+use Rattle.reply.specs.declared.options.Options.{Options}
+use Rattle.reply.specs.declared.reply.Reply.{Reply}
+use Rattle.units_c.specs.Faults.{fault_status, worth_status}
+use Rattle.units_c.specs.Statuses.{code}
+use Rattle.units_c.specs.Words.{status_of_text}
+use Rattle.units_c.specs.declared.answer.Answer.{Answer}
+use Rattle.units_c.specs.declared.status.Status.{Status}
+use Rattle.units_c.specs.declared.status.Status.TheVariants as status
+
+-- a reply as its text tells its status
+abbrev pub reply_answer : Reply → Answer
+reply_answer reply =
+    record { status = if reply.refused then status_of_text reply.text else status.Done; text = reply.text }
+
+-- the status of a conversion: that of its fault, or, if it comes to an end without one, whether it is a conformability
+-- error, as the text of the reply tells
+abbrev pub conversion_status : {C : Type 0} → Result C ReplyFault → Reply → Status
+conversion_status (Ok c) reply = (reply_answer reply).status
+conversion_status (Err fault) reply = fault_status fault
+
+-- to a conversion: the reply of the program, with its status
+abbrev pub conversion_answer : Table → Options → (from to : List ℕ) → Answer
+conversion_answer table options from to =
+    let reply = conversion_reply table options from to in
+    record { status = conversion_status (converting table options from to).answer reply; text = reply.text }
+
+-- the names that a quantity is measured in, as in its text
+abbrev pub dimension_text : Amount → List ℕ
+dimension_text x = trimmed (powers_text x.exponents)
+
+-- what an expression is worth
+abbrev pub worth_of : Table → (expression : List ℕ) → Result Amount ReplyFault
+worth_of table expression = (text_worth table (trimmed expression)).answer
+
+-- the dimension of a value, or the fault in words
+abbrev pub worth_text : Options → Result Amount ReplyFault → List ℕ
+worth_text options (Ok x) = dimension_text x
+worth_text options (Err fault) = fault_text (style_of options) fault
+
+abbrev pub value_answer : Options → Result Amount ReplyFault → Answer
+value_answer options worth = record { status = worth_status worth; text = worth_text options worth }
+
+-- an answer was handed out to a buffer of this room: its text at the front of the buffer, or, if the buffer is too
+-- short, only the length of the text
+pub record IsHandedOut (answer : Answer) (room result written : ℕ) (out : List ℕ) : Type 0 where
+  pub length_told : written ≡ length answer.text
+  pub status_told : length answer.text ≤ room → result ≡ code answer.status
+  pub text_told : length answer.text ≤ room → take written out ≡ answer.text
+  pub short : room < length answer.text → result ≡ code status.NoRoom

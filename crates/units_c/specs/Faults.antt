@@ -1,0 +1,61 @@
+-- The statuses of faults.
+use Rattle.std.specs.Prelude.{Result, Ok, Err}
+use Rattle.expr_tree.specs.declared.fault.ParseFault.{ParseFault}
+use Rattle.expr_tree.specs.declared.fault.ParseFault.TheVariants as parse
+use Rattle.frac128.specs.declared.fault.FracFault.{FracFault}
+use Rattle.frac128.specs.declared.fault.FracFault.TheVariants as number
+use Rattle.quantity.specs.Amount.{Amount}
+use Rattle.reply.specs.declared.fault.ReplyFault.{ReplyFault}
+use Rattle.reply.specs.declared.fault.ReplyFault.TheVariants.{Parse, Name, Value, List as ListUnit}
+use Rattle.table_names.specs.declared.fault.NameFault.{NameFault}
+use Rattle.table_names.specs.declared.fault.NameFault.TheVariants as name
+use Rattle.tree_eval.specs.declared.fault.ValueFault.{ValueFault}
+use Rattle.tree_eval.specs.declared.fault.ValueFault.TheVariants as value
+use Rattle.units_c.specs.declared.status.Status.{Status}
+use Rattle.units_c.specs.declared.status.Status.TheVariants as status
+
+-- of a text that is no expression
+abbrev pub parse_status : ParseFault → Status
+parse_status (parse.Syntax place) = status.SyntaxError
+parse_status parse.NumeralTooLong = status.NumeralTooLong
+parse_status parse.NestedTooDeep = status.NestedTooDeep
+parse_status parse.OutOfMemory = status.NoMemory
+
+-- of names
+abbrev pub name_status : NameFault → Status
+name_status (name.Unknown word key) = status.UnknownUnit
+name_status (name.Refused word key) = status.RefusedFunction
+name_status (name.Cycle keys) = status.Cycle
+
+-- of a fraction
+abbrev pub number_status : FracFault → Status
+number_status number.Overflow = status.Overflow
+number_status number.DivisionByZero = status.DivisionByZero
+number_status number.NoExactRoot = status.NoExactRoot
+
+-- of a value
+abbrev pub value_status : ValueFault → Status
+value_status (value.Number fault) = number_status fault
+value_status (value.NotConformable x y) = status.UnlikeSum
+value_status value.ExponentNotNumber = status.ExponentNotNumber
+value_status value.ExponentRange = status.ExponentRange
+value_status (value.NotInDomain function) = status.NotInDomain
+value_status (value.NotInRange function) = status.NotInRange
+value_status (value.WrongArgument function) = status.WrongArgument
+value_status (value.WrongResult function) = status.WrongResult
+value_status (value.NoInverse function) = status.NoInverse
+value_status (value.OutsideTable function) = status.OutsideTable
+value_status (value.NeedsArgument function) = status.ArgumentNeeded
+value_status (value.CallsTooDeep function) = status.CallsTooDeep
+
+-- of a reply
+abbrev pub fault_status : ReplyFault → Status
+fault_status (Parse fault) = parse_status fault
+fault_status (Name fault) = name_status fault
+fault_status (Value fault) = value_status fault
+fault_status (ListUnit place) = status.ListUnitNotPositive
+
+-- of what an expression is worth
+abbrev pub worth_status : Result Amount ReplyFault → Status
+worth_status (Ok x) = status.Done
+worth_status (Err fault) = fault_status fault

@@ -1,0 +1,11 @@
+pub mod Answers
+pub mod Definitions
+pub mod Edits
+pub mod Faults
+pub mod Numbers
+pub mod Options
+pub mod Statuses
+pub mod Tables
+pub mod Turns
+pub mod Valued
+pub mod Words

@@ -1,0 +1,14 @@
+-- Fractions in 64-bit words.
+use Rattle.std.specs.Prelude.{◌≡◌, ◌+◌, ◌*◌, ◌^◌, ℕ, pos, int_lt, unsigned_abs, if◌then◌else◌}
+use Rattle.frac128.specs.Fraction.{Fraction}
+use Rattle.units_c.specs.declared.number.UnitsNumber.{UnitsNumber}
+
+-- the number of two words
+abbrev pub joined : (high low : ℕ) → ℕ
+joined high low = high * 2 ^ 64 + low
+
+-- the words are those of a fraction
+pub record IsNumber (n : UnitsNumber) (x : Fraction) : Type 0 where
+  pub sign : n.negative ≡ (if int_lt x.num (pos 0) then 1 else 0)
+  pub numerator : joined n.numerator_high n.numerator_low ≡ unsigned_abs x.num
+  pub denominator : joined n.denominator_high n.denominator_low ≡ x.den

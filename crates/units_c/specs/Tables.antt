@@ -1,0 +1,33 @@
+-- Tables that C holds, and what calls on them answer.
+use Rattle.std.specs.Prelude.{◌≡◌, ◌≢◌, ℕ, List, Option, Some, None, option_map}
+use Rattle.deck.specs.Decks.{Contents}
+use Rattle.deck.specs.Tables.{table}
+use Rattle.def_entry.specs.Tables.{Table}
+use Rattle.edit_history.specs.Histories.{Course}
+use Rattle.edited_table.specs.Edited.{Edited}
+use Rattle.units_c.specs.Answers.{IsHandedOut}
+use Rattle.units_c.specs.Statuses.{code}
+use Rattle.units_c.specs.declared.answer.Answer.{Answer}
+use Rattle.units_c.specs.declared.status.Status.TheVariants as status
+
+-- the state of an open table; a table in any other state is closed
+abbrev pub open_mark : ℕ
+open_mark = 1970170228
+
+-- the definitions by which a table answers
+abbrev pub table_of : Edited → Table
+table_of e = table e.table.deck
+
+-- what only edits change
+abbrev pub definitions_of : Edited → Contents × Course
+definitions_of e = (e.table.deck, e.history)
+
+-- a call was answered so if the table was open and there was memory
+abbrev pub IsAnswered : Option Edited → (Edited → Answer) → (room result written : ℕ) → (out : List ℕ) → Type 0
+IsAnswered None answer room result written out = result ≡ code status.Closed
+IsAnswered (Some e) answer room result written out =
+    result ≢ code status.NoMemory → IsHandedOut (answer e) room result written out
+
+-- a table has the same definitions and the same history as before, or is closed as before
+abbrev pub IsUnedited : (before after : Option Edited) → Type 0
+IsUnedited before after = option_map definitions_of after ≡ option_map definitions_of before

@@ -1,0 +1,74 @@
+-- How the text of a fault tells its status: by its first words.
+use Rattle.std.specs.Prelude.{◌≡◌, ◌++◌, ◌∷◌, [], ℕ, List, Option, Some, None, codes, nat_eq, if◌then◌else◌, unwrap_or}
+use Rattle.std.specs.List.{starts_with}
+use Rattle.digits_print.specs.declared.style.Style.{Style}
+use Rattle.reply.specs.Faults.{fault_text}
+use Rattle.reply.specs.Lines.{unlike_text}
+use Rattle.reply.specs.declared.fault.ReplyFault.{ReplyFault}
+use Rattle.reply.specs.Options.{form_of}
+use Rattle.reply.specs.declared.options.Options.{Options}
+use Rattle.quantity.specs.Amount.{Amount}
+use Rattle.units_c.specs.Faults.{fault_status}
+use Rattle.units_c.specs.declared.status.Status.{Status}
+use Rattle.units_c.specs.declared.status.Status.TheVariants as status
+
+-- words with the status that they begin the texts of
+abbrev pub Rows : Type 0
+Rows = List (List ℕ × Status)
+
+-- the status of the first row whose words begin a text
+abbrev pub status_in : Rows → List ℕ → Option Status
+status_in [] text = None
+status_in (row ∷ rows) text = if starts_with nat_eq text row.0 then Some row.1 else status_in rows text
+
+-- the same in one list of rows or else in another
+abbrev pub or_in : Option Status → Rows → List ℕ → Option Status
+or_in (Some s) rows text = Some s
+or_in None rows text = status_in rows text
+
+abbrev pub question_rows : Rows
+question_rows =
+    (codes "conformability error", status.ConformabilityError)
+    ∷ (codes "unknown unit: ", status.UnknownUnit)
+    ∷ (codes "syntax error at ", status.SyntaxError)
+    ∷ (codes "numeral too long", status.NumeralTooLong)
+    ∷ (codes "nested too deep", status.NestedTooDeep)
+    ∷ (codes "refused function: ", status.RefusedFunction)
+    ∷ (codes "cycle: ", status.Cycle)
+    ∷ (codes "list unit not positive: ", status.ListUnitNotPositive)
+    ∷ []
+
+abbrev pub number_rows : Rows
+number_rows =
+    (codes "overflow", status.Overflow)
+    ∷ (codes "division by zero", status.DivisionByZero)
+    ∷ (codes "no exact root", status.NoExactRoot)
+    ∷ (codes "sum of unlike units: ", status.UnlikeSum)
+    ∷ (codes "exponent is not a number", status.ExponentNotNumber)
+    ∷ (codes "exponent out of range", status.ExponentRange)
+    ∷ []
+
+abbrev pub function_rows : Rows
+function_rows =
+    (codes "not in domain: ", status.NotInDomain)
+    ∷ (codes "not in range: ", status.NotInRange)
+    ∷ (codes "wrong argument: ", status.WrongArgument)
+    ∷ (codes "wrong result: ", status.WrongResult)
+    ∷ (codes "no inverse: ", status.NoInverse)
+    ∷ (codes "outside table: ", status.OutsideTable)
+    ∷ (codes "argument needed: ", status.ArgumentNeeded)
+    ∷ (codes "calls too deep: ", status.CallsTooDeep)
+    ∷ []
+
+-- the status that a text tells; a text that tells none is that of a want of memory, which has no words
+abbrev pub status_of_text : List ℕ → Status
+status_of_text text =
+    unwrap_or (or_in (or_in (status_in question_rows text) number_rows text) function_rows text) status.NoMemory
+
+-- law: the text of each fault tells its status, alone and as a line, and so does that of a conformability error
+pub record TellStatuses : Type 0 where
+  pub alone : (style : Style) (fault : ReplyFault) → status_of_text (fault_text style fault) ≡ fault_status fault
+  pub line : (style : Style) (fault : ReplyFault)
+      → status_of_text (fault_text style fault ++ codes "\n") ≡ fault_status fault
+  pub unlike : (options : Options) (x y : Amount)
+      → status_of_text (unlike_text (form_of options) x y) ≡ status.ConformabilityError

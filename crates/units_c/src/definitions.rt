@@ -1,0 +1,79 @@
+//! Definitions that C gives: files in memory, variables and a locale.
+
+ghost use Rattle.std.specs.Prelude.{◌≡◌, IfOk, OnOk};
+ghost use Rattle.deck.specs.Loading.{IsLoaded};
+ghost use Rattle.units_c.specs.Definitions as spec;
+ghost use Rattle.units_io.specs.FileMap.{no_files};
+
+use deck::{Deck, DeckFault, Settings};
+use std::alloc::{AllocError, Global};
+use units_io::{MemFiles, Text, Vars};
+
+/// A file or a variable: its name, and the bytes of the file or the value of the variable.
+#[repr(C)]
+pub struct UnitsEntry<'a> {
+    pub name: &'a [u8],
+    pub content: &'a [u8],
+}
+
+/// What a table is opened over. Of two entries with one name the last counts.
+#[repr(C)]
+pub struct UnitsDefinitions<'a> {
+    /// The name of the file to read.
+    pub main: &'a [u8],
+    /// The files, with those that it includes.
+    pub files: &'a [UnitsEntry<'a>],
+    /// The variables that the files may ask for.
+    pub variables: &'a [UnitsEntry<'a>],
+    /// The locale, such as `en_US`.
+    pub locale: &'a [u8],
+}
+
+/// The deck of the main file, with the files that it includes.
+pub(crate) fn read_deck(
+    alloc: Global,
+    definitions: &UnitsDefinitions<'_>,
+) -> Result<Deck, DeckFault>
+    ensures { IsLoaded (spec.deck_of definitions.now) result }
+{
+    let mut files = MemFiles::new(alloc, &[])?;
+    put_files(alloc, &mut files, definitions.files)?;
+    let settings = read_settings(alloc, definitions)?;
+    Deck::load(alloc, &mut files, definitions.main, settings)
+}
+
+// The settings.
+fn read_settings(alloc: Global, definitions: &UnitsDefinitions<'_>) -> Result<Settings, AllocError>
+    ensures { IfOk result (λ settings. settings ≡ spec.settings_of definitions.now) }
+{
+    let locale = Text::from_bytes(alloc, definitions.locale)?;
+    let mut vars = Vars::new(alloc);
+    put_values(alloc, &mut vars, definitions.variables)?;
+    Ok(Settings { locale, vars })
+}
+
+// Adds files.
+fn put_files(
+    alloc: Global,
+    files: &mut MemFiles,
+    entries: &[UnitsEntry<'_>],
+) -> Result<(), AllocError>
+    ensures { OnOk result (files.new.files ≡ spec.with_files files.old.files entries.now) }
+{
+    for entry in entries {
+        files.add(alloc, entry.name, entry.content)?;
+    }
+    Ok(())
+}
+
+// Adds variables.
+fn put_values(alloc: Global, vars: &mut Vars, entries: &[UnitsEntry<'_>]) -> Result<(), AllocError>
+    ensures { OnOk result (vars.new ≡ spec.with_values vars.old entries.now) }
+{
+    for entry in entries {
+        let name = Text::from_bytes(alloc, entry.name)?;
+        let value = Text::from_bytes(alloc, entry.content)?;
+        vars.set(alloc, name, value)?;
+    }
+    Ok(())
+}

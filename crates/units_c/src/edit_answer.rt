@@ -1,0 +1,169 @@
+//! The answers to definitions and drops.
+
+ghost use Rattle.std.specs.Prelude.{◌≡◌, ◌≢◌, ◌++◌, [], Err, IfErr, IfOk, IsErr, true};
+ghost use Rattle.deck.specs.Edits.{after_define, after_drop};
+ghost use Rattle.deck.specs.declared.fault.DeckFault.TheVariants as deck_fault;
+ghost use Rattle.def_entry.specs.Keys.{key_of};
+ghost use Rattle.def_lines.specs.Blanks.{trimmed};
+ghost use Rattle.edit_history.specs.Calls.{IsNoted};
+ghost use Rattle.live_table.specs.Edits.{IsEditOf};
+ghost use Rattle.units_c.specs.Edits as spec;
+
+use crate::answer::Answer;
+use crate::status::Status;
+use deck::DeckFault;
+use def_entry::{EntryFault, Key, KeyFault, entry_fault_text, read_key, told_law};
+use edited_table::EditedTable;
+use expr_tree::ParseFault;
+use std::alloc::{AllocError, Global};
+use units_io::Text;
+
+// The answer to an edit that ended so; `named` is how the key was written.
+fn answer_edit(
+    alloc: Global,
+    edited: &Result<(), DeckFault>,
+    named: &[u8],
+) -> Result<Answer, AllocError>
+    requires { spec.IsTold edited.now }
+    ensures answer { IfOk result (λ answer. answer ≡ spec.edited_answer edited.now named.now) }
+    ensures known { IfOk result (λ _. edited.now ≢ Err deck_fault.OutOfMemory) }
+    ensures refused { IfErr result (λ _. IsErr edited.now) }
+{
+    match edited {
+        Ok(()) => Ok(made(alloc)),
+        Err(fault) => refusal(alloc, fault, named),
+    }
+}
+
+// The answer that refuses an edit.
+fn refusal(alloc: Global, fault: &DeckFault, named: &[u8]) -> Result<Answer, AllocError>
+    requires { spec.is_told_refusal fault.now ≡ true }
+    ensures answer { IfOk result (λ answer. answer ≡ spec.refusal fault.now named.now) }
+    ensures known { IfOk result (λ _. fault.now ≢ deck_fault.OutOfMemory) }
+{
+    match fault {
+        DeckFault::BadLine(fault) => {
+            let text = entry_fault_text(alloc, fault)?;
+            let status = entry_status(fault);
+            Ok(Answer { status, text })
+        }
+        DeckFault::NoSuchKey => {
+            let status = Status::NoSuchDefinition;
+            said_of(alloc, status, b"no such definition: ", named)
+        }
+        DeckFault::DeckFull => said(alloc, Status::DeckFull, b"deck full"),
+        DeckFault::Absent => said_of(alloc, Status::NoSuchFile, b"no file: ", named),
+        DeckFault::TooLong => said_of(alloc, Status::FileTooLong, b"file too long: ", named),
+        DeckFault::ReadFailed => said(alloc, Status::ReadFailed, b""),
+        DeckFault::OutOfMemory => Err(AllocError),
+    }
+}
+
+// The status of a line that gives no entry.
+fn entry_status(fault: &EntryFault) -> Status
+    ensures { result ≡ spec.entry_status fault.now }
+{
+    match fault {
+        EntryFault::BadName(_) => Status::BadName,
+        EntryFault::BadForm => Status::BadDefinition,
+        EntryFault::BadTable => Status::BadTable,
+        EntryFault::Parse(ParseFault::Syntax(_)) => Status::SyntaxError,
+        EntryFault::Parse(ParseFault::NumeralTooLong) => Status::NumeralTooLong,
+        EntryFault::Parse(ParseFault::NestedTooDeep) => Status::NestedTooDeep,
+        EntryFault::Parse(ParseFault::OutOfMemory) | EntryFault::OutOfMemory => Status::NoMemory,
+    }
+}
+
+/// Adds the definition of a line.
+pub(crate) fn answer_define(
+    alloc: Global,
+    content: &mut EditedTable,
+    line: &[u8],
+) -> Result<Answer, AllocError>
+    ensures answer { IfOk result (λ answer. answer
+        ≡ spec.edit_answer (after_define (trimmed line.now) content.old.table.deck) []) }
+    ensures edited { spec.IsAnsweredEdit
+        (spec.deck_after (after_define (trimmed line.now) content.old.table.deck) content.old.table.deck)
+        result content.old content.new }
+{
+    let edited = define_line(alloc, content, line);
+    answer_edit(alloc, &edited, b"")
+}
+
+// Adds the definition of a line. A refusal has words of its own.
+fn define_line(alloc: Global, content: &mut EditedTable, line: &[u8]) -> Result<(), DeckFault>
+    ensures edit { IsEditOf (after_define (trimmed line.now) content.old.table.deck)
+        content.old.table content.new.table result }
+    ensures noted { IsNoted content.old.history content.new.history
+        content.old.table.deck content.new.table.deck result }
+    ensures has_words { spec.IsTold result }
+{
+    told_law();
+    content.define(alloc, line)
+}
+
+/// Drops the last active definition of a key, if the text is one.
+pub(crate) fn answer_drop(
+    alloc: Global,
+    content: &mut EditedTable,
+    text: &[u8],
+) -> Result<Answer, AllocError>
+    ensures answer { IfOk result (λ answer. answer
+        ≡ spec.drop_answer (spec.drop_outcome (key_of text.now) content.old.table.deck) text.now) }
+    ensures edited { spec.IsAnsweredEdit
+        (spec.deck_after_drop (spec.drop_outcome (key_of text.now) content.old.table.deck) content.old.table.deck)
+        result content.old content.new }
+{
+    match read_key(alloc, text) {
+        Ok(key) => answer_drop_of(alloc, content, &key, text),
+        Err(KeyFault::NotKey) => said_of(alloc, Status::BadKey, b"bad key: ", text),
+        Err(KeyFault::OutOfMemory) => Err(AllocError),
+    }
+}
+
+// Drops the last active definition of a key, which was written so.
+fn answer_drop_of(
+    alloc: Global,
+    content: &mut EditedTable,
+    key: &Key,
+    text: &[u8],
+) -> Result<Answer, AllocError>
+    ensures answer { IfOk result (λ answer. answer
+        ≡ spec.edit_answer (after_drop key.now content.old.table.deck) text.now) }
+    ensures edited { spec.IsAnsweredEdit
+        (spec.deck_after (after_drop key.now content.old.table.deck) content.old.table.deck)
+        result content.old content.new }
+{
+    let edited = content.drop_last(alloc, key);
+    answer_edit(alloc, &edited, text)
+}
+
+/// The answer to an edit that is made.
+pub(crate) fn made(alloc: Global) -> Answer
+    ensures { result ≡ spec.made }
+{
+    Answer {
+        status: Status::Done,
+        text: Text::from(Vec::new(alloc)),
+    }
+}
+
+/// A status with these words.
+pub(crate) fn said(alloc: Global, status: Status, words: &[u8]) -> Result<Answer, AllocError>
+    ensures { IfOk result (λ answer. answer ≡ record { status = status; text = words.now }) }
+{
+    let text = Text::from_bytes(alloc, words)?;
+    Ok(Answer { status, text })
+}
+
+// A status with these words and a word.
+fn said_of(alloc: Global, status: Status, words: &[u8], word: &[u8]) -> Result<Answer, AllocError>
+    ensures { IfOk result (λ answer. answer ≡ record { status = status; text = words.now ++ word.now }) }
+{
+    let mut text = Vec::from_slice(alloc, words)?;
+    text.extend_from_slice(word)?;
+    Ok(Answer {
+        status,
+        text: Text::from(text),
+    })
+}

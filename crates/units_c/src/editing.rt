@@ -1,0 +1,113 @@
+//! Edits of an open table. A refusal changes nothing, and neither does want of memory.
+
+ghost use Rattle.std.specs.Prelude.{◌≡◌, [], codes, length};
+ghost use Rattle.def_lines.specs.Blanks.{trimmed};
+ghost use Rattle.deck.specs.Edits.{after_define};
+ghost use Rattle.def_entry.specs.Keys.{key_of};
+ghost use Rattle.units_c.specs.Edits as spec;
+ghost use Rattle.units_c.specs.Tables.{IsAnswered};
+ghost use Rattle.units_c.specs.Turns as turns;
+ghost use Rattle.units_c.specs.declared.status.Status.TheVariants as statuses;
+
+use crate::answer::deliver;
+use crate::edit_answer::{answer_define, answer_drop};
+use crate::status::Status;
+use crate::turn_answer::{answer_redo, answer_undo};
+use crate::unit_table::UnitsTable;
+use std::alloc::Global;
+
+/// Adds the definition of a line, as `:define` does in a session. After a refusal the buffer has its text.
+#[unsafe(no_mangle)]
+pub extern "C" fn units_define(
+    alloc: Global,
+    table: &mut UnitsTable,
+    line: &[u8],
+    out: &mut [u8],
+    written: &mut usize,
+) -> u32
+    ensures answer { IsAnswered table.old.handle.held
+        (λ e. spec.edit_answer (after_define (trimmed line.now) e.table.deck) [])
+        (length out.old) result written.new out.new }
+    ensures edited { spec.LeavesDeck result (λ deck. spec.deck_after (after_define (trimmed line.now) deck) deck)
+        table.old.handle.held table.new.handle.held }
+    ensures noted { spec.NotesEdit result table.old.handle.held table.new.handle.held }
+{
+    *written = 0;
+    let Some(mut content) = table.take(alloc) else {
+        return Status::Closed.code();
+    };
+    let answered = answer_define(alloc, &mut content, line);
+    table.put(content);
+    deliver(answered, out, written)
+}
+
+/// Removes the last active definition of a key, which is written as in `:drop`. After a refusal the buffer has its
+/// text.
+#[unsafe(no_mangle)]
+pub extern "C" fn units_drop(
+    alloc: Global,
+    table: &mut UnitsTable,
+    key: &[u8],
+    out: &mut [u8],
+    written: &mut usize,
+) -> u32
+    ensures answer { IsAnswered table.old.handle.held
+        (λ e. spec.drop_answer (spec.drop_outcome (key_of key.now) e.table.deck) key.now)
+        (length out.old) result written.new out.new }
+    ensures edited { spec.LeavesDeck result
+        (λ deck. spec.deck_after_drop (spec.drop_outcome (key_of key.now) deck) deck)
+        table.old.handle.held table.new.handle.held }
+    ensures noted { spec.NotesEdit result table.old.handle.held table.new.handle.held }
+{
+    *written = 0;
+    let Some(mut content) = table.take(alloc) else {
+        return Status::Closed.code();
+    };
+    let answered = answer_drop(alloc, &mut content, key);
+    table.put(content);
+    deliver(answered, out, written)
+}
+
+/// Takes back the last edit that is not undone.
+#[unsafe(no_mangle)]
+pub extern "C" fn units_undo(
+    alloc: Global,
+    table: &mut UnitsTable,
+    out: &mut [u8],
+    written: &mut usize,
+) -> u32
+    ensures answer { IsAnswered table.old.handle.held
+        (λ e. turns.turn_answer statuses.NothingToUndo (codes "nothing to undo") e.history.done)
+        (length out.old) result written.new out.new }
+    ensures undone { turns.Turns turns.IsBack result table.old.handle.held table.new.handle.held }
+{
+    *written = 0;
+    let Some(mut content) = table.take(alloc) else {
+        return Status::Closed.code();
+    };
+    let answered = answer_undo(alloc, &mut content);
+    table.put(content);
+    deliver(answered, out, written)
+}
+
+/// Makes the last undone edit again.
+#[unsafe(no_mangle)]
+pub extern "C" fn units_redo(
+    alloc: Global,
+    table: &mut UnitsTable,
+    out: &mut [u8],
+    written: &mut usize,
+) -> u32
+    ensures answer { IsAnswered table.old.handle.held
+        (λ e. turns.turn_answer statuses.NothingToRedo (codes "nothing to redo") e.history.undone)
+        (length out.old) result written.new out.new }
+    ensures redone { turns.Turns turns.IsAgain result table.old.handle.held table.new.handle.held }
+{
+    *written = 0;
+    let Some(mut content) = table.take(alloc) else {
+        return Status::Closed.code();
+    };
+    let answered = answer_redo(alloc, &mut content);
+    table.put(content);
+    deliver(answered, out, written)
+}

@@ -1,0 +1,46 @@
+//! Searches.
+
+ghost use Rattle.std.specs.Prelude.{◌≡◌, IfOk, length};
+ghost use Rattle.survey.specs.Searches.{search_report as report};
+ghost use Rattle.units_c.specs.Tables.{IsAnswered, IsUnedited, table_of};
+ghost use Rattle.units_c.specs.declared.status.Status.TheVariants as statuses;
+
+use crate::answer::{Answer, deliver};
+use crate::status::Status;
+use crate::unit_table::UnitsTable;
+use edited_table::EditedTable;
+use std::alloc::{AllocError, Global};
+use survey::search_report;
+
+/// Lists the definitions whose names contain a text, a line for each, as `search` does in a session.
+#[unsafe(no_mangle)]
+pub extern "C" fn units_search(
+    alloc: Global,
+    table: &mut UnitsTable,
+    text: &[u8],
+    out: &mut [u8],
+    written: &mut usize,
+) -> u32
+    ensures answer { IsAnswered table.old.handle.held
+        (λ e. record { status = statuses.Done; text = report (table_of e) text.now })
+        (length out.old) result written.new out.new }
+    ensures unedited { IsUnedited table.old.handle.held table.new.handle.held }
+{
+    *written = 0;
+    let Some(content) = table.take(alloc) else {
+        return Status::Closed.code();
+    };
+    let answered = answer_search(alloc, &content, text);
+    table.put(content);
+    deliver(answered, out, written)
+}
+
+// The answer to a search.
+fn answer_search(alloc: Global, content: &EditedTable, text: &[u8]) -> Result<Answer, AllocError>
+    ensures { IfOk result (λ answer.
+        answer ≡ record { status = statuses.Done; text = report (table_of content.now) text.now }) }
+{
+    let text = search_report(alloc, content.table(), text)?;
+    let status = Status::Done;
+    Ok(Answer { status, text })
+}

@@ -1,0 +1,51 @@
+//! The answers to undos and redos.
+
+ghost use Rattle.std.specs.Prelude.{◌≡◌, ◌≢◌, Err, IfErr, IfOk, IsErr, codes};
+ghost use Rattle.edit_history.specs.declared.fault.HistoryFault.TheVariants as history_fault;
+ghost use Rattle.units_c.specs.Turns as spec;
+ghost use Rattle.units_c.specs.declared.status.Status.TheVariants as statuses;
+
+use crate::answer::Answer;
+use crate::edit_answer::{made, said};
+use crate::status::Status;
+use edit_history::HistoryFault;
+use edited_table::EditedTable;
+use std::alloc::{AllocError, Global};
+
+/// Takes back the last edit that is not undone.
+pub(crate) fn answer_undo(alloc: Global, content: &mut EditedTable) -> Result<Answer, AllocError>
+    ensures answer { IfOk result (λ answer. answer
+        ≡ spec.turn_answer statuses.NothingToUndo (codes "nothing to undo") content.old.history.done) }
+    ensures undone { spec.IsAnsweredTurn spec.IsBack result content.old content.new }
+{
+    let turned = content.undo(alloc);
+    answer_turn(alloc, turned)
+}
+
+/// Makes the last undone edit again.
+pub(crate) fn answer_redo(alloc: Global, content: &mut EditedTable) -> Result<Answer, AllocError>
+    ensures answer { IfOk result (λ answer. answer
+        ≡ spec.turn_answer statuses.NothingToRedo (codes "nothing to redo") content.old.history.undone) }
+    ensures redone { spec.IsAnsweredTurn spec.IsAgain result content.old content.new }
+{
+    let turned = content.redo(alloc);
+    answer_turn(alloc, turned)
+}
+
+// The answer to an undo or a redo that ended so.
+fn answer_turn(alloc: Global, turned: Result<(), HistoryFault>) -> Result<Answer, AllocError>
+    ensures answer { IfOk result (λ answer. answer ≡ spec.turned_answer turned) }
+    ensures known { IfOk result (λ _. turned ≢ Err history_fault.OutOfMemory) }
+    ensures refused { IfErr result (λ _. IsErr turned) }
+{
+    match turned {
+        Ok(()) => Ok(made(alloc)),
+        Err(HistoryFault::NothingToUndo) => {
+            said(alloc, Status::NothingToUndo, b"nothing to undo")
+        }
+        Err(HistoryFault::NothingToRedo) => {
+            said(alloc, Status::NothingToRedo, b"nothing to redo")
+        }
+        Err(HistoryFault::OutOfMemory) => Err(AllocError),
+    }
+}

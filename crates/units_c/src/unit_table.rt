@@ -1,0 +1,52 @@
+//! The struct by which C holds a table.
+
+ghost use Rattle.std.specs.Prelude.{◌≡◌, ◌==◌, None, Some, true, false, is_some, option_map};
+ghost use Rattle.units_c.specs.Tables.{open_mark};
+
+use edited_table::EditedTable;
+use std::alloc::Global;
+use table_handle::Handle;
+
+// The state of an open table.
+const OPEN: u64 = 1_970_170_228;
+
+/// A unit table, open or closed. A struct of zeros is a closed one.
+#[repr(C)]
+pub struct UnitsTable {
+    pub(crate) state: u64,
+    pub(crate) handle: Handle,
+    pub ghost marked: { is_some handle.held ≡ (state == open_mark) },
+}
+
+impl UnitsTable {
+    /// Whether the table is open.
+    #[tactic(auto, using(crate::proofs::Held::absent))]
+    pub(crate) fn is_open(&self) -> bool
+        ensures open { result ≡ true → self.now.handle.held ≡ None → ⊥ }
+        ensures closed { result ≡ false → self.now.handle.held ≡ None }
+    {
+        self.state == OPEN
+    }
+
+    /// Takes the content out of an open table, which is closed then; `None` if it is closed already.
+    pub(crate) fn take(&mut self, alloc: Global) -> Option<Box<EditedTable, Global>>
+        ensures taken { option_map (λ table. table.value) result ≡ self.old.handle.held }
+        ensures closed { self.new.handle.held ≡ None }
+    {
+        if !self.is_open() {
+            return None;
+        }
+        let content = self.handle.take(alloc);
+        self.state = 0;
+        Some(content)
+    }
+
+    /// Opens a closed table with this content.
+    pub(crate) fn put(&mut self, content: Box<EditedTable, Global>)
+        requires { self.old.handle.held ≡ None }
+        ensures { self.new.handle.held ≡ Some content.value }
+    {
+        self.handle.put(content);
+        self.state = OPEN;
+    }
+}

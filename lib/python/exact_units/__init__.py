@@ -1,0 +1,99 @@
+"""Exact unit conversion, over the shared library of `units` or over a session of the program.
+
+>>> from exact_units import Units
+>>> units = Units()
+>>> units.convert("3 ft", "m")
+Fraction(1143, 1250)
+>>> units.value("9.81 N").dimension
+{'kg': Fraction(1, 1), 'm': Fraction(1, 1), 's': Fraction(-2, 1)}
+"""
+
+from .faults import (
+    ArgumentNeeded,
+    BackEndError,
+    BadDefinition,
+    BadKey,
+    BadName,
+    BadTable,
+    CallsTooDeep,
+    ConformabilityError,
+    CyclicDefinition,
+    DeckFull,
+    DefinitionFault,
+    DivisionByZero,
+    ExponentNotNumber,
+    ExponentRange,
+    FileTooLong,
+    FunctionFault,
+    ListUnitNotPositive,
+    NestedTooDeep,
+    NoExactRoot,
+    NoInverse,
+    NoSuchDefinition,
+    NoSuchFile,
+    NotAnExpression,
+    NotInDomain,
+    NotInRange,
+    NothingToRedo,
+    NothingToUndo,
+    NumberFault,
+    NumeralTooLong,
+    OutOfMemory,
+    OutsideTable,
+    Overflow,
+    RefusedFunction,
+    SyntaxFault,
+    UnitsError,
+    UnknownUnit,
+    UnlikeSum,
+    WrongArgument,
+    WrongResult,
+)
+from .quantity import Quantity
+from .units import Units
+
+__version__ = "1.0.0"
+
+__all__ = [
+    "ArgumentNeeded",
+    "BackEndError",
+    "BadDefinition",
+    "BadKey",
+    "BadName",
+    "BadTable",
+    "CallsTooDeep",
+    "ConformabilityError",
+    "CyclicDefinition",
+    "DeckFull",
+    "DefinitionFault",
+    "DivisionByZero",
+    "ExponentNotNumber",
+    "ExponentRange",
+    "FileTooLong",
+    "FunctionFault",
+    "ListUnitNotPositive",
+    "NestedTooDeep",
+    "NoExactRoot",
+    "NoInverse",
+    "NoSuchDefinition",
+    "NoSuchFile",
+    "NotAnExpression",
+    "NotInDomain",
+    "NotInRange",
+    "NothingToRedo",
+    "NothingToUndo",
+    "NumberFault",
+    "NumeralTooLong",
+    "OutOfMemory",
+    "OutsideTable",
+    "Overflow",
+    "Quantity",
+    "RefusedFunction",
+    "SyntaxFault",
+    "Units",
+    "UnitsError",
+    "UnknownUnit",
+    "UnlikeSum",
+    "WrongArgument",
+    "WrongResult",
+]

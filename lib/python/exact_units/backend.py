@@ -1,0 +1,44 @@
+"""What the two back ends have in common."""
+
+from __future__ import annotations
+
+from typing import Dict, List, NamedTuple, Optional, Protocol
+
+from .quantity import Quantity
+
+
+class Definitions(NamedTuple):
+    """What a back end is opened over: a file, a text, or else the built-in definitions."""
+
+    path: Optional[str]
+    text: Optional[str]
+    locale: str
+    variables: Dict[str, str]
+
+
+class BackEnd(Protocol):
+    """A session of the program, or a table of the library. Each call raises a `UnitsError` for a fault."""
+
+    def convert(self, source: str, target: str) -> str:
+        """Return the reply of the program: exact, strict, compact, and only its first line."""
+
+    def value(self, expression: str) -> Quantity:
+        """Return the value of an expression."""
+
+    def define(self, line: str) -> None:
+        """Add a definition."""
+
+    def drop(self, key: str) -> None:
+        """Remove the last definition of a key."""
+
+    def undo(self) -> None:
+        """Take back the last edit."""
+
+    def redo(self) -> None:
+        """Make the last undone edit again."""
+
+    def search(self, text: str) -> List[str]:
+        """Return the lines of a search."""
+
+    def close(self) -> None:
+        """End the session, or free the table. A second call does nothing."""

@@ -1,0 +1,74 @@
+/* Four threads with a table of their own each, which convert, evaluate and edit at the same time. The last line is
+   `N passed, M failed`. */
+#include "units.h"
+
+#include <pthread.h>
+#include <stdio.h>
+#include <stdlib.h>
+#include <string.h>
+
+enum { THREADS = 4 };
+
+static int rounds = 500;
+
+typedef struct worker {
+    pthread_t thread;
+    unsigned number;
+    unsigned wrong;
+} worker;
+
+static const char text[] = "m !\ns !\nkilo- 1000\ninch 254|10000 m\nft 12 inch\nmin 60 s\nhour 60 min\n";
+
+static void check(worker *own, int right) { own->wrong += !right; }
+
+/* A conversion whose answer is known. */
+static void convert(worker *own, units_table *table, const char *from, const char *to, const char *answer) {
+    units_options options = {.exact = 1, .one_line = 1, .compact = 1};
+    uint8_t buffer[64];
+    size_t length;
+    uint32_t status = units_convert(table, (const uint8_t *)from, strlen(from), (const uint8_t *)to, strlen(to),
+                                    &options, buffer, sizeof buffer, &length);
+    check(own, status == UNITS_DONE && length == strlen(answer) && memcmp(buffer, answer, length) == 0);
+}
+
+static void *work(void *at) {
+    worker *own = at;
+    units_entry file = {UNITS_TEXT("main"), (const uint8_t *)text, strlen(text)};
+    units_definitions definitions = {UNITS_TEXT("main"), &file, 1, NULL, 0, UNITS_NO_TEXT};
+    units_table table = UNITS_TABLE;
+    uint8_t buffer[64];
+    size_t length;
+    check(own, units_open(&table, &definitions) == UNITS_DONE);
+    for (int i = 0; i < rounds; i++) {
+        char from[64], answer[64], line[64];
+        unsigned n = own->number * 1000 + (unsigned)i % 1000 + 1;
+        snprintf(from, sizeof from, "%u ft", n);
+        snprintf(answer, sizeof answer, "%u\n", 12 * n);
+        convert(own, &table, from, "inch", answer);
+        convert(own, &table, "kilom/hour", "m/s", "5|18\n");
+        snprintf(line, sizeof line, "own %u m", n);
+        snprintf(answer, sizeof answer, "%u\n", n);
+        check(own, units_define(&table, (const uint8_t *)line, strlen(line), buffer, sizeof buffer, &length)
+              == UNITS_DONE);
+        convert(own, &table, "own", "m", answer);
+        check(own, units_undo(&table, buffer, sizeof buffer, &length) == UNITS_DONE);
+    }
+    check(own, units_close(&table) == UNITS_DONE);
+    return NULL;
+}
+
+int main(int count, char **words) {
+    worker workers[THREADS] = {0};
+    int failed = 0;
+    if (count > 1) rounds = atoi(words[1]);
+    for (unsigned i = 0; i < THREADS; i++) {
+        workers[i].number = i;
+        if (pthread_create(&workers[i].thread, NULL, work, &workers[i]) != 0) return 2;
+    }
+    for (int i = 0; i < THREADS; i++) {
+        pthread_join(workers[i].thread, NULL);
+        failed += workers[i].wrong != 0;
+    }
+    printf("%d passed, %d failed\n", THREADS - failed, failed);
+    return failed != 0;
+}
