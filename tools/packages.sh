@@ -15,7 +15,7 @@ packages=(
     # comparisons with other programs
     units python3-pint
     # memory checks of the C library
-    valgrind
+    valgrind mypy python3-numpy python3-pandas pkg-config
     # the page in a browser
     chromium firefox-esr binaryen
     # editors
