@@ -79,7 +79,6 @@ AFTER_PROOFS = [
     Check("want of memory", ("tools/check_memory.sh",)),
     Check("want of memory in edits", ("tools/check_edits.py",)),
     Check("static program", ("tools/check_static.sh",)),
-    Check("C library", ("tools/check_c_library.sh",)),
     Check("release", ("tools/release.sh", "--compare")),
 ]
 
