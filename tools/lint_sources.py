@@ -54,12 +54,13 @@ def lint(linters: list[list[str]], files: list[Path]) -> tuple[int, int, int]:
         names = " or ".join(words[0] for words in linters)
         print(f"lint_sources: {len(files)} files skipped, since {names} is not installed")
         return 0, 0, len(files)
-    failed = 0
-    for file in files:
-        done = subprocess.run([*installed, file], cwd=ROOT, stdout=subprocess.PIPE, stderr=subprocess.STDOUT, check=False)
-        if done.returncode != 0:
-            failed += 1
-            sys.stdout.write(done.stdout.decode(errors="replace"))
+    # In one call, since a linter takes longer to start than to read a file.
+    done = subprocess.run([*installed, *files], cwd=ROOT, stdout=subprocess.PIPE, stderr=subprocess.STDOUT, check=False)
+    output = done.stdout.decode(errors="replace")
+    sys.stdout.write(output)
+    failed = sum(1 for file in files if str(file) in output)
+    if done.returncode != 0 and failed == 0:
+        failed = len(files)
     return len(files) - failed, failed, 0
 
 

@@ -69,7 +69,6 @@ QUICK = [
     Check("GNU page", ("tools/check_gnu_page.py",)),
     Check("package", ("tools/check_package.sh",)),
     Check("Vim files", ("tools/check_vim.sh",)),
-    Check("web page", ("tools/check_web.sh",)),
     Check("sources", ("tools/lint_sources.py",)),
     Check("definitions", ("tools/definitions.py",)),
     Check("documents", ("tools/check_documents.py",)),
@@ -79,6 +78,7 @@ AFTER_PROOFS = [
     Check("want of memory", ("tools/check_memory.sh",)),
     Check("want of memory in edits", ("tools/check_edits.py",)),
     Check("static program", ("tools/check_static.sh",)),
+    Check("web page", ("tools/check_web.sh",)),
     Check("release", ("tools/release.sh", "--compare")),
 ]
 
