@@ -49,6 +49,8 @@ def scripts_among(files: list[Path]) -> tuple[list[Path], list[Path]]:
 
 def lint(linters: list[list[str]], files: list[Path]) -> tuple[int, int, int]:
     """How many files passed, failed and were skipped."""
+    if not files:
+        return 0, 0, 0
     installed = next((words for words in linters if shutil.which(words[0])), None)
     if not installed:
         names = " or ".join(words[0] for words in linters)
