@@ -1,0 +1,155 @@
+-- Each line stands in its file.
+use Rattle.std.proofs.Common.{◌≡◌, ◌++◌, ℕ, zero, suc, Bool, true, false, cond, nat_le, length, List, [], ◌∷◌, Contains, map}
+use Rattle.std.proofs.Common.{Option, Some, None, Result, Ok, Err, refl, sym, ap, ◌∙◌, subst, inl, inr}
+use Rattle.std.specs.List.{AllByRecursion}
+use Rattle.units_io.specs.FileMap.{FileMap, file_of, longest_file}
+use Rattle.units_io.specs.Fetching.{answer_of}
+use Rattle.units_io.specs.declared.files.FetchFault.{FetchFault}
+use Rattle.units_io.specs.declared.files.FetchFault.TheVariants.{TooLong}
+use Rattle.def_lines.specs.declared.line.Line.{Line}
+use Rattle.def_lines.specs.Lines.{logical_lines, shown}
+use Rattle.deck_lines.specs.Blocks.{end_text, role_of}
+use Rattle.deck_lines.specs.Excerpts.{Included, NotRead, Read, blocks_behind_line, blocks_behind_role, closes_innermost}
+use Rattle.deck_lines.specs.Excerpts.{missing_end, outer_blocks, role_excerpt}
+use Rattle.deck_lines.specs.Includes.{beside, included_by, most_depth}
+use Rattle.deck_lines.specs.Readings.{Defines, Faulty, Includes, Reading, Stands, reading_of}
+use Rattle.deck_lines.specs.declared.line.Block.{Block}
+use Rattle.deck_lines.specs.declared.line.DeckLine.{DeckLine}
+use Rattle.deck_lines.specs.declared.line.Role.{Role}
+use Rattle.deck_lines.specs.declared.line.Role.TheVariants.{Closes, Inside, Opens}
+use Rattle.line_files.proofs.Members.{member_first, member_later}
+use Rattle.line_files.proofs.Members.{all_append}
+use Rattle.line_files.specs.FileLines.{FileLine, file_lines, in_file, include_lines, line_lines, lines_below}
+use Rattle.line_files.specs.FileLines.{lines_of_answer, rest_lines}
+use Rattle.line_files.specs.Laws.{IsLineOf, IsInItsFile}
+
+-- a block that a line of its number opens
+abbrev IsOpenedIn : List Line → Block → Type 0
+IsOpenedIn all block = (source : Line) × Contains all source × (block.number ≡ source.number)
+
+module _ (P : FileLine → Type 0) (file : List ℕ) (all : List Line)
+    (own : (line : DeckLine) → IsLineOf all line → P (in_file file line))
+    (included : List ℕ → Included) (below : List ℕ → List FileLine)
+    (deeper : (word : List ℕ) → AllByRecursion P (below word)) where
+  -- a line as it stands
+  plain : (line : Line) → Contains all line → (mark : Bool)
+      → P (in_file file (record { number = line.number; text = line.text; mark = mark }))
+  plain line i mark = own (record { number = line.number; text = line.text; mark = mark })
+      (record { source = line; stands = i; number = refl; text = inl refl })
+
+  each_include : (line : Line) → Contains all line → (i : Included) (xs : List FileLine) → AllByRecursion P xs
+      → AllByRecursion P (include_lines file line i xs)
+  each_include line i (Read excerpt) xs h = (plain line i false, h)
+  each_include line i (NotRead text) xs h = (plain line i true, tt)
+
+  each_role : (blocks : List Block) (line : Line) → Contains all line → (role : Role)
+      → AllByRecursion P (map (in_file file) (role_excerpt file blocks line role).lines)
+  each_role blocks line i (Opens ending) = (plain line i false, tt)
+  each_role blocks line i Inside = (plain line i false, tt)
+  each_role blocks line i (Closes ending) = by (closes_innermost ending blocks) refl
+    where
+      by : (b : Bool) → closes_innermost ending blocks ≡ b
+          → AllByRecursion P (map (in_file file) (role_excerpt file blocks line (Closes ending)).lines)
+      by true e = rw e (plain line i false, tt)
+      by false e = rw e (plain line i true, tt)
+
+  each_line : (blocks : List Block) (line : Line) → Contains all line → (r : Reading)
+      → AllByRecursion P (line_lines included below file blocks line r)
+  each_line blocks line i (Includes name) = each_include line i (included name) (below name) (deeper name)
+  each_line blocks line i (Stands role) = each_role blocks line i role
+  each_line blocks line i (Defines entry) = (plain line i false, tt)
+  each_line blocks line i (Faulty text) = (plain line i true, tt)
+
+  -- the blocks stay opened by lines of the file
+  outer : (blocks : List Block) → AllByRecursion (IsOpenedIn all) blocks
+      → AllByRecursion (IsOpenedIn all) (outer_blocks blocks)
+  outer [] h = tt
+  outer (block ∷ blocks) h = h.1
+
+  behind_role : (blocks : List Block) → AllByRecursion (IsOpenedIn all) blocks → (line : Line) → Contains all line
+      → (role : Role) → AllByRecursion (IsOpenedIn all) (blocks_behind_role blocks line.number role)
+  behind_role blocks h line i (Opens ending) = ((line, i, refl), h)
+  behind_role blocks h line i Inside = h
+  behind_role blocks h line i (Closes ending) = by (closes_innermost ending blocks) refl
+    where
+      by : (b : Bool) → closes_innermost ending blocks ≡ b
+          → AllByRecursion (IsOpenedIn all) (blocks_behind_role blocks line.number (Closes ending))
+      by true e = rw e (outer blocks h)
+      by false e = rw e h
+
+  behind : (blocks : List Block) → AllByRecursion (IsOpenedIn all) blocks → (line : Line) → Contains all line
+      → (r : Reading) → AllByRecursion (IsOpenedIn all) (blocks_behind_line blocks line r)
+  behind blocks h line i (Includes name) = h
+  behind blocks h line i (Stands role) = behind_role blocks h line i role
+  behind blocks h line i (Defines entry) = h
+  behind blocks h line i (Faulty text) = h
+
+  each_end : (blocks : List Block) → AllByRecursion (IsOpenedIn all) blocks
+      → AllByRecursion P (map (in_file file) (map missing_end blocks))
+  each_end [] h = tt
+  each_end (block ∷ blocks) h = (
+    own (missing_end block) (record {
+      source = h.0.0;
+      stands = h.0.1;
+      number = h.0.2;
+      text = inr (block.ending, refl);
+    }),
+    each_end blocks h.1,
+  )
+
+  pub each_rest : (blocks : List Block) → AllByRecursion (IsOpenedIn all) blocks → (lines : List Line)
+      → ((line : Line) → Contains lines line → Contains all line)
+      → AllByRecursion P (rest_lines included below file blocks lines)
+  unfolding rest_lines
+  each_rest blocks h [] inside = each_end blocks h
+  each_rest blocks h (line ∷ lines) inside =
+      let r = reading_of line.text in
+      let here = inside line (member_first line line lines refl) in
+      all_append P (line_lines included below file blocks line r)
+      (rest_lines included below file (blocks_behind_line blocks line r) lines)
+      (each_line blocks line here r)
+      (each_rest (blocks_behind_line blocks line r) (behind blocks h line here r) lines
+      (λ x i. inside x (member_later x line lines i)))
+
+abbrev ok_of : Result (List ℕ) FetchFault → List ℕ
+ok_of (Ok x) = x
+ok_of (Err fault) = []
+
+-- what is read of a file is what it holds
+read_is : (o : Option (List ℕ)) (bytes : List ℕ) → answer_of o ≡ Ok bytes → o ≡ Some bytes
+read_is None bytes e = cc
+read_is (Some held) bytes e = by (nat_le (length held) longest_file) e
+  where
+    by : (b : Bool) → cond b (Ok held) (Err TooLong) ≡ Ok bytes → Some held ≡ Some bytes
+    by true e = ap (λ r. Some (ok_of r)) e
+    by false e = cc
+
+module _ (files : FileMap) where
+  -- the lines of one file and of those below it
+  each_file : (included : List ℕ → Included) (below : List ℕ → List FileLine)
+      → ((word : List ℕ) → AllByRecursion (IsInItsFile files) (below word)) → (name bytes : List ℕ)
+      → file_of files name ≡ Some bytes
+      → AllByRecursion (IsInItsFile files) (rest_lines included below name [] (shown (logical_lines bytes)))
+  each_file included below deeper name bytes e =
+      each_rest (IsInItsFile files) name (shown (logical_lines bytes)) (λ line h. (bytes, e, h)) included below deeper
+      [] tt (shown (logical_lines bytes)) (λ line i. i)
+
+  each_below : (depth : ℕ) (name : List ℕ) → AllByRecursion (IsInItsFile files) (lines_below files depth name)
+  unfolding lines_below
+  each_below zero name = tt
+  each_below (suc depth) name =
+      by (λ word. each_below depth (beside name word)) (answer_of (file_of files name)) refl
+    where
+      by : ((word : List ℕ) → AllByRecursion (IsInItsFile files) (lines_below files depth (beside name word)))
+          → (answer : Result (List ℕ) FetchFault) → answer_of (file_of files name) ≡ answer
+          → AllByRecursion (IsInItsFile files) (lines_of_answer (included_by files depth name)
+          (λ word. lines_below files depth (beside name word)) name answer)
+      by deeper (Ok bytes) e =
+          each_file (included_by files depth name) (λ word. lines_below files depth (beside name word)) deeper name bytes (read_is (file_of files name) bytes e)
+      by deeper (Err fault) e = tt
+
+  pub each_stands : (name bytes : List ℕ) → file_of files name ≡ Some bytes
+      → AllByRecursion (IsInItsFile files) (file_lines files name bytes)
+  each_stands name bytes e =
+      each_file (included_by files most_depth name) (λ word. lines_below files most_depth (beside name word))
+      (λ word. each_below most_depth (beside name word)) name bytes e

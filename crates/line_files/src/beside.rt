@@ -1,0 +1,33 @@
+//! Names of included files.
+
+ghost use Rattle.std.specs.Prelude.{◌≡◌, IfOk};
+ghost use Rattle.deck_lines.specs.Includes.{beside, folder_of};
+
+use std::alloc::{AllocError, Global};
+use units_io::Text;
+
+/// The name of the file that a line of the file `includer` includes by the word `name`.
+pub(crate) fn name_beside(alloc: Global, includer: &[u8], name: &[u8]) -> Result<Text, AllocError>
+    ensures { IfOk result (λ full. full ≡ beside includer.now name.now) }
+{
+    if name.first() == Some(&b'/') {
+        return Text::from_bytes(alloc, name);
+    }
+    let mut full = Vec::from_slice(alloc, folder(includer))?;
+    full.extend_from_slice(name)?;
+    Ok(Text::from(full))
+}
+
+// The name up to and including its last `/`.
+fn folder(name: &[u8]) -> &[u8]
+    ensures { result.now ≡ folder_of name.now }
+{
+    let mut rest = name;
+    while let Some((b, start)) = rest.split_last() {
+        if *b == b'/' {
+            break;
+        }
+        rest = start;
+    }
+    rest
+}

@@ -1,0 +1,34 @@
+//! Why the files of lines are unknown.
+
+use std::alloc::{AllocError, AllocFailed};
+
+/// Why the files of lines are unknown.
+#[derive(Clone, Copy, Debug, PartialEq, Eq)]
+pub enum LineFilesFault {
+    /// The files no longer have the lines of the deck, or one could not be read.
+    Changed,
+    /// Want of memory.
+    OutOfMemory,
+}
+
+impl From<AllocError> for LineFilesFault {
+    ghost use Rattle.std.specs.Prelude.{◌≡◌};
+    ghost use Rattle.line_files.specs.declared.fault.LineFilesFault.TheVariants.{OutOfMemory};
+
+    ghost from_gives = { λ _ fault. fault ≡ OutOfMemory };
+
+    fn from(_: AllocError) -> Self {
+        LineFilesFault::OutOfMemory
+    }
+}
+
+impl<T: Drop> From<AllocFailed<T>> for LineFilesFault {
+    ghost use Rattle.std.specs.Prelude.{◌≡◌};
+    ghost use Rattle.line_files.specs.declared.fault.LineFilesFault.TheVariants.{OutOfMemory};
+
+    ghost from_gives = { λ _ fault. fault ≡ OutOfMemory };
+
+    fn from(_: AllocFailed<T>) -> Self {
+        LineFilesFault::OutOfMemory
+    }
+}

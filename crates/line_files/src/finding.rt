@@ -1,0 +1,189 @@
+//! A second pass over the files of a deck.
+
+ghost use Rattle.std.specs.Prelude.{◌≡◌, ◌++◌, ◌∷◌, [], ◌≤◌, IfOk, OnOk, Some, length, map, reverse};
+ghost use Rattle.units_io.specs.FileMap.{FileMap, longest_file};
+ghost use Rattle.def_lines.specs.Kinds.{kind_of};
+ghost use Rattle.def_lines.specs.Seen.{seen_kind};
+ghost use Rattle.deck_lines.specs.Blocks.{role_of};
+ghost use Rattle.deck_lines.specs.Excerpts as excerpts;
+ghost use Rattle.deck_lines.specs.Includes.{beside, included_by};
+ghost use Rattle.deck_lines.specs.Readings.{reading_of};
+ghost use Rattle.line_files.specs.FileLines as spec;
+
+use crate::beside::name_beside;
+use crate::fault::LineFilesFault;
+use crate::line_files::LineFiles;
+use crate::pass::{NamedFile, Pass, end_line_text, same_ending};
+use deck_lines::{Block, Ending, Role};
+use def_lines::{Cursor, LentLine, Line, LineKind, classify};
+use std::alloc::Global;
+use units_io::{FetchFault, Files};
+
+/// How deep files are included below the first one.
+const MOST_DEPTH: u8 = 16;
+
+/// The files of the lines of a deck that was loaded from a file of this name and these bytes. Each file that it
+/// includes is read once more, and no definition is parsed. The error is `Changed` if the files have other lines than
+/// the deck, or if one of them cannot be read.
+pub fn find_line_files<F: Files>(
+    alloc: Global,
+    files: &mut F,
+    name: &[u8],
+    bytes: &[u8],
+    lines: &[Line],
+) -> Result<LineFiles, LineFilesFault>
+    requires { length bytes.now ≤ longest_file }
+    ensures found { (m : FileMap) → F.files files.old ≡ Some m
+        → IfOk result (λ found. found ≡ spec.file_names (spec.file_lines m name.now bytes.now)) }
+    ensures all { IfOk result (λ found. length found ≡ length lines.now) }
+    ensures kept { F.files files.new ≡ F.files files.old }
+{
+    let mut pass = Pass {
+        expected: lines,
+        found: LineFiles::new(alloc),
+    };
+    pass_file(alloc, files, &mut pass, name, bytes, MOST_DEPTH)?;
+    let Pass { expected: _, found } = pass;
+    if found.len() != lines.len() {
+        return Err(LineFilesFault::Changed);
+    }
+    Ok(found)
+}
+
+// The lines of a file of this name and these bytes, if so many files may be included one in another below it.
+#[cycle(pass)]
+fn pass_file<F: Files>(
+    alloc: Global,
+    files: &mut F,
+    pass: &mut Pass<'_>,
+    name: &[u8],
+    bytes: &[u8],
+    depth: u8,
+) -> Result<(), LineFilesFault>
+    requires { length bytes.now ≤ longest_file }
+    ensures found { (m : FileMap) → F.files files.old ≡ Some m → OnOk result
+        (pass.new.found ≡ pass.old.found ++ spec.file_names (spec.lines_above m depth name.now bytes.now)) }
+    ensures kept { F.files files.new ≡ F.files files.old }
+{
+    let file = NamedFile {
+        name,
+        near: pass.found.name_count(),
+    };
+    let mut blocks: Vec<Block> = Vec::new(alloc);
+    let mut lines = Cursor::new(bytes);
+    while let Some(line) = lines.take_shown(alloc)? {
+        pass_line(alloc, files, pass, file, &mut blocks, line, depth)?;
+    }
+    pass_missing_ends(alloc, pass, file, blocks)
+}
+
+// The next line of a file in which these blocks are open.
+#[cycle(pass)]
+fn pass_line<F: Files>(
+    alloc: Global,
+    files: &mut F,
+    pass: &mut Pass<'_>,
+    file: NamedFile<'_>,
+    blocks: &mut Vec<Block>,
+    line: LentLine<'_>,
+    depth: u8,
+) -> Result<(), LineFilesFault>
+    ensures found { (m : FileMap) → F.files files.old ≡ Some m → OnOk result
+        (pass.new.found ≡ pass.old.found ++ spec.file_names
+        (spec.lines_of m depth file.entry.name.now (reverse blocks.old.items) line.entry)) }
+    ensures blocks { OnOk result (reverse blocks.new.items
+        ≡ excerpts.blocks_behind_line (reverse blocks.old.items) line.entry (reading_of line.entry.text)) }
+    ensures kept { F.files files.new ≡ F.files files.old }
+{
+    pass.push(alloc, file, line.number(), line.text())?;
+    match classify(line.text()) {
+        LineKind::Include(word) => {
+            let name = name_beside(alloc, file.name, word)?;
+            pass_include(alloc, files, pass, name.as_bytes(), depth)
+        }
+        kind => Ok(change_blocks(blocks, line.number(), role(kind))?),
+    }
+}
+
+// The lines of the file of this name, which a line includes, if so many files may be included one in another, this
+// one counted.
+#[cycle(pass)]
+fn pass_include<F: Files>(
+    alloc: Global,
+    files: &mut F,
+    pass: &mut Pass<'_>,
+    name: &[u8],
+    depth: u8,
+) -> Result<(), LineFilesFault>
+    ensures found { (m : FileMap) → F.files files.old ≡ Some m → OnOk result
+        (pass.new.found ≡ pass.old.found ++ spec.file_names (spec.lines_below m depth name.now)) }
+    ensures kept { F.files files.new ≡ F.files files.old }
+{
+    if depth == 0 {
+        return Ok(());
+    }
+    match files.fetch(alloc, name) {
+        Ok(text) => pass_file(alloc, files, pass, name, text.as_bytes(), depth - 1),
+        Err(FetchFault::Absent) | Err(FetchFault::TooLong) => Ok(()),
+        Err(FetchFault::Failed) => Err(LineFilesFault::Changed),
+        Err(FetchFault::OutOfMemory) => Err(LineFilesFault::OutOfMemory),
+    }
+}
+
+// What a line of this kind does to the blocks around it.
+fn role(kind: LineKind<'_>) -> Role
+    ensures { result ≡ role_of (seen_kind kind) }
+{
+    match kind {
+        LineKind::Locale(_) => Role::Opens(Ending::ByLocale),
+        LineKind::Var(_, _) | LineKind::VarNot(_, _) => Role::Opens(Ending::ByVar),
+        LineKind::Utf8 => Role::Opens(Ending::ByUtf8),
+        LineKind::EndLocale => Role::Closes(Ending::ByLocale),
+        LineKind::EndVar => Role::Closes(Ending::ByVar),
+        LineKind::EndUtf8 => Role::Closes(Ending::ByUtf8),
+        _ => Role::Inside,
+    }
+}
+
+// The open blocks after a line of this number that does this to them, the innermost last.
+fn change_blocks(blocks: &mut Vec<Block>, number: u32, role: Role) -> Result<(), LineFilesFault>
+    ensures { OnOk result (reverse blocks.new.items
+        ≡ excerpts.blocks_behind_role (reverse blocks.old.items) number role) }
+{
+    match role {
+        Role::Opens(ending) => blocks.push(Block { ending, number })?,
+        Role::Closes(ending) => {
+            if closes_innermost(blocks.as_slice(), ending) {
+                let _ = blocks.pop();
+            }
+        }
+        Role::Inside => {}
+    }
+    Ok(())
+}
+
+// Whether this end line closes the innermost block.
+fn closes_innermost(blocks: &[Block], ending: Ending) -> bool
+    ensures { result ≡ excerpts.closes_innermost ending (reverse blocks.now) }
+{
+    match blocks.last() {
+        Some(block) => same_ending(ending, block.ending),
+        None => false,
+    }
+}
+
+// The end lines of the blocks that are not closed, the innermost first.
+fn pass_missing_ends(
+    alloc: Global,
+    pass: &mut Pass<'_>,
+    file: NamedFile<'_>,
+    mut blocks: Vec<Block>,
+) -> Result<(), LineFilesFault>
+    ensures { OnOk result (pass.new.found
+        ≡ pass.old.found ++ map (λ block. file.entry.name.now) (reverse blocks.items)) }
+{
+    while let Some(block) = blocks.pop() {
+        pass.push(alloc, file, block.number, end_line_text(block.ending))?;
+    }
+    Ok(())
+}

@@ -1,0 +1,14 @@
+//! The file of each line of a deck. The deck itself knows the number of a line, but not its file.
+#![tactic(auto)]
+
+mod beside;
+mod fault;
+mod finding;
+mod laws;
+mod line_files;
+mod pass;
+
+pub use fault::LineFilesFault;
+pub use finding::find_line_files;
+pub use laws::file_lines_law;
+pub use line_files::LineFiles;

@@ -1,0 +1,76 @@
+//! The lines of files, compared with those of a deck as they are read.
+
+ghost use Rattle.std.specs.Prelude.{◌≡◌, ◌++◌, ◌∷◌, [], OnOk};
+ghost use Rattle.deck_lines.specs.Blocks.{end_text};
+ghost use Rattle.deck_lines.specs.Blocks as blocks;
+ghost use Rattle.line_files.specs.FileLines.{file_names};
+
+use crate::fault::LineFilesFault;
+use crate::line_files::LineFiles;
+use deck_lines::Ending;
+use def_lines::Line;
+use std::alloc::Global;
+
+/// The files of the lines that were read so far, and the lines of the deck.
+#[derive(Drop)]
+pub(crate) struct Pass<'a> {
+    pub(crate) expected: &'a [Line],
+    pub(crate) found: LineFiles,
+}
+
+/// A file that is read: its name, and where that may be stored.
+#[derive(Clone, Copy)]
+pub(crate) struct NamedFile<'a> {
+    pub(crate) name: &'a [u8],
+    pub(crate) near: usize,
+}
+
+impl<'a> Pass<'a> {
+    /// Puts the next line, which is in this file. `Changed` if the deck does not have it at this place.
+    pub(crate) fn push(
+        &mut self,
+        alloc: Global,
+        file: NamedFile<'_>,
+        number: u32,
+        text: &[u8],
+    ) -> Result<(), LineFilesFault>
+        ensures { OnOk result (self.new.found ≡ self.old.found ++ file.entry.name.now ∷ []) }
+    {
+        if !is_line(self.expected.get(self.found.len()), number, text) {
+            return Err(LineFilesFault::Changed);
+        }
+        self.found.push(alloc, file.name, file.near)?;
+        Ok(())
+    }
+}
+
+// Whether there is a line, of this number and this text.
+fn is_line(line: Option<&Line>, number: u32, text: &[u8]) -> bool {
+    match line {
+        Some(line) => line.number == number && line.text.as_bytes() == text,
+        None => false,
+    }
+}
+
+/// The end line of a block.
+pub(crate) fn end_line_text(ending: Ending) -> &'static [u8]
+    ensures { result.now ≡ end_text ending }
+{
+    match ending {
+        Ending::ByLocale => b"!endlocale".as_slice(),
+        Ending::ByVar => b"!endvar".as_slice(),
+        Ending::ByUtf8 => b"!endutf8".as_slice(),
+    }
+}
+
+/// Whether two ends are one.
+pub(crate) fn same_ending(ending: Ending, other: Ending) -> bool
+    ensures { result ≡ blocks.same_ending ending other }
+{
+    matches!(
+        (ending, other),
+        (Ending::ByLocale, Ending::ByLocale)
+            | (Ending::ByVar, Ending::ByVar)
+            | (Ending::ByUtf8, Ending::ByUtf8)
+    )
+}

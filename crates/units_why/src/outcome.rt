@@ -1,0 +1,81 @@
+//! The outcomes of keys.
+
+ghost use Rattle.reply.specs.Options.{IsPrintable};
+
+use def_entry::{Key, Kind};
+use digits_print::Style;
+use expr_tree::parse_expr;
+use live_table::{LiveTable, QueryFault};
+use quantity::Quantity;
+use reply::{Options, ReplyFault, fault_text};
+use std::alloc::{AllocError, Global};
+use std::sync::ledger::Ledger;
+use units_io::{Steps, Text};
+
+/// The outcome of a row.
+#[derive(Drop)]
+pub(crate) enum Outcome {
+    /// Its reduced value.
+    Value(Text),
+    /// A step of its definition, or of one below it, that has no value.
+    Fault(Text),
+    /// A name that it reaches is unknown, refused or on a cycle.
+    NameFault,
+    /// A function has no value of its own.
+    Function,
+}
+
+/// The outcome of a key with a definition of this text.
+pub(crate) fn outcome_of<L: Ledger>(
+    alloc: Global,
+    table: &mut LiveTable,
+    options: &Options,
+    key: &Key,
+    definition: &[u8],
+    steps: &mut Steps<L>,
+) -> Result<Outcome, AllocError>
+    requires { IsPrintable options.now }
+{
+    match key.kind {
+        Kind::Unit => text_outcome(alloc, table, options, key.name.as_bytes(), steps),
+        Kind::Prefix => text_outcome(alloc, table, options, definition, steps),
+        Kind::Func | Kind::List => Ok(Outcome::Function),
+    }
+}
+
+// The outcome of an expression.
+fn text_outcome<L: Ledger>(
+    alloc: Global,
+    table: &mut LiveTable,
+    options: &Options,
+    text: &[u8],
+    steps: &mut Steps<L>,
+) -> Result<Outcome, AllocError>
+    requires { IsPrintable options.now }
+{
+    let Ok(tree) = parse_expr(alloc, text, None) else {
+        return Ok(Outcome::NameFault);
+    };
+    match table.value(alloc, &tree, steps) {
+        Ok(value) => Ok(Outcome::Value(value_text(alloc, options, &value)?)),
+        Err(QueryFault::Name(_)) => Ok(Outcome::NameFault),
+        Err(QueryFault::Value(fault)) => Ok(Outcome::Fault(fault_text(
+            alloc,
+            &ReplyFault::Value(fault),
+            options,
+        )?)),
+        Err(QueryFault::OutOfMemory) => Err(AllocError),
+    }
+}
+
+// A value as the options ask for it.
+fn value_text(alloc: Global, options: &Options, value: &Quantity) -> Result<Text, AllocError>
+    requires { IsPrintable options.now }
+{
+    let style = if options.exact {
+        Style::Exact
+    } else {
+        Style::Digits(options.digits)
+    };
+    value.show(alloc, style)
+}

@@ -1,0 +1,104 @@
+//! The rows above a row.
+
+use std::alloc::{AllocError, Global};
+
+/// The rows above the next one, and the lines of the deck whose definitions these are.
+#[derive(Drop)]
+pub(crate) struct Path {
+    rows: Vec<PathRow>,
+    lines: Vec<LineState>,
+}
+
+// A row of the path, and the place of its line in the deck.
+#[derive(Clone, Copy, Drop)]
+struct PathRow {
+    row: usize,
+    place: Option<usize>,
+}
+
+// Whether the definition on a line is on the path, and whether it has a fault.
+#[derive(Clone, Copy, Drop)]
+struct LineState {
+    is_open: bool,
+    is_faulty: bool,
+}
+
+impl Path {
+    /// No row, over a deck of so many lines.
+    pub(crate) fn new(alloc: Global, lines: usize) -> Result<Path, AllocError> {
+        let mut states = Vec::new(alloc);
+        let state = LineState {
+            is_open: false,
+            is_faulty: false,
+        };
+        states.resize(lines, state)?;
+        Ok(Path {
+            rows: Vec::new(alloc),
+            lines: states,
+        })
+    }
+
+    /// Leaves all rows but those above a row of this depth.
+    pub(crate) fn leave(&mut self, depth: usize) {
+        while self.rows.len() > depth {
+            if let Some(left) = self.rows.pop() {
+                self.set_open(left.place, false);
+            }
+        }
+    }
+
+    /// Enters a row whose definition is at this place.
+    pub(crate) fn enter(
+        &mut self,
+        row: usize,
+        place: Option<usize>,
+        is_faulty: bool,
+    ) -> Result<(), AllocError> {
+        self.rows.push(PathRow { row, place })?;
+        self.set_open(place, true);
+        if is_faulty {
+            self.set_faulty(place);
+        }
+        Ok(())
+    }
+
+    /// The row directly above.
+    pub(crate) fn parent(&self) -> Option<usize> {
+        match self.rows.last() {
+            Some(last) => Some(last.row),
+            None => None,
+        }
+    }
+
+    /// Whether the definition at this place is on the path.
+    pub(crate) fn is_open(&self, place: usize) -> bool {
+        match self.lines.get(place) {
+            Some(state) => state.is_open,
+            None => false,
+        }
+    }
+
+    /// Whether the definition at this place was found to have a fault.
+    pub(crate) fn is_faulty(&self, place: usize) -> bool {
+        match self.lines.get(place) {
+            Some(state) => state.is_faulty,
+            None => false,
+        }
+    }
+
+    fn set_open(&mut self, place: Option<usize>, is_open: bool) {
+        if let Some(place) = place {
+            if place < self.lines.len() {
+                self.lines[place].is_open = is_open;
+            }
+        }
+    }
+
+    fn set_faulty(&mut self, place: Option<usize>) {
+        if let Some(place) = place {
+            if place < self.lines.len() {
+                self.lines[place].is_faulty = true;
+            }
+        }
+    }
+}

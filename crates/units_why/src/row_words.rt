@@ -1,0 +1,51 @@
+//! Words for rows.
+
+use def_entry::{Key, Kind, put_key};
+use expr_tree::WordKind;
+use std::alloc::AllocError;
+use value_sources::{Resolution, Row, Site};
+
+/// How the word of a row leads to its key.
+pub(crate) fn resolution_word(row: &Row, key: &Key) -> &'static [u8] {
+    match (key.kind, row.resolution(), row.word_kind()) {
+        (Kind::Prefix, _, _) => b"prefix",
+        (Kind::Func, _, WordKind::Inverse) => b"inverse function",
+        (Kind::Func, _, _) => b"function",
+        (_, Resolution::Plural, _) => b"plural",
+        _ => b"unit",
+    }
+}
+
+/// The part of the definition above that the word is in, or none if that has one part only.
+pub(crate) fn site_word(site: Site) -> Option<&'static [u8]> {
+    match site {
+        Site::Expression | Site::Body | Site::AliasTarget => None,
+        Site::InUnit => Some(b"argument unit".as_slice()),
+        Site::OutUnit => Some(b"result unit".as_slice()),
+        Site::Forward => Some(b"forward".as_slice()),
+        Site::Inverse => Some(b"inverse".as_slice()),
+        Site::TableUnit => Some(b"table unit".as_slice()),
+    }
+}
+
+/// Whether the word of a row is written otherwise than the name of its key.
+pub(crate) fn is_rewritten(row: &Row, key: &Key) -> bool {
+    row.word() != key.name.as_bytes()
+}
+
+/// Puts the name of a row: its key, or its word if that is unknown.
+pub(crate) fn put_name(out: &mut Vec<u8>, row: &Row) -> Result<(), AllocError> {
+    match row.key() {
+        Some(key) => put_key(out, key),
+        None => Ok(out.extend_from_slice(row.word())?),
+    }
+}
+
+/// What a row is told to be if it leads to no definition.
+pub(crate) fn fault_word(row: &Row) -> &'static [u8] {
+    if row.is_refused() {
+        b"refused function"
+    } else {
+        b"unknown unit"
+    }
+}

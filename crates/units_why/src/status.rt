@@ -1,0 +1,40 @@
+//! How a run ends.
+
+ghost use Rattle.std.specs.Prelude.{◌≡◌};
+ghost use Rattle.units_why.specs.Statuses as spec;
+
+/// The ending of a run, with the numbers that `units` has for it.
+#[derive(Clone, Copy, Debug, PartialEq, Eq)]
+pub(crate) enum Status {
+    /// The answer is written.
+    Done,
+    /// The value is a fault or a conformability error, or the definitions have findings.
+    Refused,
+    /// The words are not taken.
+    Usage,
+    /// The definition file is absent, too long, or too much for a deck.
+    NoFile,
+    /// A file could not be read.
+    ReadFault,
+    /// The answer could not be written.
+    WriteFault,
+    /// There was not enough memory.
+    NoMemory,
+}
+
+impl Status {
+    /// The number that the process ends with.
+    pub(crate) fn code(self) -> u8
+        ensures { result ≡ spec.code_of self.entry }
+    {
+        match self {
+            Status::Done => 0,
+            Status::Refused => 1,
+            Status::Usage => 2,
+            Status::NoFile => 3,
+            Status::ReadFault => 4,
+            Status::WriteFault => 5,
+            Status::NoMemory => 6,
+        }
+    }
+}
