@@ -1,3 +1,5 @@
 mod Members
+mod Naming
+mod Passing
 mod SameLines
 mod Standing

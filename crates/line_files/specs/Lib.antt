@@ -1,3 +1,4 @@
 pub mod FileLines
 pub mod Laws
 pub mod Names
+pub mod Steps

@@ -1,21 +1,18 @@
 //! A second pass over the files of a deck.
 
-ghost use Rattle.std.specs.Prelude.{◌≡◌, ◌++◌, ◌∷◌, [], ◌≤◌, IfOk, OnOk, Some, length, map, reverse};
+ghost use Rattle.std.specs.Prelude.{◌≡◌, ◌++◌, ◌≤◌, IfOk, OnOk, Some, length, map, reverse};
 ghost use Rattle.units_io.specs.FileMap.{FileMap, longest_file};
-ghost use Rattle.def_lines.specs.Kinds.{kind_of};
-ghost use Rattle.def_lines.specs.Seen.{seen_kind};
-ghost use Rattle.deck_lines.specs.Blocks.{role_of};
 ghost use Rattle.deck_lines.specs.Excerpts as excerpts;
-ghost use Rattle.deck_lines.specs.Includes.{beside, included_by};
 ghost use Rattle.deck_lines.specs.Readings.{reading_of};
 ghost use Rattle.line_files.specs.FileLines as spec;
 
 use crate::beside::name_beside;
 use crate::fault::LineFilesFault;
 use crate::line_files::LineFiles;
-use crate::pass::{NamedFile, Pass, end_line_text, same_ending};
-use deck_lines::{Block, Ending, Role};
-use def_lines::{Cursor, LentLine, Line, LineKind, classify};
+use crate::pass::{NamedFile, Pass, end_line_text};
+use crate::step::{Step, change_blocks, step_of};
+use deck_lines::Block;
+use def_lines::{Cursor, LentLine, Line};
 use std::alloc::Global;
 use units_io::{FetchFault, Files};
 
@@ -72,7 +69,7 @@ fn pass_file<F: Files>(
     let mut blocks: Vec<Block> = Vec::new(alloc);
     let mut lines = Cursor::new(bytes);
     while let Some(line) = lines.take_shown(alloc)? {
-        pass_line(alloc, files, pass, file, &mut blocks, line, depth)?;
+        pass_line(alloc, files, pass, file, &mut blocks, &line, depth)?;
     }
     pass_missing_ends(alloc, pass, file, blocks)
 }
@@ -85,23 +82,23 @@ fn pass_line<F: Files>(
     pass: &mut Pass<'_>,
     file: NamedFile<'_>,
     blocks: &mut Vec<Block>,
-    line: LentLine<'_>,
+    line: &LentLine<'_>,
     depth: u8,
 ) -> Result<(), LineFilesFault>
     ensures found { (m : FileMap) → F.files files.old ≡ Some m → OnOk result
         (pass.new.found ≡ pass.old.found ++ spec.file_names
-        (spec.lines_of m depth file.entry.name.now (reverse blocks.old.items) line.entry)) }
+        (spec.lines_of m depth file.entry.name.now (reverse blocks.old.items) line.now)) }
     ensures blocks { OnOk result (reverse blocks.new.items
-        ≡ excerpts.blocks_behind_line (reverse blocks.old.items) line.entry (reading_of line.entry.text)) }
+        ≡ excerpts.blocks_behind_line (reverse blocks.old.items) line.now (reading_of line.now.text)) }
     ensures kept { F.files files.new ≡ F.files files.old }
 {
     pass.push(alloc, file, line.number(), line.text())?;
-    match classify(line.text()) {
-        LineKind::Include(word) => {
+    match step_of(line.text()) {
+        Step::Includes(word) => {
             let name = name_beside(alloc, file.name, word)?;
             pass_include(alloc, files, pass, name.as_bytes(), depth)
         }
-        kind => Ok(change_blocks(blocks, line.number(), role(kind))?),
+        Step::Changes(role) => change_blocks(blocks, line.number(), role),
     }
 }
 
@@ -124,51 +121,10 @@ fn pass_include<F: Files>(
     }
     match files.fetch(alloc, name) {
         Ok(text) => pass_file(alloc, files, pass, name, text.as_bytes(), depth - 1),
-        Err(FetchFault::Absent) | Err(FetchFault::TooLong) => Ok(()),
+        Err(FetchFault::Absent) => Ok(()),
+        Err(FetchFault::TooLong) => Ok(()),
         Err(FetchFault::Failed) => Err(LineFilesFault::Changed),
         Err(FetchFault::OutOfMemory) => Err(LineFilesFault::OutOfMemory),
-    }
-}
-
-// What a line of this kind does to the blocks around it.
-fn role(kind: LineKind<'_>) -> Role
-    ensures { result ≡ role_of (seen_kind kind) }
-{
-    match kind {
-        LineKind::Locale(_) => Role::Opens(Ending::ByLocale),
-        LineKind::Var(_, _) | LineKind::VarNot(_, _) => Role::Opens(Ending::ByVar),
-        LineKind::Utf8 => Role::Opens(Ending::ByUtf8),
-        LineKind::EndLocale => Role::Closes(Ending::ByLocale),
-        LineKind::EndVar => Role::Closes(Ending::ByVar),
-        LineKind::EndUtf8 => Role::Closes(Ending::ByUtf8),
-        _ => Role::Inside,
-    }
-}
-
-// The open blocks after a line of this number that does this to them, the innermost last.
-fn change_blocks(blocks: &mut Vec<Block>, number: u32, role: Role) -> Result<(), LineFilesFault>
-    ensures { OnOk result (reverse blocks.new.items
-        ≡ excerpts.blocks_behind_role (reverse blocks.old.items) number role) }
-{
-    match role {
-        Role::Opens(ending) => blocks.push(Block { ending, number })?,
-        Role::Closes(ending) => {
-            if closes_innermost(blocks.as_slice(), ending) {
-                let _ = blocks.pop();
-            }
-        }
-        Role::Inside => {}
-    }
-    Ok(())
-}
-
-// Whether this end line closes the innermost block.
-fn closes_innermost(blocks: &[Block], ending: Ending) -> bool
-    ensures { result ≡ excerpts.closes_innermost ending (reverse blocks.now) }
-{
-    match blocks.last() {
-        Some(block) => same_ending(ending, block.ending),
-        None => false,
     }
 }
 

@@ -7,6 +7,7 @@ mod finding;
 mod laws;
 mod line_files;
 mod pass;
+mod step;
 
 pub use fault::LineFilesFault;
 pub use finding::find_line_files;

@@ -1,6 +1,6 @@
 //! The file names of lines.
 
-ghost use Rattle.std.specs.Prelude.{◌≡◌, ◌++◌, ◌∷◌, [], Some, length, option_map, slice_get, true, OnOk};
+ghost use Rattle.std.specs.Prelude.{◌≡◌, ◌<◌, ◌++◌, ◌∷◌, [], length, option_map, slice_get, true, OnOk};
 ghost use Rattle.line_files.specs.Names as spec;
 
 use std::alloc::{AllocError, Global};
@@ -49,9 +49,10 @@ impl LineFiles {
     pub fn name(&self, line: usize) -> Option<&[u8]>
         ensures { option_map (λ name. name.now) result ≡ slice_get self.now line }
     {
-        let number = *self.numbers.get(line)?;
-        let name = self.names.get(number)?;
-        Some(name.as_bytes())
+        match self.numbers.get(line) {
+            Some(number) => Some(name_at(self.names.as_slice(), *number)),
+            None => None,
+        }
     }
 
     /// The number of the file of the line at this place. The lines of a file have one number each time it is read, and a
@@ -86,12 +87,20 @@ impl LineFiles {
     }
 }
 
-// Whether the name at a place is this one.
-fn has_name(names: &[Text], place: usize, name: &[u8]) -> bool
-    ensures { result ≡ true → slice_get names.now place ≡ Some name.now }
+// The name at a place, or the empty one.
+fn name_at(names: &[Text], place: usize) -> &[u8]
+    ensures { result.now ≡ spec.name_at names.now place }
 {
     match names.get(place) {
-        Some(stored) => stored.as_bytes() == name,
-        None => false,
+        Some(name) => name.as_bytes(),
+        None => b"".as_slice(),
     }
+}
+
+// Whether the name at a place is this one.
+fn has_name(names: &[Text], place: usize, name: &[u8]) -> bool
+    ensures within { result ≡ true → place < length names.now }
+    ensures name { result ≡ true → spec.name_at names.now place ≡ name.now }
+{
+    place < names.len() && name_at(names, place) == name
 }

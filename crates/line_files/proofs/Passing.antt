@@ -1,0 +1,182 @@
+-- The files of lines, line by line.
+use Rattle.std.proofs.Common.{◌≡◌, ◌++◌, ℕ, zero, suc, Bool, true, false, List, [], ◌∷◌, map, reverse, refl, sym, ap, ◌∙◌}
+use Rattle.std.proofs.Common.{Option, Some, None, Result, Ok, Err, OnOk, IfSome, ◌-◌, subst, arith}
+use Rattle.std.specs.Map.Iter.{TakesFirst}
+use Rattle.std.proofs.lemmas.List.{append-nil, append_assoc, map-append, reverse-append}
+use Rattle.units_io.specs.FileMap.{FileMap, file_of}
+use Rattle.units_io.specs.Fetching.{answer_of}
+use Rattle.units_io.specs.declared.files.FetchFault.{FetchFault}
+use Rattle.units_io.specs.declared.files.FetchFault.TheVariants.{Absent, TooLong, Failed, OutOfMemory}
+use Rattle.def_lines.specs.declared.line.Line.{Line}
+use Rattle.deck_lines.specs.Excerpts.{Included, blocks_behind_line, blocks_behind_role, closes_innermost, file_end}
+use Rattle.deck_lines.specs.Excerpts.{missing_end, role_excerpt}
+use Rattle.deck_lines.specs.Includes.{beside, included_below, included_by, of_answer}
+use Rattle.deck_lines.specs.Readings.{Defines, Faulty, Includes, Reading, Stands, of_entry, reading_of}
+use Rattle.deck_lines.specs.declared.line.Block.{Block}
+use Rattle.deck_lines.specs.declared.line.Role.{Role}
+use Rattle.deck_lines.specs.declared.line.Role.TheVariants.{Closes, Inside, Opens}
+use Rattle.line_files.specs.FileLines.{FileLine, all_in_file, file_names, in_file, include_lines, line_lines}
+use Rattle.line_files.specs.FileLines.{lines_above, lines_below, lines_of, lines_of_answer, rest_lines}
+use Rattle.line_files.specs.Steps.{role_in}
+
+-- lines that were put in a file are in it
+ends_named : (file : List ℕ) (blocks : List Block)
+    → file_names (map (in_file file) (map missing_end blocks)) ≡ map (λ block. file) blocks
+ends_named file [] = refl
+ends_named file (block ∷ blocks) = ap (λ (names : List (List ℕ)). file ∷ names) (ends_named file blocks)
+
+module _ (included : List ℕ → Included) (below : List ℕ → List FileLine) (file : List ℕ) (blocks : List Block) where
+  -- the next line of a file
+  pub line_passed : (ys zs : List Line) (x : Line) → ys ≡ x ∷ zs → (mid whole now : List (List ℕ)) →
+      mid ++ file_names (rest_lines included below file blocks ys) ≡ whole →
+      now ≡ mid ++ file_names (line_lines included below file blocks x (reading_of x.text)) →
+      (blocks_now : List Block) → blocks_now ≡ blocks_behind_line blocks x (reading_of x.text)
+      → now ++ file_names (rest_lines included below file blocks_now zs) ≡ whole
+  unfolding rest_lines
+  line_passed ys zs x h mid whole now so_far named blocks_now behind =
+      let here = line_lines included below file blocks x (reading_of x.text) in
+      let rest = rest_lines included below file (blocks_behind_line blocks x (reading_of x.text)) zs in
+      ap (λ bs. now ++ file_names (rest_lines included below file bs zs)) behind
+      ∙ ap (λ ns. ns ++ file_names rest) named
+      ∙ append_assoc mid (file_names here) (file_names rest)
+      ∙ ap (λ ns. mid ++ ns) (sym (map-append (λ (line : FileLine). line.file) here rest))
+      ∙ ap (λ ls. mid ++ file_names (rest_lines included below file blocks ls)) (sym h)
+      ∙ so_far
+
+  -- the end of a file
+  pub file_passed : {E : Type 0} (ys : List Line) (mid whole after : List (List ℕ)) (r : Result (Unit {0}) E) →
+      ys ≡ [] → mid ++ file_names (rest_lines included below file blocks ys) ≡ whole →
+      OnOk r (after ≡ mid ++ map (λ block. file) blocks) → OnOk r (after ≡ whole)
+  unfolding rest_lines
+  file_passed ys mid whole after (Ok u) h so_far named =
+      named
+      ∙ ap (λ ns. mid ++ ns) (sym (ends_named file blocks))
+      ∙ ap (λ ls. mid ++ file_names (rest_lines included below file blocks ls)) (sym h)
+      ∙ so_far
+  file_passed ys mid whole after (Err e) h so_far named = named
+
+  role_named : (line : Line) (role : Role)
+      → file_names (all_in_file file (role_excerpt file blocks line role)) ≡ file ∷ []
+  role_named line (Opens ending) = refl
+  role_named line Inside = refl
+  role_named line (Closes ending) = by (closes_innermost ending blocks) refl
+    where
+      by : (b : Bool) → closes_innermost ending blocks ≡ b
+          → file_names (all_in_file file (role_excerpt file blocks line (Closes ending))) ≡ file ∷ []
+      by true e = rw e refl
+      by false e = rw e refl
+
+  -- a line that includes no file
+  pub plain_named : (line : Line) (reading : Reading) (role : Role) → role_in reading ≡ Some role
+      → file_names (line_lines included below file blocks line reading) ≡ file ∷ []
+  plain_named line (Stands own) role e = role_named line own
+  plain_named line (Defines entry) role e = refl
+  plain_named line (Faulty text) role e = refl
+  plain_named line (Includes name) role e = cc
+
+  pub plain_behind : (line : Line) (reading : Reading) (role : Role) → role_in reading ≡ Some role
+      → blocks_behind_line blocks line reading ≡ blocks_behind_role blocks line.number role
+  plain_behind line (Stands own) role e = ap (λ r. blocks_behind_role blocks line.number (unwrapped r)) e
+    where
+      unwrapped : Option Role → Role
+      unwrapped (Some r) = r
+      unwrapped None = own
+  plain_behind line (Defines entry) role e = ap (λ r. blocks_behind_role blocks line.number (unwrapped r)) e
+    where
+      unwrapped : Option Role → Role
+      unwrapped (Some r) = r
+      unwrapped None = Inside
+  plain_behind line (Faulty text) role e = ap (λ r. blocks_behind_role blocks line.number (unwrapped r)) e
+    where
+      unwrapped : Option Role → Role
+      unwrapped (Some r) = r
+      unwrapped None = Inside
+  plain_behind line (Includes name) role e = cc
+
+-- an include line, and the lines of its file
+pub include_named : (files : FileMap) (depth : ℕ) (name file : List ℕ) (line : Line)
+    → file_names (include_lines file line (included_below files depth name) (lines_below files depth name))
+    ≡ file ∷ file_names (lines_below files depth name)
+unfolding included_below lines_below
+include_named files zero name file line = refl
+include_named files (suc depth) name file line = by (answer_of (file_of files name))
+  where
+    by : (answer : Result (List ℕ) FetchFault)
+        → file_names (include_lines file line (of_answer (included_by files depth name) name answer)
+        (lines_of_answer (included_by files depth name) (λ word. lines_below files depth (beside name word)) name
+        answer)) ≡ file ∷ file_names (lines_of_answer (included_by files depth name)
+        (λ word. lines_below files depth (beside name word)) name answer)
+    by (Ok bytes) = refl
+    by (Err Absent) = refl
+    by (Err TooLong) = refl
+    by (Err Failed) = refl
+    by (Err OutOfMemory) = refl
+
+-- an include line whose file was passed
+pub include_passed : {E : Type 0} (r : Result (Unit {0}) E) (files : FileMap) (depth : ℕ) (file name word : List ℕ)
+    (line : Line) (blocks : List Block) (before mid after : List (List ℕ)) →
+    reading_of line.text ≡ Includes word → mid ≡ before ++ file ∷ [] → name ≡ beside file word →
+    OnOk r (after ≡ mid ++ file_names (lines_below files depth name))
+    → OnOk r (after ≡ before ++ file_names (lines_of files depth file blocks line))
+include_passed (Ok u) files depth file name word line blocks before mid after reading middle named told =
+    told
+    ∙ ap (λ ns. ns ++ file_names (lines_below files depth name)) middle
+    ∙ append_assoc before (file ∷ []) (file_names (lines_below files depth name))
+    ∙ ap (λ ns. before ++ ns) (sym (include_named files depth name file line))
+    ∙ ap (λ n. before ++ file_names
+    (include_lines file line (included_below files depth n) (lines_below files depth n))) named
+    ∙ ap (λ r. before ++ file_names (line_lines (included_by files depth file)
+    (λ w. lines_below files depth (beside file w)) file blocks line r)) (sym reading)
+include_passed (Err e) files depth file name word line blocks before mid after reading middle named told = told
+
+-- too many files are included one in another
+pub none_below : (files : FileMap) (depth : ℕ) (name : List ℕ) → depth ≡ 0 → (before : List (List ℕ))
+    → before ≡ before ++ file_names (lines_below files depth name)
+unfolding lines_below
+none_below files depth name e before =
+    sym (ap (λ d. before ++ file_names (lines_below files d name)) e ∙ append-nil before)
+
+below_answer : (files : FileMap) (depth : ℕ) (name : List ℕ) (answer : Result (List ℕ) FetchFault)
+    → answer_of (file_of files name) ≡ answer
+    → lines_below files (suc depth) name ≡ lines_of_answer (included_by files depth name)
+    (λ word. lines_below files depth (beside name word)) name answer
+unfolding lines_below
+below_answer files depth name answer a =
+    ap (lines_of_answer (included_by files depth name) (λ word. lines_below files depth (beside name word)) name) a
+
+module _ (files : FileMap) (depth : ℕ) (name : List ℕ) (nonzero : depth ≡ 0 → ⊥) where
+  deeper : suc (depth - 1) ≡ depth
+  deeper = omega (arith, nonzero)
+
+  -- a file that was read
+  pub read_below : (bytes : List ℕ) → answer_of (file_of files name) ≡ Ok bytes
+      → lines_below files depth name ≡ lines_above files (depth - 1) name bytes
+  read_below bytes a = subst (λ n. lines_below files n name ≡ lines_above files (depth - 1) name bytes) deeper
+      (below_answer files (depth - 1) name (Ok bytes) a)
+
+  -- a file that was not read
+  pub missing_below : (fault : FetchFault) → answer_of (file_of files name) ≡ Err fault
+      → (before : List (List ℕ)) → before ≡ before ++ file_names (lines_below files depth name)
+  missing_below fault a before =
+      sym (ap (λ ls. before ++ file_names ls)
+      (subst (λ n. lines_below files n name ≡ []) deeper (below_answer files (depth - 1) name (Err fault) a))
+      ∙ append-nil before)
+
+-- what is told of files that are told
+pub told_of : (o : Option FileMap) (P : FileMap → Type 0) (m : FileMap) → o ≡ Some m → IfSome o P → P m
+told_of o P m e h = rw e at h
+
+-- the next line is the first one
+pub line_taken : (lines rest : List Line) (o : Option Line) (line : Line) → TakesFirst (λ y. y) lines o rest
+    → o ≡ Some line → lines ≡ line ∷ rest
+line_taken lines rest o line h e = rw e at h
+
+-- no line is left
+pub none_taken : (lines rest : List Line) (o : Option Line) → TakesFirst (λ y. y) lines o rest → o ≡ None → lines ≡ []
+none_taken lines rest o h e = (rw e at h).0
+
+-- the innermost block is the last one
+pub last_first : (all blocks : List Block) (block : Block) (file : List ℕ) → all ≡ blocks ++ block ∷ []
+    → map (λ (b : Block). file) (reverse all) ≡ file ∷ map (λ (b : Block). file) (reverse blocks)
+last_first all blocks block file e = ap (λ bs. map (λ (b : Block). file) (reverse bs)) e
+    ∙ ap (map (λ (b : Block). file)) (reverse-append blocks (block ∷ []))
