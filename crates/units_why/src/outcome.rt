@@ -2,15 +2,16 @@
 
 ghost use Rattle.reply.specs.Options.{IsPrintable};
 
-use def_entry::{Key, Kind};
+use def_entry::Key;
 use digits_print::Style;
-use expr_tree::parse_expr;
+use expr_tree::Tree;
 use live_table::{LiveTable, QueryFault};
 use quantity::Quantity;
 use reply::{Options, ReplyFault, fault_text};
 use std::alloc::{AllocError, Global};
 use std::sync::ledger::Ledger;
 use units_io::{Steps, Text};
+use value_sources::value_tree;
 
 /// The outcome of a row.
 #[derive(Drop)]
@@ -25,38 +26,33 @@ pub(crate) enum Outcome {
     Function,
 }
 
-/// The outcome of a key with a definition of this text.
+/// The outcome of a key that has an entry.
 pub(crate) fn outcome_of<L: Ledger>(
     alloc: Global,
     table: &mut LiveTable,
     options: &Options,
     key: &Key,
-    definition: &[u8],
     steps: &mut Steps<L>,
 ) -> Result<Outcome, AllocError>
     requires { IsPrintable options.now }
 {
-    match key.kind {
-        Kind::Unit => text_outcome(alloc, table, options, key.name.as_bytes(), steps),
-        Kind::Prefix => text_outcome(alloc, table, options, definition, steps),
-        Kind::Func | Kind::List => Ok(Outcome::Function),
+    match value_tree(alloc, table.deck(), key)? {
+        Some(tree) => tree_outcome(alloc, table, options, &tree, steps),
+        None => Ok(Outcome::Function),
     }
 }
 
 // The outcome of an expression.
-fn text_outcome<L: Ledger>(
+fn tree_outcome<L: Ledger>(
     alloc: Global,
     table: &mut LiveTable,
     options: &Options,
-    text: &[u8],
+    tree: &Tree,
     steps: &mut Steps<L>,
 ) -> Result<Outcome, AllocError>
     requires { IsPrintable options.now }
 {
-    let Ok(tree) = parse_expr(alloc, text, None) else {
-        return Ok(Outcome::NameFault);
-    };
-    match table.value(alloc, &tree, steps) {
+    match table.value(alloc, tree, steps) {
         Ok(value) => Ok(Outcome::Value(value_text(alloc, options, &value)?)),
         Err(QueryFault::Name(_)) => Ok(Outcome::NameFault),
         Err(QueryFault::Value(fault)) => Ok(Outcome::Fault(fault_text(

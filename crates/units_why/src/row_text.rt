@@ -11,7 +11,7 @@ use value_sources::Row;
 
 // A row is indented by two blanks for each row above it, up to this many. Deeper rows begin with their depth, so that
 // the tree of a long chain does not grow with the square of its length.
-const MOST_INDENTED: usize = 40;
+const MOST_INDENTED: usize = 20;
 
 /// Puts the line of a row.
 pub(crate) fn put_row_text(
@@ -27,8 +27,8 @@ pub(crate) fn put_row_text(
     out.extend_from_slice(b": ".as_slice())?;
     match &tree_row.standing {
         Standing::Unknown => out.extend_from_slice(fault_word(row))?,
-        Standing::Above => out.extend_from_slice(b"see above".as_slice())?,
-        Standing::Cycle => out.extend_from_slice(b"a cycle: this definition is above".as_slice())?,
+        Standing::Above => put_mention(out, row, b"see above")?,
+        Standing::Cycle => put_mention(out, row, b"a cycle: this definition is above")?,
         Standing::Defined(place, outcome) => {
             put_definition(out, places, row)?;
             put_outcome(out, outcome, tree_row.is_explained)?;
@@ -59,16 +59,34 @@ fn put_definition(out: &mut Vec<u8>, places: Places<'_>, row: &Row) -> Result<()
     };
     out.extend_from_slice(resolution_word(row, key))?;
     put_word(out, row, key)?;
-    if let Some(site) = site_word(row.site()) {
-        out.extend_from_slice(b" (".as_slice())?;
-        out.extend_from_slice(site)?;
-        out.push(b')')?;
-    }
+    put_site(out, row)?;
     out.extend_from_slice(b", ".as_slice())?;
     match places.deck.entry(key.kind, key.name.as_bytes()) {
         Some(entry) => Ok(out.extend_from_slice(entry.text())?),
         None => Ok(()),
     }
+}
+
+// Puts how the word leads to its key, and some words.
+fn put_mention(out: &mut Vec<u8>, row: &Row, words: &[u8]) -> Result<(), AllocError> {
+    if let Some(key) = row.key() {
+        out.extend_from_slice(resolution_word(row, key))?;
+        put_word(out, row, key)?;
+        put_site(out, row)?;
+        out.extend_from_slice(b", ".as_slice())?;
+    }
+    out.extend_from_slice(words)?;
+    Ok(())
+}
+
+// Puts the part of the definition above that the word is in.
+fn put_site(out: &mut Vec<u8>, row: &Row) -> Result<(), AllocError> {
+    if let Some(site) = site_word(row.site()) {
+        out.extend_from_slice(b" (".as_slice())?;
+        out.extend_from_slice(site)?;
+        out.push(b')')?;
+    }
+    Ok(())
 }
 
 // Puts the word as it is written, if that differs from the name.

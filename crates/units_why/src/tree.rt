@@ -5,13 +5,12 @@ ghost use Rattle.reply.specs.Options.{IsPrintable};
 use crate::outcome::{Outcome, outcome_of};
 use crate::path::Path;
 use deck::Deck;
-use def_entry::Key;
-use expr_tree::{Tree, parse_expr};
+use expr_tree::parse_expr;
 use live_table::LiveTable;
 use reply::Options;
 use std::alloc::{AllocError, Global};
 use std::sync::ledger::Ledger;
-use units_io::{Steps, Text};
+use units_io::Steps;
 use value_sources::{Row, rows};
 
 /// A row of a tree.
@@ -113,17 +112,8 @@ fn standing_of<L: Ledger>(
     if !row.is_visit() {
         return Ok(if path.is_open(place) { Standing::Cycle } else { Standing::Above });
     }
-    let definition = definition_text(alloc, table.deck(), key)?;
-    let outcome = outcome_of(alloc, table, options, key, definition.as_bytes(), steps)?;
+    let outcome = outcome_of(alloc, table, options, key, steps)?;
     Ok(Standing::Defined(place, outcome))
-}
-
-// The text of the definition of a key.
-fn definition_text(alloc: Global, deck: &Deck, key: &Key) -> Result<Text, AllocError> {
-    match deck.entry(key.kind, key.name.as_bytes()) {
-        Some(entry) => Text::from_bytes(alloc, entry.text()),
-        None => Text::from_bytes(alloc, b""),
-    }
 }
 
 // The place of the definition that the rows below a row come from.
