@@ -1,0 +1,10 @@
+pub mod Marking
+pub mod Members
+pub mod Once
+pub mod OneList
+pub mod Reached
+pub mod Reversing
+pub mod Trying
+pub mod Values
+pub mod Walking
+pub mod Words
