@@ -1,0 +1,66 @@
+-- Marks of the lines of visited keys.
+use Rattle.std.proofs.Common.{◌≡◌, ◌≢◌, ◌⊎◌, ◌++◌, ◌∷◌, ◌<◌, [], ℕ, Bool, true, false, true≢false, List, length, set}
+use Rattle.std.proofs.Common.{get_or}
+use Rattle.std.proofs.Common.{Option, Some, None, option_map, is_some, refl, sym, ap, subst, ◌∙◌, inl, inr, slice_get}
+use Rattle.std.proofs.Common.{arith, cond}
+use Rattle.std.specs.List.{list_any}
+use Rattle.std.specs.Map.{lookup}
+use Rattle.std.specs.Option.{option_and_then}
+use Rattle.std.proofs.lemmas.List.{get_or-set_other, get_or-set_same, length-set}
+use Rattle.std.proofs.lemmas.Option.{same_Some, slice_get_within}
+use Rattle.def_entry.specs.declared.key.Key.{Key}
+use Rattle.def_entry.specs.Entries.{Entry}
+use Rattle.def_entry.specs.SameKeys.{is_among, is_same}
+use Rattle.def_entry.specs.Tables.{keys_of}
+use Rattle.def_entry.proofs.SameKeys.{same_keys}
+use Rattle.deck_lines.specs.Readings.{entry_in}
+use Rattle.deck_lines.specs.Stores.{definition_at}
+use Rattle.deck_lines.specs.declared.line.DeckLine.{DeckLine}
+use Rattle.deck.specs.Decks.{Contents}
+use Rattle.deck.specs.PlacedKeys.{key_there}
+use Rattle.deck.specs.Tables.{Definitions, definitions, last_place, place_of}
+use Rattle.value_sources.proofs.Placing.{one_key, within}
+use Rattle.value_sources.specs.Visits.{MarksVisits, is_marked}
+use Rattle.value_sources.specs.Walks.{AreMarked}
+
+-- a key is among some keys and one more if it is among them or is that one
+among_push : (before : List Key) (n k : Key) → is_among (before ++ n ∷ []) k ≡ cond (is_same k n) true
+    (is_among before k)
+among_push [] n k = by (is_same k n)
+  where
+    by : (b : Bool) → cond b true false ≡ cond b true false
+    by b = refl
+among_push (m ∷ before) n k = by (is_same k m) (is_same k n) (among_push before n k)
+  where
+    by : (b c : Bool) → list_any (is_same k) (before ++ n ∷ []) ≡ cond c true (is_among before k)
+        → cond b true (list_any (is_same k) (before ++ n ∷ [])) ≡ cond c true (cond b true (is_among before k))
+    by true true h = refl
+    by true false h = refl
+    by false true h = h
+    by false false h = h
+
+-- once its line is marked, a key is among those that were visited
+pub marked_next : (d : Contents) (marks : List Bool) (before : List Key) (n : Key) (place : ℕ)
+    → length marks ≡ length d.lines → MarksVisits d marks before → last_place d.settings d.lines n ≡ Some place
+    → MarksVisits d (set marks place true) (before ++ n ∷ [])
+marked_next d marks before n place room h e k = by (last_place d.settings d.lines k) refl (is_same k n) refl
+  where
+    inside : place < length marks
+    inside = let w = within d n place e in omega (arith, room, w)
+
+    by : (o : Option ℕ) → last_place d.settings d.lines k ≡ o → (b : Bool) → is_same k n ≡ b
+        → is_marked (set marks place true) o ≡ is_among (before ++ n ∷ []) k
+    by None q true s =
+        let z : None ≡ Some place =
+        sym q ∙ ap (last_place d.settings d.lines) ((same_keys k n).0 s) ∙ e in cc
+    by None q false s =
+        sym (ap (is_marked marks) q) ∙ h k ∙ sym (among_push before n k ∙ ap (λ b. cond b true (is_among before k)) s)
+    by (Some p) q true s =
+        let same : p ≡ place =
+        same_Some p place (sym q ∙ ap (last_place d.settings d.lines) ((same_keys k n).0 s) ∙ e) in
+        ap (λ x. get_or (set marks place true) x false) same ∙ get_or-set_same marks place true false inside
+        ∙ sym (among_push before n k ∙ ap (λ b. cond b true (is_among before k)) s)
+    by (Some p) q false s =
+        get_or-set_other marks place p true false
+        (λ same. true≢false (sym ((same_keys k n).1 (one_key d k n place (q ∙ ap Some same) e)) ∙ s))
+        ∙ sym (ap (is_marked marks) q) ∙ h k ∙ sym (among_push before n k ∙ ap (λ b. cond b true (is_among before k)) s)
