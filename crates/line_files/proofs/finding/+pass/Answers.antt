@@ -9,8 +9,8 @@ use Rattle.line_files.proofs.Passing.{file_passed, include_passed, line_passed, 
 use Rattle.line_files.proofs.Passing.{none_taken, read_below, told_of}
 use Rattle.line_files.proofs.finding.+pass.Goals as goal
 
-pub pass_file-loop-blocks-preserved : goal.pass_file-loop-blocks-preserved
-pass_file-loop-blocks-preserved g t c = record {
+pub pass_file-loop-blocks-preserved-in_ok-pass_line : goal.pass_file-loop-blocks-preserved-in_ok-pass_line
+pass_file-loop-blocks-preserved-in_ok-pass_line g t c = record {
   kept = c.in_ok-pass_line.ensures.kept ∙ c.loop-blocks.invariant.kept;
   found = λ m h.
       line_passed (included_by m c.args.depth c.args.name.now)
@@ -48,17 +48,19 @@ pass_include-returns-in-Ok-clause-found g t c = λ m h.
 pub pass_include-returns-in-Err-Absent-clause-found : goal.pass_include-returns-in-Err-Absent-clause-found
 pass_include-returns-in-Err-Absent-clause-found g t c = λ m h.
     missing_below m c.args.depth c.args.name.now c.if-depth-eq0.false Absent
-    (told_of _ (λ n. IsFetched n c.args.name.now (Err Absent)) m h c.in-Err-Absent.ensures.told)
+    (told_of _ (λ n. IsFetched n c.args.name.now (Err Absent)) m h
+    (rw c.in-Err-Absent.field-0-is at c.in-Err-Absent.ensures.told))
     c.args.pass.now.found
 
 pub pass_include-returns-in-Err-TooLong-clause-found : goal.pass_include-returns-in-Err-TooLong-clause-found
 pass_include-returns-in-Err-TooLong-clause-found g t c = λ m h.
     missing_below m c.args.depth c.args.name.now c.if-depth-eq0.false TooLong
-    (told_of _ (λ n. IsFetched n c.args.name.now (Err TooLong)) m h c.in-Err-TooLong.ensures.told)
+    (told_of _ (λ n. IsFetched n c.args.name.now (Err TooLong)) m h
+    (rw c.in-Err-TooLong.field-0-is at c.in-Err-TooLong.ensures.told))
     c.args.pass.now.found
 
-pub pass_line-returns-in-Includes-clause-found : goal.pass_line-returns-in-Includes-clause-found
-pass_line-returns-in-Includes-clause-found g t c = λ m h.
+pub pass_line-returns-in_ok-name-in-Includes-clause-found : goal.pass_line-returns-in_ok-name-in-Includes-clause-found
+pass_line-returns-in_ok-name-in-Includes-clause-found g t c = λ m h.
     include_passed c.pass_include.result m c.args.depth c.args.file.name.now c.as_bytes.result.now c.in-Includes.word.now
     c.args.line.now (reverse c.args.blocks.now.items) c.args.pass.now.found c.push.new.self.found
     c.pass_include.new.pass.found

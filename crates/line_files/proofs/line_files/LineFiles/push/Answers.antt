@@ -1,4 +1,4 @@
-use Rattle.std.proofs.Common.{◌<◌, ◌≡◌, ◌++◌, [], ◌∷◌, ◌∙◌, ap, length, subst, sym}
+use Rattle.std.proofs.Common.{◌<◌, ◌≡◌, ◌++◌, [], ◌∷◌, ◌∙◌, ap, length, refl, subst, sym}
 use Rattle.line_files.specs.Names.{AreBelow, names_at}
 use Rattle.line_files.proofs.Naming.{below_next, last_below, last_named, still_below}
 use Rattle.line_files.proofs.line_files.LineFiles.push.Goals as goal
@@ -7,7 +7,7 @@ pub invariant_of-self-then-has_name : goal.invariant_of-self-then-has_name
 invariant_of-self-then-has_name c =
     subst (λ xs. AreBelow (length c.self.inside.names) xs) (sym c.in_ok-push.ensures.items)
     (below_next (length c.self.inside.names) c.args.near c.self.inside.numbers.items c.self.invariant
-    (subst (λ names. c.args.near < length names) c.as_slice.ensures c.if-has_name.ensures.within))
+    (subst (λ names. c.args.near < length names) c.as_slice.ensures (c.if-has_name.ensures.within refl)))
 
 pub invariant_of-self-in_err-push-3 : goal.invariant_of-self-in_err-push-3
 invariant_of-self-in_err-push-3 c =
@@ -29,5 +29,5 @@ returns c =
     ap (λ xs. names_at c.push-2.new.self xs) c.in_ok-push-3.ensures.items
     ∙ last_named c.self.inside.names c.push-2.new.self c.in_ok-text.text c.in_ok-push-2.ensures.ok
     c.len-number.result c.len-number.ensures c.self.inside.numbers.items c.self.invariant
-    ∙ ap (λ ns. ns ++ c.in_ok-text.text ∷ []) (sym c.self.view_is)
+    ∙ ap (λ ns. ns ++ c.in_ok-text.text ∷ []) c.self.view_is
     ∙ ap (λ name. c.args.self.now ++ name ∷ []) c.in_ok-text.ensures

@@ -1,0 +1,159 @@
+#!/usr/bin/env python3
+"""Checks the trees of units-why for all units and prefixes of the standard library.
+
+    tools/check_why.py [--program UNITS_WHY] [--library FILE]
+
+For each definition that is in force, it compares three things with what Python finds by its own reading of the files:
+
+- the file and the line of the row;
+- the value of the row with the value of its text, computed with fractions from the values of the rows below it;
+- the lines that the row says it replaces, which are the other active definitions of its key.
+
+The last line is `N passed, M failed`.
+"""
+
+from __future__ import annotations
+
+import argparse
+import json
+import os
+import subprocess
+import sys
+from collections import defaultdict
+from dataclasses import dataclass, field
+from pathlib import Path
+
+from plain_quantities import Fault, Quantity
+from plain_tables import Reader
+from unit_files import Kind, read_deck
+
+ROOT = Path(__file__).resolve().parent.parent
+LIBRARY = ROOT / "share/units/standard.units"
+LOCALES = ("en_US", "en_GB")
+NAMES_A_RUN = 150
+
+
+@dataclass
+class Results:
+    passed: int = 0
+    failed: int = 0
+
+    def check(self, holds: bool, message: str) -> None:
+        if holds:
+            self.passed += 1
+        else:
+            self.failed += 1
+            print(message)
+
+
+@dataclass
+class Node:
+    """A row with the rows directly below it."""
+
+    row: dict
+    below: list[Node] = field(default_factory=list)
+
+
+class Tree:
+    """The values of the rows of an expression, each computed from its text and the values of the rows below it."""
+
+    def __init__(self, rows: list[dict]):
+        self.nodes: dict[str, Node] = {}
+        self.values: dict[str, Quantity] = {}
+        path: list[Node] = []
+        for row in rows:
+            node = Node(row)
+            del path[row["depth"] :]
+            if path:
+                path[-1].below.append(node)
+            path.append(node)
+            if "text" in row:
+                self.nodes[row["key"]] = node
+
+    def value(self, key: str) -> Quantity:
+        if key not in self.values:
+            self.values[key] = self.computed(self.nodes[key])
+        return self.values[key]
+
+    def computed(self, node: Node) -> Quantity:
+        text = node.row["text"]
+        if text == "!":
+            return Quantity(1, {node.row["key"]: 1})
+        if text.startswith("!"):
+            return Quantity(1)
+        return Reader(text, None).sum()(Words(self, node), None)
+
+
+class Words:
+    """The values of the words of a definition, in the form that `Reader` asks for."""
+
+    functions: dict = {}
+
+    def __init__(self, tree: Tree, node: Node):
+        self.tree = tree
+        self.keys: dict[str, set[str]] = defaultdict(set)
+        for child in node.below:
+            self.keys[child.row["word"]].add(child.row["key"])
+
+    def worth(self, word: str) -> Quantity:
+        if word not in self.keys:
+            raise Fault(f"no row for {word}")
+        value = Quantity(1)
+        for key in self.keys[word]:
+            value = value.scaled(self.tree.value(key), 1)
+        return value
+
+
+def run(program: str, library: Path, locale: str, expression: str) -> list[dict]:
+    """The rows of an expression."""
+    command = [program, "--exact", "--json", "-f", str(library), "-l", locale, "--", expression]
+    done = subprocess.run(command, stdin=subprocess.DEVNULL, stdout=subprocess.PIPE, check=False)
+    return [json.loads(line) for line in done.stdout.splitlines()][1:]
+
+
+def check_rows(rows: list[dict], places: dict[str, list[str]], results: Results) -> set[str]:
+    """Checks the rows of one expression, and returns the keys whose definitions it has."""
+    tree = Tree(rows)
+    for key, node in tree.nodes.items():
+        row = node.row
+        *others, last = places[key]
+        results.check(f"{row.get('file')}:{row.get('line')}" == last, f"{key} is at {last}, not {row}")
+        replaced = [f"{line['file']}:{line['line']}" for line in row.get("replaces", [])]
+        results.check(replaced == others, f"{key} replaces {others}, not {replaced}")
+        if row["how"] not in ("function", "inverse function"):
+            text = tree.value(key).text()
+            results.check(text == row["value"], f"{key} is {text}, not {row['value']}")
+    return set(tree.nodes)
+
+
+def check_locale(program: str, library: Path, locale: str, results: Results) -> None:
+    deck = read_deck(str(library))
+    active = [line for line in deck.active(locale, os.environ) if line.kind is not Kind.LIST]
+    places: dict[str, list[str]] = defaultdict(list)
+    for definition in active:
+        places[definition.key].append(str(definition.place))
+    names = [line.name for line in active if line.kind is Kind.UNIT]
+    prefixes = [line.name for line in active if line.kind is Kind.PREFIX]
+    words = names + [prefix + names[0] for prefix in prefixes]
+    keys = set()
+    for start in range(0, len(words), NAMES_A_RUN):
+        rows = run(program, library, locale, " ".join(words[start : start + NAMES_A_RUN]))
+        keys |= check_rows(rows, places, results)
+    for key in {f"{name}" for name in names} | {f"{prefix}-" for prefix in prefixes}:
+        results.check(key in keys, f"{key} has no row")
+
+
+def main() -> int:
+    parser = argparse.ArgumentParser(description="Checks the trees of units-why for the standard library.")
+    parser.add_argument("--program", default=str(ROOT / "bin/units-why"))
+    parser.add_argument("--library", type=Path, default=LIBRARY)
+    arguments = parser.parse_args()
+    results = Results()
+    for locale in LOCALES:
+        check_locale(arguments.program, arguments.library, locale, results)
+    print(f"{results.passed} passed, {results.failed} failed")
+    return 1 if results.failed or not results.passed else 0
+
+
+if __name__ == "__main__":
+    sys.exit(main())
