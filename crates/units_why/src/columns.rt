@@ -53,7 +53,7 @@ impl OpenFile {
         if line <= self.lines {
             return 1;
         }
-        while self.lines + 1 < line {
+        for _ in 0..line - self.lines - 1 {
             if !self.skip_line() {
                 return 1;
             }
@@ -64,8 +64,11 @@ impl OpenFile {
     // The text from the place on.
     fn rest(&self) -> &[u8] {
         let bytes = self.text.as_bytes();
-        let at = if self.at < bytes.len() { self.at } else { bytes.len() };
-        &bytes[at..]
+        if self.at < bytes.len() {
+            &bytes[self.at..]
+        } else {
+            b"".as_slice()
+        }
     }
 
     // Passes over a line, if there is one.

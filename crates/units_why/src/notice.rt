@@ -2,7 +2,8 @@
 
 use crate::finding::{Finding, Severity, Spot};
 use std::alloc::{AllocError, Global};
-use units_io::Text;
+use std::str;
+use units_io::{Text, prefix_len};
 
 /// A notice `FILE:LINE: MESSAGE` in its parts. `None` if it has no such parts.
 #[derive(Clone, Copy)]
@@ -13,8 +14,7 @@ pub(crate) struct Notice<'a> {
 
 /// The parts of a notice. Its file name ends before the first `:LINE: ` in it.
 pub(crate) fn read_notice(text: &[u8]) -> Option<Notice<'_>> {
-    let mut at = 0usize;
-    while at < text.len() {
+    for at in 0..text.len() {
         let (file, rest) = text.split_at(at);
         if let Some((line, message)) = read_line_number(rest) {
             let spot = Spot {
@@ -24,7 +24,6 @@ pub(crate) fn read_notice(text: &[u8]) -> Option<Notice<'_>> {
             };
             return Some(Notice { spot, message });
         }
-        at += 1;
     }
     None
 }
@@ -35,18 +34,8 @@ fn read_line_number(text: &[u8]) -> Option<(usize, &[u8])> {
     if *mark != b':' {
         return None;
     }
-    let mut number = 0usize;
-    let mut rest = digits;
-    while let Some((byte, behind)) = rest.split_first() {
-        if !byte.is_ascii_digit() {
-            break;
-        }
-        number = number.checked_mul(10)?.checked_add((*byte - b'0') as usize)?;
-        rest = behind;
-    }
-    if rest.len() == digits.len() {
-        return None;
-    }
+    let (number, rest) = digits.split_at(prefix_len(digits, |byte| byte.is_ascii_digit()));
+    let number = str::from_utf8(number).ok()?.parse::<usize>().ok()?;
     let message = rest.strip_prefix(b": ".as_slice())?;
     Some((number, message))
 }

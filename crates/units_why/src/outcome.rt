@@ -1,5 +1,6 @@
 //! The outcomes of keys.
 
+ghost use Rattle.digits_print.specs.Styles.{IsStyle};
 ghost use Rattle.reply.specs.Options.{IsPrintable};
 
 use def_entry::Key;
@@ -68,10 +69,17 @@ fn tree_outcome<L: Ledger>(
 fn value_text(alloc: Global, options: &Options, value: &Quantity) -> Result<Text, AllocError>
     requires { IsPrintable options.now }
 {
-    let style = if options.exact {
+    value.show(alloc, style_of(options))
+}
+
+// The style of numbers.
+fn style_of(options: &Options) -> Style
+    requires { IsPrintable options.now }
+    ensures { IsStyle result }
+{
+    if options.exact {
         Style::Exact
     } else {
         Style::Digits(options.digits)
-    };
-    value.show(alloc, style)
+    }
 }

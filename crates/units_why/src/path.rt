@@ -40,7 +40,7 @@ impl Path {
 
     /// Leaves all rows but those above a row of this depth.
     pub(crate) fn leave(&mut self, depth: usize) {
-        while self.rows.len() > depth {
+        for _ in depth..self.rows.len() {
             if let Some(left) = self.rows.pop() {
                 self.set_open(left.place, false);
             }

@@ -28,7 +28,7 @@ pub(crate) fn put_row_json(
         Standing::Above => put_flag_member(out, b"above", true)?,
         Standing::Cycle => put_text_member(out, b"fault", b"cycle")?,
         Standing::Defined(place, outcome) => {
-            put_definition(out, places, row)?;
+            put_definition(out, places, row, *place)?;
             put_outcome(out, outcome, tree_row.is_explained)?;
             put_place_members(alloc, out, places, *place)?;
             put_replaced(alloc, out, places, shadows, *place)?;
@@ -53,11 +53,16 @@ fn put_key_members(alloc: Global, out: &mut Vec<u8>, row: &Row) -> Result<(), Al
     }
 }
 
-fn put_definition(out: &mut Vec<u8>, places: Places<'_>, row: &Row) -> Result<(), AllocError> {
+fn put_definition(
+    out: &mut Vec<u8>,
+    places: Places<'_>,
+    row: &Row,
+    place: usize,
+) -> Result<(), AllocError> {
     let Some(key) = row.key() else {
         return Ok(());
     };
-    match places.deck.entry(key.kind, key.name.as_bytes()) {
+    match places.deck.entry_near(place, key.kind, key.name.as_bytes()) {
         Some(entry) => put_text_member(out, b"text", entry.text()),
         None => Ok(()),
     }

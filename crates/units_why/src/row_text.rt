@@ -13,6 +13,8 @@ use value_sources::Row;
 // the tree of a long chain does not grow with the square of its length.
 const MOST_INDENTED: usize = 20;
 
+const BLANKS: &[u8] = b"                                        ";
+
 /// Puts the line of a row.
 pub(crate) fn put_row_text(
     alloc: Global,
@@ -30,7 +32,7 @@ pub(crate) fn put_row_text(
         Standing::Above => put_mention(out, row, b"see above")?,
         Standing::Cycle => put_mention(out, row, b"a cycle: this definition is above")?,
         Standing::Defined(place, outcome) => {
-            put_definition(out, places, row)?;
+            put_definition(out, places, row, *place)?;
             put_outcome(out, outcome, tree_row.is_explained)?;
             put_places(alloc, out, places, shadows, *place)?;
         }
@@ -41,9 +43,7 @@ pub(crate) fn put_row_text(
 
 fn put_indent(alloc: Global, out: &mut Vec<u8>, depth: usize) -> Result<(), AllocError> {
     let indented = if depth < MOST_INDENTED { depth } else { MOST_INDENTED };
-    for _ in 0..indented {
-        out.extend_from_slice(b"  ".as_slice())?;
-    }
+    out.extend_from_slice(BLANKS.get(..2 * indented).unwrap_or(b""))?;
     if depth > MOST_INDENTED {
         out.push(b'(')?;
         crate::json::put_number(alloc, out, depth)?;
@@ -53,7 +53,12 @@ fn put_indent(alloc: Global, out: &mut Vec<u8>, depth: usize) -> Result<(), Allo
 }
 
 // Puts how the word leads to its key, and the text of the definition.
-fn put_definition(out: &mut Vec<u8>, places: Places<'_>, row: &Row) -> Result<(), AllocError> {
+fn put_definition(
+    out: &mut Vec<u8>,
+    places: Places<'_>,
+    row: &Row,
+    place: usize,
+) -> Result<(), AllocError> {
     let Some(key) = row.key() else {
         return Ok(());
     };
@@ -61,7 +66,7 @@ fn put_definition(out: &mut Vec<u8>, places: Places<'_>, row: &Row) -> Result<()
     put_word(out, row, key)?;
     put_site(out, row)?;
     out.extend_from_slice(b", ".as_slice())?;
-    match places.deck.entry(key.kind, key.name.as_bytes()) {
+    match places.deck.entry_near(place, key.kind, key.name.as_bytes()) {
         Some(entry) => Ok(out.extend_from_slice(entry.text())?),
         None => Ok(()),
     }

@@ -9,17 +9,26 @@ use value_sources::{Resolution, Row, Site};
 pub(crate) fn resolution_word(row: &Row, key: &Key) -> &'static [u8] {
     match (key.kind, row.resolution(), row.word_kind()) {
         (Kind::Prefix, _, _) => b"prefix",
-        (Kind::Func, _, WordKind::Inverse) => b"inverse function",
+        (Kind::Func, _, WordKind::Inverse) if !is_alias_target(row) => b"inverse function",
         (Kind::Func, _, _) => b"function",
         (_, Resolution::Plural, _) => b"plural",
         _ => b"unit",
     }
 }
 
+// Whether a word is the function that an alias names, which is called in the direction of the alias.
+fn is_alias_target(row: &Row) -> bool {
+    match row.site() {
+        Site::AliasTarget => true,
+        _ => false,
+    }
+}
+
 /// The part of the definition above that the word is in, or none if that has one part only.
 pub(crate) fn site_word(site: Site) -> Option<&'static [u8]> {
     match site {
-        Site::Expression | Site::Body | Site::AliasTarget => None,
+        Site::Expression | Site::Body => None,
+        Site::AliasTarget => Some(b"alias".as_slice()),
         Site::InUnit => Some(b"argument unit".as_slice()),
         Site::OutUnit => Some(b"result unit".as_slice()),
         Site::Forward => Some(b"forward".as_slice()),

@@ -9,8 +9,8 @@ use crate::lint::lint;
 use crate::status::Status;
 use crate::stop::Stop;
 use crate::why::{Question, explain};
+use deck::Deck;
 use reply::Options;
-use session::notice_lines;
 use std::alloc::{AllocError, Global};
 use std::mem;
 use std::sync::ledger::Ledger;
@@ -115,6 +115,17 @@ fn answer_to<F: Files, L: Ledger>(
         )?;
     }
     Ok(answer)
+}
+
+// The notices of a load, one a line.
+fn notice_lines(alloc: Global, deck: &Deck) -> Result<Vec<u8>, AllocError>
+{
+    let mut text = Vec::new(alloc);
+    for notice in deck.notices().as_slice() {
+        text.extend_from_slice(notice.as_bytes())?;
+        text.push(b'\n')?;
+    }
+    Ok(text)
 }
 
 fn question_of<'a>(from: &'a Text, to: &'a Option<Text>, json: bool) -> Question<'a> {

@@ -1,6 +1,7 @@
 //! Lines that later lines of the same key replace.
 
 use deck::Deck;
+use def_entry::Kind;
 use std::alloc::{AllocError, Global};
 
 /// For each line of a deck the active lines before it that define the same key, if it is the line in force. All are
@@ -18,15 +19,33 @@ impl Shadows {
         let active = deck.active_lines(alloc)?;
         let mut next = Vec::new(alloc);
         next.resize(active.len(), None)?;
-        let mut place = active.len();
+        let count = active.len();
         let mut shadows = Shadows { next, active };
-        while place > 0 {
-            place -= 1;
+        if !shadows.has_any(deck) {
+            return Ok(shadows);
+        }
+        for done in 0..count {
+            let place = count - 1 - done;
             if let Some(last) = shadows.replacing(deck, place) {
                 shadows.link(place, last);
             }
         }
         Ok(shadows)
+    }
+
+    // Whether more active lines define keys than there are keys.
+    fn has_any(&self, deck: &Deck) -> bool {
+        let mut lines = 0usize;
+        for place in 0..self.active.len() {
+            if self.active[place] && deck.key_at(place).is_some() {
+                lines = lines.saturating_add(1);
+            }
+        }
+        let mut keys = 0usize;
+        for kind in [Kind::Unit, Kind::Prefix, Kind::Func, Kind::List] {
+            keys = keys.saturating_add(deck.key_count(kind));
+        }
+        lines > keys
     }
 
     /// The line in force of the key of an active line, if that is another one.

@@ -22,6 +22,20 @@ pass_file-loop-blocks-preserved-in_ok-pass_line g t c = record {
       (reverse c.pass_line.new.blocks.items) c.in_ok-pass_line.ensures.blocks;
 }
 
+-- the same if the line was borrowed
+pub pass_file-loop-blocks-preserved : goal.pass_file-loop-blocks-preserved
+pass_file-loop-blocks-preserved g t c = record {
+  kept = c.in_ok-pass_line.ensures.kept ∙ c.loop-blocks.invariant.kept;
+  found = λ m h.
+      line_passed (included_by m c.args.depth c.args.name.now)
+      (λ word. lines_below m c.args.depth (beside c.args.name.now word)) c.args.name.now
+      (reverse c.loop-blocks.blocks.items) (shown c.loop-blocks.lines) (shown c.take_shown.new.self) c.in-Some.line
+      (line_taken _ _ _ _ c.in_ok-line.ensures.ok c.in-Some.is)
+      c.loop-blocks.pass.found _ c.pass_line.new.pass.found (c.loop-blocks.invariant.found m h)
+      (c.in_ok-pass_line.ensures.found m (c.loop-blocks.invariant.kept ∙ h))
+      (reverse c.pass_line.new.blocks.items) c.in_ok-pass_line.ensures.blocks;
+}
+
 pub pass_file-returns-clause-found : goal.pass_file-returns-clause-found
 pass_file-returns-clause-found g t c = λ m h.
     file_passed (included_by m c.args.depth c.args.name.now)
