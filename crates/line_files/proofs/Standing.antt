@@ -1,5 +1,6 @@
 -- Each line stands in its file.
-use Rattle.std.proofs.Common.{◌≡◌, ◌++◌, ℕ, zero, suc, Bool, true, false, cond, nat_le, length, List, [], ◌∷◌, Contains, map}
+use Rattle.std.proofs.Common.{◌≡◌, ◌++◌, ℕ, zero, suc, Bool, true, false, cond, nat_le, length, List, [], ◌∷◌, Contains}
+use Rattle.std.proofs.Common.{map}
 use Rattle.std.proofs.Common.{Option, Some, None, Result, Ok, Err, refl, sym, ap, ◌∙◌, subst, inl, inr}
 use Rattle.std.specs.List.{AllByRecursion}
 use Rattle.units_io.specs.FileMap.{FileMap, file_of, longest_file}
@@ -145,7 +146,8 @@ module _ (files : FileMap) where
           → AllByRecursion (IsInItsFile files) (lines_of_answer (included_by files depth name)
           (λ word. lines_below files depth (beside name word)) name answer)
       by deeper (Ok bytes) e =
-          each_file (included_by files depth name) (λ word. lines_below files depth (beside name word)) deeper name bytes (read_is (file_of files name) bytes e)
+          each_file (included_by files depth name) (λ word. lines_below files depth (beside name word)) deeper name
+              bytes (read_is (file_of files name) bytes e)
       by deeper (Err fault) e = tt
 
   pub each_stands : (name bytes : List ℕ) → file_of files name ≡ Some bytes

@@ -67,12 +67,7 @@ impl LineFiles {
     }
 
     /// Puts a line of the file of this name at the end. If the name is stored at `near`, it is not stored again.
-    pub(crate) fn push(
-        &mut self,
-        alloc: Global,
-        name: &[u8],
-        near: usize,
-    ) -> Result<(), AllocError>
+    pub(crate) fn push(&mut self, alloc: Global, name: &[u8], near: usize) -> Result<(), AllocError>
         ensures { OnOk result (self.new ≡ self.old ++ name.now ∷ []) }
     {
         if has_name(self.names.as_slice(), near, name) {

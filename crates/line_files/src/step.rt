@@ -41,7 +41,11 @@ pub(crate) fn step_of(line: &[u8]) -> Step<'_>
 }
 
 /// The open blocks after a line of this number that does this to them, the innermost last.
-pub(crate) fn change_blocks(blocks: &mut Vec<Block>, number: u32, role: Role) -> Result<(), LineFilesFault>
+pub(crate) fn change_blocks(
+    blocks: &mut Vec<Block>,
+    number: u32,
+    role: Role,
+) -> Result<(), LineFilesFault>
     ensures { OnOk result (reverse blocks.new.items
         ≡ excerpts.blocks_behind_role (reverse blocks.old.items) number role) }
 {

@@ -78,13 +78,7 @@ fn read_again<F: Files>(
     deck: &Deck,
 ) -> Result<LineFiles, LineFilesFault> {
     match files.fetch(alloc, name) {
-        Ok(text) => find_line_files(
-            alloc,
-            files,
-            name,
-            text.as_bytes(),
-            deck.lines().as_slice(),
-        ),
+        Ok(text) => find_line_files(alloc, files, name, text.as_bytes(), deck.lines().as_slice()),
         Err(FetchFault::OutOfMemory) => Err(LineFilesFault::OutOfMemory),
         Err(_) => Err(LineFilesFault::Changed),
     }

@@ -72,7 +72,11 @@ pub(crate) fn put_number_member(
 }
 
 /// Puts a number in decimal digits.
-pub(crate) fn put_number(alloc: Global, out: &mut Vec<u8>, number: usize) -> Result<(), AllocError> {
+pub(crate) fn put_number(
+    alloc: Global,
+    out: &mut Vec<u8>,
+    number: usize,
+) -> Result<(), AllocError> {
     out.extend_from_slice(number.to_string(alloc)?.as_bytes())?;
     Ok(())
 }
@@ -84,7 +88,11 @@ pub(crate) fn put_flag_member(
     flag: bool,
 ) -> Result<(), AllocError> {
     put_name(out, name)?;
-    let word = if flag { b"true".as_slice() } else { b"false".as_slice() };
+    let word = if flag {
+        b"true".as_slice()
+    } else {
+        b"false".as_slice()
+    };
     out.extend_from_slice(word)?;
     Ok(())
 }

@@ -43,7 +43,14 @@ pub(crate) fn lint<F: Files, L: Ledger>(
     put_replaced(alloc, places, &mut findings)?;
     let mut answer = Answer::new(alloc);
     put_notices(alloc, places.deck, json, &mut answer.out)?;
-    put_in_order(alloc, places, json, files, findings.as_slice(), &mut answer.out)?;
+    put_in_order(
+        alloc,
+        places,
+        json,
+        files,
+        findings.as_slice(),
+        &mut answer.out,
+    )?;
     answer.is_refused = !answer.out.is_empty();
     Ok(answer)
 }

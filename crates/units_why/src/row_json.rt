@@ -68,11 +68,7 @@ fn put_definition(
     }
 }
 
-fn put_outcome(
-    out: &mut Vec<u8>,
-    outcome: &Outcome,
-    is_explained: bool,
-) -> Result<(), AllocError> {
+fn put_outcome(out: &mut Vec<u8>, outcome: &Outcome, is_explained: bool) -> Result<(), AllocError> {
     match outcome {
         Outcome::Value(value) => put_text_member(out, b"value", value.as_bytes()),
         Outcome::Fault(fault) if !is_explained => put_text_member(out, b"fault", fault.as_bytes()),

@@ -42,7 +42,11 @@ pub(crate) fn put_row_text(
 }
 
 fn put_indent(alloc: Global, out: &mut Vec<u8>, depth: usize) -> Result<(), AllocError> {
-    let indented = if depth < MOST_INDENTED { depth } else { MOST_INDENTED };
+    let indented = if depth < MOST_INDENTED {
+        depth
+    } else {
+        MOST_INDENTED
+    };
     out.extend_from_slice(BLANKS.get(..2 * indented).unwrap_or(b""))?;
     if depth > MOST_INDENTED {
         out.push(b'(')?;
@@ -103,11 +107,7 @@ fn put_word(out: &mut Vec<u8>, row: &Row, key: &Key) -> Result<(), AllocError> {
     Ok(())
 }
 
-fn put_outcome(
-    out: &mut Vec<u8>,
-    outcome: &Outcome,
-    is_explained: bool,
-) -> Result<(), AllocError> {
+fn put_outcome(out: &mut Vec<u8>, outcome: &Outcome, is_explained: bool) -> Result<(), AllocError> {
     match outcome {
         Outcome::Value(value) => {
             out.extend_from_slice(b" = ".as_slice())?;
@@ -117,7 +117,9 @@ fn put_outcome(
             out.extend_from_slice(b" ! ".as_slice())?;
             out.extend_from_slice(fault.as_bytes())?;
         }
-        Outcome::Fault(_) | Outcome::NameFault => out.extend_from_slice(b" ! see below".as_slice())?,
+        Outcome::Fault(_) | Outcome::NameFault => out.extend_from_slice(
+            b" ! see below".as_slice(),
+        )?,
         Outcome::Function => {}
     }
     Ok(())

@@ -118,8 +118,7 @@ fn answer_to<F: Files, L: Ledger>(
 }
 
 // The notices of a load, one a line.
-fn notice_lines(alloc: Global, deck: &Deck) -> Result<Vec<u8>, AllocError>
-{
+fn notice_lines(alloc: Global, deck: &Deck) -> Result<Vec<u8>, AllocError> {
     let mut text = Vec::new(alloc);
     for notice in deck.notices().as_slice() {
         text.extend_from_slice(notice.as_bytes())?;

@@ -110,7 +110,11 @@ fn standing_of<L: Ledger>(
         return Ok(Standing::Unknown);
     };
     if !row.is_visit() {
-        return Ok(if path.is_open(place) { Standing::Cycle } else { Standing::Above });
+        return Ok(if path.is_open(place) {
+            Standing::Cycle
+        } else {
+            Standing::Above
+        });
     }
     let outcome = outcome_of(alloc, table, options, key, steps)?;
     Ok(Standing::Defined(place, outcome))

@@ -48,7 +48,13 @@ pub(crate) fn explain<L: Ledger>(
     let mut answer = Answer::new(alloc);
     answer.is_refused = reply.refused;
     put_reply(&mut answer.out, question, &reply)?;
-    put_rows(alloc, &mut answer.out, definitions, question.json, tree.as_slice())?;
+    put_rows(
+        alloc,
+        &mut answer.out,
+        definitions,
+        question.json,
+        tree.as_slice(),
+    )?;
     Ok(answer)
 }
 

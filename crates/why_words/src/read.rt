@@ -108,7 +108,11 @@ fn has_flag(matches: &ArgMatches<'_>, name: &str) -> bool {
     }
 }
 
-fn text_of(alloc: Global, matches: &ArgMatches<'_>, name: &str) -> Result<Option<Text>, AllocError> {
+fn text_of(
+    alloc: Global,
+    matches: &ArgMatches<'_>,
+    name: &str,
+) -> Result<Option<Text>, AllocError> {
     match matches.get_str(name) {
         Some(text) => Ok(Some(Text::from_bytes(alloc, text.as_bytes())?)),
         None => Ok(None),
