@@ -1,0 +1,411 @@
+Which definitions a value comes from. Notices, on standard error, are left out unless a case shows them.
+
+  $ why() { units_why "$@" 2> /dev/null; }
+
+The built-in definitions: a unit, a prefix and a unit, a plural, a plural with a prefix, and one name twice.
+
+  $ why mile
+  \tDefinition: 5280 ft = 1609.344 m (esc)
+  mile: unit, 5280 ft = 1609.344 m [builtin:55]
+    ft: unit, 12 in = 0.3048 m [builtin:50]
+      in: unit, 254|10000 m = 0.0254 m [builtin:48]
+        m: unit, ! = 1 m [builtin:2]
+  $ why km
+  \tDefinition: 1000 m (esc)
+  k-: prefix in km, kilo = 1000 [builtin:21]
+    kilo-: prefix, 1000 = 1000 [builtin:12]
+  m: unit in km, ! = 1 m [builtin:2]
+  $ why miles
+  \tDefinition: 1609.344 m (esc)
+  mile: plural in miles, 5280 ft = 1609.344 m [builtin:55]
+    ft: unit, 12 in = 0.3048 m [builtin:50]
+      in: unit, 254|10000 m = 0.0254 m [builtin:48]
+        m: unit, ! = 1 m [builtin:2]
+  $ why 'kilometers'
+  \tDefinition: 1000 m (esc)
+  kilo-: prefix in kilometers, 1000 = 1000 [builtin:12]
+  meter: unit in kilometers, m = 1 m [builtin:29]
+    m: unit, ! = 1 m [builtin:2]
+  $ why 'm m'
+  \tDefinition: 1 m^2 (esc)
+  m: unit, ! = 1 m [builtin:2]
+  m: unit, see above
+
+A conversion has its reply, and then the tree of each side.
+
+  $ why '2 lb' kg
+  \t* 0.90718474 (esc)
+  \t/ 1.1023113 (esc)
+  lb: unit, 0.45359237 kg = 0.45359237 kg [builtin:56]
+    kg: unit, ! = 1 kg [builtin:3]
+  kg: unit, ! = 1 kg [builtin:3]
+  $ why -d 4 '1 quart' liter
+  \t* 0.9464 (esc)
+  \t/ 1.057 (esc)
+  quart: unit, 1|4 gallon = 0.0009464 m^3 [builtin:66]
+    gallon: unit, 231 in^3 = 0.003785 m^3 [builtin:61]
+      in: unit, 254|10000 m = 0.0254 m [builtin:48]
+        m: unit, ! = 1 m [builtin:2]
+  liter: unit, 1|1000 m^3 = 0.001 m^3 [builtin:45]
+    m: unit, ! = 1 m [builtin:2]
+
+Values are written as the reply is.
+
+  $ why --exact inch
+  \tDefinition: in = 127|5000 m (esc)
+  inch: unit, in = 127|5000 m [builtin:49]
+    in: unit, 254|10000 m = 127|5000 m [builtin:48]
+      m: unit, ! = 1 m [builtin:2]
+  $ why -d 3 lb
+  \tDefinition: 0.45359237 kg = 0.454 kg (esc)
+  lb: unit, 0.45359237 kg = 0.454 kg [builtin:56]
+    kg: unit, ! = 1 kg [builtin:3]
+
+A number reaches no definition, and what is no expression has none either.
+
+  $ why 12
+  \tDefinition: 12 (esc)
+  $ why '2 +'
+  syntax error at 3
+  [1]
+  $ why ''
+  syntax error at 0
+  [1]
+
+The locale decides which of two lines is in force.
+
+  $ why -l en_US gallon
+  \tDefinition: 231 in^3 = 0.0037854118 m^3 (esc)
+  gallon: unit, 231 in^3 = 0.0037854118 m^3 [builtin:61]
+    in: unit, 254|10000 m = 0.0254 m [builtin:48]
+      m: unit, ! = 1 m [builtin:2]
+  $ why -l en_GB gallon
+  \tDefinition: 4.54609 liter = 0.00454609 m^3 (esc)
+  gallon: unit, 4.54609 liter = 0.00454609 m^3 [builtin:64]
+    liter: unit, 1|1000 m^3 = 0.001 m^3 [builtin:45]
+      m: unit, ! = 1 m [builtin:2]
+
+Functions, by an expression and by their inverse. The parts of a function are named, whichever is called.
+
+  $ why 'tempF(32)'
+  \tDefinition: 273.15 K (esc)
+  tempF(): function, (x) units=[1;K] domain=[-459.67,) range=[0,) (x+(-32)) degF + stdtemp ;      (tempF+(-stdtemp))/degF + 32 [builtin:72]
+    K: unit (result unit), ! = 1 K [builtin:6]
+    degF: unit (forward), 5|9 K = 0.55555556 K [builtin:69]
+      K: unit, see above
+    stdtemp: unit (forward), 273.15 K = 273.15 K [builtin:70]
+      K: unit, see above
+    stdtemp: unit (inverse), see above
+    degF: unit (inverse), see above
+  $ why '~tempF(273.15 K)'
+  \tDefinition: 32 (esc)
+  tempF(): inverse function, (x) units=[1;K] domain=[-459.67,) range=[0,) (x+(-32)) degF + stdtemp ;      (tempF+(-stdtemp))/degF + 32 [builtin:72]
+    K: unit (result unit), ! = 1 K [builtin:6]
+    degF: unit (forward), 5|9 K = 0.55555556 K [builtin:69]
+      K: unit, see above
+    stdtemp: unit (forward), 273.15 K = 273.15 K [builtin:70]
+      K: unit, see above
+    stdtemp: unit (inverse), see above
+    degF: unit (inverse), see above
+  K: unit, see above
+  $ why 'tempcelsius(20)'
+  \tDefinition: 293.15 K (esc)
+  tempcelsius(): function, () tempC [builtin:74]
+    tempC(): function (alias), (x) units=[1;K] domain=[-273.15,) range=[0,) x K + stdtemp ; (tempC +(-stdtemp))/K [builtin:71]
+      K: unit (result unit), ! = 1 K [builtin:6]
+      K: unit (forward), see above
+      stdtemp: unit (forward), 273.15 K = 273.15 K [builtin:70]
+        K: unit, see above
+      stdtemp: unit (inverse), see above
+      K: unit (inverse), see above
+
+A table of points, and its inverse.
+
+  $ why 'zincgauge(10)'
+  \tDefinition: 0.000508 m (esc)
+  zincgauge(): function, [in] 1 0.002, 10 0.02, 15 0.04,      19 0.06, 23 0.1 [builtin:75]
+    in: unit (table unit), 254|10000 m = 0.0254 m [builtin:48]
+      m: unit, ! = 1 m [builtin:2]
+  $ why '~zincgauge(0.02 in)'
+  \tDefinition: 10 (esc)
+  zincgauge(): inverse function, [in] 1 0.002, 10 0.02, 15 0.04,      19 0.06, 23 0.1 [builtin:75]
+    in: unit (table unit), 254|10000 m = 0.0254 m [builtin:48]
+      m: unit, ! = 1 m [builtin:2]
+  in: unit, see above
+
+Lines that a later one replaces are named with their places, but not those of another locale.
+
+  $ cat > twice.units <<'end'
+  > m !
+  > s !
+  > ell 1 m
+  > !locale en_GB
+  > ell 1.2 m
+  > !endlocale
+  > ell 45 in
+  > in 0.0254 m
+  > ell 1.143 m # the last one
+  > end
+  $ why -f twice.units ell
+  \tDefinition: 1.143 m = 1.143 m (esc)
+  ell: unit, 1.143 m = 1.143 m [twice.units:9; replaces twice.units:3, twice.units:7]
+    m: unit, ! = 1 m [twice.units:1]
+  $ why -f twice.units -l en_GB ell
+  \tDefinition: 1.143 m = 1.143 m (esc)
+  ell: unit, 1.143 m = 1.143 m [twice.units:9; replaces twice.units:3, twice.units:5, twice.units:7]
+    m: unit, ! = 1 m [twice.units:1]
+
+A variable of the environment decides too.
+
+  $ cat > system.units <<'end'
+  > m !
+  > !var SYSTEM old older
+  > span 9 m
+  > !endvar
+  > !varnot SYSTEM old older
+  > span 3 m
+  > !endvar
+  > end
+  $ why -f system.units span
+  \tDefinition: 3 m = 3 m (esc)
+  span: unit, 3 m = 3 m [system.units:6]
+    m: unit, ! = 1 m [system.units:1]
+  $ SYSTEM=old units_why -f system.units span
+  \tDefinition: 9 m = 9 m (esc)
+  span: unit, 9 m = 9 m [system.units:3]
+    m: unit, ! = 1 m [system.units:1]
+
+Four files, one included in another, each in its own folder; the lines after an include are in the first file again.
+
+  $ mkdir -p a/b/c
+  $ printf 'm !\n!include a/one.units\ntop 2 one\n' > top.units
+  $ printf '# a comment\n!include b/two.units\none 3 two\n' > a/one.units
+  $ printf '!locale en_US\n!include c/three.units\ntwo 5 three' > a/b/two.units
+  $ printf '\n\n  three 7 \\\n  m\n' > a/b/c/three.units
+  $ why -f top.units top
+  \tDefinition: 2 one = 210 m (esc)
+  top: unit, 2 one = 210 m [top.units:3]
+    one: unit, 3 two = 105 m [a/one.units:3]
+      two: unit, 5 three = 35 m [a/b/two.units:3]
+        three: unit, 7    m = 7 m [a/b/c/three.units:3]
+          m: unit, ! = 1 m [top.units:1]
+  $ units_why -f top.units one 2>&1 > /dev/null
+  a/b/two.units:1: unclosed block
+
+A file that is included twice has its lines twice, and the last ones are in force.
+
+  $ printf '!include a/b/c/three.units\n!include a/b/c/three.units\nm !\n' > again.units
+  $ why -f again.units three
+  \tDefinition: 7    m = 7 m (esc)
+  three: unit, 7    m = 7 m [a/b/c/three.units:3; replaces a/b/c/three.units:3]
+    m: unit, ! = 1 m [again.units:3]
+
+Faults, each at its place in the tree: an unknown word, a refused function, a cycle, and a step without a value.
+
+  $ cat > faults.units <<'end'
+  > m !
+  > kg !
+  > s !
+  > unknown 2 gap
+  > gap 3 missing m
+  > refused 2 sin(1) m
+  > ring 2 bead
+  > bead 3 hoop
+  > hoop m ring
+  > self 2 self
+  > sum m far
+  > far 2 near
+  > near 3 m + kg
+  > huge 1e30 m vast
+  > vast 1e30 s
+  > zero 1 / (m - m)
+  > root sqrt(2) m
+  > halves m^(kg)
+  > f(x) units=[1;m] domain=[0,10] x m ; f/m
+  > outside f(11)
+  > open- 2 m
+  > openpre- 2 nowhere
+  > end
+  $ why -f faults.units unknown
+  unknown unit: missing in gap
+  unknown: unit, 2 gap ! see below [faults.units:4]
+    gap: unit, 3 missing m ! see below [faults.units:5]
+      missing: unknown unit
+      m: unit, ! = 1 m [faults.units:1]
+  [1]
+  $ why -f faults.units '3 refused'
+  refused function: sin in refused
+  refused: unit, 2 sin(1) m ! see below [faults.units:6]
+    sin: refused function
+    m: unit, ! = 1 m [faults.units:1]
+  [1]
+  $ why -f faults.units ring
+  cycle: ring -> bead -> hoop -> ring
+  ring: unit, 2 bead ! see below [faults.units:7]
+    bead: unit, 3 hoop ! see below [faults.units:8]
+      hoop: unit, m ring ! see below [faults.units:9]
+        m: unit, ! = 1 m [faults.units:1]
+        ring: unit, a cycle: this definition is above
+  [1]
+  $ why -f faults.units self
+  cycle: self -> self
+  self: unit, 2 self ! see below [faults.units:10]
+    self: unit, a cycle: this definition is above
+  [1]
+  $ why -f faults.units sum
+  sum of unlike units: 3 m and 1 kg
+  sum: unit, m far ! see below [faults.units:11]
+    m: unit, ! = 1 m [faults.units:1]
+    far: unit, 2 near ! see below [faults.units:12]
+      near: unit, 3 m + kg ! sum of unlike units: 3 m and 1 kg [faults.units:13]
+        m: unit, see above
+        kg: unit, ! = 1 kg [faults.units:2]
+  [1]
+  $ why -f faults.units 'huge'
+  overflow
+  huge: unit, 1e30 m vast ! overflow [faults.units:14]
+    m: unit, ! = 1 m [faults.units:1]
+    vast: unit, 1e30 s = 1e+30 s [faults.units:15]
+      s: unit, ! = 1 s [faults.units:3]
+  [1]
+  $ why -f faults.units zero
+  division by zero
+  zero: unit, 1 / (m - m) ! division by zero [faults.units:16]
+    m: unit, ! = 1 m [faults.units:1]
+    m: unit, see above
+  [1]
+  $ why -f faults.units root
+  no exact root
+  root: unit, sqrt(2) m ! no exact root [faults.units:17]
+    m: unit, ! = 1 m [faults.units:1]
+  [1]
+  $ why -f faults.units halves
+  exponent is not a number
+  halves: unit, m^(kg) ! exponent is not a number [faults.units:18]
+    m: unit, ! = 1 m [faults.units:1]
+    kg: unit, ! = 1 kg [faults.units:2]
+  [1]
+  $ why -f faults.units outside
+  not in domain: f
+  outside: unit, f(11) ! not in domain: f [faults.units:20]
+    f(): function, (x) units=[1;m] domain=[0,10] x m ; f/m [faults.units:19]
+      m: unit (result unit), ! = 1 m [faults.units:1]
+      m: unit (forward), see above
+      m: unit (inverse), see above
+  [1]
+  $ why -f faults.units 'openm'
+  \tDefinition: 2 m^2 (esc)
+  open-: prefix in openm, 2 m = 2 m [faults.units:21]
+    m: unit, ! = 1 m [faults.units:1]
+  m: unit in openm, see above
+  $ why -f faults.units 'openprem'
+  unknown unit: nowhere in openpre-
+  openpre-: prefix in openprem, 2 nowhere ! see below [faults.units:22]
+    nowhere: unknown unit
+  m: unit in openprem, ! = 1 m [faults.units:1]
+  [1]
+  $ why -f faults.units f
+  argument needed: f
+  f(): function, (x) units=[1;m] domain=[0,10] x m ; f/m [faults.units:19]
+    m: unit (result unit), ! = 1 m [faults.units:1]
+    m: unit (forward), see above
+    m: unit (inverse), see above
+  [1]
+  $ why -f faults.units 'm kg' s
+  conformability error
+  \t1 kg m (esc)
+  \t1 s (esc)
+  m: unit, ! = 1 m [faults.units:1]
+  kg: unit, ! = 1 kg [faults.units:2]
+  s: unit, ! = 1 s [faults.units:3]
+  [1]
+
+Each row is an object in JSON, after one of the reply.
+
+  $ why --json km
+  {"expression":"km","reply":"\u0009Definition: 1000 m","refused":false}
+  {"word":"km","depth":0,"key":"k-","how":"prefix","text":"kilo","value":"1000","file":"builtin","line":21}
+  {"word":"kilo","depth":1,"key":"kilo-","how":"prefix","text":"1000","value":"1000","file":"builtin","line":12}
+  {"word":"km","depth":0,"key":"m","how":"unit","text":"!","value":"1 m","file":"builtin","line":2}
+  $ why -f twice.units --json --exact ell
+  {"expression":"ell","reply":"\u0009Definition: 1.143 m = 1143|1000 m","refused":false}
+  {"word":"ell","depth":0,"key":"ell","how":"unit","text":"1.143 m","value":"1143|1000 m","file":"twice.units","line":9,"replaces":[{"deck_line":2,"file":"twice.units","line":3},{"deck_line":6,"file":"twice.units","line":7}]}
+  {"word":"m","depth":1,"key":"m","how":"unit","text":"!","value":"1 m","file":"twice.units","line":1}
+  $ why -f faults.units --json sum
+  {"expression":"sum","reply":"sum of unlike units: 3 m and 1 kg","refused":true}
+  {"word":"sum","depth":0,"key":"sum","how":"unit","text":"m far","fault_below":true,"file":"faults.units","line":11}
+  {"word":"m","depth":1,"key":"m","how":"unit","text":"!","value":"1 m","file":"faults.units","line":1}
+  {"word":"far","depth":1,"key":"far","how":"unit","text":"2 near","fault_below":true,"file":"faults.units","line":12}
+  {"word":"near","depth":2,"key":"near","how":"unit","text":"3 m + kg","fault":"sum of unlike units: 3 m and 1 kg","file":"faults.units","line":13}
+  {"word":"m","depth":3,"key":"m","how":"unit","above":true}
+  {"word":"kg","depth":3,"key":"kg","how":"unit","text":"!","value":"1 kg","file":"faults.units","line":2}
+  [1]
+  $ why -f faults.units --json ring
+  {"expression":"ring","reply":"cycle: ring -> bead -> hoop -> ring","refused":true}
+  {"word":"ring","depth":0,"key":"ring","how":"unit","text":"2 bead","fault_below":true,"file":"faults.units","line":7}
+  {"word":"bead","depth":1,"key":"bead","how":"unit","text":"3 hoop","fault_below":true,"file":"faults.units","line":8}
+  {"word":"hoop","depth":2,"key":"hoop","how":"unit","text":"m ring","fault_below":true,"file":"faults.units","line":9}
+  {"word":"m","depth":3,"key":"m","how":"unit","text":"!","value":"1 m","file":"faults.units","line":1}
+  {"word":"ring","depth":3,"key":"ring","how":"unit","fault":"cycle"}
+  [1]
+  $ why -f faults.units --json unknown m
+  {"expression":"unknown","unit":"m","reply":"unknown unit: missing in gap","refused":true}
+  {"word":"unknown","depth":0,"key":"unknown","how":"unit","text":"2 gap","fault_below":true,"file":"faults.units","line":4}
+  {"word":"gap","depth":1,"key":"gap","how":"unit","text":"3 missing m","fault_below":true,"file":"faults.units","line":5}
+  {"word":"missing","depth":2,"fault":"unknown unit"}
+  {"word":"m","depth":2,"key":"m","how":"unit","text":"!","value":"1 m","file":"faults.units","line":1}
+  {"word":"m","depth":0,"key":"m","how":"unit","text":"!","value":"1 m","file":"faults.units","line":1}
+  [1]
+  $ printf 'caf\303\251 ! # "quoted"\n\\b 2 caf\303\251\n' > 'odd "name\.units'
+  $ why -f 'odd "name\.units' --json '\b'
+  {"expression":"\\\\b","reply":"\\u0009Definition: 2 caf\xc3\xa9 = 2 caf\xc3\xa9","refused":false} (esc)
+  {"word":"\\\\b","depth":0,"key":"\\\\b","how":"unit","text":"2 caf\xc3\xa9","value":"2 caf\xc3\xa9","file":"odd \\"name\\\\.units","line":2} (esc)
+  {"word":"caf\xc3\xa9","depth":1,"key":"caf\xc3\xa9","how":"unit","text":"!","value":"1 caf\xc3\xa9","file":"odd \\"name\\\\.units","line":1} (esc)
+
+The depth of a deep row is written before it.
+
+  $ awk 'BEGIN { print "a !"; w = "a"; for (i = 0; i < 25; i++) { print w "a " w; w = w "a" } }' > deep.units
+  $ why -f deep.units aaaaaaaaaaaaaaaaaaaaaaaaaa | tail -7
+                                        aaaaaaa: unit, aaaaaa = 1 a [deep.units:7]
+                                          aaaaaa: unit, aaaaa = 1 a [deep.units:6]
+                                          (21) aaaaa: unit, aaaa = 1 a [deep.units:5]
+                                          (22) aaaa: unit, aaa = 1 a [deep.units:4]
+                                          (23) aaa: unit, aa = 1 a [deep.units:3]
+                                          (24) aa: unit, a = 1 a [deep.units:2]
+                                          (25) a: unit, ! = 1 a [deep.units:1]
+
+A file that cannot be read twice: its lines have no places.
+
+  $ printf 'm !\nyd 0.9144 m\n' | units_why -f /dev/stdin yd
+  units-why: a file changed while it was read, so no line has a place
+  \tDefinition: 0.9144 m = 0.9144 m (esc)
+  yd: unit, 0.9144 m = 0.9144 m [?]
+    m: unit, ! = 1 m [?]
+
+Words that are not taken, and files that are not read.
+
+  $ units_why
+  units-why: usage: units-why [options] EXPRESSION [UNIT], or units-why --lint [options]
+  [2]
+  $ units_why --exact -d 3 m
+  units-why: usage: units-why [options] EXPRESSION [UNIT], or units-why --lint [options]
+  [2]
+  $ units_why -d 37 m
+  units-why: usage: units-why [options] EXPRESSION [UNIT], or units-why --lint [options]
+  [2]
+  $ units_why --lint m
+  units-why: usage: units-why [options] EXPRESSION [UNIT], or units-why --lint [options]
+  [2]
+  $ units_why m ft yd
+  units-why: usage: units-why [options] EXPRESSION [UNIT], or units-why --lint [options]
+  [2]
+  $ units_why --help
+  units-why: usage: units-why [options] EXPRESSION [UNIT], or units-why --lint [options]
+  [2]
+  $ units_why -f absent.units m
+  units-why: no file: absent.units
+  [3]
+  $ units_why -f . m
+  [4]
+  $ units_why m > /dev/full
+  [5]
