@@ -1,5 +1,5 @@
+mod InFiles
 mod Members
 mod Naming
 mod Passing
 mod SameLines
-mod Standing

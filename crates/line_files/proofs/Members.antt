@@ -1,5 +1,5 @@
 -- Members of lists.
-use Rattle.std.proofs.Common.{◌≡◌, ◌++◌, zero, suc, ◌<◌, List, [], ◌∷◌, length, get_or, Contains, sym, arith}
+use Rattle.std.proofs.Common.{◌≡◌, ◌++◌, suc, List, [], ◌∷◌, Contains, sym, arith}
 use Rattle.std.specs.List.{AllByRecursion}
 
 module _ {A : Type 0} where

@@ -9,10 +9,10 @@ use Rattle.units_io.specs.Fetching.{answer_of}
 use Rattle.units_io.specs.declared.files.FetchFault.{FetchFault}
 use Rattle.units_io.specs.declared.files.FetchFault.TheVariants.{Absent, TooLong, Failed, OutOfMemory}
 use Rattle.def_lines.specs.declared.line.Line.{Line}
-use Rattle.deck_lines.specs.Excerpts.{Included, blocks_behind_line, blocks_behind_role, closes_innermost, file_end}
+use Rattle.deck_lines.specs.Excerpts.{Included, blocks_behind_line, blocks_behind_role, closes_innermost}
 use Rattle.deck_lines.specs.Excerpts.{missing_end, role_excerpt}
 use Rattle.deck_lines.specs.Includes.{beside, included_below, included_by, of_answer}
-use Rattle.deck_lines.specs.Readings.{Defines, Faulty, Includes, Reading, Stands, of_entry, reading_of}
+use Rattle.deck_lines.specs.Readings.{Defines, Faulty, Includes, Reading, Stands, reading_of}
 use Rattle.deck_lines.specs.declared.line.Block.{Block}
 use Rattle.deck_lines.specs.declared.line.Role.{Role}
 use Rattle.deck_lines.specs.declared.line.Role.TheVariants.{Closes, Inside, Opens}

@@ -14,7 +14,7 @@ use Rattle.line_files.specs.FileLines.{FileLine, file_lines}
 -- the number of the line that opens the block
 pub record IsLineOf (lines : List Line) (line : DeckLine) : Type 0 where
   pub source : Line
-  pub stands : Contains lines source
+  pub source_is_there : Contains lines source
   pub number : line.number ≡ source.number
   pub text : (line.text ≡ source.text) ⊎ ((ending : Ending) × (line.text ≡ end_text ending))
 

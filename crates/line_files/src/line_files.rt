@@ -55,8 +55,8 @@ impl LineFiles {
         }
     }
 
-    /// The number of the file of the line at this place. The lines of a file have one number each time it is read, and a
-    /// file that is included twice has two.
+    /// The number of the file of the line at this place. A file that is included twice has two numbers. No contract
+    /// says which line has which number.
     pub fn file_number(&self, line: usize) -> Option<usize> {
         self.numbers.get(line).copied()
     }

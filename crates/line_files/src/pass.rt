@@ -3,7 +3,6 @@
 ghost use Rattle.std.specs.Prelude.{◌≡◌, ◌++◌, ◌∷◌, [], OnOk};
 ghost use Rattle.deck_lines.specs.Blocks.{end_text};
 ghost use Rattle.deck_lines.specs.Blocks as blocks;
-ghost use Rattle.line_files.specs.FileLines.{file_names};
 
 use crate::fault::LineFilesFault;
 use crate::line_files::LineFiles;

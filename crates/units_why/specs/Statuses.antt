@@ -1,7 +1,8 @@
 -- The numbers of statuses.
 use Rattle.std.specs.Prelude.{ℕ}
 use Rattle.units_why.specs.declared.status.Status.{Status}
-use Rattle.units_why.specs.declared.status.Status.TheVariants.{Done, NoFile, NoMemory, ReadFault, Refused, Usage, WriteFault}
+use Rattle.units_why.specs.declared.status.Status.TheVariants.{Done, NoFile, NoMemory, ReadFault, Refused, Usage}
+use Rattle.units_why.specs.declared.status.Status.TheVariants.{WriteFault}
 
 abbrev pub code_of : Status → ℕ
 code_of Done = 0

@@ -17,7 +17,7 @@ pub fn usage_text() -> &'static [u8] {
 }
 
 /// Reads the words after the name of the program. The error is `Usage` if they are no request: clap does not take
-/// them, one is not UTF-8, digits and `--exact` are both there, or there is neither an expression nor `--lint`, or both.
+/// them, one is not UTF-8, both digits and `--exact` are there, or not exactly one of an expression and `--lint` is.
 pub fn read_words(alloc: Global, words: &[Text]) -> Result<Request, WordsFault>
     ensures { IfOk result HasDigits }
 {

@@ -76,7 +76,7 @@ pass_include-returns-in-Err-TooLong-clause-found g t c = λ m h.
 pub pass_line-returns-in_ok-name-in-Includes-clause-found : goal.pass_line-returns-in_ok-name-in-Includes-clause-found
 pass_line-returns-in_ok-name-in-Includes-clause-found g t c = λ m h.
     include_passed c.pass_include.result m c.args.depth c.args.file.name.now c.as_bytes.result.now
-        c.in-Includes.word.now
+    c.in-Includes.word.now
     c.args.line.now (reverse c.args.blocks.now.items) c.args.pass.now.found c.push.new.self.found
     c.pass_include.new.pass.found
     (ap reading_of (sym c.text-2.ensures) ∙ c.in-Includes.ensures) c.in_ok-push.ensures

@@ -1,4 +1,4 @@
-use Rattle.std.proofs.Common.{[], length, subst, sym}
+use Rattle.std.proofs.Common.{length, subst, sym}
 use Rattle.line_files.specs.Names.{AreBelow}
 use Rattle.line_files.proofs.line_files.LineFiles.new.Goals as goal
 

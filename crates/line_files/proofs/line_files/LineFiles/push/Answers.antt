@@ -1,4 +1,4 @@
-use Rattle.std.proofs.Common.{◌<◌, ◌≡◌, ◌++◌, [], ◌∷◌, ◌∙◌, ap, length, refl, subst, sym}
+use Rattle.std.proofs.Common.{◌<◌, ◌++◌, [], ◌∷◌, ◌∙◌, ap, length, refl, subst, sym}
 use Rattle.line_files.specs.Names.{AreBelow, names_at}
 use Rattle.line_files.proofs.Naming.{below_next, last_below, last_named, still_below}
 use Rattle.line_files.proofs.line_files.LineFiles.push.Goals as goal

@@ -1,7 +1,7 @@
--- Each line stands in its file.
-use Rattle.std.proofs.Common.{◌≡◌, ◌++◌, ℕ, zero, suc, Bool, true, false, cond, nat_le, length, List, [], ◌∷◌, Contains}
+-- Each line is in its file.
+use Rattle.std.proofs.Common.{◌≡◌, ℕ, zero, suc, Bool, true, false, cond, nat_le, length, List, [], ◌∷◌, Contains}
 use Rattle.std.proofs.Common.{map}
-use Rattle.std.proofs.Common.{Option, Some, None, Result, Ok, Err, refl, sym, ap, ◌∙◌, subst, inl, inr}
+use Rattle.std.proofs.Common.{Option, Some, None, Result, Ok, Err, refl, ap, inl, inr}
 use Rattle.std.specs.List.{AllByRecursion}
 use Rattle.units_io.specs.FileMap.{FileMap, file_of, longest_file}
 use Rattle.units_io.specs.Fetching.{answer_of}
@@ -9,7 +9,6 @@ use Rattle.units_io.specs.declared.files.FetchFault.{FetchFault}
 use Rattle.units_io.specs.declared.files.FetchFault.TheVariants.{TooLong}
 use Rattle.def_lines.specs.declared.line.Line.{Line}
 use Rattle.def_lines.specs.Lines.{logical_lines, shown}
-use Rattle.deck_lines.specs.Blocks.{end_text, role_of}
 use Rattle.deck_lines.specs.Excerpts.{Included, NotRead, Read, blocks_behind_line, blocks_behind_role, closes_innermost}
 use Rattle.deck_lines.specs.Excerpts.{missing_end, outer_blocks, role_excerpt}
 use Rattle.deck_lines.specs.Includes.{beside, included_by, most_depth}
@@ -32,11 +31,11 @@ module _ (P : FileLine → Type 0) (file : List ℕ) (all : List Line)
     (own : (line : DeckLine) → IsLineOf all line → P (in_file file line))
     (included : List ℕ → Included) (below : List ℕ → List FileLine)
     (deeper : (word : List ℕ) → AllByRecursion P (below word)) where
-  -- a line as it stands
+  -- a line with a mark or without
   plain : (line : Line) → Contains all line → (mark : Bool)
       → P (in_file file (record { number = line.number; text = line.text; mark = mark }))
   plain line i mark = own (record { number = line.number; text = line.text; mark = mark })
-      (record { source = line; stands = i; number = refl; text = inl refl })
+      (record { source = line; source_is_there = i; number = refl; text = inl refl })
 
   each_include : (line : Line) → Contains all line → (i : Included) (xs : List FileLine) → AllByRecursion P xs
       → AllByRecursion P (include_lines file line i xs)
@@ -91,7 +90,7 @@ module _ (P : FileLine → Type 0) (file : List ℕ) (all : List Line)
   each_end (block ∷ blocks) h = (
     own (missing_end block) (record {
       source = h.0.0;
-      stands = h.0.1;
+      source_is_there = h.0.1;
       number = h.0.2;
       text = inr (block.ending, refl);
     }),
@@ -147,11 +146,11 @@ module _ (files : FileMap) where
           (λ word. lines_below files depth (beside name word)) name answer)
       by deeper (Ok bytes) e =
           each_file (included_by files depth name) (λ word. lines_below files depth (beside name word)) deeper name
-              bytes (read_is (file_of files name) bytes e)
+          bytes (read_is (file_of files name) bytes e)
       by deeper (Err fault) e = tt
 
-  pub each_stands : (name bytes : List ℕ) → file_of files name ≡ Some bytes
+  pub each_in_file : (name bytes : List ℕ) → file_of files name ≡ Some bytes
       → AllByRecursion (IsInItsFile files) (file_lines files name bytes)
-  each_stands name bytes e =
+  each_in_file name bytes e =
       each_file (included_by files most_depth name) (λ word. lines_below files most_depth (beside name word))
       (λ word. each_below most_depth (beside name word)) name bytes e
