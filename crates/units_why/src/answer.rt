@@ -1,6 +1,6 @@
 //! What a run writes.
 
-use std::alloc::{AllocError, Global};
+use std::alloc::Global;
 
 /// What a run writes, and whether its status is that of a refusal.
 #[derive(Drop)]

@@ -1,7 +1,5 @@
 //! What the words ask for.
 
-ghost use Rattle.std.specs.Prelude.{◌≡◌, ◌≤◌, IfSome};
-
 use units_io::Text;
 
 /// What the words ask for.
