@@ -1,7 +1,10 @@
+pub mod Leads
+pub mod Lists
 pub mod Marking
 pub mod Members
 pub mod Once
 pub mod OneList
+pub mod Placing
 pub mod Reached
 pub mod Reversing
 pub mod Trying

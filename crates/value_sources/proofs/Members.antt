@@ -1,5 +1,5 @@
 -- The keys of mentions.
-use Rattle.std.proofs.Common.{◌≡◌, ◌⊎◌, ◌++◌, ◌∷◌, [], ℕ, true, List, Contains, flat_map, map, Option, Some, None}
+use Rattle.std.proofs.Common.{◌≡◌, ◌∷◌, [], ℕ, true, List, Contains, map, Option, Some, None}
 use Rattle.std.proofs.Common.{refl, sym, ap, ◌∙◌, subst, inl, inr}
 use Rattle.std.proofs.lemmas.Option.{same_Some}
 use Rattle.expr_tree.specs.declared.word_list.WordUse.{WordUse}
@@ -9,12 +9,12 @@ use Rattle.def_entry.specs.Tables.{Table}
 use Rattle.def_entry.proofs.SameKeys.{same_keys}
 use Rattle.table_names.specs.Leads.{WordsLeadTo, targets}
 use Rattle.table_names.specs.Words.{key_words}
-use Rattle.table_names.proofs.Members.{any_cases, any_member, flat_cases, flat_member, member_cases, member_first}
-use Rattle.table_names.proofs.Members.{member_later, no_member}
 use Rattle.value_sources.specs.declared.resolution.Resolution.TheVariants.{PrefixedUnit}
 use Rattle.value_sources.specs.Mentions.{Mention, mention_by, mentions, mentions_to}
 use Rattle.value_sources.specs.Rows.{first_mentions}
 use Rattle.value_sources.specs.Uses.{Use, key_uses, words_of}
+use Rattle.value_sources.proofs.Lists.{any_cases, any_member, flat_cases, flat_member, map_cases, map_member}
+use Rattle.value_sources.proofs.Lists.{member_cases, no_member}
 use Rattle.value_sources.proofs.Words.{key_words_are, words_at}
 
 -- some mention of a list leads to the key
@@ -29,24 +29,6 @@ among_is ks n e =
 
 pub is_among_of : (ks : List Key) (n : Key) → Contains ks n → is_among ks n ≡ true
 is_among_of ks n i = any_member (is_same n) ks n i ((same_keys n n).1 refl)
-
--- ---- members of a list to which a function was applied
-module _ {A B : Type 0} (f : A → B) where
-  pub map_cases : (xs : List A) (y : B) → Contains (map f xs) y → (x : A) × Contains xs x × (y ≡ f x)
-  map_cases [] y i = absurd (no_member y i)
-  map_cases (x ∷ xs) y i =
-      elim (member_cases y (f x) (map f xs) i) [
-        | inl e ↦ (x, member_first x x xs refl, e)
-        | inr j ↦ let r = map_cases xs y j in (r.0, member_later r.0 x xs r.1, r.2)
-      ]
-
-  pub map_member : (xs : List A) (x : A) → Contains xs x → Contains (map f xs) (f x)
-  map_member [] x i = absurd (no_member x i)
-  map_member (y ∷ ys) x i =
-      elim (member_cases x y ys i) [
-        | inl e ↦ member_first (f x) (f y) (map f ys) (ap f e)
-        | inr l ↦ member_later (f x) (f y) (map f ys) (map_member ys x l)
-      ]
 
 -- ---- the mentions of a word lead to its keys
 unit_targets : (depth : ℕ) (u : Use) (ns : List Key)
@@ -68,11 +50,11 @@ to_cases depth u [] m n i e =
     ]
 to_cases depth u (k ∷ ks) m n i e =
     let there : Contains (map (λ (x : Mention). x.target) (mentions_to depth u (k ∷ ks))) m.target =
-        map_member (λ (x : Mention). x.target) (mentions_to depth u (k ∷ ks)) m i in
+    map_member (λ (x : Mention). x.target) (mentions_to depth u (k ∷ ks)) m i in
     let among : Contains (map (λ (x : Key). Some x) (k ∷ ks)) m.target =
-        subst (λ (os : List (Option Key)). Contains os m.target) (some_targets depth u k ks) there in
+    subst (λ (os : List (Option Key)). Contains os m.target) (some_targets depth u k ks) there in
     let r : (j : Key) × Contains (k ∷ ks) j × (m.target ≡ Some j) =
-        map_cases (λ (x : Key). Some x) (k ∷ ks) m.target among in
+    map_cases (λ (x : Key). Some x) (k ∷ ks) m.target among in
     subst (Contains (k ∷ ks)) (same_Some r.0 n (sym r.2 ∙ e)) r.1
 
 to_member : (depth : ℕ) (u : Use) (ns : List Key) (n : Key) → Contains ns n
@@ -88,9 +70,11 @@ lead_cases : (table : Table) (depth : ℕ) (uses : List Use) (n : Key) → LeadO
     → WordsLeadTo table (words_of uses) n
 lead_cases table depth uses n (m, i, e) =
     let r : (u : Use) × Contains uses u × Contains (mentions_to depth u (targets table u.word)) m =
-    flat_cases (λ (u : Use). mentions_to depth u (targets table u.word)) uses m i in
-    (r.0.word, map_member (λ (u : Use). u.word) uses r.0 r.1,
-    to_cases depth r.0 (targets table r.0.word) m n r.2 e)
+    flat_cases (λ (u : Use). mentions_to depth u (targets table u.word)) uses m i in (
+      r.0.word,
+      map_member (λ (u : Use). u.word) uses r.0 r.1,
+      to_cases depth r.0 (targets table r.0.word) m n r.2 e,
+    )
 
 lead_member : (table : Table) (depth : ℕ) (uses : List Use) (n : Key) → WordsLeadTo table (words_of uses) n
     → LeadOn (mentions table depth uses) n

@@ -1,22 +1,26 @@
 -- The keys that rows visit are exactly those that words reach.
-use Rattle.std.proofs.Common.{◌≡◌, ◌⊎◌, ◌↔◌, ◌++◌, ◌+◌, ℕ, true, List, [], ◌∷◌, Contains, Option, Some, None, refl, sym}
+use Rattle.std.proofs.Common.{◌≡◌, ◌⊎◌, ◌↔◌, ◌++◌, ◌+◌, List, [], ◌∷◌, Contains, Option, Some, refl, sym}
 use Rattle.std.proofs.Common.{ap, ◌∙◌, subst, inl, inr}
 use Rattle.std.specs.List.{cons_option}
 use Rattle.std.proofs.lemmas.List.Elements.{Contains-append_cases, Contains-append_left, Contains-append_right}
 use Rattle.std.proofs.lemmas.Option.{same_Some}
 use Rattle.expr_tree.specs.declared.word_list.WordUse.{WordUse}
 use Rattle.def_entry.specs.declared.key.Key.{Key}
-use Rattle.def_entry.specs.SameKeys.{is_among}
 use Rattle.def_entry.specs.Tables.{Table}
 use Rattle.table_names.specs.Leads.{WordsLeadTo, WordsReach, at_once, further}
 use Rattle.table_names.specs.Words.{key_words}
-use Rattle.table_names.proofs.Members.{member_cases, member_first, member_later, no_member}
-use Rattle.table_names.proofs.Reaching.{onward}
+use Rattle.value_sources.proofs.Lists.{member_cases, member_first, member_later, no_member}
 use Rattle.value_sources.specs.Mentions.{Mention, mentions}
 use Rattle.value_sources.specs.Rows.{AreRows, AreRowsOf, Finished, Visited, Skipped, Row, is_skipped, visited_keys}
-use Rattle.value_sources.specs.Rows.{visited_key, visited, skipped}
+use Rattle.value_sources.specs.Rows.{visited}
 use Rattle.value_sources.proofs.Members.{LeadOn, among_is, entry_cases, entry_member, first_cases, first_member}
 use Rattle.value_sources.specs.Uses.{key_uses}
+
+-- what the words of a reached key reach is reached
+onward : {table : Table} {words : List WordUse} {n m : Key} → WordsReach table words n
+    → WordsReach table (key_words table n) m → WordsReach table words m
+onward (at_once l) r = further l r
+onward (further l q) r = further l (onward q r)
 
 -- a row that visits a key adds it to the keys
 pub keys_visited : (m : Mention) (n : Key) (rows : List Row) → m.target ≡ Some n
@@ -35,7 +39,7 @@ module _ (table : Table) where
     visited_hold (Visited {m = m} {n = k} {pending = pending} {rows = rows} e new rest) holds n i =
         let here : P k = holds k (m, member_first m m pending refl, e) in
         elim (member_cases n k (visited_keys rows)
-            (subst (λ (ks : List Key). Contains ks n) (keys_visited m k rows e) i)) [
+        (subst (λ (ks : List Key). Contains ks n) (keys_visited m k rows e) i)) [
           | inl q ↦ subst P (sym q) here
           | inr j ↦ visited_hold rest (λ j l. below k here j l) n j
         ]
@@ -60,13 +64,13 @@ module _ (table : Table) where
         | inl a ↦ inl a
         | inr b ↦ elim (member_cases n k [] b) [
           | inl q ↦ inr (subst (λ (ks : List Key). Contains ks n) (sym (keys_visited m k rows e))
-            (member_first n k (visited_keys rows) q))
+              (member_first n k (visited_keys rows) q))
           | inr c ↦ absurd (no_member n c)
         ]
       ]
   with_visited before m k rows e n (inr i) =
       inr (subst (λ (ks : List Key). Contains ks n) (sym (keys_visited m k rows e))
-          (member_later n k (visited_keys rows) i))
+      (member_later n k (visited_keys rows) i))
 
   -- the keys of pending mentions were visited before or are visited by the rows
   pub pending_known : {before : List Key} {pending : List Mention} {rows : List Row} → AreRows table before pending rows
@@ -81,10 +85,10 @@ module _ (table : Table) where
   pending_known (Visited {before = before} {m = m} {n = k} {pending = pending} {rows = rows} e new rest) n (x, i, q) =
       elim (member_cases x m pending i) [
         | inl g ↦ with_visited before m k rows e n (inl (Contains-append_right before (k ∷ []) n
-          (member_first n k [] (same_Some n k (sym q ∙ ap (λ (y : Mention). y.target) g ∙ e)))))
+            (member_first n k [] (same_Some n k (sym q ∙ ap (λ (y : Mention). y.target) g ∙ e)))))
         | inr j ↦ with_visited before m k rows e n
-          (pending_known rest n
-          (x, Contains-append_right (mentions table (m.depth + 1) (key_uses table k)) pending x j, q))
+            (pending_known rest n
+            (x, Contains-append_right (mentions table (m.depth + 1) (key_uses table k)) pending x j, q))
       ]
 
   -- so are the keys that the words of a visited key lead to
@@ -97,7 +101,7 @@ module _ (table : Table) where
       (elim (member_cases k j (visited_keys rows)
       (subst (λ (ks : List Key). Contains ks k) (keys_visited m j rows e) i)) [
         | inl q ↦ pending_known rest n (first_lead (entry_member table (m.depth + 1) j n
-          (subst (λ (x : Key). WordsLeadTo table (key_words table x) n) q l)))
+            (subst (λ (x : Key). WordsLeadTo table (key_words table x) n) q l)))
         | inr h ↦ keys_known rest k n h l
       ])
     where

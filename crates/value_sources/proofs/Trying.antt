@@ -26,7 +26,7 @@ same_keys : (visited_keys more : List ℕ) (ks : List TriedKey)
 same_keys visited_keys more [] s e = refl
 same_keys visited_keys more (k ∷ ks) s e =
     let a : key_in (visited_keys ++ more) k ≡ key_in visited_keys k = same_key visited_keys more k (s 0 k refl)
-        (e 0 k refl) in
+    (e 0 k refl) in
     let b : keys_in (visited_keys ++ more) ks ≡ keys_in visited_keys ks =
     same_keys visited_keys more ks (λ i x q. s (suc i) x q) (λ i x q. e (suc i) x q) in
     λ i. a i ∷ b i

@@ -1,5 +1,5 @@
 -- The rows of a small table, by hand.
-use Rattle.std.specs.Prelude.{◌≡◌, ℕ, true, false, List, [], ◌∷◌, Some, None, codes, pos}
+use Rattle.std.specs.Prelude.{ℕ, List, [], ◌∷◌, Some, None, codes, pos}
 use Rattle.expr_tree.specs.declared.word_list.WordUse.{WordUse}
 use Rattle.expr_tree.specs.declared.word_list.WordKind.TheVariants as word_kind
 use Rattle.expr_tree.specs.Syntax.{Number, Word}
@@ -10,10 +10,9 @@ use Rattle.def_entry.specs.Keys.{key}
 use Rattle.def_entry.specs.Tables.{Table}
 use Rattle.value_sources.specs.declared.resolution.Resolution.{Resolution}
 use Rattle.value_sources.specs.declared.resolution.Resolution.TheVariants.{Unknown, Name, Plural, Prefix, PrefixedUnit}
-use Rattle.value_sources.specs.declared.site.Site.{Site}
 use Rattle.value_sources.specs.declared.site.Site.TheVariants.{Expression, Body as InBody}
 use Rattle.value_sources.specs.Mentions.{Mention}
-use Rattle.value_sources.specs.Rows.{AreRowsOf, Row, skipped, visited}
+use Rattle.value_sources.specs.Rows.{AreRowsOf, skipped, visited}
 
 abbrev pub m : Key
 m = key kind.Unit (codes "m")

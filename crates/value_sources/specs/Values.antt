@@ -1,41 +1,44 @@
 -- The values of the keys of a tree.
-use Rattle.std.specs.Prelude.{◌≡◌, ℕ, true, List, Option, Some, None}
+use Rattle.std.specs.Prelude.{◌≡◌, ℕ, List, Option, Some, None}
 use Rattle.expr_tree.specs.Syntax.{Syntax, Word}
 use Rattle.expr_tree.specs.Words.{words_in}
 use Rattle.def_entry.specs.declared.key.Key.{Key}
 use Rattle.def_entry.specs.declared.key.Kind.{Kind}
 use Rattle.def_entry.specs.declared.key.Kind.TheVariants as kind
-use Rattle.def_entry.specs.Entries.{Body, Entry, What}
+use Rattle.def_entry.specs.Entries as what
+use Rattle.def_entry.specs.Entries.{Entry, What}
 use Rattle.def_entry.specs.Tables.{Table, entry_at}
-use Rattle.deck.specs.Decks.{Contents}
-use Rattle.deck.specs.Tables.{is_present, table}
 use Rattle.tree_eval.specs.Outcomes.{worth_in}
 use Rattle.table_names.specs.Closed.{AreClosed}
 use Rattle.table_names.specs.Meanings.{outcome}
 use Rattle.live_table.specs.Answers.{answer, by_names}
 
--- the expression of a unit or a prefix, if it has one
-abbrev pub body_of : What → Option Syntax
-body_of (Body e) = Some e
-body_of _ = None
+-- a unit by its name
+abbrev pub named_unit : Kind → List ℕ → Option Syntax
+named_unit kind.Unit name = Some (Word name)
+named_unit kind.Prefix name = None
+named_unit kind.Func name = None
+named_unit kind.List name = None
 
-abbrev pub body_in : Option Entry → Option Syntax
-body_in None = None
-body_in (Some e) = body_of e.what
+abbrev pub syntax_in : Kind → List ℕ → What → Option Syntax
+syntax_in kind name what.Primitive = named_unit kind name
+syntax_in kind name what.Dimensionless = named_unit kind name
+syntax_in kind name (what.Body e) = Some e
+syntax_in kind name (what.Function d) = None
+syntax_in kind name (what.Alias target) = None
+syntax_in kind name (what.Table d) = None
+syntax_in kind name (what.ListOf parts) = None
 
-abbrev pub syntax_for : Kind → List ℕ → Option Entry → Option Syntax
-syntax_for kind.Unit name e = Some (Word name)
-syntax_for kind.Prefix name e = body_in e
-syntax_for kind.Func name e = None
-syntax_for kind.List name e = None
+abbrev pub syntax_by : Kind → List ℕ → Option Entry → Option Syntax
+syntax_by kind name None = None
+syntax_by kind name (Some e) = syntax_in kind name e.what
 
--- the expression of which the value is that of a key: `km` for the unit `km`, and `1000` for the prefix `k- 1000`,
--- because the word `k` may be a unit
+-- The expression of which the value is that of a key: that of its definition, and for a primitive unit its name. The
+-- value of the prefix `k- 1000` is that of `1000`, because the word `k` may be a unit. Functions and lists have none.
 abbrev pub value_syntax : Table → Key → Option Syntax
-value_syntax table n = syntax_for n.kind n.name (entry_at table n)
+value_syntax table n = syntax_by n.kind n.name (entry_at table n)
 
--- law: of a key that has an entry and no name fault a query of that expression is answered by the outcome of the key
+-- law: if that expression has no name fault, a query of it is answered by the outcome of the key
 abbrev pub ValueLaw : Type 0
-ValueLaw = (d : Contents) (n : Key) (e : Syntax) → is_present (table d) n ≡ true → value_syntax (table d) n ≡ Some e
-    → AreClosed (table d) (words_in e)
-    → answer (table d) e ≡ by_names None (worth_in (outcome (table d) n))
+ValueLaw = (table : Table) (n : Key) (e : Syntax) → value_syntax table n ≡ Some e → AreClosed table (words_in e)
+    → answer table e ≡ by_names None (worth_in (outcome table n))

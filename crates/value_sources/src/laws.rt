@@ -5,6 +5,8 @@ ghost use Rattle.value_sources.specs.Laws.{RowsLaw};
 ghost use Rattle.value_sources.specs.Uses.{UsesLaw};
 ghost use Rattle.value_sources.specs.Values.{ValueLaw};
 
+use table_names::{closed_law, closed_meaning_law};
+
 /// An expression has one list of rows, and their keys are exactly those that it reaches, each once.
 pub fn rows_law()
     ensures { RowsLaw }
@@ -23,4 +25,7 @@ pub fn examples_law()
 /// The value of the expression of `value_tree` is the outcome of the key.
 pub fn value_law()
     ensures { ValueLaw }
-{}
+{
+    closed_law();
+    closed_meaning_law();
+}

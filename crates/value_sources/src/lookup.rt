@@ -16,52 +16,41 @@ use std::alloc::{AllocError, Global};
 use table_names::lookup_law;
 use units_io::Text;
 
-/// A deck, and the memory for the keys that a word tries.
-#[derive(Drop)]
+/// A deck in which words are looked up.
+#[derive(Clone, Copy, Drop)]
 pub(crate) struct Lookup<'a> {
+    pub(crate) alloc: Global,
     pub(crate) deck: &'a Deck,
-    pub(crate) tried: TriedKeys,
 }
 
 impl<'a> Lookup<'a> {
-    /// The lookup in a deck.
-    pub(crate) fn new(alloc: Global, deck: &'a Deck) -> Lookup<'a>
-        ensures { result.deck.now ≡ deck.now }
-    {
-        Lookup {
-            deck,
-            tried: TriedKeys::new(alloc),
-        }
-    }
-
     /// The keys that a word leads to. The only error is want of memory.
-    pub(crate) fn lead(&mut self, alloc: Global, word: &WordUse) -> Result<Lead, AllocError>
-        ensures deck { self.new.deck.now ≡ self.old.deck.now }
-        ensures keys { IfOk result (λ lead. targets (table self.old.deck.now) word.now ≡ lead_keys lead) }
+    pub(crate) fn lead(&self, tried: &mut TriedKeys, word: &WordUse) -> Result<Lead, AllocError>
+        ensures { IfOk result (λ lead. targets (table self.now.deck.now) word.now ≡ lead_keys lead) }
     {
         lookup_law();
-        self.tried.clear();
+        tried.clear();
         let table = DeckTable(self.deck);
-        match resolve(alloc, &table, &mut self.tried, word.text(), word.kind())? {
+        match resolve(self.alloc, &table, tried, word.text(), word.kind())? {
             Targets::Nowhere => Ok(Lead::Nowhere),
-            Targets::Last => Ok(Lead::One(last_key(alloc, &self.tried, 1)?)),
+            Targets::Last => Ok(Lead::One(self.last_key(tried, 1)?)),
             Targets::LastTwo => {
-                let prefix = last_key(alloc, &self.tried, 2)?;
-                let unit = last_key(alloc, &self.tried, 1)?;
+                let prefix = self.last_key(tried, 2)?;
+                let unit = self.last_key(tried, 1)?;
                 Ok(Lead::Two(prefix, unit))
             }
         }
     }
-}
 
-// A copy of the key that was tried so many places before the end.
-fn last_key(alloc: Global, tried: &TriedKeys, back: usize) -> Result<Key, AllocError>
-    requires some { 1 ≤ back }
-    requires many { back ≤ length tried.now }
-    ensures { IfOk result (λ key. key ≡ key_at tried.now (length tried.now - back)) }
-{
-    let place = tried.len() - back;
-    let kind = tried.kind(place);
-    let name = Text::from_bytes(alloc, tried.name(place))?;
-    Ok(Key { kind, name })
+    // A copy of the key that was tried so many places before the end.
+    fn last_key(&self, tried: &TriedKeys, back: usize) -> Result<Key, AllocError>
+        requires some { 1 ≤ back }
+        requires many { back ≤ length tried.now }
+        ensures { IfOk result (λ key. key ≡ key_at tried.now (length tried.now - back)) }
+    {
+        let place = tried.len() - back;
+        let kind = tried.kind(place);
+        let name = Text::from_bytes(self.alloc, tried.name(place))?;
+        Ok(Key { kind, name })
+    }
 }

@@ -2,37 +2,38 @@
 
 ghost use Rattle.std.specs.Prelude.{◌≡◌, ◌++◌, ◌∷◌, [], IfOk, OnOk, reverse};
 ghost use Rattle.deck.specs.Tables.{table};
-ghost use Rattle.table_names.specs.Leads.{targets};
 ghost use Rattle.value_sources.specs.Leads.{lead_keys};
 ghost use Rattle.value_sources.specs.Mentions as spec;
-ghost use Rattle.value_sources.specs.Uses.{uses_at};
+ghost use Rattle.value_sources.specs.Uses.{use_at, uses_at};
 
 use crate::lead::Lead;
 use crate::lookup::Lookup;
 use crate::mention::{Location, Mention};
 use crate::resolution::Resolution;
+use crate::tried_keys::TriedKeys;
 use def_entry::Key;
 use expr_tree::{WordUse, Words};
 use std::alloc::{AllocError, Global};
 use units_io::Text;
 
-/// Appends the mentions of words of one tree. The only error is want of memory.
-pub(crate) fn put_mentions(
-    alloc: Global,
-    lookup: &mut Lookup,
-    mentions: &mut Vec<Mention>,
-    location: Location,
-    words: &Words,
-) -> Result<(), AllocError>
-    ensures deck { lookup.new.deck.now ≡ lookup.old.deck.now }
-    ensures mentions { OnOk result (mentions.new.items ≡ mentions.old.items
-        ++ spec.mentions (table lookup.old.deck.now) location.depth (uses_at location.site words.now)) }
-{
-    for word in words.as_slice() {
-        let lead = lookup.lead(alloc, word)?;
-        put_lead(alloc, mentions, location, word, lead)?;
+impl<'a> Lookup<'a> {
+    /// Appends the mentions of the words of one tree. The only error is want of memory.
+    pub(crate) fn put_mentions(
+        &self,
+        tried: &mut TriedKeys,
+        mentions: &mut Vec<Mention>,
+        location: Location,
+        words: &Words,
+    ) -> Result<(), AllocError>
+        ensures { OnOk result (mentions.new.items ≡ mentions.old.items
+            ++ spec.mentions (table self.now.deck.now) location.depth (uses_at location.site words.now)) }
+    {
+        for word in words.as_slice() {
+            let lead = self.lead(tried, word)?;
+            put_lead(self.alloc, mentions, location, word, lead)?;
+        }
+        Ok(())
     }
-    Ok(())
 }
 
 /// Moves mentions behind others, the last one first.
@@ -40,7 +41,7 @@ pub(crate) fn push_reversed(
     pending: &mut Vec<Mention>,
     mut mentions: Vec<Mention>,
 ) -> Result<(), AllocError>
-    ensures { OnOk result (pending.new.items ≡ pending.old.items ++ reverse mentions.entry.items) }
+    ensures { OnOk result (pending.new.items ≡ pending.old.items ++ reverse mentions.items) }
 {
     while let Some(mention) = mentions.pop() {
         pending.push(mention)?;
@@ -57,31 +58,23 @@ fn put_lead(
     lead: Lead,
 ) -> Result<(), AllocError>
     ensures { OnOk result (mentions.new.items ≡ mentions.old.items
-        ++ spec.mentions_to location.depth (record { site = location.site; word = word.now }) (lead_keys lead.entry)) }
+        ++ spec.mentions_to location.depth (use_at location.site word.now) (lead_keys lead)) }
 {
     match lead {
-        Lead::Nowhere => put(alloc, mentions, location, word, Resolution::Unknown, None),
+        Lead::Nowhere => {
+            let mention = mention(alloc, location, word, Resolution::Unknown, None)?;
+            put(mentions, mention)
+        }
         Lead::One(key) => {
             let resolution = sole_resolution(word, &key);
-            put(alloc, mentions, location, word, resolution, Some(key))
+            let mention = mention(alloc, location, word, resolution, Some(key))?;
+            put(mentions, mention)
         }
         Lead::Two(prefix, unit) => {
-            put(
-                alloc,
-                mentions,
-                location,
-                word,
-                Resolution::Prefix,
-                Some(prefix),
-            )?;
-            put(
-                alloc,
-                mentions,
-                location,
-                word,
-                Resolution::PrefixedUnit,
-                Some(unit),
-            )
+            let first = mention(alloc, location, word, Resolution::Prefix, Some(prefix))?;
+            put(mentions, first)?;
+            let second = mention(alloc, location, word, Resolution::PrefixedUnit, Some(unit))?;
+            put(mentions, second)
         }
     }
 }
@@ -97,24 +90,30 @@ fn sole_resolution(word: &WordUse, key: &Key) -> Resolution
     }
 }
 
-// Appends a mention.
-fn put(
+// A mention of a key, or of none.
+fn mention(
     alloc: Global,
-    mentions: &mut Vec<Mention>,
     location: Location,
     word: &WordUse,
     resolution: Resolution,
     key: Option<Key>,
-) -> Result<(), AllocError>
-    ensures { OnOk result (mentions.new.items ≡ mentions.old.items ++ record {
+) -> Result<Mention, AllocError>
+    ensures { IfOk result (λ mention. mention ≡ record {
       depth = location.depth;
       site = location.site;
       word = word.now;
       resolution = resolution;
       target = key;
-    } ∷ []) }
+    }) }
 {
     let text = Text::from_bytes(alloc, word.text())?;
-    mentions.push(Mention::new(location, text, word.kind(), resolution, key))?;
+    Ok(Mention::new(location, text, word.kind(), resolution, key))
+}
+
+// Appends a mention.
+fn put(mentions: &mut Vec<Mention>, mention: Mention) -> Result<(), AllocError>
+    ensures { OnOk result (mentions.new.items ≡ mentions.old.items ++ mention ∷ []) }
+{
+    mentions.push(mention)?;
     Ok(())
 }
