@@ -1,43 +1,34 @@
 -- Marks of the lines of visited keys.
-use Rattle.std.proofs.Common.{◌≡◌, ◌≢◌, ◌⊎◌, ◌++◌, ◌∷◌, ◌<◌, [], ℕ, Bool, true, false, true≢false, List, length, set}
+use Rattle.std.proofs.Common.{◌≡◌, ◌++◌, ◌∷◌, ◌<◌, [], ℕ, Bool, true, false, true≢false, List, length, set}
 use Rattle.std.proofs.Common.{get_or}
-use Rattle.std.proofs.Common.{Option, Some, None, option_map, is_some, refl, sym, ap, subst, ◌∙◌, inl, inr, slice_get}
-use Rattle.std.proofs.Common.{arith, cond}
-use Rattle.std.specs.List.{list_any}
-use Rattle.std.specs.Map.{lookup}
-use Rattle.std.specs.Option.{option_and_then}
-use Rattle.std.proofs.lemmas.List.{get_or-set_other, get_or-set_same, length-set}
-use Rattle.std.proofs.lemmas.Option.{same_Some, slice_get_within}
+use Rattle.std.proofs.Common.{Option, Some, None, refl, sym, ap, ◌∙◌}
+use Rattle.std.proofs.Common.{◌||◌, arith, cond}
+use Rattle.std.proofs.lemmas.List.{get_or-set_other, get_or-set_same}
+use Rattle.std.proofs.lemmas.Option.{same_Some}
 use Rattle.def_entry.specs.declared.key.Key.{Key}
-use Rattle.def_entry.specs.Entries.{Entry}
 use Rattle.def_entry.specs.SameKeys.{is_among, is_same}
-use Rattle.def_entry.specs.Tables.{keys_of}
 use Rattle.def_entry.proofs.SameKeys.{same_keys}
-use Rattle.deck_lines.specs.Readings.{entry_in}
-use Rattle.deck_lines.specs.Stores.{definition_at}
-use Rattle.deck_lines.specs.declared.line.DeckLine.{DeckLine}
 use Rattle.deck.specs.Decks.{Contents}
-use Rattle.deck.specs.PlacedKeys.{key_there}
-use Rattle.deck.specs.Tables.{Definitions, definitions, last_place, place_of}
+use Rattle.deck.specs.Tables.{last_place}
 use Rattle.value_sources.proofs.Placing.{one_key, within}
 use Rattle.value_sources.specs.Visits.{MarksVisits, is_marked}
-use Rattle.value_sources.specs.Walks.{AreMarked}
+
+or_cond : (b c : Bool) (x y : Bool) → x ≡ cond c true y → (b || x) ≡ cond c true (b || y)
+or_cond true true x y h = refl
+or_cond true false x y h = refl
+or_cond false true x y h = h
+or_cond false false x y h = h
+
+or_none : (b : Bool) → (b || false) ≡ cond b true false
+or_none true = refl
+or_none false = refl
 
 -- a key is among some keys and one more if it is among them or is that one
-among_push : (before : List Key) (n k : Key) → is_among (before ++ n ∷ []) k ≡ cond (is_same k n) true
-    (is_among before k)
-among_push [] n k = by (is_same k n)
-  where
-    by : (b : Bool) → cond b true false ≡ cond b true false
-    by b = refl
-among_push (m ∷ before) n k = by (is_same k m) (is_same k n) (among_push before n k)
-  where
-    by : (b c : Bool) → list_any (is_same k) (before ++ n ∷ []) ≡ cond c true (is_among before k)
-        → cond b true (list_any (is_same k) (before ++ n ∷ [])) ≡ cond c true (cond b true (is_among before k))
-    by true true h = refl
-    by true false h = refl
-    by false true h = h
-    by false false h = h
+among_push : (before : List Key) (n k : Key)
+    → is_among (before ++ n ∷ []) k ≡ cond (is_same k n) true (is_among before k)
+among_push [] n k = or_none (is_same k n)
+among_push (m ∷ before) n k =
+    or_cond (is_same k m) (is_same k n) (is_among (before ++ n ∷ []) k) (is_among before k) (among_push before n k)
 
 -- once its line is marked, a key is among those that were visited
 pub marked_next : (d : Contents) (marks : List Bool) (before : List Key) (n : Key) (place : ℕ)

@@ -1,5 +1,5 @@
 -- The keys of mentions.
-use Rattle.std.proofs.Common.{◌≡◌, ◌⊎◌, ◌++◌, ◌∷◌, [], ℕ, true, List, Contains, flat_map, map, Option, Some, None}
+use Rattle.std.proofs.Common.{◌≡◌, ◌∷◌, [], ℕ, true, List, Contains, map, Option, Some, None}
 use Rattle.std.proofs.Common.{refl, sym, ap, ◌∙◌, subst, inl, inr}
 use Rattle.std.proofs.lemmas.Option.{same_Some}
 use Rattle.expr_tree.specs.declared.word_list.WordUse.{WordUse}

@@ -1,17 +1,17 @@
 -- Rows visit each key once.
-use Rattle.std.proofs.Common.{◌≡◌, ◌++◌, ◌+◌, Bool, true, false, true≢false, List, [], ◌∷◌, Contains, Some, refl, sym}
-use Rattle.std.proofs.Common.{ap, ◌∙◌, subst, inl, inr}
+use Rattle.std.proofs.Common.{◌≡◌, Bool, true, false, true≢false, List, [], ◌∷◌, Contains, refl, sym}
+use Rattle.std.proofs.Common.{◌∙◌, subst, inl, inr}
 use Rattle.std.specs.List.{AllByRecursion, IsDistinct}
 use Rattle.std.proofs.lemmas.List.Elements.{Contains-append_left, Contains-append_right}
 use Rattle.expr_tree.specs.declared.word_list.WordUse.{WordUse}
 use Rattle.def_entry.specs.declared.key.Key.{Key}
-use Rattle.def_entry.specs.SameKeys.{is_among, is_same}
+use Rattle.def_entry.specs.SameKeys.{is_same}
 use Rattle.def_entry.specs.Tables.{Table}
 use Rattle.def_entry.proofs.SameKeys.{same_keys}
 use Rattle.value_sources.proofs.Lists.{member_cases, member_first, member_later, no_member}
 use Rattle.value_sources.specs.Mentions.{Mention}
 use Rattle.value_sources.specs.Rows.{AreRows, AreRowsOf, Finished, Visited, Skipped, Row, visited_keys}
-use Rattle.value_sources.proofs.Members.{among_is, is_among_of}
+use Rattle.value_sources.proofs.Members.{is_among_of}
 use Rattle.value_sources.proofs.Reached.{keys_visited}
 
 -- a key that equals none of some keys is the same as none of them

@@ -1,14 +1,12 @@
 -- Mentions have one list of rows.
-use Rattle.std.proofs.Common.{◌≡◌, ◌++◌, ◌+◌, true, false, true≢false, List, [], ◌∷◌, Option, Some, refl, sym, ap, ◌∙◌}
+use Rattle.std.proofs.Common.{◌≡◌, ◌++◌, ◌+◌, true≢false, List, [], ◌∷◌, refl, sym, ap, ◌∙◌}
 use Rattle.std.proofs.Common.{subst}
 use Rattle.std.proofs.lemmas.Option.{same_Some}
-use Rattle.expr_tree.specs.declared.word_list.WordUse.{WordUse}
 use Rattle.def_entry.specs.declared.key.Key.{Key}
-use Rattle.def_entry.specs.SameKeys.{is_among}
 use Rattle.def_entry.specs.Tables.{Table}
 use Rattle.value_sources.specs.Uses.{key_uses}
 use Rattle.value_sources.specs.Mentions.{Mention, mentions}
-use Rattle.value_sources.specs.Rows.{AreRows, AreRowsOf, Finished, Visited, Skipped, Row, is_skipped, visited, skipped}
+use Rattle.value_sources.specs.Rows.{AreRows, Finished, Visited, Skipped, Row, is_skipped, visited, skipped}
 
 module _ (table : Table) where
   pub one : {before : List Key} {pending : List Mention} {rows others : List Row} → AreRows table before pending rows

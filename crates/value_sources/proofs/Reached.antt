@@ -1,19 +1,18 @@
 -- The keys that rows visit are exactly those that words reach.
-use Rattle.std.proofs.Common.{◌≡◌, ◌⊎◌, ◌↔◌, ◌++◌, ◌+◌, ℕ, true, List, [], ◌∷◌, Contains, Option, Some, None, refl, sym}
+use Rattle.std.proofs.Common.{◌≡◌, ◌⊎◌, ◌↔◌, ◌++◌, ◌+◌, List, [], ◌∷◌, Contains, Option, Some, refl, sym}
 use Rattle.std.proofs.Common.{ap, ◌∙◌, subst, inl, inr}
 use Rattle.std.specs.List.{cons_option}
 use Rattle.std.proofs.lemmas.List.Elements.{Contains-append_cases, Contains-append_left, Contains-append_right}
 use Rattle.std.proofs.lemmas.Option.{same_Some}
 use Rattle.expr_tree.specs.declared.word_list.WordUse.{WordUse}
 use Rattle.def_entry.specs.declared.key.Key.{Key}
-use Rattle.def_entry.specs.SameKeys.{is_among}
 use Rattle.def_entry.specs.Tables.{Table}
 use Rattle.table_names.specs.Leads.{WordsLeadTo, WordsReach, at_once, further}
 use Rattle.table_names.specs.Words.{key_words}
 use Rattle.value_sources.proofs.Lists.{member_cases, member_first, member_later, no_member}
 use Rattle.value_sources.specs.Mentions.{Mention, mentions}
 use Rattle.value_sources.specs.Rows.{AreRows, AreRowsOf, Finished, Visited, Skipped, Row, is_skipped, visited_keys}
-use Rattle.value_sources.specs.Rows.{visited_key, visited, skipped}
+use Rattle.value_sources.specs.Rows.{visited}
 use Rattle.value_sources.proofs.Members.{LeadOn, among_is, entry_cases, entry_member, first_cases, first_member}
 use Rattle.value_sources.specs.Uses.{key_uses}
 

@@ -1,7 +1,7 @@
 -- Mentions on a stack, the next one last.
 use Rattle.std.proofs.Common.{◌≡◌, ◌++◌, ◌∷◌, ◌+◌, ◌<◌, [], ℕ, List, drop, length, get_or, reverse, sym, ap, ◌∙◌, refl}
-use Rattle.std.proofs.Common.{append_assoc, flat_map}
-use Rattle.std.proofs.lemmas.List.{append-nil, at_drop_more, reverse-append, reverse-reverse}
+use Rattle.std.proofs.Common.{append_assoc}
+use Rattle.std.proofs.lemmas.List.{at_drop_more, reverse-append, reverse-reverse}
 use Rattle.expr_tree.specs.declared.word_list.WordUse.{WordUse}
 use Rattle.def_entry.specs.declared.key.Key.{Key}
 use Rattle.def_entry.specs.Tables.{Table}

@@ -1,9 +1,8 @@
 -- The value of the expression of a key is the outcome of the key.
-use Rattle.std.proofs.Common.{◌≡◌, ◌∷◌, [], ℕ, Bool, true, List, Contains, cond, map, Option, Some, None, Ok, Err, refl}
+use Rattle.std.proofs.Common.{◌≡◌, ◌∷◌, [], ℕ, List, Contains, cond, map, Option, Some, None, Ok, Err, refl}
 use Rattle.std.proofs.Common.{sym, ap, ◌∙◌, subst}
 use Rattle.std.specs.Option.{is_some}
 use Rattle.std.proofs.lemmas.Option.{same_Some}
-use Rattle.expr_tree.specs.declared.word_list.WordUse.{WordUse}
 use Rattle.expr_tree.specs.Syntax.{Syntax, Word}
 use Rattle.expr_tree.specs.Words.{words_in}
 use Rattle.def_entry.specs.declared.key.Key.{Key}
@@ -17,16 +16,17 @@ use Rattle.name_lookup.specs.Order.{try_key, try_parts}
 use Rattle.name_lookup.specs.Plans.{Gives, after, run}
 use Rattle.tree_eval.specs.Entries.{meaning_of}
 use Rattle.tree_eval.specs.Expanded.{Dimensionless, Expanded, Meaning, One, Primitive}
-use Rattle.tree_eval.specs.Expansion.{expand, plain, plain_word}
+use Rattle.tree_eval.specs.Expansion.{plain, plain_word}
 use Rattle.tree_eval.specs.Outcomes.{kept, outcome_of, worth_in}
 use Rattle.tree_eval.specs.Steps.{Worth}
 use Rattle.tree_eval.specs.Value.{value}
 use Rattle.table_names.specs.Closed.{AreClosed, IsClosed}
 use Rattle.table_names.specs.ClosedLaws.{ClosedLaw}
 use Rattle.table_names.specs.Leads.{targets}
-use Rattle.table_names.specs.Meanings.{ClosedMeaningLaw, entry_meaning, expansion, key_meaning, outcome, targets_meaning}
+use Rattle.table_names.specs.Meanings.{ClosedMeaningLaw, entry_meaning, expansion, key_meaning, outcome}
+use Rattle.table_names.specs.Meanings.{targets_meaning}
 use Rattle.table_names.specs.Meanings.{word_meaning}
-use Rattle.table_names.specs.Words.{entry_words, key_words, what_words}
+use Rattle.table_names.specs.Words.{entry_words, what_words}
 use Rattle.live_table.specs.Answers.{answer, by_names}
 use Rattle.value_sources.specs.Values.{ValueLaw, named_unit, syntax_by, syntax_in}
 use Rattle.value_sources.proofs.Lists.{member_first}

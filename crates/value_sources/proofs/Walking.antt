@@ -1,6 +1,7 @@
 -- The steps of a walk.
 use Rattle.std.proofs.Common.{◌≡◌, ◌++◌, ◌∷◌, ◌+◌, [], ℕ, Bool, true, false, List, length, reverse, Contains, set}
-use Rattle.std.proofs.Common.{Option, Some, None, refl, sym, ap, subst, ◌∙◌, inl, inr, append_assoc}
+use Rattle.std.proofs.Common.{Option, Result, Ok, Err, OnOk, arith, Some, None, refl, sym, ap, subst, ◌∙◌, inl, inr}
+use Rattle.std.proofs.Common.{append_assoc}
 use Rattle.std.specs.List.{cons_option}
 use Rattle.std.proofs.lemmas.List.{append-nil, length-set, reverse-append}
 use Rattle.std.proofs.lemmas.List.Elements.{Contains-append_cases}
@@ -15,6 +16,7 @@ use Rattle.value_sources.specs.Mentions.{Mention, mentions}
 use Rattle.value_sources.specs.Rows.{AreRows, Finished, Row, Skipped, Visited, first_mentions, is_skipped, skipped}
 use Rattle.value_sources.specs.Rows.{visited, visited_key, visited_keys}
 use Rattle.value_sources.specs.Uses.{key_uses}
+use Rattle.value_sources.specs.Visits.{IsUnvisitedPlace, MarksVisits}
 use Rattle.value_sources.specs.Walks.{AreMarked, IsFound, IsUnderway}
 use Rattle.value_sources.proofs.Lists.{member_first, member_later}
 use Rattle.value_sources.proofs.Members.{entry_cases, first_cases}
@@ -24,12 +26,13 @@ use Rattle.value_sources.proofs.Marking.{marked_next}
 keys_push : (rows : List Row) (r : Row)
     → visited_keys (rows ++ r ∷ []) ≡ visited_keys rows ++ cons_option (visited_key r) []
 keys_push [] r = refl
-keys_push (x ∷ rows) r = by (visited_key x)
+keys_push (x ∷ rows) r = by (visited_key x) (keys_push rows r)
   where
-    by : (o : Option Key) → cons_option o (visited_keys (rows ++ r ∷ []))
-        ≡ cons_option o (visited_keys rows) ++ cons_option (visited_key r) []
-    by None = keys_push rows r
-    by (Some k) = ap (λ (ks : List Key). k ∷ ks) (keys_push rows r)
+    by : (o : Option Key) → visited_keys (rows ++ r ∷ []) ≡ visited_keys rows ++ cons_option (visited_key r) []
+        → cons_option o (visited_keys (rows ++ r ∷ [])) ≡ cons_option o (visited_keys rows) ++ cons_option
+        (visited_key r) []
+    by None h = h
+    by (Some k) h = ap (λ (ks : List Key). k ∷ ks) h
 
 keys_skipped : (rows : List Row) (m : Mention) → visited_keys (rows ++ skipped m ∷ []) ≡ visited_keys rows
 keys_skipped rows m = keys_push rows (skipped m) ∙ append-nil (visited_keys rows)
@@ -53,7 +56,8 @@ first_found : TargetsLaw → (d : Contents) (words : List WordUse) (m : Mention)
 first_found law d words m i n e = lead_found law d words n (first_cases (table d) words n (m, i, e))
 
 -- before the first row
-pub underway_start : TargetsLaw → (d : Contents) (words : List WordUse) (rows : List Row) (pending : List Mention) → rows ≡ []
+pub underway_start : TargetsLaw → (d : Contents) (words : List WordUse) (rows : List Row) (pending : List Mention)
+    → rows ≡ []
     → reverse pending ≡ first_mentions (table d) words → IsUnderway d (first_mentions (table d) words) rows pending
 underway_start law d words rows pending none e =
     subst (λ (rs : List Row). IsUnderway d (first_mentions (table d) words) rs pending) (sym none) (record {
@@ -113,7 +117,8 @@ pub underway_end : (d : Contents) (start : List Mention) (rows : List Row) (pend
     → IsUnderway d start rows pending → AreRows (table d) [] start rows
 underway_end d start rows pending none h =
     subst (AreRows (table d) [] start) (append-nil rows)
-    (h.all [] (subst (λ (ms : List Mention). AreRows (table d) (visited_keys rows) (reverse ms) []) (sym none) Finished))
+    (h.all [] (subst (λ (ms : List Mention). AreRows (table d) (visited_keys rows) (reverse ms) [])
+    (sym none) Finished))
 
 -- the marks after a row that visits nothing
 pub marks_skipped : (d : Contents) (marks : List Bool) (rows : List Row) (m : Mention) → AreMarked d marks rows
@@ -132,3 +137,21 @@ marks_visited d marks rows m n place h e p = record {
   marked = λ k. marked_next d marks (visited_keys rows) n place h.room h.marked p k
       ∙ ap (λ (ks : List Key). is_among ks k) (sym (keys_visited rows m n e));
 }
+
+-- ---- what a call answers
+pub on_ok : {A E P Q : Type 0} (r : Result A E) → (P → Q) → OnOk r P → OnOk r Q
+on_ok (Ok x) f p = f p
+on_ok (Err e) f p = p
+
+pub none_left : (ms : List Mention) → length ms ≡ 0 → ms ≡ []
+none_left [] e = refl
+none_left (m ∷ ms) e = absurd (omega (arith, e))
+
+-- the place that is found for the key of a mention, by what equals the marks, the key and the place
+pub place_found : (d : Contents) (marks flags : List Bool) (rows : List Row) (key other : Option Key)
+    (place answer : Option ℕ) → AreMarked d marks rows → flags ≡ marks → other ≡ key → answer ≡ place
+    → ((before : List Key) → MarksVisits d flags before → IsUnvisitedPlace d before other answer)
+    → IsUnvisitedPlace d (visited_keys rows) key place
+place_found d marks flags rows key other place answer h f k a found =
+    subst (λ (p : Option Key × Option ℕ). IsUnvisitedPlace d (visited_keys rows) p.0 p.1) (λ i. (k i, a i))
+    (found (visited_keys rows) (subst (λ (ms : List Bool). MarksVisits d ms (visited_keys rows)) (sym f) h.marked))

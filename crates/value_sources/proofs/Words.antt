@@ -3,15 +3,14 @@ use Rattle.std.proofs.Common.{◌≡◌, ◌++◌, ◌∷◌, [], List, Option, 
 use Rattle.std.proofs.lemmas.List.{map-append}
 use Rattle.expr_tree.specs.declared.word_list.WordUse.{WordUse}
 use Rattle.expr_tree.specs.Words.{words_in}
-use Rattle.def_entry.specs.declared.key.Key.{Key}
 use Rattle.def_entry.specs.Entries as what
 use Rattle.def_entry.specs.Entries.{Entry, FunctionDef, What}
-use Rattle.def_entry.specs.Tables.{Table, entry_at}
+use Rattle.def_entry.specs.Tables.{entry_at}
 use Rattle.tree_eval.specs.Entries.{function_words, words_if}
-use Rattle.table_names.specs.Words.{entry_words, key_words, what_words}
+use Rattle.table_names.specs.Words.{entry_words, what_words}
 use Rattle.value_sources.specs.declared.site.Site.{Site}
 use Rattle.value_sources.specs.declared.site.Site.TheVariants as site
-use Rattle.value_sources.specs.Uses.{Use, UsesLaw, entry_uses, function_uses, key_uses, uses_at, what_uses, words_of}
+use Rattle.value_sources.specs.Uses.{Use, UsesLaw, entry_uses, function_uses, uses_at, what_uses, words_of}
 
 pub words_at : (s : Site) (words : List WordUse) → words_of (uses_at s words) ≡ words
 words_at s [] = refl

@@ -1,8 +1,7 @@
 -- Keys at which a word looks, their names one behind another.
-use Rattle.std.specs.Prelude.{◌≡◌, ◌≤◌, ◌-◌, ℕ, List, Some, length, map, take, drop, slice_get, slice_index_or, []}
+use Rattle.std.specs.Prelude.{◌≡◌, ◌≤◌, ◌-◌, ℕ, List, Some, length, map, take, drop, slice_get}
 use Rattle.def_entry.specs.Keys.{key}
 use Rattle.def_entry.specs.declared.key.Key.{Key}
-use Rattle.def_entry.specs.declared.key.Kind.TheVariants as kind
 use Rattle.value_sources.specs.declared.tried_keys.TriedKey.{TriedKey}
 
 -- the key whose name stands at its place among the names

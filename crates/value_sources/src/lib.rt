@@ -3,6 +3,7 @@
 
 mod deck_table;
 mod entry_mentions;
+mod key_tree;
 mod laws;
 mod lead;
 mod lookup;
@@ -12,12 +13,11 @@ mod resolution;
 mod row;
 mod site;
 mod tried_keys;
-mod value_tree;
 mod walk;
 
+pub use key_tree::value_tree;
 pub use laws::{examples_law, rows_law, uses_law, value_law};
 pub use resolution::Resolution;
 pub use row::Row;
 pub use site::Site;
-pub use value_tree::value_tree;
 pub use walk::rows;

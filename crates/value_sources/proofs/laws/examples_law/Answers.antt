@@ -8,4 +8,8 @@ returns c = record {
   repeated = Visited refl refl (Skipped refl Finished);
   unknown_word = Skipped refl Finished;
   cycle = Visited refl refl (Skipped refl Finished);
+  function = Visited refl refl (Visited refl refl (Visited refl refl (Visited refl refl Finished)));
+  prefix_value = refl;
+  unit_value = refl;
+  function_value = refl;
 }
