@@ -120,11 +120,19 @@ class Words:
         return value
 
 
-def run(program: str, library: Path, locale: str, expression: str) -> list[dict]:
-    """The rows of an expression."""
-    command = [program, "--exact", "--json", "-f", str(library), "-l", locale, "--", expression]
-    done = subprocess.run(command, stdin=subprocess.DEVNULL, stdout=subprocess.PIPE, check=False)
-    return [json.loads(line) for line in done.stdout.splitlines()][1:]
+def run(program: str, library: Path, locale: str, *words: str) -> list[dict]:
+    """The objects that units-why writes."""
+    command = [program, "--json", "-f", str(library), "-l", locale, *words]
+    done = subprocess.run(
+        command, stdin=subprocess.DEVNULL, stdout=subprocess.PIPE, stderr=subprocess.DEVNULL, check=False
+    )
+    return [json.loads(line) for line in done.stdout.splitlines()]
+
+
+def places_without_effect(program: str, library: Path, locale: str) -> set[str]:
+    """The lines that the program does not take as definitions."""
+    findings = run(program, library, locale, "--lint")
+    return {f"{finding['file']}:{finding['line']}" for finding in findings if "key" not in finding}
 
 
 def check_value(tree: Tree, row: dict, results: Results) -> None:
@@ -155,7 +163,9 @@ def check_rows(rows: list[dict], places: dict[str, list[str]], results: Results)
 
 def check_locale(program: str, library: Path, locale: str, results: Results) -> None:
     deck = read_deck(str(library))
+    ignored = places_without_effect(program, library, locale)
     active = [line for line in deck.active(locale, os.environ) if line.kind is not Kind.LIST]
+    active = [line for line in active if str(line.place) not in ignored]
     places: dict[str, list[str]] = defaultdict(list)
     for definition in active:
         places[definition.key].append(str(definition.place))
@@ -164,7 +174,8 @@ def check_locale(program: str, library: Path, locale: str, results: Results) -> 
     words = names + [prefix + names[0] for prefix in prefixes]
     keys = set()
     for start in range(0, len(words), NAMES_A_RUN):
-        rows = run(program, library, locale, " ".join(words[start : start + NAMES_A_RUN]))
+        expression = " ".join(words[start : start + NAMES_A_RUN])
+        _, *rows = run(program, library, locale, "--exact", "--", expression)
         keys |= check_rows(rows, places, results)
     for key in {f"{name}" for name in names} | {f"{prefix}-" for prefix in prefixes}:
         results.check(key in keys, f"{key} has no row")
