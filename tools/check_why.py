@@ -171,7 +171,8 @@ def check_locale(program: str, library: Path, locale: str, results: Results) -> 
         places[definition.key].append(str(definition.place))
     names = [line.name for line in active if line.kind is Kind.UNIT]
     prefixes = [line.name for line in active if line.kind is Kind.PREFIX]
-    words = names + [prefix + names[0] for prefix in prefixes]
+    probe = max(names, key=len)  # a short one might make a prefix a plural, as in das
+    words = names + [prefix + probe for prefix in prefixes]
     keys = set()
     for start in range(0, len(words), NAMES_A_RUN):
         expression = " ".join(words[start : start + NAMES_A_RUN])
