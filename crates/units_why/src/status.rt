@@ -25,7 +25,7 @@ pub(crate) enum Status {
 impl Status {
     /// The number that the process ends with.
     pub(crate) fn code(self) -> u8
-        ensures { result ≡ spec.code_of self.entry }
+        ensures { result ≡ spec.code_of self }
     {
         match self {
             Status::Done => 0,
