@@ -105,9 +105,9 @@ abbrev pub loop_rows : List Row
 loop_rows = visited (outer (codes "loop") Name loop) ∷ skipped (inner (codes "loop") Name loop) ∷ []
 
 -- law: the rows of `miles`, a plural, with the prefix and the unit of its entry below; of `m m`, whose second row
--- visits nothing; of `x`, which is unknown; of `loop`, which is on a cycle; and of `~g(..)`, an alias of a function with
--- an inverse. The expression that gives the value of a prefix is its definition, that of a primitive unit is its name,
--- and a function has none. The second row of `loop` closes a cycle, and the second row of `m m` does not.
+-- visits nothing; of `x`, which is unknown; of `loop`, which is on a cycle; and of `~g(..)`, an alias of a function
+-- with an inverse. The expression that gives the value of a prefix is its definition, that of a primitive unit is its
+-- name, and a function has none. The second row of `loop` closes a cycle, and the second row of `m m` does not.
 pub record ExamplesLaw : Type 0 where
   pub plural : AreRowsOf small (alone (codes "miles") ∷ [])
       (visited (outer (codes "miles") Plural mile) ∷ visited (inner (codes "km") Prefix k)
