@@ -5,6 +5,7 @@ mod Counting
 mod Defining
 mod DroppedLine
 mod Dropping
+mod EarlierLines
 mod EntryTexts
 mod Extending
 mod Failing
@@ -16,6 +17,7 @@ mod LastLine
 mod Lasting
 mod Listing
 mod Marking
+mod MovedPlaces
 mod Numbered
 mod Numbering
 mod OneKeyList
