@@ -6,6 +6,8 @@ mod Defining
 mod DroppedLine
 mod Dropping
 mod EarlierLines
+mod EnclosingBlocks
+mod EnclosingLines
 mod EntryTexts
 mod Extending
 mod Failing
