@@ -9,7 +9,6 @@ use Rattle.std.specs.Option.{option_and_then}
 use Rattle.def_entry.specs.declared.key.Key.{Key}
 use Rattle.def_entry.specs.declared.key.Kind.{Kind}
 use Rattle.def_entry.specs.Entries.{Entry}
-use Rattle.def_entry.specs.SameKeys.{is_same_kind}
 use Rattle.deck_lines.specs.Names.{IsOneToOne, key_at}
 use Rattle.deck_lines.specs.Readings.{entry_in}
 use Rattle.deck_lines.specs.Stores.{Store, definition_at}

@@ -1,4 +1,4 @@
-use Rattle.std.proofs.Common.{◌≡◌, ◌∙◌, ◌+◌, ◌-◌, ◌<◌, ◌≤◌, List, Bool, ap, sym, arith, length, take}
+use Rattle.std.proofs.Common.{◌≡◌, ◌∙◌, ◌+◌, ◌-◌, ◌<◌, ap, arith, length, take}
 use Rattle.deck.specs.Tables.{definitions_by, place_of}
 use Rattle.deck.proofs.EarlierLines.{line_skipped}
 use Rattle.deck.proofs.places.search.end_of_definitions.Goals as goal

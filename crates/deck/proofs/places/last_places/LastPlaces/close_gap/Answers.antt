@@ -1,4 +1,4 @@
-use Rattle.std.proofs.Common.{◌<◌, ◌≤◌, ◌≡◌, arith, length}
+use Rattle.std.proofs.Common.{arith}
 use Rattle.deck.proofs.MovedPlaces.{all_moved}
 use Rattle.deck.proofs.places.last_places.LastPlaces.close_gap.Goals as goal
 

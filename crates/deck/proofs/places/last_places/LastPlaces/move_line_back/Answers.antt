@@ -1,4 +1,4 @@
-use Rattle.deck.proofs.MovedPlaces.{moved_one, moved_past}
+use Rattle.deck.proofs.MovedPlaces.{moved_one}
 use Rattle.deck.proofs.places.last_places.LastPlaces.move_line_back.Goals as goal
 
 pub returns-in-Some : goal.returns-in-Some
