@@ -35,7 +35,6 @@ pub mod Places
 pub mod Placing
 pub mod Putting
 pub mod Queries
-pub mod QueryLeads
 pub mod QuerySteps
 pub mod QueryWords
 pub mod Ranking
@@ -46,9 +45,9 @@ pub mod SettleOne
 pub mod Stages
 pub mod Starting
 pub mod StillExplored
-pub mod Targets
 pub mod Telling
 pub mod ToldWords
+pub mod TriedNumbers
 pub mod Trying
 pub mod UsedNames
 pub mod WaitingNames

@@ -30,6 +30,7 @@ mod stepping;
 mod stored_keys;
 mod surroundings;
 mod tried_keys;
+mod tried_numbers;
 
 pub use counts::Counts;
 pub use fault::QueryFault;
