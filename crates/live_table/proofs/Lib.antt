@@ -3,7 +3,9 @@ pub mod AllExplored
 pub mod Answering
 pub mod AskedFor
 pub mod AskedKeys
+pub mod CallLists
 pub mod Counted
+pub mod Counting
 pub mod DeckTables
 pub mod DueOrder
 pub mod Edited
@@ -18,6 +20,7 @@ pub mod Growing
 pub mod GrownLive
 pub mod Indexing
 pub mod Kept
+pub mod KeptLists
 pub mod KeptNames
 pub mod KeyNumbers
 pub mod LeadSteps
