@@ -1,7 +1,7 @@
 use Rattle.std.proofs.Common.{refl}
 use Rattle.deck.specs.Tables.{table}
 use Rattle.live_table.proofs.KeyNumbers.{flagged_by}
-use Rattle.live_table.proofs.query_words.number_of.Goals as goal
+use Rattle.live_table.proofs.tried_numbers.number_at.Goals as goal
 
 pub number-requires : goal.number-requires
 number-requires c = flagged_by (table c.args.deck.now) c.args.nodes.now c.requires.nodes.flagged
