@@ -4,6 +4,7 @@ from __future__ import annotations
 
 import os
 import re
+from decimal import Decimal
 from fractions import Fraction
 from typing import Iterable, Iterator, List, Mapping, Optional, Tuple, Union
 
@@ -11,7 +12,7 @@ from .backend import BackEnd, Definitions
 from .faults import ArgumentNeeded, BackEndError, ConformabilityError, NotAnExpression
 from .quantity import Quantity, read_fraction, show_fraction
 
-Real = Union[int, float, Fraction]
+Real = Union[int, float, Fraction, Decimal]
 
 _FOLDER = os.path.dirname(os.path.abspath(__file__))
 # What a session does not take as an expression, and what is more than one line.
@@ -113,8 +114,11 @@ class Units:
     def convert_column(self, numbers: Iterable[Real], source: str, target: str) -> List[float]:
         """Return each number of `source` in `target`, as the float nearest to the exact answer.
 
-        Two units are compared once. A function is evaluated for each number: a `source` such as ``tempF`` is applied to
-        it, and a `target` such as ``tempC`` is inverted.
+        A float counts as its exact binary value. Two units are compared once. A function is evaluated for each number:
+        a `source` such as ``tempF`` is applied to it, and a `target` such as ``tempC`` is inverted.
+
+        Raises `ConformabilityError` if the dimensions differ, the exception of a fault, `OverflowError` for an infinite
+        number or an answer past the largest float, and `ValueError` for NaN.
 
         >>> Units().convert_column([1, 2.5], "ft", "in")
         [12.0, 30.0]
