@@ -1,32 +1,37 @@
 #!/usr/bin/env bash
-# Times the program of crates/eval_calls on expressions of 10,000 numerals and names: products and sums of plain
-# numbers, of a name with one dimension, and of one with three. Prints the milliseconds of one evaluation: what 50
-# lines take, less what they take with a last word that is not known, so that they are read and their words are looked
-# up but they have no value.
+# Times expressions of 9,000 numerals and names in a session of units: products and sums of plain numbers, of a name
+# with one dimension, and of one with three. Prints the milliseconds of one evaluation: the time of 50 lines, less the
+# time of the same lines with an unknown last word, which are parsed and looked up but not evaluated.
 set -u
 root=$(cd "$(dirname "${BASH_SOURCE[0]}")/.." && pwd)
-program=$("$root/tools/built.sh" eval_calls) || exit
+program=$("$root/tools/built.sh" units) || exit
 python3 - "$program" <<'PYTHON'
 import resource
 import subprocess
 import sys
+import tempfile
 import time
 
-LINES, RUNS, MEMBERS = 50, 5, 10_000
-DEFINITIONS = ["kg !", "m !", "s !", "newton 1|3 kg m / s^2"]
+LINES, RUNS, MEMBERS = 50, 5, 9_000
+DEFINITIONS = b"kg !\nm !\ns !\nnewton 1|3 kg m / s^2\n"
 
 
 def seconds(expression):
-    lines = [*DEFINITIONS, *[f"eval {expression}"] * LINES]
-    given = "".join(line + "\n" for line in lines).encode()
+    given = f"{expression}\n\n".encode() * LINES
     best = float("inf")
     for _ in range(RUNS):
         start = time.perf_counter()
-        run = subprocess.run([sys.argv[1]], input=given, stdout=subprocess.PIPE, check=True)
+        run = subprocess.run(
+            [sys.argv[1], "-q", "-t", "--exact", "-f", file.name],
+            input=given, stdout=subprocess.PIPE, stderr=subprocess.STDOUT, check=True,
+        )
         best = min(best, time.perf_counter() - start)
-    return best, run.stdout.split(b"\n")[len(DEFINITIONS)].decode()
+    return best, run.stdout.split(b"\n")[0].decode()
 
 
+file = tempfile.NamedTemporaryFile()
+file.write(DEFINITIONS)
+file.flush()
 for name, product in [("numbers", "2 / 2 * 3 / 3"), ("m", "2 m / m / 2"), ("newton", "2 newton / newton / 2")]:
     expression = " * ".join([product] * (MEMBERS // 4))
     whole, answer = seconds(expression)

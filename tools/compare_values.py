@@ -1,58 +1,69 @@
 #!/usr/bin/env python3
-"""Compares the values of eval_calls with those that Python's fractions give.
+"""Compares the values that units gives with those that Python's fractions give.
 
     tools/compare_values.py [TABLES] [SEED]
 
-answers each line that tests/values.t gives eval_calls, by an evaluator of its own over fractions
-and dicts of exponents, and compares each answer with the one that stands in the transcript. Then
-it makes TABLES tables of definitions with calls on them at random (none where no number is given)
-from the SEED (1 where none is given), has the program of crates/eval_calls answer them, and
-compares each answer. It prints the differences and a line with the counts, and ends with status 1
-where there is a difference.
+evaluates each line that tests/values.t asks for, by an evaluator of its own over fractions and dicts of exponents, and
+compares the result with the answer in the transcript. Then it makes TABLES tables of definitions (none by default)
+with expressions over them at random from SEED (1 by default), asks a session of `units` for each expression, and
+compares each answer. It prints the differences and a line with the counts. The status is 1 if there is a difference.
 """
 
+import os
 import random
 import re
 import subprocess
 import sys
+import tempfile
 from collections import Counter
 from pathlib import Path
 
+import plain_decks
 import values_at_random
 from built import program
-from plain_tables import Table
+from plain_live import Live, entries_of
+from plain_quantities import Fault
 
 ROOT = Path(__file__).resolve().parent.parent
 TRANSCRIPT = ROOT / "tests/values.t"
-PROGRAM = "eval_calls"
+NAME = "t.units"
 SHOWN = 20  # how many differences over random tables are printed
 
 
-def blocks(text):
-    """The lines of each case with its answers, and where they stand."""
+def evaluated(definitions, expressions):
+    """The value or the fault of each expression over a table with these lines. Writes them to NAME in this folder."""
+    Path(NAME).write_text("".join(f"{line}\n" for line in definitions))
+    decks = plain_decks.Board()
+    decks.load(plain_decks.Files(), NAME)
+    table = Live(entries_of(decks.deck))
+    for expression in expressions:
+        try:
+            yield table.value_of(expression).text()
+        except Fault as fault:
+            yield str(fault)
+
+
+def here_documents(text):
+    """Each command of a transcript with the lines of its here-document, and the place and lines of its output."""
     lines = text.splitlines()
-    at = 0
-    while at < len(lines):
-        if not lines[at].startswith("  $ eval_calls <<"):
-            at += 1
+    for at, line in enumerate(lines):
+        if not (line.startswith("  $ ") and line.endswith("<<'END'")):
             continue
-        start = at + 1
-        end = start
-        while lines[end] != "  > END":
-            end += 1
-        asked = [line[4:] for line in lines[start:end]]
-        answers = [line[2:] for line in lines[end + 1:end + 1 + len(asked)]]
-        yield start + 1, asked, answers
-        at = end + 1
+        end = lines.index("  > END", at)
+        given = [line[4:] for line in lines[at + 1:end]]
+        shown = [line[2:] for line in lines[end + 1:end + 1 + len(given)]]
+        yield line[4:], at + 2, given, shown
 
 
 def transcript_differences():
     count = differences = 0
-    for place, asked, answers in blocks(TRANSCRIPT.read_text()):
-        table = Table()
-        for offset, (line, answer) in enumerate(zip(asked, answers)):
+    definitions = []
+    for command, place, given, shown in here_documents(TRANSCRIPT.read_text()):
+        if command.startswith("cat"):
+            definitions = given
+            continue
+        for offset, (line, answer, expected) in enumerate(zip(given, shown, evaluated(definitions, given))):
             count += 1
-            expected = table.answer(line)
             if answer != expected:
                 differences += 1
                 print(f"line {place + offset}: {line}: {answer}, but Python has {expected}")
@@ -60,22 +71,30 @@ def transcript_differences():
     return differences
 
 
+def answers_of_program(expressions):
+    """What a session of units answers, one line for each expression."""
+    lines = "".join(f"{expression}\n\n" for expression in expressions)
+    command = [program("units"), "-q", "-t", "--exact", "-f", NAME]
+    run = subprocess.run(command, input=lines.encode(), stdout=subprocess.PIPE, stderr=subprocess.STDOUT, check=False)
+    return run.stdout.decode().splitlines()
+
+
 def random_differences(tables, seed):
     r = random.Random(seed)
     kinds, differences = Counter(), 0
     for _ in range(tables):
-        asked = values_at_random.lines(r)
-        given = "".join(line + "\n" for line in asked).encode()
-        run = subprocess.run([program(PROGRAM)], input=given, stdout=subprocess.PIPE, check=True)
-        table = Table()
-        for line, answer in zip(asked, run.stdout.decode().split("\n")):
-            expected = table.answer(line)
+        definitions, expressions = values_at_random.table(r)
+        wanted = list(evaluated(definitions, expressions))
+        answers = answers_of_program(expressions)
+        if len(answers) != len(wanted):
+            print(f"{len(answers)} answers to {len(wanted)} expressions over", *definitions, sep="\n    ")
+            differences += 1
+        for expression, answer, expected in zip(expressions, answers, wanted):
             kinds["value" if re.match("-?[0-9]", expected) else expected.split(":")[0]] += 1
             if answer != expected:
                 differences += 1
                 if differences <= SHOWN:
-                    print(f"{line}: {answer}, but Python has {expected}")
-                    print("".join(f"    {line}\n" for line in asked if not line.startswith(("eval", "apply", "unapply"))))
+                    print(f"{expression}: {answer}, but Python has {expected}", *definitions, sep="\n    ")
     print(", ".join(f"{count} {kind}" for kind, count in kinds.most_common()))
     print(f"{tables} tables at random: {kinds.total()} answers, {differences} differences")
     return differences
@@ -84,9 +103,11 @@ def random_differences(tables, seed):
 def main():
     tables = int(sys.argv[1]) if len(sys.argv) > 1 else 0
     seed = sys.argv[2] if len(sys.argv) > 2 else "1"
-    differences = transcript_differences()
-    if tables:
-        differences += random_differences(tables, seed)
+    with tempfile.TemporaryDirectory() as folder:
+        os.chdir(folder)
+        differences = transcript_differences()
+        if tables:
+            differences += random_differences(tables, seed)
     return 1 if differences else 0
 
 

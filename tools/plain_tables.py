@@ -1,4 +1,4 @@
-"""Tables of definitions, and the values of expressions, calls and inverses over them, as eval_calls answers."""
+"""The values of expressions, calls and inverses over a table of definitions, by plain recursion over fractions."""
 
 import re
 from fractions import Fraction
@@ -239,79 +239,10 @@ class Points:
 
 
 class Table:
-    """Definitions in order. A name has an outcome, which is kept, or is a function."""
+    """A table of definitions. What its words lead to, and how it reads an expression, is for its subclass to say."""
 
     def __init__(self):
         self.outcomes, self.functions = {}, {}
-
-    def worth(self, word):
-        if word in self.functions:
-            raise Fault(f"argument needed: {word}")
-        if "_" in word:
-            prefix, unit = word.split("_", 1)
-            return self.worth(prefix).scaled(self.worth(unit), 1)
-        outcome = self.outcomes[word]
-        if isinstance(outcome, Fault):
-            raise outcome
-        return outcome
-
-    def knows(self, word):
-        if "_" in word:
-            return all(part in self.outcomes for part in word.split("_", 1))
-        return word in self.outcomes or word in self.functions
-
-    def read(self, text, binder=None):
-        reader = Reader(text, binder)
-        value = reader.sum()
-        if not all(self.knows(word) for word in reader.words):
-            raise Fault("unknown word")
-        value.rank = max((self.functions[w].rank for w in reader.words if w in self.functions), default=0)
-        return value
-
-    def answer(self, line):
-        try:
-            call, _, rest = line.partition(" ")
-            if call == "eval":
-                return self.read(rest)(self, None).text()
-            if call in ("apply", "unapply"):
-                name, _, text = rest.partition(" ")
-                if name not in self.functions:
-                    raise Fault("no function")
-                return getattr(self.functions[name], call)(self, self.read(text)(self, None)).text()
-            return self.define(line)
-        except Fault as fault:
-            return str(fault)
-
-    def define(self, line):
-        name = re.match(r"[^\s(\[]*", line).group(0)
-        behind = line[len(name):]
-        if name.rstrip("-") in self.outcomes or name in self.functions:
-            raise Fault("defined twice")
-        if behind.startswith("()"):
-            target = behind[2:].strip().removesuffix("()")
-            if target not in self.functions:
-                raise Fault("no function" if self.knows(target) else "unknown word")
-            self.functions[name] = Alias(name, self.functions[target])
-            return "function"
-        if behind.startswith("("):
-            self.functions[name] = self.function(name, behind)
-            return "function"
-        if behind.startswith("["):
-            self.functions[name] = self.points(name, behind)
-            return "function"
-        text = behind.strip()
-        if text == "!":
-            outcome = Quantity(1, {name: Fraction(1)})
-        elif text == "!dimensionless":
-            outcome = Quantity(1)
-        else:
-            read = self.read(text)
-            try:
-                outcome = read(self, None)
-            except Fault as fault:
-                outcome = fault
-        self.outcomes[name.rstrip("-")] = outcome
-        return str(outcome) if isinstance(outcome, Fault) else outcome.text()
 
     def points(self, name, behind):
         unit, _, numbers = behind[1:].partition("]")

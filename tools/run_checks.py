@@ -73,6 +73,7 @@ QUICK = [
     Check("definitions", ("tools/definitions.py",)),
     Check("documents", ("tools/check_documents.py",)),
     Check("record of tests", ("tools/tested.py",)),
+    Check("record of measurements", ("bench/record.py", "--check")),
 ]
 AFTER_PROOFS = [
     Check("C library", ("tools/check_c_library.sh",)),

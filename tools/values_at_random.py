@@ -1,4 +1,4 @@
-"""Tables of definitions with calls on them, made at random.
+"""Tables of definitions with expressions over them, made at random.
 
 Each function takes the random.Random that it makes its lines from.
 """
@@ -37,7 +37,7 @@ class Made:
         if self.one_in(500):
             return "unknown"
         name = self.r.choice(self.units)
-        return f"{self.r.choice(self.prefixes)}_{name}" if self.prefixes and self.one_in(4) else name
+        return f"{self.r.choice(self.prefixes)}{name}" if self.prefixes and self.one_in(4) else name
 
     def word(self, binder):
         if binder and not self.one_in(3):
@@ -45,7 +45,7 @@ class Made:
         if self.functions and self.one_in(100):
             return self.r.choice(self.functions)
         name = self.unit()
-        return name + self.r.choice("23") if "_" not in name and self.one_in(12) else name
+        return name + self.r.choice("23") if self.one_in(12) else name
 
     def exponent(self):
         if self.one_in(8):
@@ -176,18 +176,17 @@ class Made:
             self.ends[name] = "1", "1"
             self.define(line, self.functions, name)
 
-    def call(self):
-        kind = self.r.randrange(3)
-        if kind == 0 or self.one_in(8):
-            return f"eval {self.sum(2)}"
-        name = self.r.choice(self.functions)
-        return f"{['apply', 'unapply'][kind - 1]} {name} {self.argument(name, kind - 1, 2)}"
+    def query(self):
+        if self.one_in(3):
+            return self.sum(2)
+        name, way = self.r.choice(self.functions), self.r.randrange(2)
+        return f"{'~' * way}{name}({self.argument(name, way, 2)})"
 
 
-def lines(r):
-    """The lines of one table: its definitions, and then calls."""
+def table(r):
+    """The lines of one table, and expressions over it."""
     made = Made(r)
     made.definitions()
     if made.one_in(10):
         made.deep()
-    return made.lines + [made.call() for _ in range(40)]
+    return made.lines, [made.query() for _ in range(40)]

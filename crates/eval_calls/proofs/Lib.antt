@@ -1,8 +1,0 @@
-mod EachPart
-mod Functions
-mod Known
-mod Ranks
-mod Read
-mod Refused
-mod Rows
-mod Told
