@@ -60,11 +60,11 @@ def least(*acts: Callable[[], float]) -> list[float]:
     return [min(times) for times in zip(*rounds)]
 
 
-def report(what: str, ours: float, theirs: float, aim: str, most: float) -> None:
-    """Print a line with the ratio and the aim."""
+def report(what: str, ours: float, theirs: float, aim: str = "", most: float = 0) -> None:
+    """Print a line with the ratio, and with the aim if there is one."""
     ratio = ours / theirs
-    verdict = "met" if ratio <= most else "MISSED"
-    print(f"{what:66} {ours:12.4f} {theirs:12.4f} {ratio:8.4f} {aim}: {verdict}", flush=True)
+    verdict = f" {aim}: {'met' if ratio <= most else 'MISSED'}" if aim else ""
+    print(f"{what:74} {ours:10.4f} {theirs:10.4f} {ratio:8.4f}{verdict}", flush=True)
 
 
 def report_starts() -> None:
@@ -102,13 +102,12 @@ def report_pairs() -> None:
     library.close(), session.close()
 
 
-def report_columns() -> None:
-    """Compare columns of 1,000,000 numbers with the program, which reads a file of lines and writes one."""
+def report_columns(count: int, pair: list[str], has_aim: bool) -> None:
+    """Compare columns of numbers with the program, which reads a file of lines and writes one."""
     from exact_units import Units
 
     rng = random.Random(3)
-    numbers = [round(rng.uniform(1, 1e6), 6) for _ in range(1_000_000)]
-    pair = ["mile/hour", "m/s"]
+    numbers = [round(rng.uniform(1, 1e6), 6) for _ in range(count)]
     with tempfile.NamedTemporaryFile("w") as lines, Units(DEFINITIONS, backend="library") as library:
         lines.writelines(f"{x!r}\n" for x in numbers)
         lines.flush()
@@ -133,17 +132,19 @@ def report_columns() -> None:
             lambda: clock_seconds(by_program),
             lambda: clock_seconds(convert),
         )
-    what = "1,000,000 numbers"
-    report(f"{what} by convert_column, processor s, beside --column", python, program, "at most 1", 1)
-    report(f"{what} by convert_column, s by the clock, beside --column", python_clock, program_clock, "at most 1", 1)
-    report(f"{what} by units_convert_column, processor s, beside --column", c, program, "at most 1", 1)
+    what = f"{count:,} numbers, {pair[0]} to {pair[1]},"
+    aim = ("at most 1", 1.0) if has_aim else ()
+    report(f"{what} convert_column, s, beside --column", python, program, *aim)
+    report(f"{what} the same by the clock", python_clock, program_clock, *aim)
+    report(f"{what} units_convert_column, s", c, program, *aim)
 
 
 def main() -> None:
-    print(f"{'':66} {'ours':>12} {'the other':>12} {'ratio':>8}")
+    print(f"{'':74} {'ours':>10} {'the other':>10} {'ratio':>8}")
     report_starts()
     report_pairs()
-    report_columns()
+    report_columns(1_000_000, ["mile/hour", "m/s"], has_aim=True)
+    report_columns(100_000, ["tempF", "tempC"], has_aim=False)
 
 
 main()

@@ -134,7 +134,7 @@ def main() -> int:
     definitions = str(arguments.definitions)
     built = subprocess.run([ROOT / "tools" / "built.sh", "units"], stdout=subprocess.PIPE, text=True, check=True)
     rng = random.Random(arguments.seed)
-    counts = [RECORDS] * (arguments.numbers // RECORDS) + [arguments.numbers % RECORDS]
+    counts = [min(RECORDS, arguments.numbers - done) for done in range(0, arguments.numbers, RECORDS)]
     wrong = refused = 0
     with tempfile.TemporaryDirectory() as name:
         program = build(arguments.units or Path(name, "units"), Path(name))

@@ -10,7 +10,7 @@ from typing import Iterable, Iterator, List, Mapping, Optional, Tuple, Union
 
 from .backend import BackEnd, Definitions
 from .faults import ArgumentNeeded, BackEndError, ConformabilityError, NotAnExpression
-from .quantity import Quantity, read_fraction, show_fraction
+from .quantity import Quantity, read_fraction
 
 Real = Union[int, float, Fraction, Decimal]
 
@@ -89,11 +89,7 @@ class Units:
         ...
         exact_units.faults.ConformabilityError: conformability error: 1 m and 1 s
         """
-        reply = self._back_end.convert(_expression(source), _expression(target))
-        number, space, dimension = reply.partition(" ")
-        if space:
-            raise ConformabilityError(f"not a plain number: {reply}")
-        return read_fraction(number)
+        return read_fraction(_plain(self._back_end.convert(_expression(source), _expression(target))))
 
     def to_float(self, source: str, target: str) -> float:
         """Return the float nearest to `convert(source, target)`.
@@ -130,8 +126,7 @@ class Units:
     def _column(self, numbers: Iterable[Real], source: str, target: str) -> Iterator[float]:
         one, unit = self.unit(source), self.unit(target)
         if one is None or unit is None:
-            for x in numbers:
-                yield float(self.convert(_applied(Fraction(x), source, is_function=one is None), target))
+            yield from self._evaluated(numbers, _expression(source), _expression(target), is_function=one is None)
             return
         if not one.conforms(unit):
             raise ConformabilityError(f"conformability error: {one} and {unit}")
@@ -141,6 +136,14 @@ class Units:
             n, d = x.as_integer_ratio()
             # Python rounds a quotient of whole numbers to the nearest float.
             yield n * top / (d * bottom)
+
+    def _evaluated(self, numbers: Iterable[Real], source: str, target: str, is_function: bool) -> Iterator[float]:
+        before, after = (f"{source}(", ")") if is_function else ("", f" ({source})")
+        convert = self._back_end.convert
+        for x in numbers:
+            n, d = x.as_integer_ratio()
+            top, _, bottom = _plain(convert(f"{before}{n}|{d}{after}", target)).partition("|")
+            yield int(top) / int(bottom or 1)
 
     def unit(self, text: str) -> Optional[Quantity]:
         """Return the value of a unit, or None for the name of a function."""
@@ -217,9 +220,11 @@ def _expression(text: str) -> str:
     return text
 
 
-def _applied(x: Fraction, source: str, is_function: bool) -> str:
-    number = show_fraction(x)
-    return f"{source}({number})" if is_function else f"{number} ({source})"
+def _plain(reply: str) -> str:
+    """Return a reply that is a number alone."""
+    if " " in reply:
+        raise ConformabilityError(f"not a plain number: {reply}")
+    return reply
 
 
 def _open(definitions: Definitions, backend: str, library: Optional[str], program: Optional[str]) -> BackEnd:
