@@ -54,10 +54,10 @@ def each(act: Callable[[int], object], count: int) -> float:
     return 1e6 * clock_seconds(act_often) / count
 
 
-def least(*acts: Callable[[], float]) -> list[float]:
+def least(*acts: Callable[[], float], rounds: int = ROUNDS) -> list[float]:
     """Return the least of several rounds for each of these measurements, which take turns."""
-    rounds = [[act() for act in acts] for _ in range(ROUNDS)]
-    return [min(times) for times in zip(*rounds)]
+    times = [[act() for act in acts] for _ in range(rounds)]
+    return [min(column) for column in zip(*times)]
 
 
 def report(what: str, ours: float, theirs: float, aim: str = "", most: float = 0) -> None:
@@ -89,12 +89,14 @@ def report_pairs() -> None:
         return lambda i: units.convert(f"{i + 1} mile/hour", f"{i % 97 + 1} m/s")
 
     ask(library)(0), ask(session)(0)
+    # Many short rounds, of which some find the processor free.
     round_trip, from_c, from_python, by_pint = least(
-        lambda: each(ask(session), 5_000),
-        lambda: float(subprocess.run([PAIRS, DEFINITIONS, "50000"], capture_output=True, check=True).stdout),
-        lambda: each(ask(library), 20_000),
+        lambda: each(ask(session), 500),
+        lambda: float(subprocess.run([PAIRS, DEFINITIONS, "2000"], capture_output=True, check=True).stdout),
+        lambda: each(ask(library), 500),
         # pint takes no number in the target, so its pairs differ in the source alone.
-        lambda: each(lambda i: registry(f"{i + 1} mile/hour").to("m/s"), 500),
+        lambda: each(lambda i: registry(f"{i + 1} mile/hour").to("m/s"), 50),
+        rounds=20 * ROUNDS,
     )
     report("a new pair from C, µs, beside a round trip", from_c, round_trip, "at most 1/5", 1 / 5)
     report("a new pair from Python, µs, beside a round trip", from_python, round_trip, "at most 1/2", 1 / 2)
@@ -133,10 +135,10 @@ def report_columns(count: int, pair: list[str], has_aim: bool) -> None:
             lambda: clock_seconds(convert),
         )
     what = f"{count:,} numbers, {pair[0]} to {pair[1]},"
-    aim = ("at most 1", 1.0) if has_aim else ()
-    report(f"{what} convert_column, s, beside --column", python, program, *aim)
-    report(f"{what} the same by the clock", python_clock, program_clock, *aim)
-    report(f"{what} units_convert_column, s", c, program, *aim)
+    aim = "at most 1" if has_aim else ""
+    report(f"{what} convert_column, s, beside --column", python, program, aim, 1)
+    report(f"{what} the same by the clock", python_clock, program_clock, aim, 1)
+    report(f"{what} units_convert_column, s", c, program)
 
 
 def main() -> None:

@@ -15,8 +15,9 @@ from .quantity import Quantity, read_fraction
 Real = Union[int, float, Fraction, Decimal]
 
 _FOLDER = os.path.dirname(os.path.abspath(__file__))
-# What a session does not take as an expression, and what is more than one line.
-_SPECIAL = re.compile(r"[\n\r\0;#]|\A[:?]|\A(?:search|quit|exit|help|conformable)(?:\s|\Z)")
+# What a session does not take as an expression: bytes, and first words.
+_has_special = re.compile(r"[\n\r\0;#]").search
+_is_command = re.compile(r"[:?]|(?:search|quit|exit|help|conformable)(?:\s|\Z)").match
 _LONGEST = 60_000
 
 
@@ -215,7 +216,7 @@ def _line(text: str) -> str:
 def _expression(text: str) -> str:
     """Return a text without the blanks around it, if both back ends take it as an expression."""
     text = text.strip(" \t")
-    if not text or len(text) > _LONGEST or _SPECIAL.search(text):
+    if not text or len(text) > _LONGEST or _has_special(text) or _is_command(text):
         raise NotAnExpression(f"not an expression: {_line(text)[:40]!r}")
     return text
 
