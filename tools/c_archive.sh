@@ -18,7 +18,7 @@ archive=$out/lib$crate.a
 made_from=$out/made_from
 
 if [ $# -ne 0 ]; then
-    sed -n '2,/^set/s/^# \{0,1\}//p' "$script" | head -n -1 >&2
+    sed -n '2,/^set/s/^# \{0,1\}//p' "$script" >&2
     exit 2
 fi
 if ! kit=$(readlink -f "$(command -v rt)"); then
