@@ -1,10 +1,11 @@
 #!/usr/bin/env bash
-# Makes the C library from the archive of the proved crate units_c: a static library, a shared library, the header and a
-# pkg-config file. The heap of the toolchain is merged in, so programs link with nothing but the C library.
-#   tools/library.sh FOLDER                 from crates/units_c/out/libunits_c.a, which `rt lib` makes
-#   tools/library.sh FOLDER --prefix PATH   with PATH in the pkg-config file, in place of FOLDER
+# Makes the C library from the proved crate units_c, which tools/c_archive.sh compiles: a static library, a shared
+# library, the header and a pkg-config file. The heap of the toolchain is merged in, so programs link with nothing but
+# the C library of the system.
+#   tools/c_library.sh FOLDER                 after bin/test
+#   tools/c_library.sh FOLDER --prefix PATH   with PATH in the pkg-config file, in place of FOLDER
 # FOLDER gets include/units.h and lib/{libunits.a,libunits.so,libunits.so.1,libunits.so.1.0.0,pkgconfig/units.pc}.
-# Needs gcc, binutils and the kit's `rt`.
+# Needs gcc, binutils and the toolchain. The statuses are those of tools/c_archive.sh.
 set -eu
 script=$(readlink -f "${BASH_SOURCE[0]}")
 root=${script%/*/*}
@@ -24,15 +25,8 @@ case $# in
     *) usage ;;
 esac
 
-archive=$root/crates/units_c/out/libunits_c.a
-if ! [ -e "$archive" ]; then
-    echo "library.sh: $archive is missing: run \`rt lib\` in crates/units_c" >&2
-    exit 1
-fi
-if ! kit=$(readlink -f "$(command -v rt)"); then
-    echo "library.sh: there is no command rt" >&2
-    exit 1
-fi
+archive=$("$root/tools/c_archive.sh") || exit
+kit=$(readlink -f "$(command -v rt)")
 heap=${kit%/bin/rt}/c/liblibc_c.a
 
 mkdir -p "$folder/include" "$folder/lib/pkgconfig"
@@ -44,7 +38,7 @@ cp "$root/lib/units.h" "$folder/include/units.h"
 printf 'create %s\naddlib %s\naddlib %s\nsave\nend\n' "$work/libunits.a" "$archive" "$heap" | ar -M
 # One object, in which only the calls are visible, so that a program may have functions with the names of the heap's.
 ld -r --whole-archive "$work/libunits.a" -o "$work/units.o"
-nm -g --defined-only "$work/units.o" | sed -n 's/.* T \(units_[a-z]*\)$/\1/p' > "$work/calls"
+nm -g --defined-only "$work/units.o" | sed -n 's/.* T \(units_[a-z_]*\)$/\1/p' > "$work/calls"
 objcopy --keep-global-symbols="$work/calls" "$work/units.o"
 rm -f "$folder/lib/libunits.a"
 ar rcsD "$folder/lib/libunits.a" "$work/units.o"

@@ -1,5 +1,5 @@
-/* The time of a conversion from C, each of a pair that was not asked before: library_pairs DEFINITIONS COUNT.
-   Prints the microseconds of processor time of one conversion. The definitions are one file without includes. */
+/* The time of a conversion from C, each of a pair that was not asked before: c_library_pairs DEFINITIONS COUNT.
+   Prints the microseconds that one conversion takes by the clock. The definitions are one file without includes. */
 #include "units.h"
 
 #include <stdio.h>
@@ -11,7 +11,7 @@ static char text[1 << 24];
 
 static double seconds(void) {
     struct timespec now;
-    clock_gettime(CLOCK_PROCESS_CPUTIME_ID, &now);
+    clock_gettime(CLOCK_MONOTONIC, &now);
     return (double)now.tv_sec + 1e-9 * (double)now.tv_nsec;
 }
 
