@@ -1,0 +1,13 @@
+pub mod Leads
+pub mod Lists
+pub mod Marking
+pub mod Members
+pub mod Once
+pub mod OneList
+pub mod Placing
+pub mod Reached
+pub mod Reversing
+pub mod Trying
+pub mod Values
+pub mod Walking
+pub mod Words

@@ -1,0 +1,53 @@
+-- Rows visit each key once.
+use Rattle.std.proofs.Common.{◌≡◌, Bool, true, false, true≢false, List, [], ◌∷◌, Contains, refl, sym}
+use Rattle.std.proofs.Common.{◌∙◌, subst, inl, inr}
+use Rattle.std.specs.List.{AllByRecursion, IsDistinct}
+use Rattle.std.proofs.lemmas.List.Elements.{Contains-append_left, Contains-append_right}
+use Rattle.expr_tree.specs.declared.word_list.WordUse.{WordUse}
+use Rattle.def_entry.specs.declared.key.Key.{Key}
+use Rattle.def_entry.specs.SameKeys.{is_same}
+use Rattle.def_entry.specs.Tables.{Table}
+use Rattle.def_entry.proofs.SameKeys.{same_keys}
+use Rattle.value_sources.proofs.Lists.{member_cases, member_first, member_later, no_member}
+use Rattle.value_sources.specs.Mentions.{Mention}
+use Rattle.value_sources.specs.Rows.{AreRows, AreRowsOf, Finished, Visited, Skipped, Row, visited_keys}
+use Rattle.value_sources.proofs.Members.{is_among_of}
+use Rattle.value_sources.proofs.Reached.{keys_visited}
+
+-- a key that equals none of some keys is the same as none of them
+apart : (n : Key) (ks : List Key) → ((k : Key) → Contains ks k → n ≡ k → ⊥)
+    → AllByRecursion (λ k. is_same n k ≡ false) ks
+apart n [] h = tt
+apart n (k ∷ ks) h = (not_same (is_same n k) refl, apart n ks (λ j i. h j (member_later j k ks i)))
+  where
+    not_same : (b : Bool) → is_same n k ≡ b → b ≡ false
+    not_same true e = absurd (h k (member_first k k ks refl) ((same_keys n k).0 e))
+    not_same false e = refl
+
+module _ (table : Table) where
+  -- no visited key was visited before
+  keys_new : {before : List Key} {pending : List Mention} {rows : List Row} → AreRows table before pending rows
+      → (n : Key) → Contains (visited_keys rows) n → Contains before n → ⊥
+  keys_new Finished n i j = no_member n i
+  keys_new (Skipped p rest) n i j = keys_new rest n i j
+  keys_new (Visited {before = before} {m = m} {n = k} {rows = rows} e new rest) n i j =
+      elim (member_cases n k (visited_keys rows) (subst (λ (ks : List Key). Contains ks n) (keys_visited m k rows e) i)) [
+        | inl q ↦ absurd (true≢false (sym (is_among_of before k (subst (Contains before) q j)) ∙ new))
+        | inr h ↦ keys_new rest n h (Contains-append_left before (k ∷ []) n j)
+      ]
+
+  once : {before : List Key} {pending : List Mention} {rows : List Row} → AreRows table before pending rows
+      → IsDistinct is_same (visited_keys rows)
+  unfolding IsDistinct
+  once Finished = tt
+  once (Skipped p rest) = once rest
+  once (Visited {before = before} {m = m} {n = k} {rows = rows} e new rest) =
+      subst (IsDistinct is_same) (sym (keys_visited m k rows e)) (
+        apart k (visited_keys rows) (λ j i q. keys_new rest j i
+            (Contains-append_right before (k ∷ []) j (member_first j k [] (sym q)))),
+        once rest,
+      )
+
+  pub each_once : (words : List WordUse) (rows : List Row) → AreRowsOf table words rows
+      → IsDistinct is_same (visited_keys rows)
+  each_once words rows all = once all

@@ -1,0 +1,24 @@
+-- Mentions have one list of rows.
+use Rattle.std.proofs.Common.{◌≡◌, ◌++◌, ◌+◌, true≢false, List, [], ◌∷◌, refl, sym, ap, ◌∙◌}
+use Rattle.std.proofs.Common.{subst}
+use Rattle.std.proofs.lemmas.Option.{same_Some}
+use Rattle.def_entry.specs.declared.key.Key.{Key}
+use Rattle.def_entry.specs.Tables.{Table}
+use Rattle.value_sources.specs.Uses.{key_uses}
+use Rattle.value_sources.specs.Mentions.{Mention, mentions}
+use Rattle.value_sources.specs.Rows.{AreRows, Finished, Visited, Skipped, Row, is_skipped, visited, skipped}
+
+module _ (table : Table) where
+  pub one : {before : List Key} {pending : List Mention} {rows others : List Row} → AreRows table before pending rows
+      → AreRows table before pending others → rows ≡ others
+  one Finished Finished = refl
+  one (Skipped {m = m} p rest) (Skipped q more) = ap (λ (rows : List Row). skipped m ∷ rows) (one rest more)
+  one (Skipped {before = before} p rest) (Visited e new more) =
+      absurd (true≢false (sym p ∙ ap (is_skipped before) e ∙ new))
+  one (Visited {before = before} e new rest) (Skipped q more) =
+      absurd (true≢false (sym q ∙ ap (is_skipped before) e ∙ new))
+  one (Visited {before = before} {m = m} {n = k} {pending = pending} {rows = rows} e new rest)
+      (Visited {n = j} {rows = others} g fresh more) =
+      ap (λ (rows : List Row). visited m ∷ rows)
+      (one rest (subst (λ (x : Key). AreRows table (before ++ x ∷ [])
+      (mentions table (m.depth + 1) (key_uses table x) ++ pending) others) (same_Some j k (sym g ∙ e)) more))

@@ -1,0 +1,16 @@
+-- The keys that a word leads to, as the program has them.
+use Rattle.std.specs.Prelude.{ℕ, List, [], ◌∷◌, slice_index_or}
+use Rattle.def_entry.specs.declared.key.Key.{Key}
+use Rattle.def_entry.specs.declared.key.Kind.TheVariants as kind
+use Rattle.def_entry.specs.Keys.{key}
+use Rattle.value_sources.specs.declared.lead.Lead.{Lead}
+use Rattle.value_sources.specs.declared.lead.Lead.TheVariants.{Nowhere, One, Two}
+
+abbrev pub lead_keys : Lead → List Key
+lead_keys Nowhere = []
+lead_keys (One n) = n ∷ []
+lead_keys (Two n m) = n ∷ m ∷ []
+
+-- the key at a place, one with an empty name beyond the last
+abbrev pub key_at : List Key → ℕ → Key
+key_at keys n = slice_index_or keys n (key kind.Unit [])

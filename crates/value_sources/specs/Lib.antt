@@ -1,0 +1,10 @@
+pub mod Examples
+pub mod Laws
+pub mod Leads
+pub mod Mentions
+pub mod Rows
+pub mod TriedKeys
+pub mod Uses
+pub mod Values
+pub mod Visits
+pub mod Walks

@@ -1,0 +1,23 @@
+//! The definitions behind a value: each name that an expression reaches, in the order in which evaluation meets it.
+#![tactic(auto)]
+
+mod deck_table;
+mod entry_mentions;
+mod key_tree;
+mod laws;
+mod lead;
+mod lookup;
+mod mention;
+mod mentions;
+mod resolution;
+mod row;
+mod site;
+mod tried_keys;
+mod walk;
+
+pub use key_tree::value_tree;
+pub use laws::{examples_law, rows_law, uses_law, value_law};
+pub use resolution::Resolution;
+pub use row::Row;
+pub use site::Site;
+pub use walk::rows;

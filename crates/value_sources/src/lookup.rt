@@ -1,0 +1,56 @@
+//! The lookup of words in a deck.
+
+ghost use Rattle.std.specs.Prelude.{◌≡◌, ◌-◌, ◌≤◌, IfOk, length};
+ghost use Rattle.deck.specs.Tables.{table};
+ghost use Rattle.table_names.specs.Leads.{targets};
+ghost use Rattle.value_sources.specs.Leads.{key_at, lead_keys};
+
+use crate::deck_table::DeckTable;
+use crate::lead::Lead;
+use crate::tried_keys::TriedKeys;
+use deck::Deck;
+use def_entry::Key;
+use expr_tree::WordUse;
+use name_lookup::{Targets, resolve};
+use std::alloc::{AllocError, Global};
+use table_names::lookup_law;
+use units_io::Text;
+
+/// A deck in which words are looked up.
+#[derive(Clone, Copy, Drop)]
+pub(crate) struct Lookup<'a> {
+    pub(crate) alloc: Global,
+    pub(crate) deck: &'a Deck,
+}
+
+impl<'a> Lookup<'a> {
+    /// The keys that a word leads to. The only error is want of memory.
+    pub(crate) fn lead(&self, tried: &mut TriedKeys, word: &WordUse) -> Result<Lead, AllocError>
+        ensures { IfOk result (λ lead. targets (table self.now.deck.now) word.now ≡ lead_keys lead) }
+    {
+        lookup_law();
+        tried.clear();
+        let table = DeckTable(self.deck);
+        match resolve(self.alloc, &table, tried, word.text(), word.kind())? {
+            Targets::Nowhere => Ok(Lead::Nowhere),
+            Targets::Last => Ok(Lead::One(self.last_key(tried, 1)?)),
+            Targets::LastTwo => {
+                let prefix = self.last_key(tried, 2)?;
+                let unit = self.last_key(tried, 1)?;
+                Ok(Lead::Two(prefix, unit))
+            }
+        }
+    }
+
+    // A copy of the key that was tried so many places before the end.
+    fn last_key(&self, tried: &TriedKeys, back: usize) -> Result<Key, AllocError>
+        requires some { 1 ≤ back }
+        requires many { back ≤ length tried.now }
+        ensures { IfOk result (λ key. key ≡ key_at tried.now (length tried.now - back)) }
+    {
+        let place = tried.len() - back;
+        let kind = tried.kind(place);
+        let name = Text::from_bytes(self.alloc, tried.name(place))?;
+        Ok(Key { kind, name })
+    }
+}

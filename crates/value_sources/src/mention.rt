@@ -1,0 +1,111 @@
+//! Words with the keys that they lead to.
+
+ghost use Rattle.std.specs.Prelude.{◌≡◌};
+ghost use Rattle.std.specs.Option.{option_copied};
+
+use crate::resolution::Resolution;
+use crate::site::Site;
+use def_entry::Key;
+use expr_tree::WordKind;
+use std::marker::Model;
+use units_io::Text;
+
+/// The depth and the tree of a word.
+#[derive(Clone, Copy, Drop)]
+pub(crate) struct Location {
+    pub(crate) depth: usize,
+    pub(crate) site: Site,
+}
+
+/// A word of an expression or of an entry, with one key that it leads to, if it leads to any.
+#[derive(Drop)]
+pub(crate) struct Mention {
+    location: Location,
+    word: Text,
+    word_kind: WordKind,
+    resolution: Resolution,
+    key: Option<Key>,
+}
+
+impl Model for Mention {
+    ghost use Rattle.value_sources.specs.Mentions as spec;
+
+    ghost Value = { spec.Mention };
+
+    ghost view = { λ m. record {
+      depth = m.location.depth;
+      site = m.location.site;
+      word = record { text = m.word; kind = m.word_kind };
+      resolution = m.resolution;
+      target = m.key;
+    } };
+}
+
+impl Mention {
+    /// A mention of a key, or of none.
+    pub(crate) fn new(
+        location: Location,
+        word: Text,
+        word_kind: WordKind,
+        resolution: Resolution,
+        key: Option<Key>,
+    ) -> Mention
+        ensures { result ≡ record {
+          depth = location.depth;
+          site = location.site;
+          word = record { text = word; kind = word_kind };
+          resolution = resolution;
+          target = key;
+        } }
+    {
+        Mention {
+            location,
+            word,
+            word_kind,
+            resolution,
+            key,
+        }
+    }
+
+    /// How many entries deep the word is.
+    pub(crate) fn depth(&self) -> usize
+        ensures { result ≡ self.now.depth }
+    {
+        self.location.depth
+    }
+
+    /// The tree that the word is in.
+    pub(crate) fn site(&self) -> Site
+        ensures { result ≡ self.now.site }
+    {
+        self.location.site
+    }
+
+    /// The word.
+    pub(crate) fn word(&self) -> &[u8]
+        ensures { result.now ≡ self.now.word.text }
+    {
+        self.word.as_bytes()
+    }
+
+    /// How the word is used.
+    pub(crate) fn word_kind(&self) -> WordKind
+        ensures { result ≡ self.now.word.kind }
+    {
+        self.word_kind
+    }
+
+    /// How the word leads to the key.
+    pub(crate) fn resolution(&self) -> Resolution
+        ensures { result ≡ self.now.resolution }
+    {
+        self.resolution
+    }
+
+    /// The key.
+    pub(crate) fn key(&self) -> Option<&Key>
+        ensures { option_copied result ≡ self.now.target }
+    {
+        self.key.as_ref()
+    }
+}

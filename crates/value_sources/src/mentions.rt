@@ -1,0 +1,119 @@
+//! The mentions of words.
+
+ghost use Rattle.std.specs.Prelude.{◌≡◌, ◌++◌, ◌∷◌, [], IfOk, OnOk, reverse};
+ghost use Rattle.deck.specs.Tables.{table};
+ghost use Rattle.value_sources.specs.Leads.{lead_keys};
+ghost use Rattle.value_sources.specs.Mentions as spec;
+ghost use Rattle.value_sources.specs.Uses.{use_at, uses_at};
+
+use crate::lead::Lead;
+use crate::lookup::Lookup;
+use crate::mention::{Location, Mention};
+use crate::resolution::Resolution;
+use crate::tried_keys::TriedKeys;
+use def_entry::Key;
+use expr_tree::{WordUse, Words};
+use std::alloc::{AllocError, Global};
+use units_io::Text;
+
+impl<'a> Lookup<'a> {
+    /// Appends the mentions of the words of one tree. The only error is want of memory.
+    pub(crate) fn put_mentions(
+        &self,
+        tried: &mut TriedKeys,
+        mentions: &mut Vec<Mention>,
+        location: Location,
+        words: &Words,
+    ) -> Result<(), AllocError>
+        ensures { OnOk result (mentions.new.items ≡ mentions.old.items
+            ++ spec.mentions (table self.now.deck.now) location.depth (uses_at location.site words.now)) }
+    {
+        for word in words.as_slice() {
+            let lead = self.lead(tried, word)?;
+            put_lead(self.alloc, mentions, location, word, lead)?;
+        }
+        Ok(())
+    }
+}
+
+/// Moves mentions behind others, the last one first.
+pub(crate) fn push_reversed(
+    pending: &mut Vec<Mention>,
+    mut mentions: Vec<Mention>,
+) -> Result<(), AllocError>
+    ensures { OnOk result (pending.new.items ≡ pending.old.items ++ reverse mentions.items) }
+{
+    while let Some(mention) = mentions.pop() {
+        pending.push(mention)?;
+    }
+    Ok(())
+}
+
+// Appends the mentions of a word that leads to these keys.
+fn put_lead(
+    alloc: Global,
+    mentions: &mut Vec<Mention>,
+    location: Location,
+    word: &WordUse,
+    lead: Lead,
+) -> Result<(), AllocError>
+    ensures { OnOk result (mentions.new.items ≡ mentions.old.items
+        ++ spec.mentions_to location.depth (use_at location.site word.now) (lead_keys lead)) }
+{
+    match lead {
+        Lead::Nowhere => {
+            let mention = mention(alloc, location, word, Resolution::Unknown, None)?;
+            put(mentions, mention)
+        }
+        Lead::One(key) => {
+            let resolution = sole_resolution(word, &key);
+            let mention = mention(alloc, location, word, resolution, Some(key))?;
+            put(mentions, mention)
+        }
+        Lead::Two(prefix, unit) => {
+            let first = mention(alloc, location, word, Resolution::Prefix, Some(prefix))?;
+            put(mentions, first)?;
+            let second = mention(alloc, location, word, Resolution::PrefixedUnit, Some(unit))?;
+            put(mentions, second)
+        }
+    }
+}
+
+// How a word leads to the only key that it leads to.
+fn sole_resolution(word: &WordUse, key: &Key) -> Resolution
+    ensures { result ≡ spec.sole_resolution word.now key.now }
+{
+    if word.text() == key.name.as_bytes() {
+        Resolution::Name
+    } else {
+        Resolution::Plural
+    }
+}
+
+// A mention of a key, or of none.
+fn mention(
+    alloc: Global,
+    location: Location,
+    word: &WordUse,
+    resolution: Resolution,
+    key: Option<Key>,
+) -> Result<Mention, AllocError>
+    ensures { IfOk result (λ mention. mention ≡ record {
+      depth = location.depth;
+      site = location.site;
+      word = word.now;
+      resolution = resolution;
+      target = key;
+    }) }
+{
+    let text = Text::from_bytes(alloc, word.text())?;
+    Ok(Mention::new(location, text, word.kind(), resolution, key))
+}
+
+// Appends a mention.
+fn put(mentions: &mut Vec<Mention>, mention: Mention) -> Result<(), AllocError>
+    ensures { OnOk result (mentions.new.items ≡ mentions.old.items ++ mention ∷ []) }
+{
+    mentions.push(mention)?;
+    Ok(())
+}

@@ -1,0 +1,93 @@
+//! The rows of the tree below an expression.
+
+ghost use Rattle.std.specs.Prelude.{◌≡◌};
+ghost use Rattle.std.specs.Option.{option_copied};
+ghost use Rattle.expr_tree.specs.Names as names;
+
+use crate::mention::Mention;
+use crate::resolution::Resolution;
+use crate::site::Site;
+use def_entry::Key;
+use expr_tree::{WordKind, is_refused};
+use std::marker::Model;
+
+/// A word that evaluation meets, with one key that it leads to. A word that is a prefix and a unit has two rows, one
+/// after the other.
+#[derive(Drop)]
+pub struct Row {
+    mention: Mention,
+    is_visit: bool,
+}
+
+impl Model for Row {
+    ghost use Rattle.value_sources.specs.Rows as spec;
+
+    ghost Value = { spec.Row };
+
+    ghost view = { λ r. record { mention = r.mention; is_visit = r.is_visit } };
+}
+
+impl Row {
+    // The row of a mention.
+    pub(crate) fn new(mention: Mention, is_visit: bool) -> Row
+        ensures { result ≡ record { mention = mention; is_visit = is_visit } }
+    {
+        Row { mention, is_visit }
+    }
+
+    /// How many entries deep the word is: 0 in the expression itself, 1 in the entry of a key of the expression.
+    pub fn depth(&self) -> usize
+        ensures { result ≡ self.now.mention.depth }
+    {
+        self.mention.depth()
+    }
+
+    /// The tree that the word is in, one of the entry of the last visited key above that is one less deep.
+    pub fn site(&self) -> Site
+        ensures { result ≡ self.now.mention.site }
+    {
+        self.mention.site()
+    }
+
+    /// The word as it is written.
+    pub fn word(&self) -> &[u8]
+        ensures { result.now ≡ self.now.mention.word.text }
+    {
+        self.mention.word()
+    }
+
+    /// Whether the word is alone, before an operand in parentheses, or behind a `~`.
+    pub fn word_kind(&self) -> WordKind
+        ensures { result ≡ self.now.mention.word.kind }
+    {
+        self.mention.word_kind()
+    }
+
+    /// Whether the word is the name of a function that is refused, which is a fault whatever it leads to.
+    pub fn is_refused(&self) -> bool
+        ensures { result ≡ names.is_refused self.now.mention.word.text }
+    {
+        is_refused(self.mention.word())
+    }
+
+    /// How the word leads to the key.
+    pub fn resolution(&self) -> Resolution
+        ensures { result ≡ self.now.mention.resolution }
+    {
+        self.mention.resolution()
+    }
+
+    /// The key that the word leads to, or `None` if the word is unknown.
+    pub fn key(&self) -> Option<&Key>
+        ensures { option_copied result ≡ self.now.mention.target }
+    {
+        self.mention.key()
+    }
+
+    /// Whether the key is mentioned for the first time. The rows of the words of its entry follow, one deeper.
+    pub fn is_visit(&self) -> bool
+        ensures { result ≡ self.now.is_visit }
+    {
+        self.is_visit
+    }
+}

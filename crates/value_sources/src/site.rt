@@ -1,0 +1,22 @@
+//! The places of words.
+
+/// The tree that a word is in.
+#[derive(Clone, Copy, Debug, PartialEq, Eq, Drop)]
+pub enum Site {
+    /// The expression that is asked for.
+    Expression,
+    /// The expression of a unit or a prefix.
+    Body,
+    /// The unit of the argument of a function.
+    InUnit,
+    /// The unit of the result of a function.
+    OutUnit,
+    /// The result of a function by its argument.
+    Forward,
+    /// The argument of a function by its result.
+    Inverse,
+    /// An alias: the word is the function that it names, called in the direction in which the alias is called.
+    AliasTarget,
+    /// The unit of a table of points.
+    TableUnit,
+}

@@ -1,0 +1,177 @@
+//! The walk over all that an expression reaches.
+
+ghost use Rattle.std.specs.Prelude.{◌≡◌, ◌++◌, ◌+◌, ◌∷◌, [], IfOk, List, OnOk, Some, length, reverse, true};
+ghost use Rattle.std.specs.Option.{option_copied};
+ghost use Rattle.def_entry.specs.declared.key.Key.{Key as AnyKey};
+ghost use Rattle.deck.specs.Tables as tables;
+ghost use Rattle.expr_tree.specs.Trees.{syntax};
+ghost use Rattle.expr_tree.specs.Words.{words_in};
+ghost use Rattle.value_sources.specs.Mentions as mentions_spec;
+ghost use Rattle.value_sources.specs.Rows as spec;
+ghost use Rattle.value_sources.specs.Uses.{key_uses};
+ghost use Rattle.value_sources.specs.Visits.{IsUnvisitedPlace, MarksVisits};
+ghost use Rattle.value_sources.specs.Walks.{AreMarked, IsFound, IsUnderway};
+
+use crate::lookup::Lookup;
+use crate::mention::{Location, Mention};
+use crate::mentions::push_reversed;
+use crate::row::Row;
+use crate::site::Site;
+use crate::tried_keys::TriedKeys;
+use def_entry::Key;
+use expr_tree::{Tree, words};
+use live_table::LiveTable;
+use name_lookup::targets_are_present;
+use std::alloc::{AllocError, Global};
+
+/// The rows of an expression: each word that evaluation meets, in its order, with each key that it leads to. The rows
+/// of the words of an entry follow the first row of its key. The cost is that of the words of these entries: no entry
+/// is read twice, nothing is asked of the table, and nothing recurses. The only error is want of memory.
+pub fn rows(alloc: Global, table: &LiveTable, tree: &Tree) -> Result<Vec<Row>, AllocError>
+    ensures { IfOk result (λ rows.
+        spec.AreRowsOf (tables.table table.now.deck) (words_in (syntax tree.now)) rows.items) }
+{
+    targets_are_present();
+    let lookup = Lookup {
+        alloc,
+        deck: table.deck(),
+    };
+    let mut walk = Walk::begin(&lookup, tree)?;
+    while let Some(mention) = walk.pending.pop() {
+        walk.step(&lookup, mention)?;
+    }
+    let Walk { rows, .. } = walk;
+    Ok(rows)
+}
+
+// The rows so far, and the mentions that are left, the next one last. Of each line of the deck it is marked whether the
+// key for which it is in force was visited.
+#[derive(Drop)]
+struct Walk {
+    tried: TriedKeys,
+    marks: Vec<bool>,
+    pending: Vec<Mention>,
+    rows: Vec<Row>,
+}
+
+impl Walk {
+    // The walk over an expression before its first row.
+    fn begin(lookup: &Lookup, tree: &Tree) -> Result<Walk, AllocError>
+        ensures marked { IfOk result (λ walk. AreMarked lookup.now.deck.now walk.marks.items []) }
+        ensures rows { IfOk result (λ walk. walk.rows.items ≡ []) }
+        ensures pending { IfOk result (λ walk. reverse walk.pending.items
+            ≡ spec.first_mentions (tables.table lookup.now.deck.now) (words_in (syntax tree.now))) }
+    {
+        let mut tried = TriedKeys::new(lookup.alloc);
+        let pending = first_mentions(lookup, &mut tried, tree)?;
+        let marks = no_marks(lookup)?;
+        Ok(Walk {
+            tried,
+            marks,
+            pending,
+            rows: Vec::new(lookup.alloc),
+        })
+    }
+
+    // Puts the row of the next mention, and the mentions of the entry of its key if that is visited.
+    fn step(&mut self, lookup: &Lookup, mention: Mention) -> Result<(), AllocError>
+        requires found { IsFound (tables.table lookup.now.deck.now) mention }
+        requires marked { AreMarked lookup.now.deck.now self.old.marks.items self.old.rows.items }
+        ensures marked { OnOk result (AreMarked lookup.now.deck.now self.new.marks.items self.new.rows.items) }
+        ensures underway { OnOk result ((start : List mentions_spec.Mention)
+            → IsUnderway lookup.now.deck.now start self.old.rows.items (self.old.pending.items ++ mention ∷ [])
+            → IsUnderway lookup.now.deck.now start self.new.rows.items self.new.pending.items) }
+        ensures longer { OnOk result (length self.new.rows.items ≡ length self.old.rows.items + 1) }
+    {
+        targets_are_present();
+        let Some(place) = unvisited_place(lookup, &self.marks, mention.key()) else {
+            return put_row(&mut self.rows, Row::new(mention, false));
+        };
+        self.marks[place] = true;
+        let mentions = entry_mentions(lookup, &mut self.tried, &mention)?;
+        push_reversed(&mut self.pending, mentions)?;
+        put_row(&mut self.rows, Row::new(mention, true))
+    }
+}
+
+// The mentions of the words of an expression, the first one last.
+fn first_mentions(
+    lookup: &Lookup,
+    tried: &mut TriedKeys,
+    tree: &Tree,
+) -> Result<Vec<Mention>, AllocError>
+    ensures { IfOk result (λ pending. reverse pending.items
+        ≡ spec.first_mentions (tables.table lookup.now.deck.now) (words_in (syntax tree.now))) }
+{
+    let words = words(lookup.alloc, tree)?;
+    let location = Location {
+        depth: 0,
+        site: Site::Expression,
+    };
+    let mut mentions = Vec::new(lookup.alloc);
+    lookup.put_mentions(tried, &mut mentions, location, &words)?;
+    let mut pending = Vec::new(lookup.alloc);
+    push_reversed(&mut pending, mentions)?;
+    Ok(pending)
+}
+
+// A mark for each line, none of them set.
+fn no_marks(lookup: &Lookup) -> Result<Vec<bool>, AllocError>
+    ensures { IfOk result (λ marks. AreMarked lookup.now.deck.now marks.items []) }
+{
+    let mut marks = Vec::new(lookup.alloc);
+    marks.resize(lookup.deck.lines().len(), false)?;
+    Ok(marks)
+}
+
+// The place of the line that is in force for a key, if the key was not visited.
+fn unvisited_place(lookup: &Lookup, marks: &[bool], key: Option<&Key>) -> Option<usize>
+    requires { (n : AnyKey) → option_copied key ≡ Some n
+        → tables.is_present (tables.table lookup.now.deck.now) n ≡ true }
+    ensures { (visited : List AnyKey) → MarksVisits lookup.now.deck.now marks.now visited
+        → IsUnvisitedPlace lookup.now.deck.now visited (option_copied key.entry) result }
+{
+    let Some(key) = key else {
+        return None;
+    };
+    let Some(place) = lookup.deck.last_place(key) else {
+        return None;
+    };
+    match marks.get(place) {
+        Some(true) => None,
+        _ => Some(place),
+    }
+}
+
+// The mentions of the words of the entry of a key, in order.
+fn entry_mentions(
+    lookup: &Lookup,
+    tried: &mut TriedKeys,
+    mention: &Mention,
+) -> Result<Vec<Mention>, AllocError>
+    ensures { IfOk result (λ mentions. (n : AnyKey) → mention.now.target ≡ Some n → mentions.items
+        ≡ mentions_spec.mentions (tables.table lookup.now.deck.now) (mention.now.depth + 1)
+        (key_uses (tables.table lookup.now.deck.now) n)) }
+{
+    // No memory holds so many entries that a word could not be one deeper.
+    let Some(depth) = mention.depth().checked_add(1) else {
+        return Err(AllocError);
+    };
+    let mut mentions = Vec::new(lookup.alloc);
+    let Some(key) = mention.key() else {
+        return Ok(mentions);
+    };
+    let Some(entry) = lookup.deck.entry(key.kind, key.name.as_bytes()) else {
+        return Ok(mentions);
+    };
+    lookup.put_entry_mentions(tried, &mut mentions, depth, entry.what)?;
+    Ok(mentions)
+}
+
+// Appends a row.
+fn put_row(rows: &mut Vec<Row>, row: Row) -> Result<(), AllocError>
+    ensures { OnOk result (rows.new.items ≡ rows.old.items ++ row ∷ []) }
+{
+    rows.push(row)?;
+    Ok(())
+}
