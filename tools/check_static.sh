@@ -1,7 +1,7 @@
 #!/usr/bin/env bash
 # Tests the released static program, which is linked from the same object as the dynamic one: the transcripts and the
-# statuses, directly and in a root folder that has musl and busybox in place of this system's libraries; what it does
-# when the system refuses memory; and what tools/static adds to it.
+# statuses in a root folder that has musl and busybox in place of this system's libraries, or directly if there can be
+# no such folder; what it does when the system refuses memory; and what tools/static adds to it.
 #   tools/check_static.sh [PROGRAM [OBJECT]]    tests this static program, and its object, in place of the released one
 # Each allocation is refused in turn if the object is there, as bin/test leaves it unless rt kept the program of an
 # earlier run. The last line is `N passed, M failed, K skipped`.
@@ -40,7 +40,8 @@ has() { command -v "$1" > /dev/null; }
 # add_last_line: adds the counts that a check reports in its last line. Shows the rest if something failed.
 add_last_line() {
     local counts ran broke left
-    counts=$(tail -n 1 "$folder/output" | sed -nE 's/^([0-9]+) passed, ([0-9]+) failed(, ([0-9]+) skipped)?$/\1 \2 \4/p')
+    counts=$(tail -n 1 "$folder/output" \
+        | sed -nE 's/^([0-9]+) passed, ([0-9]+) failed(, ([0-9]+) skipped)?$/\1 \2 \4/p')
     read -r ran broke left <<< "${counts:-0 1}"
     if [ "$broke" -ne 0 ]; then cat "$folder/output"; fi
     passed=$((passed + ran)) failed=$((failed + broke)) skipped=$((skipped + ${left:-0}))
@@ -103,7 +104,7 @@ check_refusals() {
         skip 'refused mappings, which need strace'
     fi
     if ! [ -e "$object" ]; then
-        skip 'each allocation refused in turn: there is no object of the program (tools/check_memory.sh tries the dynamic one)'
+        skip 'each allocation refused in turn: there is no object here; tools/check_memory.sh tries the dynamic program'
     elif "$root/tools/static.sh" --refusing "$object" "$folder/refusing"; then
         check_with "$folder/refusing" check_memory.sh
     else
@@ -134,28 +135,48 @@ in_other_root() {
         "$@"' bash "$folder/root" "$root" "$@"
 }
 
-check_other_root() {
+# Whether there is such a root folder and programs can run in it; says why not.
+has_other_root() {
     if ! [ -e /lib/ld-musl-x86_64.so.1 ] || ! [ -x /bin/busybox ] || ! has gcc || ! fill_root; then
         skip 'a root folder with another C library, which needs musl, busybox-static and gcc'
-        return
-    fi
-    if ! in_other_root true 2> /dev/null; then
+    elif ! in_other_root true 2> /dev/null; then
         skip 'a root folder with another C library, which needs unshare and mount'
-        return
+    else
+        return 0
     fi
-    # The C library there is musl: it says so, and there is no other. A script of that root runs the program.
-    expect 'musl in the other root' in_other_root sh -c \
-        "chroot '$folder/root' /lib/ld-musl-x86_64.so.1 2>&1 | grep -q '^musl libc' && ! ls '$folder'/root/lib*/*/libc.so*"
-    expect 'a script in the other root' in_other_root chroot "$folder/root" /bin/busybox sh -c \
-        "[ \"\$(/bin/units --exact '10 m' cm | /bin/busybox head -n 1)\" = '	* 1000' ]"
-    check_with "$folder/in_root" transcripts.py in_other_root
-    check_with "$folder/in_root" check_statuses.sh in_other_root
+    return 1
 }
+
+# Whether the C library of the root folder is musl and no other is there.
+is_of_musl() {
+    in_other_root chroot "$folder/root" /lib/ld-musl-x86_64.so.1 2>&1 | grep -q '^musl libc' \
+        && [ -z "$(find "$folder/root/lib" -name 'libc.so*' -o -name 'ld-linux*')" ]
+}
+
+# A script of that root runs the program.
+runs_in_script() {
+    # shellcheck disable=SC2016 # expanded by the inner shell
+    in_other_root chroot "$folder/root" /bin/busybox sh -c \
+        '[ "$(/bin/units --exact "10 m" cm | /bin/busybox head -n 1)" = "	* 1000" ]'
+}
+
+check_runs() {
+    if has_other_root; then
+        expect 'musl in the root folder' is_of_musl
+        expect 'a script in the root folder' runs_in_script
+        check_with "$folder/in_root" transcripts.py in_other_root
+        check_with "$folder/in_root" check_statuses.sh in_other_root
+    else
+        check_with "$static" transcripts.py
+        check_with "$static" check_statuses.sh
+    fi
+}
+
+sum_of() { sha256sum < "$1" | cut -d ' ' -f 1; }
 
 if [ $# -gt 0 ]; then
     static=$(readlink -f "$1") object=$(readlink -f "${2-/nonexistent}")
-elif ! [ -x "$static" ] || [ "$(sha256sum < "$static" | cut -d ' ' -f 1)" != "$(sed -n 's/^static //p' "$root/release/MADE_FROM")" ]
-then
+elif ! [ -x "$static" ] || [ "$(sum_of "$static")" != "$(sed -n 's/^static //p' "$root/release/MADE_FROM")" ]; then
     skip 'there is no static program of this release: run tools/release.sh after bin/test'
     end
 fi
@@ -163,8 +184,6 @@ folder=$(mktemp -d) || exit
 trap 'rm -rf "$folder"' EXIT
 copy_checks
 check_parts
-check_with "$static" transcripts.py
-check_with "$static" check_statuses.sh
 check_refusals
-check_other_root
+check_runs
 end

@@ -9,10 +9,11 @@
 # tools/static replace parts of them and are trusted as they are:
 # - heap.c replaces the toolchain's heap over malloc. A conversion over GNU's definitions asks for 25,000 blocks; malloc
 #   takes 22 % of its instructions, this heap 3 %.
-# - musl.c has the calls that musl lacks, and copies that begin faster than musl's: 10 % of the time of that conversion.
+# - musl.c has the calls that musl lacks, copies that begin faster than musl's (10 % of the time of that conversion),
+#   and maps the stack at once (5 % of the time of a small one).
 # musl, because a start with glibc takes 0.13 ms more, of 0.4: glibc asks the processor for its features and caches
 # before main, and in a virtual machine each question is slow. musl's own malloc would be slower than glibc's.
-# Tried and left out, since they save less than 1 %: an order of functions by use, larger chunks, a mapped stack. The
+# Tried and left out: larger chunks and mapping blocks that grow save nothing, an order of functions by use 1 %. The
 # program's LLVM code, compiled again without the toolchain's limits on its optimizer, takes 9 % less time over GNU's
 # definitions; then the program would no longer be the object that bin/test proved and built.
 set -euo pipefail
@@ -42,8 +43,8 @@ print_parts() {
 # compile SOURCE TO
 compile() {
     "$kit/toolchain/bin/clang" --target=x86_64-unknown-linux-musl --no-default-config -nostdinc -isystem "$headers" \
-        -O2 -march=x86-64 -fno-pic -fno-builtin -fno-stack-protector -fno-asynchronous-unwind-tables -Wall -Wextra -Werror \
-        -c -x c "$1" -o "$2"
+        -O2 -march=x86-64 -fno-pic -fno-builtin -fno-stack-protector -fno-asynchronous-unwind-tables \
+        -Wall -Wextra -Werror -c -x c "$1" -o "$2"
 }
 
 # link OBJECT TO [WORD..]
