@@ -1,8 +1,9 @@
 #!/usr/bin/env bash
 # Links the object of a proved program statically, with musl: such a program needs no library of the system.
 #   tools/static.sh OBJECT TO             writes the program TO. The same parts give the same bytes
-#   tools/static.sh --refusing OBJECT TO  the same program with the allocator of tools/refuse.c before its heap
+#   tools/static.sh --refusing OBJECT TO  the same program with tools/static/refuse.c before its heap
 #   tools/static.sh --parts               prints one checksum over the parts that the system adds, and their package
+#   tools/static.sh --order OBJECT        makes tools/static/order.txt anew, by valgrind
 # The same program starts in a third to two thirds of the time of GNU units (bench/startup.sh).
 #
 # The toolchain adds its compiler, its linker and its C libraries; Debian's musl-dev adds the C library. Two files of
@@ -13,9 +14,11 @@
 #   and maps the stack at once (5 % of the time of a small one).
 # musl, because a start with glibc takes 0.13 ms more, of 0.4: glibc asks the processor for its features and caches
 # before main, and in a virtual machine each question is slow. musl's own malloc would be slower than glibc's.
-# Tried and left out: larger chunks and mapping blocks that grow save nothing, an order of functions by use 1 %. The
-# program's LLVM code, compiled again without the toolchain's limits on its optimizer, takes 9 % less time over GNU's
-# definitions; then the program would no longer be the object that bin/test proved and built.
+# tools/static/order.txt puts the functions that run most together, so that fewer pages of the file are read: 7 % of a
+# small conversion. Names that the object no longer has do no harm.
+# Tried and left out: larger chunks and mapping blocks that grow save nothing. The program's LLVM code, compiled again
+# without the toolchain's limits on its optimizer, takes 9 % less time over GNU's definitions; then the program would
+# no longer be the object that bin/test proved and built.
 set -euo pipefail
 script=$(readlink -f "${BASH_SOURCE[0]}")
 here=${script%.sh}
@@ -61,10 +64,28 @@ link() {
     fi
     compile "$here/heap.c" "$folder/heap.o"
     compile "$here/musl.c" "$folder/musl.o"
-    "$kit/toolchain/bin/ld.lld" -m elf_x86_64 -static --wrap=main --gc-sections --build-id=none --strip-all -z relro \
-        -z now -z noexecstack --eh-frame-hdr --threads=1 -o "$to" "$libc/crt1.o" "$libc/crti.o" "$object" "$@" \
+    "$kit/toolchain/bin/ld.lld" -m elf_x86_64 -static --wrap=main --gc-sections --build-id=none -z relro -z now \
+        -z noexecstack --eh-frame-hdr --threads=1 --symbol-ordering-file="$here/order.txt" --no-warn-symbol-ordering \
+        -o "$to" "$libc/crt1.o" "$libc/crti.o" "$object" "$@" \
         "$folder/musl.o" "$folder/heap.o" "$kit/c/libos_c.a" "$kit/c/liblibc_c.a" \
         --start-group "$kit/toolchain/lib/libgcc.a" "$libc/libc.a" --end-group "$libc/crtn.o"
+}
+
+# functions_of PROGRAM DEFINITIONS: the functions of a conversion over this file, first those that run most.
+functions_of() {
+    valgrind --tool=callgrind --callgrind-out-file="$folder/calls" "$1" -f "$2" yd m > /dev/null 2>&1
+    callgrind_annotate --threshold=100 "$folder/calls" \
+        | sed -nE "s/^ *[0-9,]+ \([ 0-9.]+%\)  [^:]*:(.*) \[.*\]\$/\1/p" | sed "s/'[0-9]*\$//"
+}
+
+write_order() {
+    local root=${script%/*/*} file
+    : > "$folder/order"
+    link "$1" "$folder/named"
+    for file in "$root/share/units/standard.units" "$root/share/units/built_in.units"; do
+        functions_of "$folder/named" "$file" >> "$folder/order"
+    done
+    awk '!seen[$0]++' "$folder/order" > "$here/order.txt"
 }
 
 kit=$(dirname "$(dirname "$(readlink -f "$(command -v rt)")")")
@@ -75,8 +96,9 @@ case "$#${1-}" in
     1--parts) print_parts ;;
     3--refusing)
         compile "$here/refuse.c" "$folder/refuse.o"
-        link "$2" "$3" --wrap=rattle_alloc --wrap=rattle_realloc "$folder/refuse.o"
+        link "$2" "$3" --strip-all --wrap=rattle_alloc --wrap=rattle_realloc "$folder/refuse.o"
         ;;
+    2--order) write_order "$2" ;;
     2-* | [!2]*) sed -n '2,/^#$/s/^# \{0,1\}//p' "$script" >&2; exit 2 ;;
-    *) link "$1" "$2" ;;
+    *) link "$1" "$2" --strip-all ;;
 esac

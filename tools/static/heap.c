@@ -146,7 +146,8 @@ __attribute__((noinline)) static struct tried new_block(size_t size) {
 }
 
 struct tried rattle_alloc(size_t bytes, size_t align) {
-    size_t size = rounded((bytes > 0 ? bytes : align) + HEADER, UNIT);
+    (void)align; // each block is aligned to 16 bytes, also an empty one, which has 8
+    size_t size = rounded(bytes + HEADER, UNIT);
     return size <= SMALL ? block_of_class(size / UNIT, size) : new_block(block_size(bytes));
 }
 
@@ -158,7 +159,7 @@ void rattle_dealloc(void *old) {
 
 struct tried rattle_realloc(void *old, size_t kept, size_t bytes, size_t align) {
     struct block *block = (struct block *)((char *)old - HEADER);
-    size_t size = block_size(bytes > 0 ? bytes : align), before = block->size;
+    size_t size = block_size(bytes), before = block->size;
     if (size == before) return some(block, size);
     if (size > LARGE && before > LARGE) return mapping(mremap((char *)old - UNIT, before, size, MREMAP_MAYMOVE), size);
     if ((char *)block + before == unused && size <= LARGE && (size_t)(end_of_chunk - (char *)block) >= size) {

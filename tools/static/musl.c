@@ -41,15 +41,26 @@ ssize_t rattle_arg(size_t i, char *to, size_t room) {
     return (ssize_t)length;
 }
 
-// What the processor can beyond x86-64, as glibc reports it: nothing, so the program takes its portable ways.
+// What the processor can do, as glibc reports it by leaves of cpuid. A program is built for x86-64-v2 and asks for its
+// features before anything else. Only these are reported as active; others would need the system's leave, too.
 struct features {
-    unsigned registers[4], active[4];
+    unsigned registers[4], active[4]; // eax, ebx, ecx, edx
 };
 
+enum { BASIC = 0, EXTENDED = 2 }; // leaves as glibc numbers them
+enum { BASIC_OF_V2 = 1 << 0 | 1 << 9 | 1 << 13 | 1 << 19 | 1 << 20 | 1 << 23 }; // SSE3 .. SSE4.2, CX16, POPCNT
+enum { EXTENDED_OF_V2 = 1 << 0 };                                               // LAHF
+
 const struct features *__x86_get_cpuid_feature_leaf(unsigned leaf) {
+    static struct features found[EXTENDED + 1];
     static const struct features none;
-    (void)leaf;
-    return &none;
+    if (leaf != BASIC && leaf != EXTENDED) return &none;
+    unsigned *r = found[leaf].registers;
+    __asm__("cpuid"
+            : "=a"(r[0]), "=b"(r[1]), "=c"(r[2]), "=d"(r[3])
+            : "a"(leaf == BASIC ? 1 : 0x80000001), "c"(0));
+    found[leaf].active[2] = r[2] & (leaf == BASIC ? BASIC_OF_V2 : EXTENDED_OF_V2);
+    return &found[leaf];
 }
 
 ssize_t __write(int file, const void *from, size_t count) { return write(file, from, count); }
