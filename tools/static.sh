@@ -9,7 +9,7 @@
 # The toolchain adds its compiler, its linker and its C libraries; Debian's musl-dev adds the C library. Two files of
 # tools/static replace parts of them and are trusted as they are:
 # - heap.c replaces the toolchain's heap over malloc. A conversion over GNU's definitions asks for 25,000 blocks; malloc
-#   takes 22 % of its instructions, this heap 3 %.
+#   takes 22 % of its instructions, this heap 4 %.
 # - musl.c has the calls that musl lacks, copies that begin faster than musl's (10 % of the time of that conversion),
 #   and maps the stack at once (5 % of the time of a small one).
 # musl, because a start with glibc takes 0.13 ms more, of 0.4: glibc asks the processor for its features and caches
@@ -17,8 +17,9 @@
 # tools/static/order.txt puts the functions that run most together, so that fewer pages of the file are read: 7 % of a
 # small conversion. Names that the object no longer has do no harm.
 # Tried and left out: larger chunks and mapping blocks that grow save nothing. The program's LLVM code, compiled again
-# without the toolchain's limits on its optimizer, takes 9 % less time over GNU's definitions; then the program would
-# no longer be the object that bin/test proved and built.
+# without the toolchain's limits on its optimizer, takes at most 3 % less time over GNU's definitions, and then the
+# program is no longer the object that bin/test proved and built. Huge pages for the heap take 5 % less, and 1 MB more
+# of memory.
 set -euo pipefail
 script=$(readlink -f "${BASH_SOURCE[0]}")
 here=${script%.sh}
