@@ -18,8 +18,8 @@
 # small conversion. Names that the object no longer has do no harm.
 # Tried and left out: larger chunks and mapping blocks that grow save nothing. The program's LLVM code, compiled again
 # without the toolchain's limits on its optimizer, takes at most 3 % less time over GNU's definitions, and then the
-# program is no longer the object that bin/test proved and built. Huge pages for the heap take 5 % less, and 1 MB more
-# of memory.
+# program is no longer the object that bin/test proved and built. A huge page for the heap saves 5 % there, takes 1 MB
+# more of memory, and costs 0.2 ms where the program fills only a part of it.
 set -euo pipefail
 script=$(readlink -f "${BASH_SOURCE[0]}")
 here=${script%.sh}
