@@ -5,7 +5,7 @@ use Rattle.deck.specs.Tables.{table}
 use Rattle.name_lookup.specs.Targets.{AreFound}
 use Rattle.table_names.specs.Leads.{word_lookup}
 use Rattle.live_table.specs.Stored.{listed}
-use Rattle.live_table.proofs.TriedNumbers.{added_keys, added_nodes, adds_both, found_by, is_lead}
+use Rattle.live_table.proofs.TriedNumbers.{added_keys, added_nodes, adds_both, found_by, is_lead, none_found}
 use Rattle.live_table.proofs.leading.lead_of.Goals as goal
 
 pub number_targets-requires-clause-nodes : goal.number_targets-requires-clause-nodes
@@ -36,3 +36,16 @@ returns-clause-lead c =
     (added_keys t (listed first) (listed then) c.number_targets.ensures.added) c.args.nodes.now.gathered first.gathered
     then.gathered lead fine led c.in_ok-gather_others.ensures.gathered c.number_targets.ensures.gathered)
     c.number_targets.ensures.lead
+
+pub returns-then-count-eq0-clause-lead : goal.returns-then-count-eq0-clause-lead
+returns-then-count-eq0-clause-lead c =
+    let t = table c.args.deck.now in
+    let u = c.args.u.now in
+    let which = c.in_ok-targets.targets in
+    let tried = c.resolve.new.looking in
+    let found : AreFound which [] tried (word_lookup t u) =
+    found_by t u c.lookup_law.ensures which c.clear.new.self tried c.kind.result c.text-2.result.now
+    c.clear.ensures c.kind.ensures c.text-2.ensures c.in_ok-targets.ensures.found in
+    let fine : is_refused u.text ≡ false =
+    sym (c.is_refused.ensures ∙ ap is_refused c.text.ensures) ∙ c.if-is_refused.false in
+    (fine, none_found t u which tried found (sym c.count.ensures ∙ c.if-count-eq0.true))
