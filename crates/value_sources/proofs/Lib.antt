@@ -4,6 +4,7 @@ pub mod Marking
 pub mod Members
 pub mod Once
 pub mod OneList
+pub mod Paths
 pub mod Placing
 pub mod Reached
 pub mod Reversing

@@ -47,11 +47,11 @@ lead_found : TargetsLaw → (d : Contents) (words : List WordUse) (n : Key) → 
     → is_present (table d) n ≡ true
 lead_found law d words n (u, i, t) = (law (is_present (table d)) u.kind u.text n t).1
 
-entry_found : TargetsLaw → (d : Contents) (depth : ℕ) (k : Key) (m : Mention)
+pub entry_found : TargetsLaw → (d : Contents) (depth : ℕ) (k : Key) (m : Mention)
     → Contains (mentions (table d) depth (key_uses (table d) k)) m → IsFound (table d) m
 entry_found law d depth k m i n e = lead_found law d _ n (entry_cases (table d) depth k n (m, i, e))
 
-first_found : TargetsLaw → (d : Contents) (words : List WordUse) (m : Mention)
+pub first_found : TargetsLaw → (d : Contents) (words : List WordUse) (m : Mention)
     → Contains (first_mentions (table d) words) m → IsFound (table d) m
 first_found law d words m i n e = lead_found law d words n (first_cases (table d) words n (m, i, e))
 

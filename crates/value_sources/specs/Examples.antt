@@ -1,5 +1,5 @@
 -- The rows of a small table, by hand.
-use Rattle.std.specs.Prelude.{◌≡◌, ℕ, List, [], ◌∷◌, Some, None, codes, pos}
+use Rattle.std.specs.Prelude.{◌≡◌, ℕ, true, false, List, [], ◌∷◌, Some, None, codes, pos}
 use Rattle.expr_tree.specs.declared.word_list.WordUse.{WordUse}
 use Rattle.expr_tree.specs.declared.word_list.WordKind.{WordKind}
 use Rattle.expr_tree.specs.declared.word_list.WordKind.TheVariants as word_kind
@@ -14,8 +14,9 @@ use Rattle.value_sources.specs.declared.resolution.Resolution.TheVariants.{Unkno
 use Rattle.value_sources.specs.declared.site.Site.{Site}
 use Rattle.value_sources.specs.declared.site.Site.TheVariants.{AliasTarget, Expression, Forward, Inverse}
 use Rattle.value_sources.specs.declared.site.Site.TheVariants.{Body as InBody}
+use Rattle.value_sources.specs.Cycles.{cycle_flags}
 use Rattle.value_sources.specs.Mentions.{Mention}
-use Rattle.value_sources.specs.Rows.{AreRowsOf, skipped, visited}
+use Rattle.value_sources.specs.Rows.{AreRowsOf, Row, skipped, visited}
 use Rattle.value_sources.specs.Values.{value_syntax}
 
 abbrev pub m : Key
@@ -96,22 +97,29 @@ by_name depth at word_kind n = record {
   target = Some n;
 }
 
+-- the rows of `m m` and of `loop`
+abbrev pub repeated_rows : List Row
+repeated_rows = visited (outer (codes "m") Name m) ∷ skipped (outer (codes "m") Name m) ∷ []
+
+abbrev pub loop_rows : List Row
+loop_rows = visited (outer (codes "loop") Name loop) ∷ skipped (inner (codes "loop") Name loop) ∷ []
+
 -- law: the rows of `miles`, a plural, with the prefix and the unit of its entry below; of `m m`, whose second row
--- visits nothing; of `x`, which is unknown; of `loop`, which is on a cycle; and of `~g(..)`, an alias of a function with
--- an inverse. The expression that gives the value of a prefix is its definition, that of a primitive unit is its name,
--- and a function has none.
+-- visits nothing; of `x`, which is unknown; of `loop`, which is on a cycle; and of `~g(..)`, an alias of a function
+-- with an inverse. The expression that gives the value of a prefix is its definition, that of a primitive unit is its
+-- name, and a function has none. The second row of `loop` closes a cycle, and the second row of `m m` does not.
 pub record ExamplesLaw : Type 0 where
   pub plural : AreRowsOf small (alone (codes "miles") ∷ [])
       (visited (outer (codes "miles") Plural mile) ∷ visited (inner (codes "km") Prefix k)
       ∷ visited (inner (codes "km") PrefixedUnit m) ∷ [])
-  pub repeated : AreRowsOf small (alone (codes "m") ∷ alone (codes "m") ∷ [])
-      (visited (outer (codes "m") Name m) ∷ skipped (outer (codes "m") Name m) ∷ [])
+  pub repeated : AreRowsOf small (alone (codes "m") ∷ alone (codes "m") ∷ []) repeated_rows
   pub unknown_word : AreRowsOf small (alone (codes "x") ∷ []) (skipped (unknown (codes "x")) ∷ [])
-  pub cycle : AreRowsOf small (alone (codes "loop") ∷ [])
-      (visited (outer (codes "loop") Name loop) ∷ skipped (inner (codes "loop") Name loop) ∷ [])
+  pub cycle : AreRowsOf small (alone (codes "loop") ∷ []) loop_rows
   pub function : AreRowsOf functions (record { text = codes "g"; kind = word_kind.Inverse } ∷ [])
       (visited (by_name 0 Expression word_kind.Inverse g) ∷ visited (by_name 1 AliasTarget word_kind.Inverse f)
       ∷ visited (by_name 2 Forward word_kind.Plain m) ∷ visited (by_name 2 Inverse word_kind.Plain s) ∷ [])
   pub prefix_value : value_syntax small k ≡ Some (Number (record { coefficient = 1; scale = pos 3 }))
   pub unit_value : value_syntax small m ≡ Some (Word (codes "m"))
   pub function_value : value_syntax functions f ≡ None
+  pub repeated_flags : cycle_flags [] repeated_rows ≡ false ∷ false ∷ []
+  pub cycle_flags_of_loop : cycle_flags [] loop_rows ≡ false ∷ true ∷ []

@@ -1,3 +1,4 @@
+pub mod Cycles
 pub mod Examples
 pub mod Laws
 pub mod Leads

@@ -15,7 +15,8 @@ is_marked marks (Some place) = get_or marks place false
 abbrev pub MarksVisits : Contents → (marks : List Bool) → (visited : List Key) → Type 0
 MarksVisits d marks visited = (n : Key) → is_marked marks (last_place d.settings d.lines n) ≡ is_among visited n
 
--- no place, because the key of a mention needs no visit; or the place of the line in force of a key that was not visited
+-- no place, because the key of a mention needs no visit; or the place of the line in force of a key that was not
+-- visited
 abbrev pub IsUnvisitedPlace : Contents → (visited : List Key) → (key : Option Key) → Option ℕ → Type 0
 IsUnvisitedPlace d visited key None = is_skipped visited key ≡ true
 IsUnvisitedPlace d visited key (Some place) =

@@ -1,6 +1,7 @@
 //! The definitions behind a value: each name that an expression reaches, in the order in which evaluation meets it.
 #![tactic(auto)]
 
+mod cycles;
 mod deck_table;
 mod entry_mentions;
 mod key_tree;
@@ -15,6 +16,7 @@ mod site;
 mod tried_keys;
 mod walk;
 
+pub use cycles::cycle_flags;
 pub use key_tree::value_tree;
 pub use laws::{examples_law, rows_law, uses_law, value_law};
 pub use resolution::Resolution;

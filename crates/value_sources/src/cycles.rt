@@ -1,0 +1,97 @@
+//! Rows that close a cycle.
+
+ghost use Rattle.std.specs.Prelude.{◌≡◌, ◌++◌, ◌∷◌, ◌<◌, [], IfOk, List, OnOk, length};
+ghost use Rattle.std.specs.Option.{option_and_then, option_copied};
+ghost use Rattle.def_entry.specs.declared.key.Key.{Key as AnyKey};
+ghost use Rattle.deck.specs.Tables as tables;
+ghost use Rattle.expr_tree.specs.declared.word_list.WordUse.{WordUse};
+ghost use Rattle.value_sources.specs.Cycles as spec;
+ghost use Rattle.value_sources.specs.Rows.{AreRowsOf};
+
+use crate::row::Row;
+use deck::Deck;
+use def_entry::Key;
+use name_lookup::targets_are_present;
+use std::alloc::{AllocError, Global};
+
+/// For each row of an expression whether it closes a cycle: it visits nothing, because its key is that of an entry that
+/// the row is in. Each row costs one look-up. The only error is want of memory.
+pub fn cycle_flags(alloc: Global, deck: &Deck, rows: &[Row]) -> Result<Vec<bool>, AllocError>
+    requires { (words : List WordUse) × AreRowsOf (tables.table deck.now) words rows.now }
+    ensures { IfOk result (λ flags. flags.items ≡ spec.cycle_flags [] rows.now) }
+{
+    targets_are_present();
+    let mut path = KeyPath::new(alloc, deck)?;
+    let mut flags = Vec::new(alloc);
+    for row in rows {
+        let flag = path.advance(deck, row)?;
+        flags.push(flag)?;
+    }
+    Ok(flags)
+}
+
+// The keys of the entries that a row is in: the places of their lines, outermost first, and for each line of the deck
+// the depth of the row that visited its key.
+#[derive(Drop)]
+struct KeyPath {
+    depths: Vec<usize>,
+    places: Vec<usize>,
+}
+
+impl KeyPath {
+    // The path before the first row.
+    fn new(alloc: Global, deck: &Deck) -> Result<KeyPath, AllocError>
+        ensures room { IfOk result (λ path. length path.depths.items ≡ length deck.now.lines) }
+        ensures places { IfOk result (λ path. path.places.items ≡ []) }
+    {
+        let mut depths = Vec::new(alloc);
+        depths.resize(deck.lines().len(), 0usize)?;
+        Ok(KeyPath {
+            depths,
+            places: Vec::new(alloc),
+        })
+    }
+
+    // Goes on to the next row, and answers whether that closes a cycle.
+    fn advance(&mut self, deck: &Deck, row: &Row) -> Result<bool, AllocError>
+        requires { length self.old.depths.items ≡ length deck.now.lines }
+        ensures room { length self.new.depths.items ≡ length deck.now.lines }
+        ensures path { IfOk result (λ flag. (path : List AnyKey)
+            → spec.IsPath deck.now self.old.depths.items self.old.places.items path
+            → spec.CanFollow deck.now path row.now
+            → (flag ≡ spec.closes_cycle path row.now)
+            × spec.IsPath deck.now self.new.depths.items self.new.places.items (spec.path_after path row.now)) }
+    {
+        self.places.truncate(row.depth());
+        let Some(place) = line_of(deck, row.key()) else {
+            return Ok(false);
+        };
+        if !row.is_visit() {
+            return Ok(is_open(&self.depths, &self.places, place));
+        }
+        self.depths[place] = self.places.len();
+        self.places.push(place)?;
+        Ok(false)
+    }
+}
+
+// The place of the line in force of a key, if there is one.
+fn line_of(deck: &Deck, key: Option<&Key>) -> Option<usize>
+    ensures { result ≡ option_and_then (tables.last_place deck.now.settings deck.now.lines) (option_copied key.entry) }
+{
+    match key {
+        Some(key) => deck.last_place(key),
+        None => None,
+    }
+}
+
+// Whether the line at a place is that of a key of the path.
+fn is_open(depths: &[usize], places: &[usize], place: usize) -> bool
+    requires { place < length depths.now }
+    ensures { result ≡ spec.is_open depths.now places.now place }
+{
+    match places.get(depths[place]) {
+        Some(other) => *other == place,
+        None => false,
+    }
+}
