@@ -1,4 +1,4 @@
-"""startup.py ROOT PROGRAM ROUNDS: the times of startup.sh."""
+"""startup.py ROOT PROGRAM ROUNDS STATIC: the times of startup.sh."""
 
 from __future__ import annotations
 
@@ -40,9 +40,8 @@ def busy() -> float:
     return usage.ru_utime + usage.ru_stime
 
 
-def commands(root: str, program: str, file: Path) -> list[Timed]:
+def commands(root: str, program: str, static: str, file: Path) -> list[Timed]:
     words = ["-f", str(file), "yd", "m"]
-    static = f"{root}/release/units-x86_64-linux-static"
     timed = [Timed("/bin/true", ["/bin/true"]), Timed("units", [program, *words])]
     if os.path.exists(static):
         timed.append(Timed("units, static", [static, *words]))
@@ -53,13 +52,13 @@ def commands(root: str, program: str, file: Path) -> list[Timed]:
 
 
 def main() -> None:
-    root, program, rounds = sys.argv[1], sys.argv[2], int(sys.argv[3])
+    root, program, rounds, static = sys.argv[1], sys.argv[2], int(sys.argv[3]), sys.argv[4]
     files = [Path(root, "examples/first.units"), Path(root, "share/units/built_in.units"), GNU_FILE]
     for file in files:
         if not file.exists():
             print(f"{file}: absent")
             continue
-        timed = commands(root, program, file)
+        timed = commands(root, program, static, file)
         for _ in range(rounds):
             for one in timed:
                 one.run_round()

@@ -1,8 +1,9 @@
 #!/usr/bin/env bash
 # Times one conversion in a process of its own over three files: the example of four lines, the built-in definitions, and
 # the definitions of GNU units. Compares the released programs, dynamic and static, and bin/units with GNU units over the
-# same file, in turns. Each value is the lowest of ROUNDS rounds (20, or the first argument) of 20 runs.
+# same file, in turns. Each value is the lowest of ROUNDS rounds of 20 runs.
+#   bench/startup.sh [ROUNDS [STATIC]]    20 rounds and the released static program, unless others are given
 set -u
 root=$(cd "$(dirname "${BASH_SOURCE[0]}")/.." && pwd)
 program=$("$root/tools/built.sh" units) || exit
-exec python3 "$root/bench/startup.py" "$root" "$program" "${1:-20}"
+exec python3 "$root/bench/startup.py" "$root" "$program" "${1:-20}" "${2:-$root/release/units-x86_64-linux-static}"

@@ -42,7 +42,7 @@ enum units_status {
     UNITS_NO_ROOM = 2,        /* the buffer is too short; `length` has the size that is needed */
     UNITS_CLOSED = 3,         /* the table is not open */
     UNITS_ALREADY_OPEN = 4,   /* the table is open already; it was not changed */
-    UNITS_BAD_OPTIONS = 5,    /* `digits` is above 36 */
+    UNITS_BAD_OPTIONS = 5,    /* `digits` is above 36, or the number of a column is 0 */
 
     /* of definitions */
     UNITS_NO_SUCH_FILE = 16,
@@ -79,7 +79,10 @@ enum units_status {
     UNITS_ARGUMENT_NEEDED = 50,
     UNITS_CALLS_TOO_DEEP = 51,
     UNITS_LIST_UNIT_NOT_POSITIVE = 52,
-    UNITS_CONFORMABILITY_ERROR = 53
+    UNITS_CONFORMABILITY_ERROR = 53,
+
+    /* of columns */
+    UNITS_CELL_ERROR = 54 /* a cell of the column is an error; the text has all rows */
 };
 
 /* A unit table, open or closed. The members are private. */
@@ -125,6 +128,16 @@ typedef struct units_options {
     uint8_t verbose;  /* the reply repeats FROM and TO; without effect if compact is set */
 } units_options;
 
+/* A column of a text of records, and what its fields are converted from and to. */
+typedef struct units_column {
+    const uint8_t *from;
+    size_t from_length;
+    const uint8_t *to;
+    size_t to_length;
+    size_t number;  /* of the column, from 1 */
+    uint8_t header; /* unless it is 0, the first record is a header, which stays as it is */
+} units_column;
+
 /* A fraction in lowest terms; the denominator is at least 1. Each half has at most 127 bits. */
 typedef struct units_number {
     uint64_t negative; /* 1 if the number is below 0, else 0 */
@@ -151,6 +164,15 @@ uint32_t units_close(units_table *table);
    UNITS_BAD_OPTIONS or the fault. */
 uint32_t units_convert(units_table *table, const uint8_t *from, size_t from_length, const uint8_t *to,
                        size_t to_length, const units_options *options, uint8_t *buffer, size_t size, size_t *length);
+
+/* Converts a column of a text of records, such as a column of a CSV file or one number in each line, as the program's
+   --column does: the text is all records in order, each with its number in the column converted, or with "error: " and
+   the fault in its place. A record without that column stays as it is. Of the options, `digits`, `exact` and `round`
+   have an effect. One call over many records takes less time than a call of units_convert for each. Returns UNITS_DONE,
+   UNITS_CELL_ERROR or UNITS_BAD_OPTIONS. After UNITS_NO_ROOM a second call converts all again; a buffer that is too
+   long costs nothing. */
+uint32_t units_convert_column(units_table *table, const units_column *column, const uint8_t *text, size_t text_length,
+                              const units_options *options, uint8_t *buffer, size_t size, size_t *length);
 
 /* Evaluates an expression: `number` is its number in terms of base units, and the text its dimension, such as
    "kg m^2 / s^2", which is empty for a plain number. `number` is set also with UNITS_NO_ROOM. */

@@ -13,12 +13,16 @@ program=$out/$name
 # A second before anything is read, so that each later change is later than this.
 since=$(($(date +%s) - 1))
 
-# record PROGRAM: lets bin/units run this program at once as long as nothing changes. If the record cannot be written,
-# bin/units asks again each time.
+# record PROGRAM: lets bin/units run this program at once as long as nothing changes in its code and its statements.
+# Proofs are two thirds of the files and change neither what it does nor what is proved of it, so they are left out. If
+# the record cannot be written, bin/units asks again each time.
 record() {
-    local sources
+    local folder sources=(crates.txt)
     [ "$name" = units ] || return 0
-    mapfile -t sources < <(echo crates.txt; if [ -d "$root/release" ]; then echo release; fi; folders_of units)
+    if [ -d "$root/release" ]; then sources+=(release); fi
+    while read -r folder; do
+        if [[ $folder != */proofs ]]; then sources+=("$folder"); fi
+    done < <(folders_of units)
     mkdir -p "$out" 2> /dev/null || return 0
     printf '%s\n' "$since" "$1" "${sources[*]}" 2> /dev/null > "$out/current.$$" && mv "$out/current.$$" "$out/current"
 }

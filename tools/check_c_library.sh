@@ -1,8 +1,9 @@
 #!/usr/bin/env bash
-# Builds the C library and the Python package from what was proved, and tests them: the calls from C, over the static
-# and the shared library, under valgrind, in four threads, and with each allocation refused; the Python package over
-# both back ends; its wheel; the examples of docs/C_AND_PYTHON.md; and 2,000 random questions that C, Python and the
-# program have to answer alike. The last line is `N passed, M failed, K skipped`.
+# Builds the C library and the Python package from what bin/test proved, and tests them: the calls from C, over the
+# static and the shared library, under valgrind, in four threads, and with each allocation refused; the Python package
+# over both back ends; its wheel; the examples of docs/C_AND_PYTHON.md; and 2,000 random questions and columns of 2,000
+# random numbers that C, Python and the program have to answer alike. What needs a package that is not installed, or a
+# library that bin/test did not build, is skipped by its name. The last line is `N passed, M failed, K skipped`.
 # shellcheck disable=SC2016,SC2317 # literal backquotes; functions that `step` calls
 set -u
 script=$(readlink -f "${BASH_SOURCE[0]}") || exit
@@ -36,8 +37,9 @@ step() {
     return 1
 }
 
+# skip NAME WHY
 skip() {
-    echo "== $1: skipped, $2 is missing"
+    echo "== $1: skipped: $2"
     skipped=$((skipped + 1))
 }
 
@@ -49,29 +51,38 @@ finish() {
 
 has() { command -v "$1" > /dev/null; }
 
-prove_library() (cd crates/units_c && rt lib)
-
 for command in gcc rt ar objcopy python3; do
     if ! has "$command"; then
-        echo "check_c_library: there is no command $command"
-        failed=1
+        skip 'the C library' "there is no command $command"
         finish
     fi
 done
 
-step 'the proved library' prove_library || finish
-step 'tools/library.sh' tools/library.sh "$work/units" || finish
+tools/c_library.sh "$work/units" > "$work/log" 2>&1
+case $? in
+    0) passed=$((passed + 1)) ;;
+    3)
+        skip 'the C library' "$(sed 's/^c_archive: //' "$work/log")"
+        finish
+        ;;
+    *)
+        echo '== tools/c_library.sh: failed'
+        cat "$work/log"
+        failed=1
+        finish
+        ;;
+esac
 include=$work/units/include static=$work/units/lib/libunits.a shared=$work/units/lib/libunits.so.1
 warnings=(-std=c11 -Wall -Wextra -Werror -O1 -g)
 
 # Only the calls of the header are exported, and only these of the C library's functions are used.
 are_symbols_right() {
     diff <(nm -D --defined-only "$shared" | sed -n 's/.* T \([a-z_]*\)@@UNITS_1$/\1/p' | sort) \
-        <(sed -n 's/^uint32_t \(units_[a-z]*\)(.*/\1/p' "$include/units.h" | sort) || return
+        <(sed -n 's/^uint32_t \(units_[a-z_]*\)(.*/\1/p' "$include/units.h" | sort) || return
     diff <(nm -D --undefined-only "$shared" | sed -n 's/^ *U \([a-z_]*\)@.*/\1/p' | sort) \
         <(printf '%s\n' free malloc memcpy memmove memset realloc) || return
     diff <(nm -g --defined-only "$static" | sed -n 's/.* T //p' | sort) \
-        <(sed -n 's/^uint32_t \(units_[a-z]*\)(.*/\1/p' "$include/units.h" | sort)
+        <(sed -n 's/^uint32_t \(units_[a-z_]*\)(.*/\1/p' "$include/units.h" | sort)
 }
 step 'symbols' are_symbols_right
 
@@ -90,13 +101,13 @@ step 'four threads with ThreadSanitizer' "$work/threads_tsan"
 if has g++; then
     step 'the header in C++' g++ -x c++ -std=c++17 -Wall -Wextra -Werror -pedantic -fsyntax-only "$include/units.h"
 else
-    skip 'the header in C++' g++
+    skip 'the header in C++' 'there is no command g++'
 fi
 if has pkg-config; then
     in_pkg_config() { [ "$(PKG_CONFIG_PATH=$work/units/lib/pkgconfig pkg-config --modversion units)" = 1.0.0 ]; }
     step 'pkg-config' in_pkg_config
 else
-    skip 'pkg-config' pkg-config
+    skip 'pkg-config' 'there is no command pkg-config'
 fi
 if has valgrind; then
     memcheck=(valgrind --quiet --error-exitcode=99 --leak-check=full --show-leak-kinds=all --errors-for-leak-kinds=all)
@@ -104,19 +115,21 @@ if has valgrind; then
     step 'refused allocations under valgrind' "${memcheck[@]}" "$work/refusals"
     step 'four threads under helgrind' valgrind --quiet --tool=helgrind --error-exitcode=99 "$work/threads" 50
 else
-    skip 'valgrind' valgrind
+    skip 'valgrind' 'there is no command valgrind'
 fi
 
 program=$(tools/built.sh units) || failed=$((failed + 1))
 export EXACT_UNITS_LIBRARY=$shared EXACT_UNITS_PROGRAM=$program PYTHONPATH=$root/lib/python PYTHONDONTWRITEBYTECODE=1
-python_tests() { python3 -W error::ResourceWarning -m unittest discover -s lib/python/tests; }
+# Debian's Python has numpy and pandas if they are installed.
+python=$(command -v /usr/bin/python3 || command -v python3)
+python_tests() { "$python" -W error::ResourceWarning -m unittest discover -s lib/python/tests; }
 step 'the Python package' python_tests
 if has pyflakes3; then
-    step 'pyflakes' pyflakes3 lib/python tools/wheel.py tools/compare_c_library.py
+    step 'pyflakes' pyflakes3 lib/python tools/wheel.py tools/compare_c_library.py tools/compare_c_columns.py
 else
-    skip 'pyflakes' pyflakes3
+    skip 'pyflakes' 'there is no command pyflakes3'
 fi
-if has mypy; then step 'mypy' mypy --strict lib/python/exact_units; else skip 'mypy' mypy; fi
+if has mypy; then step 'mypy' mypy --strict lib/python/exact_units; else skip 'mypy' 'there is no command mypy'; fi
 
 # The wheel is the same each time, and works when it is unpacked, by either back end.
 wheel_works() (
@@ -155,5 +168,6 @@ example_works() {
     python3 -m doctest docs/C_AND_PYTHON.md
 }
 step 'the examples' example_works
-step 'random questions' tools/compare_c_library.py --questions 2000
+step 'random questions' tools/compare_c_library.py --units "$work/units" --questions 2000
+step 'random columns' tools/compare_c_columns.py --units "$work/units" --numbers 2000
 finish

@@ -5,7 +5,7 @@ to give the same answer, byte for byte.
     tools/compare_c_library.py [--questions N] [--seed S] [--definitions FILE] [--units FOLDER]
 
 Without N it asks 20,000. FILE is GNU units' definition file of Debian if it is installed, or else
-examples/first.units. FOLDER is what tools/library.sh made; it is made anew without. The last line is
+examples/first.units. FOLDER is what tools/c_library.sh made; it is made anew without. The last line is
 `N passed, M failed`, where a question counts as one.
 """
 
@@ -164,7 +164,7 @@ def differences(units: Tuple[Units, Units], asked: Question, c: Answers, program
 def build(units: Path, folder: Path) -> Tuple[Path, Path]:
     """Return the C program and the shared library."""
     if not units.exists():
-        subprocess.run([ROOT / "tools" / "library.sh", units], check=True)
+        subprocess.run([ROOT / "tools" / "c_library.sh", units], check=True)
     source, answers = ROOT / "tests" / "c" / "answers.c", folder / "answers"
     flags = ["-O1", f"-I{units / 'include'}", "-o", answers, source, units / "lib" / "libunits.a"]
     subprocess.run(["gcc", *flags], check=True)

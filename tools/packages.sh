@@ -16,6 +16,8 @@ packages=(
     units python3-pint
     # memory checks of the C library
     valgrind mypy python3-numpy python3-pandas pkg-config
+    # the static program
+    musl-dev busybox-static strace
     # the page in a browser
     chromium firefox-esr binaryen
     # editors

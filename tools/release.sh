@@ -1,7 +1,7 @@
 #!/usr/bin/env bash
-# The released program, release/units-x86_64-linux, the same objects linked statically, release/units-x86_64-linux-static,
+# The released program, release/units-x86_64-linux, the same object linked statically, release/units-x86_64-linux-static,
 # and release/MADE_FROM, which has the version, the checksums of both, of the parts that the static one has from the
-# system, and of the sources, and the toolchain. tools/web.sh adds the lines of the page.
+# system (musl-dev), and of the sources, and the toolchain. tools/web.sh adds the lines of the page.
 #   tools/release.sh             makes them from what `rt ci` proved and built
 #   tools/release.sh --check     whether they are whole and of the present sources, by its status; it builds nothing
 #   tools/release.sh --compare   after `rt ci`: whether the programs are byte for byte what that built. Two kits may
@@ -42,8 +42,8 @@ make() {
     local toolchain
     toolchain=$(rt version) || exit
     mkdir -p "$root/release"
-    cp "$out/units" "$released.new" && mv "$released.new" "$released" || exit
-    "$root/tools/static.sh" "$out/units.o" "$static.new" && mv "$static.new" "$static" || exit
+    "$root/tools/static.sh" "$out/units.o" "$static.new" && cp "$out/units" "$released.new" || exit
+    mv "$static.new" "$static" && mv "$released.new" "$released" || exit
     {
         echo "version $(version)"
         echo "program $(sum_of "$released")"

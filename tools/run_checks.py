@@ -76,6 +76,7 @@ QUICK = [
     Check("record of measurements", ("bench/record.py", "--check")),
 ]
 AFTER_PROOFS = [
+    Check("C library", ("tools/check_c_library.sh",)),
     Check("want of memory", ("tools/check_memory.sh",)),
     Check("want of memory in edits", ("tools/check_edits.py",)),
     Check("static program", ("tools/check_static.sh",)),

@@ -138,12 +138,62 @@ static void values(units_table *table) {
     expect("-2 N/3", UNITS_DONE, UNITS_DONE, "kg m / s^2");
     n = number_of(table, "2^126 / 3^70");
     check(n.negative == 0 && n.numerator_high == (uint64_t)1 << 62 && n.numerator_low == 0
-          && n.denominator_high == 0x7b6a43a7ef90 && n.denominator_low == 0x1fd29f05f9e837d9, "the number of 2^126 / 3^70");
+          && n.denominator_high == 0x7b6a43a7ef90 && n.denominator_low == 0x1fd29f05f9e837d9,
+          "the number of 2^126 / 3^70");
     expect("2^126 / 3^70", UNITS_DONE, UNITS_DONE, "");
     n = number_of(table, "0");
     check(n.negative == 0 && n.numerator_low == 0 && n.denominator_low == 1, "the number of 0");
     value(table, "1/s", UNITS_DONE, "/ s");
     value(table, "m^(1|2)", UNITS_DONE, "m^1|2");
+}
+
+/* Which column of a text, and from what to what. */
+static void convert_column(units_table *table, units_column column, const units_options *options, const char *text,
+                           uint32_t wanted, const char *rows) {
+    memset(buffer, 'x', sizeof buffer);
+    expect(text, units_convert_column(table, &column, TEXT(text), options, buffer, sizeof buffer, &length), wanted,
+           rows);
+}
+
+static void columns(units_table *table) {
+    units_column first = {TEXT("ft"), TEXT("inch"), 1, 0}, second = {TEXT("ft"), TEXT("inch"), 2, 1};
+    convert_column(table, first, &plain, "", UNITS_DONE, "");
+    convert_column(table, first, &plain, "1\n2.5\n-3", UNITS_DONE, "12\n30\n-36\n");
+    convert_column(table, first, &exact, "0.01\r\n 1e1 \n", UNITS_DONE, "3|25\n120\n");
+    convert_column(table, second, &plain, "3,4\n5,6,\"7,8\"\n9\n", UNITS_DONE, "3,4\n5,72,\"7,8\"\n9\n");
+    convert_column(table, first, &plain, "1\n+2\n3\n", UNITS_CELL_ERROR, "12\nerror: not a number\n36\n");
+    first.header = 9;
+    convert_column(table, first, &plain, "7\n7\n", UNITS_DONE, "7\n84\n");
+    first.header = 0;
+    units_options four = {.digits = 4}, whole = {.round = 1};
+    convert_column(table, (units_column){TEXT("1"), TEXT("3"), 1, 0}, &four, "1\n", UNITS_DONE, "0.3333\n");
+    convert_column(table, (units_column){TEXT("inch"), TEXT("hms"), 1, 0}, &whole, "64.4\n", UNITS_DONE, "5;4\n");
+    convert_column(table, (units_column){TEXT("half"), TEXT("1"), 1, 0}, &exact, "3\n11\n", UNITS_CELL_ERROR,
+                   "3|2\nerror: not in domain: half\n");
+    convert_column(table, (units_column){TEXT("ft"), TEXT("s"), 1, 0}, &plain, "1\n", UNITS_CELL_ERROR,
+                   "error: conformability error\n");
+    convert_column(table, (units_column){TEXT("yard"), TEXT("m"), 1, 0}, &plain, "1\n", UNITS_CELL_ERROR,
+                   "error: unknown unit: yard\n");
+    first.number = SIZE_MAX;
+    convert_column(table, first, &plain, "1\n", UNITS_DONE, "1\n");
+    first.number = 0;
+    convert_column(table, first, &plain, "1\n", UNITS_BAD_OPTIONS, "");
+    units_options bad = {.digits = 37};
+    convert_column(table, second, &bad, "1\n", UNITS_BAD_OPTIONS, "");
+    first.number = 1;
+    check(units_convert_column(table, &first, TEXT("1\n2\n"), &plain, buffer, 5, &length) == UNITS_NO_ROOM
+          && length == 6, "a column in a short buffer");
+    check(units_convert_column(table, &first, UNITS_NO_TEXT, &plain, buffer, 0, &length) == UNITS_DONE && length == 0,
+          "a column of no records in a buffer of no size");
+    /* More records than the program writes at once. */
+    enum { RECORDS = 5000 };
+    static char text[2 * RECORDS + 1];
+    static uint8_t rows[3 * RECORDS];
+    for (int i = 0; i < RECORDS; i++) memcpy(text + 2 * i, "1\n", 2);
+    int right = units_convert_column(table, &first, TEXT(text), &plain, rows, sizeof rows, &length) == UNITS_DONE
+        && length == sizeof rows;
+    for (int i = 0; i < RECORDS; i++) right &= memcmp(rows + 3 * i, "12\n", 3) == 0;
+    check(right, "a column of many records");
 }
 
 static void edits(units_table *table) {
@@ -222,6 +272,7 @@ static void openings(void) {
     check(units_close(&table) == UNITS_CLOSED, "to close a closed table");
     expect("a closed table", units_convert(&table, TEXT("m"), TEXT("m"), &exact, buffer, sizeof buffer, &length),
            UNITS_CLOSED, "");
+    convert_column(&table, (units_column){TEXT("m"), TEXT("m"), 1, 0}, &plain, "1", UNITS_CLOSED, "");
     check(units_open(&table, &given) == UNITS_DONE, "to open");
     check(units_open(&table, &given) == UNITS_ALREADY_OPEN, "to open an open table");
     convert(&table, &exact, "league", "ft", UNITS_DONE, "15840\n");
@@ -229,6 +280,7 @@ static void openings(void) {
     conversions(&table);
     faults(&table);
     values(&table);
+    columns(&table);
     edits(&table);
     rooms(&table);
     deep_calls(&table);

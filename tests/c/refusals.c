@@ -63,6 +63,15 @@ static uint32_t ask_unknown(void) { return convert("bad", "s"); }
 static uint32_t ask_cycle(void) { return convert("round", "s"); }
 static uint32_t ask_value(void) { return value("3 yard^2 / s"); }
 static uint32_t ask_fault(void) { return value("1 m + 1 s"); }
+static uint32_t convert_column(const char *from, const char *to) {
+    units_options options = {.exact = 1};
+    units_column column = {TEXT(from), TEXT(to), 2, 1};
+    return units_convert_column(&table, &column, TEXT("a,b\n1,2\n3,\"4\",5\n6\n7,8\n"), &options, ROOM);
+}
+
+static uint32_t ask_column(void) { return convert_column("yard", "inch"); }
+static uint32_t ask_function_column(void) { return convert_column("gauge", "inch"); }
+static uint32_t ask_unlike_column(void) { return convert_column("yard", "s"); }
 static uint32_t search(void) { return units_search(&table, TEXT("a"), ROOM); }
 static uint32_t define(void) { return units_define(&table, TEXT("ft 11 inch"), ROOM); }
 static uint32_t define_badly(void) { return units_define(&table, TEXT("ft 2 +"), ROOM); }
@@ -97,6 +106,9 @@ static const call calls[] = {
     {"convert a cycle", opened, ask_cycle, UNITS_CYCLE, "12\n"},
     {"value", opened, ask_value, UNITS_DONE, "12\n"},
     {"value with a fault", opened, ask_fault, UNITS_UNLIKE_SUM, "12\n"},
+    {"convert a column", opened, ask_column, UNITS_DONE, "12\n"},
+    {"convert a column by points", opened, ask_function_column, UNITS_CELL_ERROR, "12\n"},
+    {"convert a column to an unlike unit", opened, ask_unlike_column, UNITS_CELL_ERROR, "12\n"},
     {"search", opened, search, UNITS_DONE, "12\n"},
     {"define", opened, define, UNITS_DONE, "12\n"},
     {"define badly", defined, define_badly, UNITS_SYNTAX_ERROR, "11\n"},

@@ -31,6 +31,17 @@ static void convert(worker *own, units_table *table, const char *from, const cha
     check(own, status == UNITS_DONE && length == strlen(answer) && memcmp(buffer, answer, length) == 0);
 }
 
+/* A column of one number, whose answer is known. */
+static void convert_column(worker *own, units_table *table, const char *number, const char *answer) {
+    units_options options = {.exact = 1};
+    units_column column = {UNITS_TEXT("ft"), UNITS_TEXT("inch"), 1, 0};
+    uint8_t buffer[64];
+    size_t length;
+    uint32_t status = units_convert_column(table, &column, (const uint8_t *)number, strlen(number), &options, buffer,
+                                           sizeof buffer, &length);
+    check(own, status == UNITS_DONE && length == strlen(answer) && memcmp(buffer, answer, length) == 0);
+}
+
 static void *work(void *at) {
     worker *own = at;
     units_entry file = {UNITS_TEXT("main"), (const uint8_t *)text, strlen(text)};
@@ -45,6 +56,8 @@ static void *work(void *at) {
         snprintf(from, sizeof from, "%u ft", n);
         snprintf(answer, sizeof answer, "%u\n", 12 * n);
         convert(own, &table, from, "inch", answer);
+        snprintf(from, sizeof from, "%u", n);
+        convert_column(own, &table, from, answer);
         convert(own, &table, "kilom/hour", "m/s", "5|18\n");
         snprintf(line, sizeof line, "own %u m", n);
         snprintf(answer, sizeof answer, "%u\n", n);

@@ -1,53 +1,29 @@
-"""Accessibility of the page, checked in the browser: names, contrast, width, headings and the order of the keyboard."""
+"""Accessibility of the page, checked in the browser: names, contrast, widths, headings, roles, the keyboard alone, and
+what a screen reader is told. Debian has no checker for this. The rules are those of WCAG 2.2 AA that can be computed.
+"""
 
 from __future__ import annotations
 
+from collections.abc import Callable
+from pathlib import Path
+from typing import Any
+
+import cases
 from chromium import Chromium
+from page import Page
+from pictures import REFUSED
 
-# Text in the page whose contrast with its background is below 4.5, the threshold of WCAG 2 AA.
-LOW_CONTRAST = """(() => {
-  const channels = color => color.match(/[\\d.]+/g).map(Number);
-  const linear = v => v <= 0.03928 ? v / 12.92 : ((v + 0.055) / 1.055) ** 2.4;
-  const luminance = ([r, g, b]) => 0.2126 * linear(r / 255) + 0.7152 * linear(g / 255) + 0.0722 * linear(b / 255);
-  const background = e => {
-    for (; e; e = e.parentElement) {
-      const color = channels(getComputedStyle(e).backgroundColor);
-      if (color[3] !== 0) return color;
-    }
-    return [255, 255, 255];
-  };
-  const hasText = e => [...e.childNodes].some(n => n.nodeType === Node.TEXT_NODE && n.data.trim());
-  const ratio = e => {
-    const [a, b] = [luminance(channels(getComputedStyle(e).color)), luminance(background(e))].sort((a, b) => b - a);
-    return (a + 0.05) / (b + 0.05);
-  };
-  return [...document.querySelectorAll('body *')].filter(e => e.offsetParent && !e.disabled && hasText(e))
-    .filter(e => ratio(e) < 4.5).map(e => `${e.tagName}#${e.id}.${e.className} ${ratio(e).toFixed(2)}`);
-})()"""
-
-EXCESS_WIDTH = "document.documentElement.scrollWidth - document.documentElement.clientWidth"
-
-# Buttons and fields below 24 pixels, the least target of WCAG 2.2 AA.
-SMALL_TARGETS = """[...document.querySelectorAll('button, input, select, summary')].filter(e => e.offsetParent)
-  .filter(e => {
-    const {width, height} = (e.closest('label') ?? e).getBoundingClientRect();
-    return height < 24 || width < 24;
-  })
-  .map(e => `${e.tagName}#${e.id} ${e.textContent.trim().slice(0, 20)}`)"""
-
-BROKEN_REFERENCES = """[...document.querySelectorAll('*')].flatMap(e =>
-  ['for', 'aria-controls', 'aria-labelledby', 'aria-describedby', 'aria-activedescendant']
-    .filter(name => e.hasAttribute(name) && !document.getElementById(e.getAttribute(name)))
-    .map(name => `${e.tagName}#${e.id} ${name}`))"""
-
-DUPLICATE_IDS = """(() => {
-  const ids = [...document.querySelectorAll('[id]')].map(e => e.id);
-  return ids.filter((id, i) => ids.indexOf(id) !== i);
-})()"""
-
-FOCUS_ORDER = 12
+RULES = Path(__file__).with_name("accessibility.js").read_text()
+VIEWS = ("convert", "session", "definitions")
+NARROW, WIDE = (320, 800), (1100, 900)  # WCAG wants no scrolling to the side at 320 pixels
 NAMED_ROLES = {"button", "textbox", "searchbox", "combobox", "spinbutton", "checkbox", "tab", "tabpanel", "listbox",
-               "log", "option", "form", "region", "heading"}
+               "log", "option", "form", "region", "heading", "tablist", "menuitem", "link", "DisclosureTriangle"}
+Equal = Callable[[str, Any, Any], None]
+
+
+def ask(browser: Chromium, rule: str) -> Any:
+    """What a function of accessibility.js returns in the page as it is now."""
+    return browser.value(f"globalThis.accessibility ?? {RULES}; accessibility.{rule}()")
 
 
 def unnamed_nodes(browser: Chromium) -> list[str]:
@@ -60,11 +36,139 @@ def unnamed_nodes(browser: Chromium) -> list[str]:
     return found
 
 
-def focus_order(browser: Chromium) -> list[str]:
-    """The ids of what the tab key reaches from the selected tab on; a summary counts by its details."""
-    browser.value("document.getElementById('tab-convert').focus()")
-    order = []
-    for _ in range(FOCUS_ORDER):
-        browser.press("Tab")
-        order.append(browser.value("document.activeElement.id || document.activeElement.parentElement.id"))
-    return order
+def show(page: Page, view: str) -> None:
+    """A view with all that it can show: opened details, a refused conversion, replies and faults of a session, a check
+    with faults."""
+    page.open(f"#from=5+gallons&to=miles&view={view}")
+    page.browser.value("document.querySelectorAll('details').forEach(e => e.open = true)")
+    if view == "session":
+        page.enter_lines(["10 m", "ft", "nosuch", ":define smoot 67 in", ":load gone.units"])
+    if view == "definitions":
+        page.replace_text(cases.FAULTY_TEXT)
+        page.click("new-file")
+    page.wait_for(REFUSED)
+    page.wait(250)
+
+
+def set_screen(page: Page, size: tuple[int, int], is_dark: bool = False) -> None:
+    """Gives the page a size and a theme, and waits until it is drawn so."""
+    page.browser.resize(*size, is_dark)
+    theme = "matchMedia('(prefers-color-scheme: dark)').matches"
+    page.wait_for(f"innerWidth === {size[0]} && {theme} === {str(is_dark).lower()}")
+    page.browser.value("new Promise(done => requestAnimationFrame(() => requestAnimationFrame(done)))")
+
+
+def check_looks(page: Page, view: str, equal: Equal) -> None:
+    browser = page.browser
+    for is_dark in (False, True):
+        set_screen(page, WIDE, is_dark)
+        for rule in ("lowContrast", "faintFields"):
+            equal(f"{rule} of {view}, dark {is_dark}", ask(browser, rule), [])
+    set_screen(page, NARROW)
+    equal(f"width of {view} beyond {NARROW[0]} pixels", ask(browser, "excessWidth"), 0)
+    equal(f"targets of {view} that are too small", ask(browser, "smallTargets"), [])
+    set_screen(page, (2 * NARROW[0], 800))
+    browser.value("document.documentElement.style.fontSize = '200%'; 0")
+    equal(f"width of {view} with text of twice the size", ask(browser, "excessWidth"), 0)
+    browser.value("document.documentElement.style.fontSize = ''; 0")
+
+
+def check_structure(page: Page, view: str, equal: Equal) -> None:
+    for rule in ("structure", "wrongRoles", "brokenReferences", "duplicateIds"):
+        equal(f"{rule} of {view}", ask(page.browser, rule), [])
+    equal(f"nodes of {view} without a name", unnamed_nodes(page.browser), [])
+
+
+def check_stops(page: Page, view: str, equal: Equal) -> None:
+    """The tab key reaches each control once, in the order of the page, both ways, and the focus is seen."""
+    browser = page.browser
+    for is_dark in (False, True):
+        set_screen(page, WIDE, is_dark)
+        ask(browser, "focusFirst")
+        stops = ask(browser, "stops")
+        reached, faint = [ask(browser, "stopIndex")], ask(browser, "faintFocus")
+        for _ in stops[1:]:
+            browser.press("Tab")
+            reached.append(ask(browser, "stopIndex"))
+            faint += ask(browser, "faintFocus")
+        equal(f"stops of the tab key in {view}", reached, list(range(len(stops))))
+        equal(f"focus that is not seen in {view}, dark {is_dark}", faint, [])
+    for expected in reversed(range(len(stops) - 1)):
+        browser.press("Tab", is_shifted=True)
+        equal(f"a stop backwards in {view}", ask(browser, "stopIndex"), expected)
+    equal(f"stops of {view} against the order of reading", ask(browser, "stopsAgainstReading"), [])
+
+
+def check_lists(page: Page, equal: Equal) -> None:
+    """The list of names while it is open, in both themes."""
+    page.open()
+    page.focus("from")
+    page.browser.type("3 yar")
+    page.wait_for("!document.getElementById('from-names').hidden")
+    page.browser.press("ArrowDown")
+    for is_dark in (False, True):
+        set_screen(page, WIDE, is_dark)
+        equal(f"contrast with names listed, dark {is_dark}", ask(page.browser, "lowContrast"), [])
+    equal("roles with names listed", ask(page.browser, "wrongRoles"), [])
+    equal("the field says that its list is open", page.property("from", "ariaExpanded"), "true")
+    page.browser.press("Escape")
+    equal("the field says that its list is closed", page.property("from", "ariaExpanded"), "false")
+
+
+def check_announcements(page: Page, equal: Equal) -> None:
+    """What a screen reader is told without a change of the focus."""
+    page.open()
+    for from_, to, said in (("10 m", "ft", "32.808399"), ("m", "s", "conformability"), ("nosuch", "m", "nosuch")):
+        page.ask([(from_, to)])
+        heard = f"document.getElementById('announcement').textContent.includes({said!r})"
+        equal(f"the answer to {from_} in {to} is announced", page.wait_for(heard), True)
+    page.click("tab-session")
+    page.enter_lines(["1 yd", "m"])
+    equal("a reply in the log", "0.9144" in page.text("transcript"), True)
+    page.click("tab-definitions")
+    page.replace_text(cases.FAULTY_TEXT)
+    equal("the result of the check is announced", page.text("check-summary") != "", True)
+    page.click("restore")
+
+
+def check_keyboard_alone(page: Page, equal: Equal) -> None:
+    """A conversion, an option and a session without a pointer."""
+    browser = page.browser
+    page.open()
+    page.focus("from")
+    browser.type("10 m")
+    for key in ("Escape", "Tab", "Tab"):
+        browser.press(key)
+    browser.type("ft")
+    page.wait_for("document.getElementById('answer').textContent.includes('32.808399')")
+    browser.press("Escape")
+    browser.press("Tab", is_shifted=True)
+    browser.press("Enter")
+    equal("swapped by the keyboard", [page.property("from", "value"), page.property("to", "value")], ["ft", "10 m"])
+    page.focus("tab-convert")
+    browser.press("ArrowRight")
+    equal("the right arrow in the tabs", browser.value("document.activeElement.id"), "tab-session")
+    browser.press("ArrowLeft")
+    browser.press("ArrowLeft")
+    equal("the left arrow goes round", browser.value("document.activeElement.id"), "tab-definitions")
+    browser.press("ArrowRight")
+    browser.press("ArrowRight")
+    page.focus("line")
+    for line in ("3 ft", "yd"):
+        browser.type(line)
+        browser.press("Enter")
+    equal("a session by the keyboard", page.session_output()[0].endswith("* 1\n\t/ 1\nYou have: "), True)
+    page.click("restart")
+
+
+def check(page: Page, equal: Equal) -> None:
+    for view in VIEWS:
+        show(page, view)
+        check_looks(page, view, equal)
+        check_structure(page, view, equal)
+        check_stops(page, view, equal)
+    page.browser.value("localStorage.clear()")
+    check_lists(page, equal)
+    check_announcements(page, equal)
+    check_keyboard_alone(page, equal)
+    page.browser.value("localStorage.clear()")

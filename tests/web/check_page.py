@@ -36,7 +36,6 @@ from page import Page
 SHOWN_FAILURES = 12
 # Firefox gets a third of the questions.
 FIREFOX_SHARE = 3
-VIEWS = ("convert", "session", "definitions")
 
 
 class Tally:
@@ -204,33 +203,6 @@ def check_links(name: str, page: Page, native: Native, tally: Tally) -> None:
     page.set_options({})
 
 
-def check_accessibility(page: Page, tally: Tally) -> None:
-    browser = page.browser
-    page.open("#from=5+gallons&to=miles")
-    for id_ in ("options", "printed", "conforming"):
-        browser.value(f"document.getElementById('{id_}').open = true")
-    for view in VIEWS:
-        page.click(f"tab-{view}")
-        page.wait(250)
-        for is_dark in (False, True):
-            browser.resize(360, 800, is_dark)
-            page.wait(150)
-            tally.equal(f"contrast of {view}, dark {is_dark}", browser.value(accessibility.LOW_CONTRAST), [])
-        tally.equal(f"width of {view} beyond a screen of 360 pixels", browser.value(accessibility.EXCESS_WIDTH), 0)
-        tally.equal(f"targets of {view} that are too small", browser.value(accessibility.SMALL_TARGETS), [])
-        tally.equal(f"nodes of {view} without a name", accessibility.unnamed_nodes(browser), [])
-    tally.equal("references to missing elements", browser.value(accessibility.BROKEN_REFERENCES), [])
-    tally.equal("duplicate ids", browser.value(accessibility.DUPLICATE_IDS), [])
-    tally.equal("language", browser.value("document.documentElement.lang"), "en")
-    browser.resize(1100, 900, False)
-    page.open("#from=10+m&to=ft")
-    expected = ["from", "swap", "to", "copy-answer", "copy-link"]
-    tally.equal("order of the keyboard", accessibility.focus_order(browser)[: len(expected)], expected)
-    page.focus("tab-convert")
-    browser.press("ArrowRight")
-    tally.equal("the right arrow in the tabs", browser.value("document.activeElement.id"), "tab-session")
-
-
 def check_server(page_file: Path, browser: Chromium, tally: Tally) -> None:
     """From a static server the page needs one request, and none after it."""
     handler = partial(QuietHandler, directory=str(page_file.parent))
@@ -272,7 +244,7 @@ def check_chromium(arguments: argparse.Namespace, native: Native, tally: Tally) 
         page = Page(browser, arguments.page.resolve().as_uri())
         browser.call("Log.enable")
         check_views(page, native, tally)
-        check_accessibility(page, tally)
+        accessibility.check(page, tally.equal)
         check_server(arguments.page.resolve(), browser, tally)
         check_storage(page, tally)
         modules.check_memory(page, native, tally)

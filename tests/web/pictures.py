@@ -7,6 +7,8 @@ from pathlib import Path
 import cases
 from page import Page
 
+# A refusal looks like one once nothing more is typed.
+REFUSED = "document.getElementById('answer').className === 'refused'"
 WIDE, PHONE = (1000, 780), (390, 844)
 SESSION = ["10 meters", "feet", ":define smoot 67 in", "1 smoot", "m", ":watch 1 smoot ; cm", ":define smoot 68 in",
            ":undo", "search smoot"]
@@ -30,6 +32,7 @@ def take_conversions(page: Page, folder: Path) -> None:
     page.browser.resize(*WIDE, False)
     page.open("#from=5+gallons&to=miles")
     page.ask([("5 gallons", "miles")])
+    page.wait_for(REFUSED)
     page.browser.picture(folder / "refused-light.png")
     page.browser.resize(*WIDE, True)
     page.open()

@@ -1,5 +1,5 @@
 -- The line at the last place of a key, taken out of a deck.
-use Rattle.std.proofs.Common.{◌≡◌, ◌<◌, ℕ, List, Bool, false, not, cond, length, map, set, sym, ap, subst, ◌∙◌}
+use Rattle.std.proofs.Common.{◌≡◌, ◌<◌, ℕ, List, false, not, cond, length, map, set, refl, sym, ap, subst, ◌∙◌}
 use Rattle.std.proofs.Common.{Option, Some, None, Ok, option_map}
 use Rattle.std.proofs.lemmas.Option.{same_Some}
 use Rattle.std.specs.Option.{option_and_then}
@@ -20,11 +20,14 @@ use Rattle.deck.specs.Edits.{after_drop, without_some}
 use Rattle.deck.specs.KindPlaces.{without_gap}
 use Rattle.deck.specs.LastPlaces.{AreLast, IsIndexed, places_of}
 use Rattle.deck.specs.Numbers.{entry_there, key_if}
+use Rattle.deck.specs.PlacedKeys.{AreDefined}
 use Rattle.deck.specs.Tables.{definitions, definitions_by, last_place, place_of, table, table_of}
 use Rattle.deck.specs.declared.places.last_places.LastPlaces.{LastPlaces}
 use Rattle.deck.specs.declared.settings.Settings.{Settings}
 use Rattle.deck.proofs.Dropping.{DefinesAt, defined_last, definitions_dropped, dropped, indexed_dropped, table_moved}
 use Rattle.deck.proofs.Dropping.{within}
+use Rattle.deck.proofs.PlacedKeys.{all_defined}
+use Rattle.deck.proofs.Placing.{in_place_by}
 use Rattle.deck.proofs.Uncovering.{changed_dropped, last_uncovered}
 use Rattle.deck.proofs.Undefining.{place_within}
 
@@ -68,47 +71,67 @@ module _ (settings : Settings) (store : Store) (notices : List (List ℕ)) (d : 
         place_within (places_of old n.kind) n.number place
         (indexed.places.place n ∙ ap (option_and_then (place_of (definitions settings store.lines))) numbered ∙ was)
 
-    module _ (active flags : List Bool) (are : active ≡ active_lines settings store.lines)
-        (without : flags ≡ set active place false) (uncovered : Option ℕ)
+    -- no other key has it
+    pub last_drop : (j : Key) → key_at store.names n ≡ Some j → last_place settings store.lines j ≡ Some place
+    last_drop j at =
+        ap (last_place settings store.lines) (same_Some j k (sym at ∙ numbered)) ∙ was
+
+    module _ (uncovered : Option ℕ)
         (covers : (j : Key) → key_at store.names n ≡ Some j
-        → uncovered ≡ place_of (definitions_by flags store.lines) j) where
-      flags_are : flags ≡ set (active_lines settings store.lines) place false
-      flags_are = without ∙ ap (λ (fs : List Bool). set fs place false) are
+        → uncovered ≡ place_of (definitions_by (set (active_lines settings store.lines) place false) store.lines) j)
+      where
+        -- the last places, of which that of the key is the one that it uncovers
+        last_left : IsNumbering store → (old put : LastPlaces) → IsIndexed store settings old →
+            ((kind : Kind) → places_of put kind ≡ cond (is_same_kind kind n.kind)
+            (set (places_of old kind) n.number uncovered) (places_of old kind)) →
+            AreLast store.names (definitions_by (set (active_lines settings store.lines) place false) store.lines) put
+        last_left numbering old put indexed one =
+            last_uncovered settings store n k defines.0 place (set (active_lines settings store.lines) place false)
+            uncovered numbered was defines.1 refl (covers k numbered) numbering old put indexed.places one
 
-      -- the deck without it
-      pub indexed_drop : IsNumbering store → (old put now : LastPlaces) → IsIndexed store settings old →
-          ((kind : Kind) → places_of put kind ≡ cond (is_same_kind kind n.kind)
-          (set (places_of old kind) n.number uncovered) (places_of old kind)) →
-          ((kind : Kind) → places_of now kind ≡ map (option_map (without_gap place)) (places_of put kind)) →
-          (new : Store) → new.lines ≡ dropped place store.lines → new.names ≡ store.names → IsIndexed new settings now
-      indexed_drop numbering old put now indexed one gap new left names =
-          indexed_dropped settings store.lines place (k, defines.0) defines.1 new put now left indexed.closed
-          (subst (λ (ns : Names). AreLast ns (definitions_by (set (active_lines settings store.lines) place false)
-          store.lines) put) (sym names)
-          (subst (λ (fs : List Bool). AreLast store.names (definitions_by fs store.lines) put) flags_are
-          (last_uncovered settings store n k defines.0 place flags uncovered numbered was defines.1 flags_are
-          (covers k numbered) numbering old put indexed.places one)))
-          gap
+        -- each is that of a line
+        pub defined_left : IsNumbering store → (old put : LastPlaces) → IsIndexed store settings old →
+            ((kind : Kind) → places_of put kind ≡ cond (is_same_kind kind n.kind)
+            (set (places_of old kind) n.number uncovered) (places_of old kind)) →
+            AreDefined store put
+        defined_left numbering old put indexed one =
+            all_defined store put (definitions_by (set (active_lines settings store.lines) place false) store.lines)
+            (in_place_by (set (active_lines settings store.lines) place false) store.lines)
+            (last_left numbering old put indexed one)
 
-      -- its table is that of the lines whose flags are left
-      table_left : (left : List DeckLine) → left ≡ dropped place store.lines
-          → table_of (definitions settings left) ≡ table_of (definitions_by flags store.lines)
-      table_left left given =
-          ap (λ (ls : List DeckLine). table_of (definitions settings ls)) given
-          ∙ ap table_of (definitions_dropped settings store.lines place (k, defines.0) defines.1)
-          ∙ table_moved place (definitions_by (set (active_lines settings store.lines) place false) store.lines)
-          ∙ ap (λ (fs : List Bool). table_of (definitions_by fs store.lines)) (sym flags_are)
+        -- the deck without it
+        pub indexed_drop : IsNumbering store → (old put now : LastPlaces) → IsIndexed store settings old →
+            ((kind : Kind) → places_of put kind ≡ cond (is_same_kind kind n.kind)
+            (set (places_of old kind) n.number uncovered) (places_of old kind)) →
+            ((kind : Kind) → places_of now kind ≡ map (option_map (without_gap place)) (places_of put kind)) →
+            (new : Store) → new.lines ≡ dropped place store.lines → new.names ≡ store.names → IsIndexed new settings now
+        indexed_drop numbering old put now indexed one gap new left names =
+            indexed_dropped settings store.lines place (k, defines.0) defines.1 new put now left indexed.closed
+            (subst (λ (ns : Names). AreLast ns (definitions_by (set (active_lines settings store.lines) place false)
+            store.lines) put) (sym names) (last_left numbering old put indexed one))
+            gap
 
-      -- the keys that this changes
-      pub changed_drop : SameTextLaw → (left : List DeckLine) (keys : List Key) → left ≡ dropped place store.lines
-          → keys ≡ key_if (not (is_same_entry (entry_there store.lines (Some place))
-          (entry_there store.lines uncovered))) (key_at store.names n) →
-          IsTableChange (table d) (table_of (definitions settings left)) keys
-      changed_drop law left keys given keys_are =
-          subst (λ (c : Contents). IsTableChange (table c) (table_of (definitions settings left)) keys) view
-          (subst (λ t. IsTableChange (table_of (definitions settings store.lines)) t keys)
-          (sym (table_left left given))
-          (subst (λ (ks : List Key). IsTableChange (table_of (definitions settings store.lines))
-          (table_of (definitions_by flags store.lines)) ks) (sym keys_are)
-          (changed_dropped settings store n k defines.0 place flags uncovered numbered was defines.1 flags_are
-          (covers k numbered) law)))
+        -- its table is that of the lines whose flags are left
+        table_left : (left : List DeckLine) → left ≡ dropped place store.lines
+            → table_of (definitions settings left) ≡ table_of
+            (definitions_by (set (active_lines settings store.lines) place false) store.lines)
+        table_left left given =
+            ap (λ (ls : List DeckLine). table_of (definitions settings ls)) given
+            ∙ ap table_of (definitions_dropped settings store.lines place (k, defines.0) defines.1)
+            ∙ table_moved place (definitions_by (set (active_lines settings store.lines) place false) store.lines)
+
+        -- the keys that this changes
+        pub changed_drop : SameTextLaw → (left : List DeckLine) (keys : List Key) → left ≡ dropped place store.lines
+            → keys ≡ key_if (not (is_same_entry (entry_there store.lines (Some place))
+            (entry_there store.lines uncovered))) (key_at store.names n) →
+            IsTableChange (table d) (table_of (definitions settings left)) keys
+        changed_drop law left keys given keys_are =
+            subst (λ (c : Contents). IsTableChange (table c) (table_of (definitions settings left)) keys) view
+            (subst (λ t. IsTableChange (table_of (definitions settings store.lines)) t keys)
+            (sym (table_left left given))
+            (subst (λ (ks : List Key). IsTableChange (table_of (definitions settings store.lines))
+            (table_of (definitions_by (set (active_lines settings store.lines) place false) store.lines)) ks)
+            (sym keys_are)
+            (changed_dropped settings store n k defines.0 place (set (active_lines settings store.lines) place false)
+            uncovered
+            numbered was defines.1 refl (covers k numbered) law)))

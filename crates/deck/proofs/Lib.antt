@@ -5,6 +5,9 @@ mod Counting
 mod Defining
 mod DroppedLine
 mod Dropping
+mod EarlierLines
+mod EnclosingBlocks
+mod EnclosingLines
 mod EntryTexts
 mod Extending
 mod Failing
@@ -16,6 +19,7 @@ mod LastLine
 mod Lasting
 mod Listing
 mod Marking
+mod MovedPlaces
 mod Numbered
 mod Numbering
 mod OneKeyList

@@ -14,17 +14,17 @@ use Rattle.deck.specs.Tables.{Definitions, definition_by, place_of}
 use Rattle.deck.proofs.Sameness.{key_itself, kind_itself, same_key, same_kind}
 
 -- numbers that are found to be one are one
-abbrev is_same_number : KeyNumber → KeyNumber → Bool
+abbrev pub is_same_number : KeyNumber → KeyNumber → Bool
 is_same_number m n = is_same_kind m.kind n.kind && (m.number == n.number)
 
-one_number : (m n : KeyNumber) → is_same_number m n ≡ true → m ≡ n
+pub one_number : (m n : KeyNumber) → is_same_number m n ≡ true → m ≡ n
 one_number m n e =
     let parts = and_parts (is_same_kind m.kind n.kind) (m.number == n.number) e in
     let kinds = same_kind m.kind n.kind parts.0 in
     let numbers : m.number ≡ n.number = grind (arith, nat_tests, parts.1) in
     λ i. record { kind = kinds i; number = numbers i }
 
-number_itself : (n : KeyNumber) → is_same_number n n ≡ true
+pub number_itself : (n : KeyNumber) → is_same_number n n ≡ true
 number_itself n =
     let same : (n.number == n.number) ≡ true = grind (arith, nat_tests) in
     and_from (is_same_kind n.kind n.kind) (n.number == n.number) (kind_itself n.kind) same

@@ -30,11 +30,11 @@ use Rattle.deck.proofs.Sameness.{same_key}
 use Rattle.deck.proofs.Undefining.{last_less}
 
 -- what two lists of definitions give for a key is what the first gives, or else the second
-abbrev found_first : {A : Type 0} → Option A → Option A → Option A
+abbrev pub found_first : {A : Type 0} → Option A → Option A → Option A
 found_first (Some x) o = Some x
 found_first None o = o
 
-found-append : (test : Key → Bool) (ds es : Definitions)
+pub found-append : (test : Key → Bool) (ds es : Definitions)
     → lookup test (ds ++ es) ≡ found_first (lookup test ds) (lookup test es)
 found-append test [] es = refl
 found-append test (d ∷ ds) es = by (found-append test ds es) (test d.0)

@@ -1,4 +1,5 @@
--- The lines in force.
+-- The active lines, computed in one pass from the first line to the last. Enclosing.antt says which lines are active,
+-- by the blocks that enclose them, and its law says that this is the same.
 use Rattle.std.specs.Prelude.{◌&&◌, ℕ, List, [], ◌∷◌, ◌++◌, Bool, true, false, not, if◌then◌else◌, is_some, Option}
 use Rattle.std.specs.Prelude.{Some, None}
 use Rattle.std.specs.List.{list_all}

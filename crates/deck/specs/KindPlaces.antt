@@ -1,5 +1,6 @@
 -- The places of the keys of one kind, by the numbers of the keys.
-use Rattle.std.specs.Prelude.{◌≡◌, ◌+◌, ◌-◌, ℕ, List, [], ◌∷◌, nat_lt, if◌then◌else◌, Option, Some, None, slice_get}
+use Rattle.std.specs.Prelude.{◌≡◌, ◌+◌, ◌-◌, ℕ, List, [], ◌∷◌, nat_eq, nat_lt, if◌then◌else◌, Option, Some, None}
+use Rattle.std.specs.Prelude.{slice_get}
 use Rattle.std.specs.Option.{option_and_then}
 
 -- the place that stands at a number, if there is one
@@ -20,3 +21,7 @@ pub record HasSamePlaces (old new : List (Option ℕ)) : Type 0 where
 -- a place, when the line at another one is gone
 abbrev pub without_gap : ℕ → ℕ → ℕ
 without_gap gap place = if nat_lt gap place then place - 1 else place
+
+-- a place, moved one back if it is this one
+abbrev pub moved_back : ℕ → ℕ → ℕ
+moved_back moved place = if nat_eq place moved then place - 1 else place

@@ -1,5 +1,5 @@
 -- The last places of keys, by the numbers of the keys.
-use Rattle.std.specs.Prelude.{◌≡◌, ◌<◌, ℕ, List, length, Option}
+use Rattle.std.specs.Prelude.{◌≡◌, ◌<◌, ℕ, List, length, nat_lt, if◌then◌else◌, Option, option_map}
 use Rattle.std.specs.Option.{option_and_then}
 use Rattle.def_entry.specs.declared.key.Kind.{Kind}
 use Rattle.def_entry.specs.declared.key.Kind.TheVariants as kind
@@ -8,7 +8,7 @@ use Rattle.deck_lines.specs.Names.{Names, key_at, names_of}
 use Rattle.deck_lines.specs.Stores.{Store}
 use Rattle.deck_lines.specs.declared.key_number.KeyNumber.{KeyNumber}
 use Rattle.deck.specs.KeyLists.{key_count}
-use Rattle.deck.specs.KindPlaces.{place_count, place_in}
+use Rattle.deck.specs.KindPlaces.{place_count, place_in, without_gap}
 use Rattle.deck.specs.Tables.{Definitions, definitions, place_of, table_of}
 use Rattle.deck.specs.declared.places.last_places.LastPlaces.{LastPlaces}
 use Rattle.deck.specs.declared.settings.Settings.{Settings}
@@ -31,6 +31,15 @@ HasRoom names last = (kind : Kind) → length (names_of names kind) < length (pl
 pub record AreLast (names : Names) (ds : Definitions) (last : LastPlaces) : Type 0 where
   pub place : (n : KeyNumber) → place_at last n ≡ option_and_then (place_of ds) (key_at names n)
   pub count : (kind : Kind) → place_count (places_of last kind) ≡ key_count (table_of ds) kind
+
+-- a place, when those between a gap and this end have moved one back
+abbrev pub moved_to : (gap end place : ℕ) → ℕ
+moved_to gap end place = if nat_lt place end then without_gap gap place else place
+
+-- the last places, when those between a gap and this end have moved one back
+pub record IsMovedTo (gap end : ℕ) (old now : LastPlaces) : Type 0 where
+  pub place : (n : KeyNumber) → place_at now n ≡ option_map (moved_to gap end) (place_at old n)
+  pub room : (kind : Kind) → length (places_of now kind) ≡ length (places_of old kind)
 
 -- the lines are closed, and these are the last places of their keys
 pub record IsIndexed (store : Store) (settings : Settings) (last : LastPlaces) : Type 0 where

@@ -1,7 +1,9 @@
 pub mod Active
+pub mod BlockExamples
 pub mod Changes
 pub mod Decks
 pub mod Edits
+pub mod Enclosing
 pub mod Examples
 pub mod Failing
 pub mod Holding

@@ -2,6 +2,7 @@
 use Rattle.std.specs.Prelude.{◌≡◌, ℕ, List, Option, Some, option_map}
 use Rattle.std.specs.List.{filter_map}
 use Rattle.def_entry.specs.declared.key.Key.{Key}
+use Rattle.def_entry.specs.Entries.{Entry}
 use Rattle.def_entry.specs.Keys.{key}
 use Rattle.deck_lines.specs.Names.{key_at}
 use Rattle.deck_lines.specs.Stores.{Store, definition_at}
@@ -36,3 +37,9 @@ IsInPlace lines k = key_there lines k.place ≡ Some (placed_key k)
 abbrev pub ArePlaced : Store → LastPlaces → Type 0
 ArePlaced store last =
     (n : KeyNumber) (place : ℕ) → place_at last n ≡ Some place → key_there store.lines place ≡ key_at store.names n
+
+-- the line at the last place of each number defines the key that has this number
+abbrev pub AreDefined : Store → LastPlaces → Type 0
+AreDefined store last =
+    (n : KeyNumber) (place : ℕ) → place_at last n ≡ Some place
+    → (d : Key × Entry) × (definition_at store.lines place ≡ Some d) × (key_at store.names n ≡ Some d.0)

@@ -1,16 +1,13 @@
-//! Texts that stand in others.
+//! Texts within other texts.
 
 ghost use Rattle.std.specs.Prelude.{◌≡◌};
 ghost use Rattle.deck.specs.Holding as spec;
 
-/// Whether a text stands somewhere in the bytes.
-pub(crate) fn holds(bytes: &[u8], text: &[u8]) -> bool
-    ensures { result ≡ spec.holds bytes.now text.now }
+use memchr::memmem::Finder;
+
+/// Whether the bytes hold the text of a finder.
+pub(crate) fn holds(bytes: &[u8], finder: &Finder<'_>) -> bool
+    ensures { result ≡ spec.holds bytes.now finder.now }
 {
-    for place in 0..bytes.len() {
-        if bytes[place..].starts_with(text) {
-            return true;
-        }
-    }
-    text.is_empty()
+    finder.find(bytes).is_some()
 }

@@ -1,6 +1,8 @@
 //! Laws of decks.
 
+ghost use Rattle.deck.specs.BlockExamples.{BlockExamplesLaw};
 ghost use Rattle.deck.specs.Changes.{ChangedLaw};
+ghost use Rattle.deck.specs.Enclosing.{EnclosingLaw};
 ghost use Rattle.deck.specs.Examples.{ExamplesLaw};
 ghost use Rattle.deck.specs.KeyLists.{KeyListLaw, WholeLaw};
 ghost use Rattle.deck.specs.Splices.{InverseLaw};
@@ -38,4 +40,14 @@ pub fn tables_are_of_lines()
 /// A small deck has the active lines and the last places, and edits make of it the decks, that were found by hand.
 pub fn examples_law()
     ensures { ExamplesLaw }
+{}
+
+/// A line is active exactly if it has no mark and each block that encloses it holds.
+pub fn enclosing_law()
+    ensures { EnclosingLaw }
+{}
+
+/// Small decks with blocks have the active lines that were found by hand.
+pub fn block_examples_law()
+    ensures { BlockExamplesLaw }
 {}

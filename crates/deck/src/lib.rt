@@ -14,8 +14,8 @@ mod splice;
 pub use deck::{BorrowedKey, Deck};
 pub use fault::DeckFault;
 pub use laws::{
-    changes_are_computed, examples_law, key_lists_are_one, splices_are_undone,
-    table_keys_are_whole, tables_are_of_lines,
+    block_examples_law, changes_are_computed, enclosing_law, examples_law, key_lists_are_one,
+    splices_are_undone, table_keys_are_whole, tables_are_of_lines,
 };
 pub use no_files::NoFiles;
 pub use settings::Settings;

@@ -8,4 +8,4 @@ mod search;
 
 pub(crate) use changes::{changed_key, changed_keys, keys_between};
 pub(crate) use last_places::LastPlaces;
-pub(crate) use search::last_of;
+pub(crate) use search::uncovered_by;

@@ -2,7 +2,9 @@
 #![tactic(auto)]
 
 mod asking;
+mod column;
 mod edited_table;
 mod editing;
 
+pub use column::Column;
 pub use edited_table::EditedTable;

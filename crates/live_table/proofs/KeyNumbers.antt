@@ -1,7 +1,7 @@
--- Numbers for keys that are looked at: what is kept, and what was looked at.
-use Rattle.std.proofs.Common.{◌≡◌, ◌<◌, ◌++◌, ◌∷◌, [], ℕ, zero, suc, Bool, false, List, length, map}
-use Rattle.std.proofs.Common.{get_or, refl, sym, ◌∙◌, ap, subst, inl, inr, arith}
-use Rattle.std.proofs.lemmas.List.{length-map, map-append}
+-- Numbers for keys.
+use Rattle.std.proofs.Common.{◌≡◌, ◌<◌, ◌++◌, ◌∷◌, [], ℕ, Bool, false, List, length, map}
+use Rattle.std.proofs.Common.{refl, sym, ◌∙◌, ap, subst, inl, inr, arith}
+use Rattle.std.proofs.lemmas.List.{map-append}
 use Rattle.std.proofs.lemmas.Map.Made.{is_some-lookup}
 use Rattle.def_entry.specs.declared.key.Key.{Key}
 use Rattle.def_entry.specs.SameKeys.{is_among, is_same}
@@ -13,7 +13,7 @@ use Rattle.live_table.specs.declared.nodes.Nodes.{Nodes}
 use Rattle.live_table.specs.Exploring.{AreAdded, IsMore, IsNamed}
 use Rattle.live_table.specs.Numbering.{AreFlagged, IsExtension, IsNumbered}
 use Rattle.live_table.specs.Stored.{Listed, key_at, listed}
-use Rattle.live_table.proofs.Growing.{added_both, added_none, key_same, more_length, push_more}
+use Rattle.live_table.proofs.Growing.{added_none, key_same, more_length, push_more}
 use Rattle.live_table.proofs.Named.{named_added, not_there}
 
 -- ---- what is kept
@@ -23,20 +23,6 @@ kept_same keys a b e f = record {
       subst (λ (m : Listed). AreAdded t (listed a) m before list list ends ends) (sym e)
       (added_none t (listed a) before list ends ends nodes right (λ i x q. q));
   gathered = f;
-}
-
--- nothing is added to what stays
-pub kept_itself : (keys : List Key) (a : Nodes) → IsExtension keys a a
-kept_itself keys a = kept_same keys a a refl refl
-
--- what is added twice is added
-pub kept_on : (keys : List Key) (a b c : Nodes) → IsExtension keys a b → IsExtension keys b c → IsExtension keys a c
-kept_on keys a b c h k = record {
-  added = λ t is nodes before list ends right.
-      let x = h.added t is nodes before list ends right in
-      added_both t (listed a) (listed b) (listed c) before list list list ends ends ends x
-      (k.added t is x.grown.nodes before list ends x.grown.listed);
-  gathered = k.gathered ∙ h.gathered;
 }
 
 -- a key is present in a table exactly where it is among its keys
@@ -103,42 +89,17 @@ more_numbered a b k flag n numbered = elim numbered.names [
   | inr new ↦ more_named a b k flag new.1
 ]
 
--- the flag at a number is that of its key
-flag_in : (p : Key → Bool) (ks : List Key) (n : ℕ) (b : Bool) → n < length ks → get_or (map p ks) n b ≡ p (key_at ks n)
-flag_in p [] n b h = absurd (omega arith)
-flag_in p (k ∷ ks) zero b h = refl
-flag_in p (k ∷ ks) (suc n) b h = flag_in p ks n b (omega arith)
-
--- it says whether the key is present
-pub flag_at : (keys : List Key) (a : Nodes) (n : ℕ) (b : Bool) (k : Key) → AreFlagged keys a → n < length a.keys
-    → k ≡ key_at a.keys n
-    → b ≡ get_or a.present.items n b → b ≡ is_among keys k
-flag_at keys a n b k f h is e =
-    e ∙ (ap (λ (bs : List Bool). get_or bs n b) f
-    ∙ (flag_in (is_among keys) a.keys n b h ∙ ap (is_among keys) (sym is)))
-
--- there is one for each key
-pub flag_count : (keys : List Key) (a : Nodes) → AreFlagged keys a → length a.present.items ≡ length a.keys
-flag_count keys a f = ap length f ∙ length-map a.keys (is_among keys)
-
--- ---- one more number that was looked at
-pub looked_push : (ks ls : List Key) (ns : List ℕ) (n : ℕ) (k : Key) → IsMore ks ls
+-- ---- one more number
+pub numbered_push : (ks ls : List Key) (ns : List ℕ) (n : ℕ) (k : Key) → IsMore ks ls
     → ((m : ℕ) → In m ns → m < length ks) → k ≡ key_at ls n
     → map (key_at ls) (ns ++ n ∷ []) ≡ map (key_at ks) ns ++ k ∷ []
-looked_push ks ls [] n k more within is = λ i. sym is i ∷ []
-looked_push ks ls (m ∷ ns) n k more within is =
+numbered_push ks ls [] n k more within is = λ i. sym is i ∷ []
+numbered_push ks ls (m ∷ ns) n k more within is =
     let rest : map (key_at ls) (ns ++ n ∷ []) ≡ map (key_at ks) ns ++ k ∷ [] =
-    looked_push ks ls ns n k more (λ q i. within q (inr i)) is in
+    numbered_push ks ls ns n k more (λ q i. within q (inr i)) is in
     λ i. key_same ks ls m more (within m (inl refl)) i ∷ rest i
 
--- numbers within stay so where keys are added
-pub within_more : (ks ls : List Key) (ns ms : List ℕ) → IsMore ks ls → ms ≡ ns → ((m : ℕ) → In m ns → m < length ks)
-    → (m : ℕ) → In m ms → m < length ls
-within_more ks ls ns ms more e within m i =
-    let a : m < length ks = within m (subst (λ (xs : List ℕ). In m xs) e i) in let b = more_length ks ls more in
-    omega arith
-
--- and with one more that is
+-- numbers within stay so where keys are added, and with one more that is
 pub within_push : (ks ls : List Key) (ns : List ℕ) (n : ℕ) → IsMore ks ls → ((m : ℕ) → In m ns → m < length ks)
     → n < length ls
     → (m : ℕ) → In m (ns ++ n ∷ []) → m < length ls

@@ -25,7 +25,7 @@ use Rattle.live_table.proofs.Written.{unknown_written}
 pub query_lead : (t : Table) (keys : List Key) (u : WordUse) (old new : List ℕ) (lead : Lead)
     → IsLead t keys u old new lead → IsQueryLead t keys u lead
 query_lead t keys u old new Refused h = h
-query_lead t keys u old new Nowhere h = (h.0, h.1.targets, h.1.inside)
+query_lead t keys u old new Nowhere h = (h.0, h.1, λ m i. absurd i)
 query_lead t keys u old new (One n) h = (h.0, h.1.targets, h.1.inside)
 query_lead t keys u old new (Two n m) h = (h.0, h.1.targets, h.1.inside)
 

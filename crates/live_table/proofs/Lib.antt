@@ -3,7 +3,9 @@ pub mod AllExplored
 pub mod Answering
 pub mod AskedFor
 pub mod AskedKeys
+pub mod CallLists
 pub mod Counted
+pub mod Counting
 pub mod DeckTables
 pub mod DueOrder
 pub mod Edited
@@ -18,6 +20,7 @@ pub mod Growing
 pub mod GrownLive
 pub mod Indexing
 pub mod Kept
+pub mod KeptLists
 pub mod KeptNames
 pub mod KeyNumbers
 pub mod LeadSteps
@@ -35,7 +38,6 @@ pub mod Places
 pub mod Placing
 pub mod Putting
 pub mod Queries
-pub mod QueryLeads
 pub mod QuerySteps
 pub mod QueryWords
 pub mod Ranking
@@ -46,9 +48,9 @@ pub mod SettleOne
 pub mod Stages
 pub mod Starting
 pub mod StillExplored
-pub mod Targets
 pub mod Telling
 pub mod ToldWords
+pub mod TriedNumbers
 pub mod Trying
 pub mod UsedNames
 pub mod WaitingNames

@@ -31,11 +31,6 @@ steps_to (One n) = Some (record { first = To n; second = To n })
 steps_to (Two n m) = Some (record { first = To n; second = To m })
 steps_to lead = None
 
--- it leads to the targets of these numbers
-abbrev pub LeadsTo : List ℕ → Lead → Type 0
-LeadsTo ns Refused = ⊥
-LeadsTo ns lead = numbers lead ≡ ns
-
 -- these are the numbers of the targets of a word, and those of the other keys at which it looks are put in
 pub record AreTargets (table : Table) (keys : List Key) (u : WordUse) (ns old new : List ℕ) : Type 0 where
   pub targets : targets table u ≡ map (key_at keys) ns
@@ -45,6 +40,19 @@ pub record AreTargets (table : Table) (keys : List Key) (u : WordUse) (ns old ne
   pub within : (m : ℕ) → In m own → m < length keys
   pub exactly : (k : Key) → Contains (looked_keys table u) k ↔ ((m : ℕ) × (In m ns ⊎ In m own) × (k ≡ key_at keys m))
 
+-- these keys have numbers, and their numbers are gathered
+pub record AreGathered (keys others : List Key) (old new : List ℕ) : Type 0 where
+  pub own : List ℕ
+  pub numbered : others ≡ map (key_at keys) own
+  pub within : (m : ℕ) → In m own → m < length keys
+  pub put : (m : ℕ) → In m new ↔ (In m old ⊎ In m own)
+
+-- a word leads to these keys, by number
+abbrev pub LeadsTo : (keys targets : List Key) → Lead → Type 0
+LeadsTo keys targets Refused = ⊥
+LeadsTo keys targets lead = (targets ≡ map (key_at keys) (numbers lead))
+    × ((m : ℕ) → In m (numbers lead) → m < length keys)
+
 -- a word of a query is a refused name, or these are the numbers of its targets
 abbrev pub IsQueryLead : Table → List Key → WordUse → Lead → Type 0
 IsQueryLead table keys u Refused = is_refused u.text ≡ true
@@ -52,7 +60,9 @@ IsQueryLead table keys u lead =
     (is_refused u.text ≡ false) × (targets table u ≡ map (key_at keys) (numbers lead))
     × ((m : ℕ) → In m (numbers lead) → m < length keys)
 
--- it is a refused name, or leads to its targets, and the other keys at which it looks are put in
+-- a word of an entry is a refused name, or has no targets, or these are their numbers, and the other keys that its
+-- lookup tries are gathered
 abbrev pub IsLead : Table → List Key → WordUse → List ℕ → List ℕ → Lead → Type 0
 IsLead table keys u old new Refused = is_refused u.text ≡ true
+IsLead table keys u old new Nowhere = (is_refused u.text ≡ false) × (targets table u ≡ [])
 IsLead table keys u old new lead = (is_refused u.text ≡ false) × AreTargets table keys u (numbers lead) old new

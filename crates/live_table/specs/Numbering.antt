@@ -1,27 +1,17 @@
--- Numbers for keys that are looked at.
-use Rattle.std.specs.Prelude.{◌≡◌, ◌<◌, ◌⊎◌, ℕ, Bool, false, Some, List, length, map, slice_get}
+-- Numbers for keys.
+use Rattle.std.specs.Prelude.{◌≡◌, ◌⊎◌, ℕ, Bool, false, Some, List, map, slice_get}
 use Rattle.def_entry.specs.declared.key.Key.{Key}
 use Rattle.def_entry.specs.SameKeys.{is_among}
 use Rattle.def_entry.specs.Tables.{Table, keys_of}
-use Rattle.name_walk.specs.Lists.{In}
 use Rattle.live_table.specs.declared.dead_end.DeadEnd.{DeadEnd}
 use Rattle.live_table.specs.declared.nodes.Nodes.{Nodes}
 use Rattle.live_table.specs.Exploring.{AreAdded, AreListed, IsNamed}
 use Rattle.live_table.specs.Sound.{AreNodes}
-use Rattle.live_table.specs.Stored.{Listed, key_at, listed}
-
--- the keys of the numbers that the last word looked at
-abbrev pub looked_by : Nodes → List Key
-looked_by nodes = map (key_at nodes.keys) nodes.looked.items
+use Rattle.live_table.specs.Stored.{Listed, listed}
 
 -- of each number it is known whether its key is among these
 abbrev pub AreFlagged : List Key → Nodes → Type 0
 AreFlagged keys nodes = nodes.present.items ≡ map (is_among keys) nodes.keys
-
--- the same, and the numbers that were looked at are there
-pub record CanLook (keys : List Key) (nodes : Nodes) : Type 0 where
-  pub flagged : AreFlagged keys nodes
-  pub within : (m : ℕ) → In m nodes.looked.items → m < length nodes.keys
 
 -- over a table of these keys nothing but new names is added
 pub record IsExtension (keys : List Key) (start now : Nodes) : Type 0 where

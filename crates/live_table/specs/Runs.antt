@@ -1,5 +1,5 @@
 -- Events one behind another, of which the last may have been cut off.
-use Rattle.std.specs.Prelude.{◌≡◌, ◌+◌, ℕ, List, [], ◌++◌}
+use Rattle.std.specs.Prelude.{◌≡◌, ◌≤◌, ◌^◌, ◌+◌, ◌-◌, ℕ, List, [], ◌++◌}
 use Rattle.live_table.specs.Shown.{Follows, IsCutOff, IsRightTable, Shown, state}
 use Rattle.live_table.specs.States.{Event, after_all}
 
@@ -19,3 +19,8 @@ pub record RunLaw : Type 0 where
 abbrev pub StepsLaw : Type 0
 StepsLaw = (es : List Event) (s : Shown) (n : ℕ)
     → after_all es (state s n) ≡ record (after_all es (state s 0)) { steps = n + (after_all es (state s 0)).steps }
+
+-- law: events never lower the count of names newly settled, from any count that a live table can have
+abbrev pub CountLaw : Type 0
+CountLaw = (es : List Event) (before : Shown) (n : ℕ) → before.reductions ≤ 2 ^ 64 - 1
+    → before.reductions ≤ (after_all es (state before n)).reductions

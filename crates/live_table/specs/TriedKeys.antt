@@ -1,4 +1,4 @@
--- Keys at which a word looks, their names one behind another.
+-- Keys that the lookup of a word tries, each with the place of its name among the names.
 use Rattle.std.specs.Prelude.{◌≡◌, ◌≤◌, ◌-◌, ℕ, List, Some, length, map, take, drop, slice_get}
 use Rattle.def_entry.specs.Keys.{key}
 use Rattle.def_entry.specs.declared.key.Key.{Key}

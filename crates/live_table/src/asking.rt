@@ -70,7 +70,15 @@ pub(crate) fn ask_words<L: Ledger>(
     let tried = &mut scratch.tried;
     agenda.clear();
     let query = query_steps(alloc, deck, nodes, names, agenda, tried, words)?;
-    let found = explore(alloc, deck, nodes, names, agenda, &mut explored.dead_ends)?;
+    let found = explore(
+        alloc,
+        deck,
+        nodes,
+        names,
+        agenda,
+        &mut explored.dead_ends,
+        tried,
+    )?;
     let targets = query.steps.as_slice();
     if let Some(end) = &query.end {
         let fault = cut_fault(alloc, deck, nodes, explored, scratch, targets, end)?;
@@ -110,9 +118,18 @@ pub(crate) fn ask_key<L: Ledger>(
     settling_law();
     let names = &explored.names;
     let agenda = &mut scratch.agenda;
+    let tried = &mut scratch.tried;
     agenda.clear();
     let n = put_key(alloc, deck, nodes, names, agenda, kind, name)?;
-    let found = explore(alloc, deck, nodes, names, agenda, &mut explored.dead_ends)?;
+    let found = explore(
+        alloc,
+        deck,
+        nodes,
+        names,
+        agenda,
+        &mut explored.dead_ends,
+        tried,
+    )?;
     let query = [Step::To(n)];
     settle_query(
         alloc, deck, nodes, edges, explored, scratch, reductions, &query, &found, steps,

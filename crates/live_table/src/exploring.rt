@@ -15,6 +15,7 @@ use crate::entry_words::write_entry_words;
 use crate::nodes::Nodes;
 use crate::stepping::put_words;
 use crate::surroundings::entry;
+use crate::tried_keys::TriedKeys;
 use deck::Deck;
 use def_entry::{Kind, What};
 use expr_tree::Words;
@@ -33,6 +34,7 @@ pub(crate) fn explore<'a>(
     explored: &Agenda,
     agenda: &mut Agenda,
     dead_ends: &mut Vec<DeadEnd>,
+    tried: &mut TriedKeys,
 ) -> Result<Vec<&'a What>, AllocError>
     requires nodes { AreNodes (table deck.now) (listed nodes.old) }
     requires listed { AreListed (table deck.now) (listed nodes.old) explored.now agenda.old }
@@ -52,7 +54,7 @@ pub(crate) fn explore<'a>(
         let what = entry(deck, nodes, n).what;
         found.push(what)?;
         explore_name(
-            alloc, deck, nodes, explored, agenda, dead_ends, &mut words, n, what,
+            alloc, deck, nodes, explored, agenda, dead_ends, tried, &mut words, n, what,
         )?;
         place += 1;
     }
@@ -68,6 +70,7 @@ fn explore_name<'a>(
     explored: &Agenda,
     agenda: &mut Agenda,
     dead_ends: &mut Vec<DeadEnd>,
+    tried: &mut TriedKeys,
     words: &mut Words<'a>,
     n: usize,
     what: &'a What,
@@ -83,7 +86,9 @@ fn explore_name<'a>(
         dead_ends.new.items n) }
 {
     let starts = write_entry_words(alloc, words, what)?;
-    let steps = put_words(alloc, deck, nodes, explored, agenda, dead_ends, words)?;
+    let steps = put_words(
+        alloc, deck, nodes, explored, agenda, dead_ends, tried, words,
+    )?;
     let looks = nodes.gathered.to_vec(alloc)?;
     nodes.callees[n].starts = starts;
     nodes.steps[n] = steps;

@@ -1,15 +1,17 @@
 //! What a word leads to.
 
-ghost use Rattle.std.specs.Prelude.{◌≡◌, ◌≤◌, ℕ, List, IfOk, length};
+ghost use Rattle.std.specs.Prelude.{◌≡◌, ℕ, List, IfOk};
 ghost use Rattle.deck.specs.Tables.{table};
 ghost use Rattle.live_table.specs.declared.dead_end.DeadEnd.{DeadEnd};
 ghost use Rattle.live_table.specs.Exploring.{AreAdded, AreListed};
-ghost use Rattle.live_table.specs.Leading.{IsLead, LeadsTo};
+ghost use Rattle.live_table.specs.Leading.{IsLead, IsQueryLead};
 ghost use Rattle.live_table.specs.Sound.{AreNodes};
 ghost use Rattle.live_table.specs.Stored.{listed};
 
 use crate::deck_table::DeckTable;
 use crate::nodes::Nodes;
+use crate::tried_keys::TriedKeys;
+use crate::tried_numbers::{gather_others, number_targets};
 use deck::Deck;
 use expr_tree::{WordUse, is_refused};
 use name_lookup::resolve;
@@ -29,12 +31,14 @@ pub(crate) enum Lead {
     Two(usize, usize),
 }
 
-/// What a word leads to in the table of a deck. Each key at which it looks gets a number, and those that are no
-/// targets of it are gathered. The only error is want of memory.
+/// What a word of an entry leads to in the table of a deck. If it has targets, each key that its lookup tries gets a
+/// number, and those that are no targets are gathered. A word that leads nowhere gives no key a number. The only error
+/// is want of memory.
 pub(crate) fn lead_of(
     alloc: Global,
     deck: &Deck,
     nodes: &mut Nodes,
+    tried: &mut TriedKeys,
     u: &WordUse<'_>,
 ) -> Result<Lead, AllocError>
     requires { AreNodes (table deck.now) (listed nodes.old) }
@@ -48,21 +52,35 @@ pub(crate) fn lead_of(
         return Ok(Lead::Refused);
     }
     lookup_law();
-    nodes.looked.clear();
-    let targets = resolve(alloc, &DeckTable(deck), nodes, u.text(), u.kind())?;
-    let (others, targets) = nodes.looked.split_at(nodes.looked.len() - targets.count());
-    nodes.gathered.put_all(others, nodes.keys.len())?;
-    Ok(lead_to(targets))
+    tried.clear();
+    let targets = resolve(alloc, &DeckTable(deck), tried, u.text(), u.kind())?;
+    if targets.count() == 0 {
+        return Ok(Lead::Nowhere);
+    }
+    gather_others(alloc, deck, nodes, tried, targets)?;
+    number_targets(alloc, deck, nodes, tried, targets)
 }
 
-// The same by the targets, of which there are two at most.
-fn lead_to(targets: &[usize]) -> Lead
-    requires { length targets.now ≤ 2 }
-    ensures { LeadsTo targets.now result }
+/// What a word of a query leads to in the table of a deck. Its targets get numbers, and no other key does. The only
+/// error is want of memory.
+pub(crate) fn query_lead(
+    alloc: Global,
+    deck: &Deck,
+    nodes: &mut Nodes,
+    tried: &mut TriedKeys,
+    u: &WordUse<'_>,
+) -> Result<Lead, AllocError>
+    requires { AreNodes (table deck.now) (listed nodes.old) }
+    ensures added { (before list : List ℕ) (ends : List DeadEnd)
+        → AreListed (table deck.now) (listed nodes.old) before list
+        → AreAdded (table deck.now) (listed nodes.old) (listed nodes.new) before list list ends ends }
+    ensures lead { IfOk result (IsQueryLead (table deck.now) nodes.new.keys u.now) }
 {
-    match targets {
-        [] => Lead::Nowhere,
-        [n] => Lead::One(*n),
-        [n, m, ..] => Lead::Two(*n, *m),
+    if is_refused(u.text()) {
+        return Ok(Lead::Refused);
     }
+    lookup_law();
+    tried.clear();
+    let targets = resolve(alloc, &DeckTable(deck), tried, u.text(), u.kind())?;
+    number_targets(alloc, deck, nodes, tried, targets)
 }

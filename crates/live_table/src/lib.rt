@@ -30,8 +30,12 @@ mod stepping;
 mod stored_keys;
 mod surroundings;
 mod tried_keys;
+mod tried_numbers;
 
 pub use counts::Counts;
 pub use fault::QueryFault;
-pub use laws::{kept_law, new_law, order_law, right_law, run_law, steps_law};
+pub use laws::{
+    call_list_law, count_law, deck_kinds_law, edits_can_be_law, event_examples, kept_law,
+    kept_list_law, new_law, order_law, right_law, run_law, steps_law,
+};
 pub use live_table::LiveTable;

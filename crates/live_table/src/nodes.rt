@@ -32,8 +32,6 @@ pub(crate) struct Nodes {
     // near which the entry of each stands in the deck, as was found when the name was added or its key last changed. An
     // edit of other lines may have moved it since
     pub(crate) places: Vec<u32>,
-    // at which the word that is resolved has looked, in order
-    pub(crate) looked: Vec<usize>,
     // at which the words of a name have looked so far beside their targets
     pub(crate) gathered: Agenda,
 }
@@ -53,7 +51,6 @@ impl Nodes {
             settled: Vec::new(alloc),
             settled_count: 0,
             places: Vec::new(alloc),
-            looked: Vec::new(alloc),
             gathered: Agenda::new(alloc),
         }
     }
@@ -70,7 +67,6 @@ impl Nodes {
         ensures ok { IfOk result (λ n. IsNumbered (key kind name.now) (is_among (P.keys table.now) (key kind name.now))
             n (listed self.old) (listed self.new)) }
         ensures err { OnErr result (listed self.new ≡ listed self.old) }
-        ensures looked { self.new.looked.items ≡ self.old.looked.items }
         ensures gathered { self.new.gathered ≡ self.old.gathered }
     {
         self.present.reserve(1)?;
@@ -110,7 +106,6 @@ impl Nodes {
     /// Makes room for so many names in all.
     pub(crate) fn make_room(&mut self, count: usize) -> Result<(), AllocError>
         ensures listed { listed self.new ≡ listed self.old }
-        ensures looked { self.new.looked.items ≡ self.old.looked.items }
         ensures gathered { self.new.gathered ≡ self.old.gathered }
     {
         let more = count.saturating_sub(self.keys.len());

@@ -15,30 +15,8 @@ use crate::deck_table::DeckTable;
 use crate::nodes::Nodes;
 use deck::Deck;
 use def_entry::Kind;
-use name_lookup::{Looking, Present};
+use name_lookup::Present;
 use std::alloc::{AllocError, Global};
-
-impl Looking for Nodes {
-    ghost use Rattle.live_table.specs.Numbering.{CanLook, IsExtension, looked_by};
-
-    ghost looked = { looked_by };
-
-    ghost can_look = { CanLook };
-
-    ghost is_kept = { IsExtension };
-
-    fn look<P: Present>(
-        &mut self,
-        alloc: Global,
-        table: &P,
-        kind: Kind,
-        name: &[u8],
-    ) -> Result<bool, AllocError> {
-        let n = number(alloc, table, self, kind, name)?;
-        self.looked.push(n)?;
-        Ok(self.present[n])
-    }
-}
 
 /// The number of a key that has an entry, a new one where it has none. Where it is not settled and was not explored, it
 /// is put on the agenda. The only error is want of memory.
@@ -101,7 +79,6 @@ pub(crate) fn number<P: Present>(
     ensures flagged { AreFlagged (P.keys table.now) nodes.new }
     ensures kept { IsExtension (P.keys table.now) nodes.old nodes.new }
     ensures more { IsMore nodes.old.keys nodes.new.keys }
-    ensures looked { nodes.new.looked.items ≡ nodes.old.looked.items }
     ensures number { IfOk result (λ n. (n < length nodes.new.keys)
         × (keys.key kind name.now ≡ key_at nodes.new.keys n)) }
 {

@@ -1,28 +1,23 @@
 //! The words of a query.
 
-ghost use Rattle.std.specs.Prelude.{◌≡◌, ◌<◌, ℕ, List, IfOk, length};
+ghost use Rattle.std.specs.Prelude.{List, IfOk};
 ghost use Rattle.deck.specs.Tables.{table};
 ghost use Rattle.live_table.specs.declared.dead_end.DeadEnd.{DeadEnd};
 ghost use Rattle.live_table.specs.Exploring.{AreAdded, AreListed};
-ghost use Rattle.live_table.specs.Leading.{IsQueryLead};
 ghost use Rattle.live_table.specs.QueryWords.{AreQuerySteps};
 ghost use Rattle.live_table.specs.Sound.{AreNodes};
-ghost use Rattle.live_table.specs.Stored.{key_at, listed};
+ghost use Rattle.live_table.specs.Stored.{listed};
 
 use crate::agenda::Agenda;
 use crate::dead_end::DeadEnd;
-use crate::deck_table::DeckTable;
-use crate::leading::Lead;
+use crate::leading::query_lead;
 use crate::nodes::Nodes;
-use crate::numbering::number;
 use crate::stepping::target_steps;
 use crate::tried_keys::TriedKeys;
 use deck::Deck;
-use expr_tree::{WordUse, Words, is_refused};
-use name_lookup::{Targets, resolve};
+use expr_tree::Words;
 use name_walk::StepList;
 use std::alloc::{AllocError, Global};
-use table_names::lookup_law;
 
 /// The steps of the words of a query before the first that leads nowhere, and that one.
 #[derive(Drop)]
@@ -32,8 +27,8 @@ pub(crate) struct QuerySteps {
 }
 
 /// The steps of the words of a query, two for each, up to the first that leads nowhere: none behind it is looked at. A
-/// target that has no number gets one, and is put on the agenda where it is not known; no other key at which a word
-/// looks takes memory. The only error is want of memory.
+/// target that has no number gets one, and is put on the agenda where it is not known; no other key that is
+/// tried gets a number. The only error is want of memory.
 pub(crate) fn query_steps(
     alloc: Global,
     deck: &Deck,
@@ -61,59 +56,4 @@ pub(crate) fn query_steps(
         steps.push(word.second)?;
     }
     Ok(QuerySteps { steps, end: None })
-}
-
-// What a word of a query leads to. Its targets get numbers.
-fn query_lead(
-    alloc: Global,
-    deck: &Deck,
-    nodes: &mut Nodes,
-    tried: &mut TriedKeys,
-    u: &WordUse<'_>,
-) -> Result<Lead, AllocError>
-    requires { AreNodes (table deck.now) (listed nodes.old) }
-    ensures added { (before list : List ℕ) (ends : List DeadEnd)
-        → AreListed (table deck.now) (listed nodes.old) before list
-        → AreAdded (table deck.now) (listed nodes.old) (listed nodes.new) before list list ends ends }
-    ensures lead { IfOk result (IsQueryLead (table deck.now) nodes.new.keys u.now) }
-{
-    if is_refused(u.text()) {
-        return Ok(Lead::Refused);
-    }
-    lookup_law();
-    tried.clear();
-    match resolve(alloc, &DeckTable(deck), tried, u.text(), u.kind())? {
-        Targets::Nowhere => Ok(Lead::Nowhere),
-        Targets::Last => Ok(Lead::One(number_of(alloc, deck, nodes, tried, tried.len() - 1)?)),
-        Targets::LastTwo => {
-            let n = number_of(alloc, deck, nodes, tried, tried.len() - 2)?;
-            let m = number_of(alloc, deck, nodes, tried, tried.len() - 1)?;
-            Ok(Lead::Two(n, m))
-        }
-    }
-}
-
-// The number of the key at a place, a new one where it has none.
-fn number_of(
-    alloc: Global,
-    deck: &Deck,
-    nodes: &mut Nodes,
-    tried: &TriedKeys,
-    place: usize,
-) -> Result<usize, AllocError>
-    requires nodes { AreNodes (table deck.now) (listed nodes.old) }
-    requires within { place < length tried.now }
-    ensures added { (before list : List ℕ) (ends : List DeadEnd)
-        → AreListed (table deck.now) (listed nodes.old) before list
-        → AreAdded (table deck.now) (listed nodes.old) (listed nodes.new) before list list ends ends }
-    ensures number { IfOk result (λ n. (n < length nodes.new.keys)
-        × (key_at tried.now place ≡ key_at nodes.new.keys n)) }
-{
-    number(
-        alloc,
-        &DeckTable(deck),
-        nodes,
-        tried.kind(place),
-        tried.name(place),
-    )
 }

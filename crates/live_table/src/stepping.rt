@@ -16,13 +16,14 @@ use crate::dead_end::DeadEnd;
 use crate::leading::{Lead, lead_of};
 use crate::nodes::Nodes;
 use crate::numbering::put_target;
+use crate::tried_keys::TriedKeys;
 use deck::Deck;
 use expr_tree::{WordUse, Words};
 use name_walk::{Step, StepList};
 use std::alloc::{AllocError, Global};
 
-/// The steps of words, two for each. A key that is looked at for the first time gets a number, and a target that is
-/// not settled is put on the agenda. The other looked-at keys are gathered. The only error is want of memory.
+/// The steps of the words of an entry, two for each. If a word has targets, each key that its lookup tries gets a number,
+/// targets that are not settled go on the agenda, and the other keys are gathered. The only error is want of memory.
 pub(crate) fn put_words(
     alloc: Global,
     deck: &Deck,
@@ -30,6 +31,7 @@ pub(crate) fn put_words(
     explored: &Agenda,
     agenda: &mut Agenda,
     dead_ends: &mut Vec<DeadEnd>,
+    tried: &mut TriedKeys,
     words: &Words<'_>,
 ) -> Result<StepList, AllocError>
     requires nodes { AreNodes (table deck.now) (listed nodes.old) }
@@ -45,7 +47,7 @@ pub(crate) fn put_words(
     let mut steps = StepList::new(alloc);
     for u in words.as_slice() {
         put_word(
-            alloc, deck, nodes, explored, agenda, dead_ends, u, &mut steps,
+            alloc, deck, nodes, explored, agenda, dead_ends, tried, u, &mut steps,
         )?;
     }
     Ok(steps)
@@ -59,6 +61,7 @@ fn put_word(
     explored: &Agenda,
     agenda: &mut Agenda,
     dead_ends: &mut Vec<DeadEnd>,
+    tried: &mut TriedKeys,
     u: &WordUse<'_>,
     steps: &mut StepList,
 ) -> Result<(), AllocError>
@@ -69,7 +72,7 @@ fn put_word(
     ensures written { IfOk result (λ _. AreWrittenBehind (table deck.now) (listed nodes.new) explored.now
         agenda.new dead_ends.new.items nodes.old.gathered nodes.new.gathered u.now steps.old.items steps.new.items) }
 {
-    let word = word_steps(alloc, deck, nodes, explored, agenda, dead_ends, u)?;
+    let word = word_steps(alloc, deck, nodes, explored, agenda, dead_ends, tried, u)?;
     steps.push(word.first)?;
     steps.push(word.second)?;
     Ok(())
@@ -90,6 +93,7 @@ fn word_steps(
     explored: &Agenda,
     agenda: &mut Agenda,
     dead_ends: &mut Vec<DeadEnd>,
+    tried: &mut TriedKeys,
     u: &WordUse<'_>,
 ) -> Result<WordSteps, AllocError>
     requires nodes { AreNodes (table deck.now) (listed nodes.old) }
@@ -102,7 +106,7 @@ fn word_steps(
         → AreLooksPut (table deck.now) nodes.new.keys u.now (steps.first ∷ steps.second ∷ [])
         nodes.old.gathered nodes.new.gathered) }
 {
-    let lead = lead_of(alloc, deck, nodes, u)?;
+    let lead = lead_of(alloc, deck, nodes, tried, u)?;
     match target_steps(nodes, explored, agenda, lead)? {
         Some(steps) => Ok(steps),
         None => put_dead_end(alloc, u, lead, dead_ends),

@@ -1,4 +1,4 @@
-//! The keys at which a word of a query looks.
+//! The keys that the lookup of a word tries.
 
 ghost use Rattle.std.specs.Prelude.{◌≡◌, ◌<◌, ◌++◌, ◌∷◌, [], length, OnOk};
 ghost use Rattle.def_entry.specs.Keys.{key};
@@ -13,7 +13,7 @@ use std::marker::Model;
 /// number by them.
 #[derive(Drop)]
 pub(crate) struct TriedKeys {
-    // the names of all, one behind another
+    // the names, one after another, but for those with which the first one begins
     names: Vec<u8>,
     keys: Vec<TriedKey>,
 }
@@ -102,10 +102,20 @@ impl TriedKeys {
         self.names.clear();
     }
 
-    // Puts a key behind the others. After want of memory some of its name may stand there, as no key.
+    // Puts a key after the others. Most names are fronts of the first one, which is the word itself, and take no bytes
+    // of their own: so a word of many bytes takes memory in proportion to its length. After want of memory part of the
+    // name may be there, as no key.
     fn push(&mut self, kind: Kind, name: &[u8]) -> Result<(), AllocError>
         ensures { OnOk result (self.new ≡ self.old ++ key kind name.now ∷ []) }
     {
+        if self.names.starts_with(name) {
+            self.keys.push(TriedKey {
+                kind,
+                start: 0,
+                end: name.len(),
+            })?;
+            return Ok(());
+        }
         let start = self.names.len();
         self.names.extend_from_slice(name)?;
         let end = self.names.len();

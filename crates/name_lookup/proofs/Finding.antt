@@ -1,6 +1,6 @@
 -- A search of a whole word has found the targets.
 use Rattle.std.proofs.Common.{◌≡◌, ℕ, ◌+◌, ◌-◌, ◌≤◌, List, [], ◌++◌, length, drop, Result, Ok, Err, IfOk, Bool, ap, sym}
-use Rattle.std.proofs.Common.{◌∙◌, arith, refl}
+use Rattle.std.proofs.Common.{◌∙◌, arith, refl, subst}
 use Rattle.std.proofs.Math.ListN.{drop_of_length-le}
 use Rattle.std.proofs.Math.Seq.{drop-append-add}
 use Rattle.std.proofs.lemmas.List.{append-nil, length-append, length-drop}
@@ -8,10 +8,12 @@ use Rattle.expr_tree.specs.declared.word_list.WordKind.{WordKind}
 use Rattle.def_entry.specs.declared.key.Key.{Key}
 use Rattle.name_lookup.specs.declared.targets.Targets.{Targets}
 use Rattle.name_lookup.specs.declared.targets.Targets.TheVariants.{Nowhere, Last, LastTwo}
+use Rattle.name_lookup.specs.Candidates.{Found, candidates, found}
 use Rattle.name_lookup.specs.Order.{plan, try_word}
-use Rattle.name_lookup.specs.Plans.{Found, Gives, run}
+use Rattle.name_lookup.specs.Plans.{Gives, run}
 use Rattle.name_lookup.specs.Steps.{IsTaken, behind, with_rest}
 use Rattle.name_lookup.specs.Targets.{AreFound, count, last_keys}
+use Rattle.name_lookup.proofs.Candidates.{candidates_law}
 
 -- no target, and no key that was looked at
 abbrev nothing : Found
@@ -68,3 +70,13 @@ pub all_found :
 all_found has kind word before after (Ok which) h =
     found_by which before after (run has (plan kind word)) (h.runs (Gives [])) h.enough
 all_found has kind word before after (Err e) h = h
+
+-- and so it finds the first candidate of which every key is present
+pub all_chosen :
+    {E : Type 0} (has : Key → Bool) (kind : WordKind) (word : List ℕ) (before after : List Key) (r : Result Targets E)
+    → IfOk r (λ which. IsTaken has (try_word kind word) before after which)
+    → IfOk r (λ which. AreFound which before after (found has (candidates kind word)))
+all_chosen {E} has kind word before after (Ok which) h =
+    subst (AreFound which before after) (candidates_law has kind word)
+    (all_found {E = E} has kind word before after (Ok which) h)
+all_chosen {E} has kind word before after (Err e) h = h

@@ -1,16 +1,19 @@
 -- What the run of a plan depends on.
 use Rattle.std.proofs.Common.{◌≡◌, ◌⊎◌, ℕ, zero, suc, Bool, true, false, List, [], ◌∷◌, ◌++◌, length, take, drop, codes}
-use Rattle.std.proofs.Common.{if◌then◌else◌, ◌<◌, slice_index_or, Contains, refl, sym, ap, subst, inl, inr, arith}
+use Rattle.std.proofs.Common.{if◌then◌else◌, ◌<◌, slice_index_or, Contains, refl, sym, ◌∙◌, ap, subst, inl, inr, arith}
 use Rattle.expr_tree.specs.declared.word_list.WordKind.{WordKind}
 use Rattle.expr_tree.specs.declared.word_list.WordKind.TheVariants as place
 use Rattle.def_entry.specs.declared.key.Key.{Key}
 use Rattle.def_entry.specs.declared.key.Kind.{Kind}
 use Rattle.def_entry.specs.declared.key.Kind.TheVariants as kind
 use Rattle.def_entry.specs.Keys.{key}
+use Rattle.name_lookup.specs.Candidates.{Found, candidates, found}
 use Rattle.name_lookup.specs.Laws.{SameLaw, TargetsLaw}
-use Rattle.name_lookup.specs.Order.{has_ending, plan, try_key, try_kinds, try_prefixes, try_stem, try_stem_if}
-use Rattle.name_lookup.specs.Order.{try_stems, with_prefix, without}
-use Rattle.name_lookup.specs.Plans.{Found, Plan, Gives, Asks, after, run}
+use Rattle.name_lookup.specs.Order.{plan, try_key, try_kinds, try_prefixes, try_stem, try_stem_if, try_stems}
+use Rattle.name_lookup.specs.Order.{with_prefix}
+use Rattle.name_lookup.specs.Plans.{Plan, Gives, Asks, after, run}
+use Rattle.name_lookup.specs.Plurals.{has_ending, without}
+use Rattle.name_lookup.proofs.Candidates.{candidates_law}
 
 -- the key is one of these, by recursion
 abbrev IsIn : Key → List Key → Type 0
@@ -145,12 +148,20 @@ of_looked : (A : Type 0) → (⊥ ⊎ A) → A
 of_looked A (inl e) = absurd e
 of_looked A (inr a) = a
 
--- the law of targets
-pub targets_are_present : TargetsLaw
-targets_are_present has at w k i =
+-- what a plan gives was looked at, and is present
+planned_present : (has : Key → Bool) (at : WordKind) (w : List ℕ) (k : Key) → Contains (run has (plan at w)).targets k
+    → Contains (run has (plan at w)).looked k × (has k ≡ true)
+planned_present has at w k i =
     let r : (has k ≡ true) × (IsIn k [] ⊎ IsIn k (run has (plan at w)).looked) =
     targets_asked has [] (plan at w) (λ q j. absurd j) (plan_sound at w []) k (found_in _ k i.0 i.1 i.2) in
     (contained _ k (of_looked (IsIn k (run has (plan at w)).looked) r.1), r.0)
+
+-- the law of targets
+pub targets_are_present : TargetsLaw
+targets_are_present has at w k i =
+    let e : run has (plan at w) ≡ found has (candidates at w) = candidates_law has at w in
+    subst (λ (f : Found). Contains f.looked k × (has k ≡ true)) e
+    (planned_present has at w k (subst (λ (f : Found). Contains f.targets k) (sym e) i))
 
 -- equal answers behind a key lead to the same
 same_rest :
@@ -174,4 +185,8 @@ same_run has had (Asks k present absent) h =
 
 -- the law of equal answers
 pub same_answers : SameLaw
-same_answers has had at w h = same_run has had (plan at w) (λ k i. h k (contained _ k i))
+same_answers has had at w h =
+    let e : run has (plan at w) ≡ found has (candidates at w) = candidates_law has at w in
+    sym e ∙ (same_run has had (plan at w)
+    (λ k i. h k (subst (λ (f : Found). Contains f.looked k) e (contained _ k i)))
+    ∙ candidates_law had at w)

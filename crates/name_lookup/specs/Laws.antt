@@ -1,18 +1,25 @@
--- What holds of each plan, whatever its order.
+-- Laws of lookup.
 use Rattle.std.specs.Prelude.{◌≡◌, ℕ, Bool, true, List, Contains}
 use Rattle.expr_tree.specs.declared.word_list.WordKind.{WordKind}
 use Rattle.def_entry.specs.declared.key.Key.{Key}
+use Rattle.name_lookup.specs.Candidates.{candidates, found}
 use Rattle.name_lookup.specs.Order.{plan}
 use Rattle.name_lookup.specs.Plans.{run}
 
--- law: every target is a looked-at key that is present
+-- law: whichever keys are present, the search for a word finds the first candidate of which every key is present, and
+-- looks at the keys of the candidates up to that one
+abbrev pub CandidatesLaw : Type 0
+CandidatesLaw = (has : Key → Bool) (kind : WordKind) (word : List ℕ)
+    → run has (plan kind word) ≡ found has (candidates kind word)
+
+-- law: every target is a key that was looked at and is present
 abbrev pub TargetsLaw : Type 0
 TargetsLaw = (has : Key → Bool) (kind : WordKind) (word : List ℕ) (k : Key)
-    → Contains (run has (plan kind word)).targets k
-    → Contains (run has (plan kind word)).looked k × (has k ≡ true)
+    → Contains (found has (candidates kind word)).targets k
+    → Contains (found has (candidates kind word)).looked k × (has k ≡ true)
 
--- law: equal answers to the looked-at keys give equal targets and equal looked-at keys
+-- law: equal answers to the keys that are looked at give equal targets, and the same keys that are looked at
 abbrev pub SameLaw : Type 0
 SameLaw = (has had : Key → Bool) (kind : WordKind) (word : List ℕ)
-    → ((k : Key) → Contains (run has (plan kind word)).looked k → has k ≡ had k)
-    → run has (plan kind word) ≡ run had (plan kind word)
+    → ((k : Key) → Contains (found has (candidates kind word)).looked k → has k ≡ had k)
+    → found has (candidates kind word) ≡ found had (candidates kind word)

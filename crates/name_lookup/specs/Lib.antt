@@ -1,7 +1,9 @@
+pub mod Candidates
 pub mod Examples
 pub mod Keeping
 pub mod Laws
 pub mod Order
 pub mod Plans
+pub mod Plurals
 pub mod Steps
 pub mod Targets

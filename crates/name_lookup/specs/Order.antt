@@ -1,7 +1,6 @@
--- The order in which a word's keys are asked for.
-use Rattle.std.specs.Prelude.{ℕ, zero, suc, ◌-◌, ◌&&◌, Bool, true, false, nat_lt}
+-- The order in which a word's keys are asked for, as a plan.
+use Rattle.std.specs.Prelude.{ℕ, zero, suc, Bool, true, false}
 use Rattle.std.specs.Prelude.{List, [], ◌∷◌, ◌++◌, length, take, drop, codes}
-use Rattle.std.specs.Str.{bytes_eq}
 use Rattle.expr_tree.specs.declared.word_list.WordKind.{WordKind}
 use Rattle.expr_tree.specs.declared.word_list.WordKind.TheVariants as place
 use Rattle.def_entry.specs.declared.key.Key.{Key}
@@ -9,6 +8,7 @@ use Rattle.def_entry.specs.declared.key.Kind.{Kind}
 use Rattle.def_entry.specs.declared.key.Kind.TheVariants as kind
 use Rattle.def_entry.specs.Keys.{key}
 use Rattle.name_lookup.specs.Plans.{Plan, Gives, Asks}
+pub use Rattle.name_lookup.specs.Plurals.{has_ending, without}
 
 -- a key that is itself the target where it is present
 abbrev pub try_key : Key → Plan → Plan
@@ -30,15 +30,6 @@ try_prefix k word next =
 abbrev pub try_prefixes : ℕ → List ℕ → Plan → Plan
 try_prefixes zero word next = next
 try_prefixes (suc k) word next = try_prefix (suc k) word (try_prefixes k word next)
-
--- without the last k bytes
-abbrev pub without : ℕ → List ℕ → List ℕ
-without k word = take (length word - k) word
-
--- the word has more than so many bytes, and ends so
-abbrev pub has_ending : ℕ → List ℕ → List ℕ → Bool
-has_ending more ending word =
-    nat_lt more (length word) && bytes_eq (drop (length word - length ending) word) ending
 
 -- a stem as a unit, and then behind its prefixes
 abbrev pub try_stem : List ℕ → Plan → Plan

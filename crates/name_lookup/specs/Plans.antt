@@ -1,13 +1,8 @@
--- Plans: keys that are asked for one after another, each with what follows where it is present and
--- where it is absent, and the keys that this leads to.
+-- Plans: keys that are asked for one after another, each with the plan that follows if it is present and the one that
+-- follows if it is absent. The code goes through such a plan; `CandidatesLaw` says what it leads to.
 use Rattle.std.specs.Prelude.{Bool, if◌then◌else◌, List, [], ◌∷◌}
 use Rattle.def_entry.specs.declared.key.Key.{Key}
-
--- the keys that a word stands for: one, or a prefix and a unit, or none where the word is unknown; and the keys
--- that were looked at, in order, absent ones too
-pub record Found : Type 0 where
-  pub targets : List Key
-  pub looked : List Key
+pub use Rattle.name_lookup.specs.Candidates.{Found}
 
 pub data Plan : Type 0 where
   Gives : List Key → Plan

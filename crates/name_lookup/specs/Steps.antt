@@ -3,7 +3,8 @@ use Rattle.std.specs.Prelude.{◌≡◌, ◌++◌, ◌+◌, ◌≤◌, Bool, Lis
 use Rattle.def_entry.specs.declared.key.Key.{Key}
 use Rattle.name_lookup.specs.declared.targets.Targets.{Targets}
 use Rattle.name_lookup.specs.declared.targets.Targets.TheVariants.{Nowhere, Last, LastTwo}
-use Rattle.name_lookup.specs.Plans.{Found, Plan, run}
+use Rattle.name_lookup.specs.Candidates.{Found}
+use Rattle.name_lookup.specs.Plans.{Plan, run}
 use Rattle.name_lookup.specs.Targets.{count, last_keys}
 
 -- what a plan leads to, behind the keys that were looked at before

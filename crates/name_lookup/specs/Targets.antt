@@ -3,7 +3,7 @@ use Rattle.std.specs.Prelude.{◌≡◌, ◌++◌, ◌-◌, ℕ, Bool, true, fal
 use Rattle.def_entry.specs.declared.key.Key.{Key}
 use Rattle.name_lookup.specs.declared.targets.Targets.{Targets}
 use Rattle.name_lookup.specs.declared.targets.Targets.TheVariants.{Nowhere, Last, LastTwo}
-use Rattle.name_lookup.specs.Plans.{Found}
+use Rattle.name_lookup.specs.Candidates.{Found}
 
 -- there are any
 abbrev pub are_some : Targets → Bool

@@ -1,7 +1,12 @@
 //! Laws of lookup.
 
-ghost use Rattle.name_lookup.specs.Examples.{OrderExamples};
-ghost use Rattle.name_lookup.specs.Laws.{SameLaw, TargetsLaw};
+ghost use Rattle.name_lookup.specs.Examples.{ExamplesLaw};
+ghost use Rattle.name_lookup.specs.Laws.{CandidatesLaw, SameLaw, TargetsLaw};
+
+/// The search for a word finds its first candidate of which every key is present.
+pub fn candidates_law()
+    ensures { CandidatesLaw }
+{}
 
 /// Each target is a key that was looked at and is present.
 pub fn targets_are_present()
@@ -14,7 +19,7 @@ pub fn same_answers()
     ensures { SameLaw }
 {}
 
-/// A few words lead to what was found by hand.
-pub fn order_examples()
-    ensures { OrderExamples }
+/// Some words have the singulars, the candidates and the targets that were found by hand.
+pub fn examples_law()
+    ensures { ExamplesLaw }
 {}

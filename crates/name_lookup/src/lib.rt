@@ -9,7 +9,7 @@ mod searching;
 mod stems;
 mod targets;
 
-pub use laws::{order_examples, same_answers, targets_are_present};
+pub use laws::{candidates_law, examples_law, same_answers, targets_are_present};
 pub use looking::Looking;
 pub use present::Present;
 pub use resolving::resolve;

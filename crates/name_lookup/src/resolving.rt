@@ -2,6 +2,7 @@
 
 ghost use Rattle.std.specs.Prelude.{◌++◌, codes, IfOk, length};
 ghost use Rattle.def_entry.specs.SameKeys.{is_among};
+ghost use Rattle.name_lookup.specs.Candidates as lookup;
 ghost use Rattle.name_lookup.specs.Keeping.{StaysKept};
 ghost use Rattle.name_lookup.specs.Order as spec;
 ghost use Rattle.name_lookup.specs.Plans.{run};
@@ -17,12 +18,13 @@ use def_entry::Kind;
 use expr_tree::WordKind;
 use std::alloc::{AllocError, Global};
 
-/// Which of the keys that are looked at a word leads to at its place. They are looked at in order, absent ones too.
+/// Finds the keys that a word stands for: how many of the keys last looked at they are. All keys are looked at in
+/// order, absent ones too.
 ///
-/// Alone a word is a unit, or a function; before an operand in parentheses a function, or a unit;
-/// behind a `~` a function only. Else, but behind a `~`, it is a plural, in `s`, `es` or `ies`: of a
-/// unit, or else of a prefix, or of a prefix and a unit, the longest prefix first. Else it is itself a
-/// prefix, or a prefix and a unit, in the same order. The only error is want of memory.
+/// A word alone is a unit, or else a function; a word before an argument in parentheses is a function, or else a unit;
+/// a word after a `~` can only be a function. Any other word may be a plural in `s`, `es` or `ies`: of a unit, or of a
+/// prefix with or without a unit, the longest prefix first. Or else it is itself a prefix with or without a unit. The
+/// only error is want of memory.
 pub fn resolve<P: Present, L: Looking>(
     alloc: Global,
     table: &P,
@@ -31,6 +33,8 @@ pub fn resolve<P: Present, L: Looking>(
     kind: WordKind,
 ) -> Result<Targets, AllocError>
     requires { L.can_look (P.keys table.now) looking.old }
+    ensures chosen { IfOk result (λ targets. AreFound targets (L.looked looking.old) (L.looked looking.new)
+        (lookup.found (is_among (P.keys table.now)) (lookup.candidates kind word.now))) }
     ensures found { IfOk result (λ targets. AreFound targets (L.looked looking.old) (L.looked looking.new)
         (run (is_among (P.keys table.now)) (spec.plan kind word.now))) }
     ensures ready { L.can_look (P.keys table.now) looking.new }

@@ -1,7 +1,7 @@
 //! The words of which a word may be the plural.
 
 ghost use Rattle.std.specs.Prelude.{◌≡◌, ◌++◌, ◌∷◌, [], IfOk, MatchOption, codes, false, true, length};
-ghost use Rattle.name_lookup.specs.Order.{has_ending, without};
+ghost use Rattle.name_lookup.specs.Plurals.{has_ending, without};
 
 // The word without its ending, where it has more than so many bytes and ends so.
 pub(crate) fn without_ending<'a>(word: &'a [u8], more: usize, ending: &[u8]) -> Option<&'a [u8]>

@@ -32,7 +32,7 @@ abbrev pub measures : Table
 measures =
     primitive_unit (codes "m")
     ∷ primitive_unit (codes "s")
-    ∷ (key kind.Prefix (codes "k"), expression (codes "1000") (numeral 1000 (pos 0)))
+    ∷ (key kind.Prefix (codes "k"), expression (codes "1000") (numeral 1 (pos 3)))
     ∷ (key kind.Unit (codes "yard"), expression (codes "0.9144 m") (number_of (numeral 9144 (negsuc 3)) (codes "m")))
     ∷ (
       key kind.Unit (codes "Hz"),

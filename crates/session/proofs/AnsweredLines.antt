@@ -1,32 +1,102 @@
 -- Some lines, and what they are answered with.
-use Rattle.std.proofs.Common.{◌≡◌, ◌∷◌, [], refl, ap, Bool, ℕ, List, Ok, Err, if◌then◌else◌, codes}
+use Rattle.std.proofs.Common.{◌≡◌, ◌∙◌, ◌++◌, [], length, refl, ap, Bool, ℕ, List, Option, Some, None, Ok, Err}
+use Rattle.std.proofs.Common.{if◌then◌else◌}
+use Rattle.std.proofs.Common.{codes}
+use Rattle.std.specs.FinMap as map_of
+use Rattle.std.specs.Fmt.{digits}
 use Rattle.units_io.specs.Fetching.{answer_of}
 use Rattle.def_entry.specs.Forms.{form_of}
 use Rattle.def_entry.specs.Headings.{heading}
 use Rattle.def_entry.specs.Keys.{key_of}
 use Rattle.def_entry.specs.Reading.{what_of}
+use Rattle.def_entry.specs.Tables.{Table}
+use Rattle.def_lines.specs.Blanks.{trimmed}
 use Rattle.def_lines.specs.Kinds.{kind_of}
 use Rattle.def_lines.specs.Lines.{line_content}
 use Rattle.deck.specs.Edits.{with_line, without_some}
 use Rattle.deck.specs.Loading.{with_answer}
+use Rattle.deck.specs.Tables.{table as table_in}
 use Rattle.deck.specs.declared.fault.DeckFault.TheVariants.{DeckFull}
-use Rattle.session.specs.AnswerExamples.{AnswerExamples}
-use Rattle.session.specs.Answers.{editing, saving, watching}
+use Rattle.live_table.specs.Calls.{names_in}
+use Rattle.quantity.specs.Amount.{Amount}
+use Rattle.reply.specs.Conversions.{conversion}
+use Rattle.reply.specs.Examples.{default}
+use Rattle.reply.specs.GrantExamples.{GrantExamplesLaw, measures}
+use Rattle.reply.specs.Options.{form_of as reply_form}
+use Rattle.reply.specs.Replies.{as_conversion, conversion_reply, from_value}
+use Rattle.reply.specs.declared.options.Options.{Options}
+use Rattle.reply.specs.declared.reply.FromValue.{FromValue}
+use Rattle.reply.specs.declared.reply.FromValue.TheVariants.{Good}
+use Rattle.reply.specs.declared.reply.Reply.{Reply}
+use Rattle.session.specs.AnswerExamples.{AnswerExamples, IsAnsweredBy, IsPending}
+use Rattle.session.specs.Answers.{editing, saving, saying, watching}
+use Rattle.session.specs.Asking.{from_of, from_reply}
 use Rattle.session.specs.Commands.{colon_command, command_in}
+use Rattle.session.specs.Counting.{counted, statistics}
 use Rattle.session.specs.EditResults.{edit_result, turn_result}
 use Rattle.session.specs.Editing.{notice_lines}
 use Rattle.session.specs.Hearing.{readable}
 use Rattle.session.specs.HistoryLaws.{deck_in}
 use Rattle.session.specs.Queries.{after_events}
 use Rattle.session.specs.Sessions.{State, dated_in}
-use Rattle.session.specs.Steps.{answer_read, answer_to, blank_answer}
+use Rattle.session.specs.Steps.{answer_read, answer_to, blank_answer, expression_answer}
 use Rattle.session.specs.Versions.{timeline_of}
 use Rattle.edit_history.specs.Timelines.{redone_to, undone_to}
 use Rattle.watch.specs.Watched.{subject}
 
-pub examples : AnswerExamples
+-- the texts of FROM and TO without the blanks at their ends decide the reply
+reply_trimmed : (table : Table) (options : Options) (from to same : List ℕ) → trimmed to ≡ trimmed same
+    → conversion_reply table options from to ≡ conversion_reply table options from same
+reply_trimmed table options from to same e =
+    ap (λ (text : List ℕ). as_conversion (reply_form options) (trimmed from) text
+    (conversion table options (trimmed from) text).answer) e
+
+-- a text that is TO, by the reply over the definitions of the examples
+expression_converted : (from text : List ℕ) (reply : Reply) → conversion_reply measures default from text ≡ reply
+    → (state : State) → table_in (deck_in state) ≡ measures → state.session.options ≡ default
+    → state.session.pending ≡ Some from
+    → IsAnsweredBy reply.text (expression_answer state.session.pending text state) state
+unfolding after_events
+expression_converted from text reply gives state table options pending = record {
+  out = ap (λ (p : Option (List ℕ)). (expression_answer p text state).out) pending
+      ∙ ap (λ (t : Table). (conversion_reply t state.session.options from text).text) table
+      ∙ ap (λ (o : Options). (conversion_reply measures o from text).text) options
+      ∙ ap (λ (r : Reply). r.text) gives;
+  err = ap (λ (p : Option (List ℕ)). (expression_answer p text state).err) pending;
+  pending = ap (λ (p : Option (List ℕ)). (expression_answer p text state).after.session.pending) pending;
+  deck = ap (λ (p : Option (List ℕ)). deck_in (expression_answer p text state).after) pending;
+}
+
+-- a text that is FROM, if it has a value
+expression_pending : (text : List ℕ) (state : State) (x : Amount) → state.session.pending ≡ None
+    → from_value (table_in (deck_in state)) state.session.options text ≡ Good x
+    → IsPending text (expression_answer state.session.pending text state)
+expression_pending text state x none good = record {
+  out = ap (λ (p : Option (List ℕ)). (expression_answer p text state).out) none
+      ∙ ap (λ (v : FromValue). (from_reply v).text) good;
+  pending = ap (λ (p : Option (List ℕ)). (expression_answer p text state).after.session.pending) none
+      ∙ ap (λ (v : FromValue). from_of v text) good;
+}
+
+-- the three counts of `:stats`
+abbrev counts_text : (settled names reductions : ℕ) → List ℕ
+counts_text settled names reductions =
+    ((codes "settled " ++ counted settled (codes " of ")) ++ counted names (codes ", reductions "))
+    ++ counted reductions (codes "\n")
+
+stats_counted : (state : State) → map_of.len state.session.table.kept ≡ 4
+    → length (names_in (table_in (deck_in state))) ≡ 7 → state.session.table.reductions ≡ 6
+    → statistics state.session.table ≡ codes "settled 4 of 7, reductions 6\n"
+unfolding statistics digits
+stats_counted state settled names reductions =
+    let table = state.session.table in
+    ap (λ (n : ℕ). counts_text n (length (names_in (table_in table.deck))) table.reductions) settled
+    ∙ ap (λ (n : ℕ). counts_text 4 n table.reductions) names
+    ∙ ap (λ (n : ℕ). counts_text 4 7 n) reductions
+
+pub examples : GrantExamplesLaw → AnswerExamples
 unfolding readable line_content command_in colon_command answer_to after_events key_of kind_of form_of heading what_of
-examples = record {
+examples law = record {
   quit = λ state. refl;
   blank = λ state h. ap (λ pending. blank_answer pending state) h;
   long = λ state line h. ap (answer_read state) h;
@@ -54,6 +124,11 @@ examples = record {
       (notice_lines (with_answer state.files (codes "my units") (answer_of found) (deck_in state))) state) h;
   too_long = λ state h. ap (λ outcome. saving outcome (codes "mine") state) h;
   many_watches = λ state h. ap (λ full. watching full (subject (codes "ft") (codes "m")) state) h;
+  from = expression_pending (codes "2 km");
+  linear = expression_converted (codes "2 km") (codes "yards") _
+      (reply_trimmed measures default (codes "2 km") (codes "yards") (codes " yards ") refl ∙ law.linear);
+  reciprocal = expression_converted (codes "2 Hz") (codes "s") _ law.reciprocal;
+  unlike = expression_converted (codes "m") (codes "s") _ law.unlike;
   define = λ state h.
       let d = with_line (codes "m !") (deck_in state) in
       ap (λ (b : Bool). (deck_in (editing
@@ -63,6 +138,8 @@ examples = record {
       (edit_result (without_some p (deck_in state)) (codes "k-") (dated_in state.session)) [] state).after).lines) h;
   set = λ state. refl;
   locale = λ state. refl;
+  stats = λ state settled names reductions. ap (λ text. saying text state)
+      (stats_counted state settled names reductions);
   save = λ state text h. ap (λ outcome. saving outcome (codes "mine") state) h;
   unwatch = λ state. refl;
 }

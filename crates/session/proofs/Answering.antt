@@ -13,7 +13,8 @@ use Rattle.session.specs.Commands.{Command, is_save}
 use Rattle.session.specs.Commands as command
 use Rattle.session.specs.Editing.{notice_lines}
 use Rattle.session.specs.EditResults.{EditResult, Made, Refused, edit_result, edited_by}
-use Rattle.session.specs.Hearing.{is_last, is_last_read, readable, saved_by, saved_by_read}
+use Rattle.session.specs.Hearing.{is_last, is_last_read, loads_file_in, loads_file_read, readable, saved_by}
+use Rattle.session.specs.Hearing.{saved_by_read}
 use Rattle.session.specs.Keeping.{LineKeeps}
 use Rattle.session.specs.Parts.{IsLine, IsSaid}
 use Rattle.session.specs.Seen.{seen_command}
@@ -21,7 +22,7 @@ use Rattle.session.specs.Sessions.{Known, State, dated_in, prompt, state_of}
 use Rattle.session.specs.Standing.{Base, IsAt, Begins, IsBefore, IsBroken}
 use Rattle.session.specs.Steps.{answer, answer_read, answer_to, blank_answer, conformable_answer, expression_answer}
 use Rattle.session.specs.Talks.{Talk, with_answer, spoken}
-use Rattle.session.specs.Telling.{TellsIf, when_told}
+use Rattle.session.specs.Telling.{IsToldIf, TellsIf, when_told}
 use Rattle.session.specs.Watching.{is_full}
 use Rattle.session.specs.declared.answer.LineReply.{LineReply}
 use Rattle.session.specs.declared.command.Command.{Command as Declared}
@@ -48,9 +49,16 @@ tells_needed needed (Some told) m e h = ap Some h
 pub tells_told : (needed : Bool) (files : Option FileMap) (m : FileMap) → files ≡ Some m → TellsIf needed files m
 tells_told needed files m e = subst (λ f. TellsIf needed f m) (sym e) refl
 
--- told files stay told
-pub told_stay : (files : Option FileMap) (m : FileMap) → files ≡ Some m → files ≡ when_told files m
-told_stay files m e = e ∙ sym (ap (λ f. when_told f m) e)
+-- what is told again is what was told first
+told_again : (files : Option FileMap) (m new : FileMap) → when_told (when_told files m) new ≡ when_told files new
+told_again None m new = refl
+told_again (Some old) m new = refl
+
+-- files that are told if a line loads one serve for the line
+files_serve : (loads : Bool) (told files : Option FileMap) (m : FileMap) → IsToldIf loads told
+    → files ≡ when_told told m → TellsIf loads files m
+files_serve loads None files m needed e = subst (λ f. TellsIf loads f m) (sym e) needed
+files_serve loads (Some old) files m needed e = tells_told loads files m e
 
 -- no answer but a save changes the files
 pub keeps_files : (session : Known) (m : FileMap) (c : Command) → is_save c ≡ false
@@ -163,6 +171,13 @@ module _ (base : Base) (talk : Talk) (part : List ℕ) (said : Said) (session : 
   state_of_talk : state_of session talk.state.files ≡ talk.state
   state_of_talk = ap (λ s. state_of s talk.state.files) at.session
 
+  -- the files of the talk serve for a line
+  pub serve : (line : Option (List ℕ)) → line ≡ readable part → IsToldIf (loads_file_in part) base.files
+      → TellsIf (loads_file_read line) files talk.state.files
+  serve line heard told =
+      files_serve (loads_file_read line) base.files files talk.state.files
+      (subst (λ l. IsToldIf (loads_file_read l) base.files) (sym heard) told) at.files
+
   module _ (line : Option (List ℕ)) (heard : line ≡ readable part) (reply : LineReply) (session_now : Known)
       (files_now : Option FileMap) (steps_now : ℕ) (last : reply.done ≡ is_last_read line)
       (says : Says (answer_read (state_of session talk.state.files) line) reply
@@ -199,6 +214,11 @@ module _ (base : Base) (talk : Talk) (part : List ℕ) (said : Said) (session : 
         ap (λ t. t ++ asked.err) at.err ∙ append_assoc base.err said.err.items asked.err
         ∙ ap (λ t. base.err ++ (said.err.items ++ t)) (sym same.err)
 
+    files_after : files_now ≡ when_told base.files asked.after.files
+    files_after =
+        same.files ∙ ap (λ f. when_told f asked.after.files) at.files
+        ∙ told_again base.files talk.state.files asked.after.files
+
     -- the talk goes on by the answer
     pub replied_at : (said_now : Said) → said_now.out.items ≡ said.out.items ++ text
         → said_now.err.items ≡ said.err.items ++ reply.err
@@ -208,7 +228,7 @@ module _ (base : Base) (talk : Talk) (part : List ℕ) (said : Said) (session : 
       out = out_now ∙ ap (λ t. base.out ++ t) (sym o);
       err = err_now ∙ ap (λ t. base.err ++ t) (sym e);
       session = same.session;
-      files = same.files ∙ ap (λ f. when_told f asked.after.files) at.files;
+      files = files_after;
       steps = omega (arith, same.steps, at.steps);
     }
 
@@ -230,11 +250,7 @@ module _ (base : Base) (talk : Talk) (part : List ℕ) (said : Said) (session : 
       rest = [];
       split = refl;
       before = replied_before said_now o e;
-      left = (
-        asked.after.files,
-        same.files ∙ ap (λ f. when_told f asked.after.files) at.files,
-        inl refl,
-      );
+      left = (asked.after.files, files_after, inl refl);
     }
 
   -- nothing is said of a line that is not answered
@@ -249,7 +265,7 @@ module _ (base : Base) (talk : Talk) (part : List ℕ) (said : Said) (session : 
     split = refl;
     before = at_before base talk talk []
         (record { said = said; session = session; files = files; steps = steps }) at refl;
-    left = left_of_line A talk part fault files_now
+    left = left_of_line A base.files talk part fault files_now
         (subst (λ old. LineKeeps {A = A} (saved_by part) (Err fault) old files_now) at.files
         (subst (λ l. LineKeeps {A = A} (saved_by_read l) (Err fault) files files_now) heard kept));
   }

@@ -1,13 +1,12 @@
 -- A session between blocks of its input.
-use Rattle.std.proofs.Common.{MatchResult, nat_le, min, ◌^◌, inl, inr, ◌≡◌, ◌++◌, ◌∷◌, ◌+◌, ◌-◌, ◌<◌, ◌≤◌, ◌⊎◌, [], ℕ}
+use Rattle.std.proofs.Common.{nat_le, min, ◌^◌, inl, inr, ◌≡◌, ◌++◌, ◌∷◌, ◌+◌, ◌-◌, ◌<◌, ◌≤◌, ◌⊎◌, [], ℕ}
 use Rattle.std.proofs.Common.{suc, List, Bool, true, false, length, take, refl, sym, ap, subst, ◌∙◌, arith}
-use Rattle.std.proofs.Common.{append_assoc, length-append, Some, None, Result, Ok, Err}
+use Rattle.std.proofs.Common.{append_assoc, length-append, Some, None}
 use Rattle.std.specs.declared.option.Option.{Option}
 use Rattle.std.specs.List.{list_any}
 use Rattle.std.proofs.lemmas.List.{append-nil, take-append-le, take_all}
 use Rattle.units_io.specs.Bytes.{grown, GrowsByFront, Loses, IsNoneLeft}
 use Rattle.units_io.specs.Faults.{Rose}
-use Rattle.units_io.specs.FileMap.{FileMap}
 use Rattle.session.specs.Hearing.{is_last, heard}
 use Rattle.session.specs.Input.{whole_lines, lines_of}
 use Rattle.session.specs.Talks.{Talk, talk_over, talk_on}
@@ -19,7 +18,6 @@ use Rattle.session.specs.Written.{session_course}
 use Rattle.session.specs.Standing.{Base, Begins, BreaksOff, IsAt, IsBefore, Stands}
 use Rattle.session.specs.Waiting.{Opens, Waits, TookAtLeast}
 use Rattle.session.specs.Sessions.{Known}
-use Rattle.session.specs.declared.fault.SessionFault.{SessionFault}
 use Rattle.session.specs.declared.said.Said.{Said}
 use Rattle.std.proofs.lemmas.Bool.Decides.{nat_tests}
 use Rattle.session.proofs.Cutting.{take-front}
@@ -97,11 +95,6 @@ pub loses : (old new : Option (List ℕ)) (left bytes : List ℕ) → old ≡ So
     → Loses (Some left) new bytes
 loses old new left bytes e h = rw e at h
 
--- told files stay told
-pub stay_told : (old new : Option FileMap) (m files : FileMap) → old ≡ Some m → new ≡ Some files
-    → new ≡ when_told old files
-stay_told old new m files h e = e ∙ ap (λ f. when_told f files) (sym h)
-
 -- what was taken
 pub taken_is : (input taken rest : List ℕ) (left : Option (List ℕ)) → input ≡ taken ++ rest → left ≡ Some rest
     → taken_of input left ≡ taken
@@ -144,7 +137,7 @@ module _ (first : Talk) (taken : List ℕ) (held : Option (List ℕ)) (session :
 
   -- all that was said is written
   abbrev pub written : Base
-  written = record { out = told.out; err = told.err; steps = before.steps }
+  written = record { out = told.out; err = told.err; files = before.files; steps = before.steps }
 
   -- with nothing said since, the session stands
   pub stands : (said : Said) → said.out.items ≡ [] → said.err.items ≡ []
@@ -174,18 +167,17 @@ module _ (first : Talk) (taken : List ℕ) (held : Option (List ℕ)) (session :
   }
 
   -- by how far the talk is answered
-  pub part_by : (failed : Type 0) (input : List ℕ) (said : Said) (new : Known) (after : Outside) (old : FileMap)
-      → before.files ≡ Some old
+  pub part_by : (failed : Type 0) (input : List ℕ) (said : Said) (new : Known) (after : Outside)
       → BreaksOff failed written first (heard (lines_of input))
       (record { said = said; session = new; files = after.files; steps = after.steps })
       → GrowsByFront now.out after.out said.out.items → GrowsByFront now.err after.err said.err.items
       → IsPartIf failed (session_course first input) before after
-  part_by failed input said new after old h broken o e = record {
+  part_by failed input said new after broken o e = record {
     answered = broken.answered;
     rest = broken.rest;
     split = broken.split;
     front = fronts (talk_over first broken.answered) said after broken.before o e;
-    files = (broken.left.0, stay_told before.files after.files old broken.left.0 h broken.left.1, broken.left.2);
+    files = broken.left;
   }
 
   -- the session waits again once what was said is written
@@ -207,41 +199,41 @@ module _ (first : Talk) (taken : List ℕ) (held : Option (List ℕ)) (session :
   }
 
   -- the whole run, once the talk over its input is written
-  pub whole : (talk : Talk) (said : Said) (new : Known) (after : Outside) (old : FileMap) → before.files ≡ Some old
+  pub whole : (talk : Talk) (said : Said) (new : Known) (after : Outside)
       → IsAt written talk (record { said = said; session = new; files = after.files; steps = after.steps })
       → after.out ≡ grown now.out said.out.items → after.err ≡ grown now.err said.err.items
       → IsAll (output_of talk) before after
-  whole talk said new after old h at o e = record {
+  whole talk said new after at o e = record {
     out = o ∙ ap (λ p. grown p said.out.items) w.out ∙ grown_twice before.out told.out said.out.items
         ∙ ap (grown before.out) (sym at.out);
     err = e ∙ ap (λ p. grown p said.err.items) w.err ∙ grown_twice before.err told.err said.err.items
         ∙ ap (grown before.err) (sym at.err);
-    files = at.files ∙ ap (λ f. when_told f talk.state.files) (sym h);
+    files = at.files;
     steps = at.steps;
   }
 
   -- a session that waits is cut behind the bytes taken
-  pub cut : (input rest : List ℕ) (after : Outside) (old : FileMap) → before.files ≡ Some old → input ≡ taken ++ rest
-      → after.left ≡ Some rest → after.out ≡ now.out → after.err ≡ now.err → after.files ≡ now.files
-      → after.steps ≡ now.steps → IsCutShort (session_course first input) before after
-  cut input rest after old h p q o e f n =
+  pub cut : (input rest : List ℕ) (after : Outside) → input ≡ taken ++ rest → after.left ≡ Some rest
+      → after.out ≡ now.out → after.err ≡ now.err → after.files ≡ now.files → after.steps ≡ now.steps
+      → IsCutShort (session_course first input) before after
+  cut input rest after p q o e f n =
       subst (λ t. IsCut (output_of (talk_over first (whole_lines t))) t before after)
       (sym (taken_is input taken rest after.left p q))
       (record {
         all = record {
           out = o ∙ w.out;
           err = e ∙ w.err;
-          files = stay_told before.files after.files old told.state.files h (f ∙ w.files);
+          files = f ∙ w.files;
           steps = n ∙ w.steps;
         };
         going = w.going;
       })
 
   -- and what is left of it is a part
-  pub cut_part : (input rest : List ℕ) (after : Outside) (old : FileMap) → before.files ≡ Some old
-      → input ≡ taken ++ rest → after.out ≡ now.out → after.err ≡ now.err → after.files ≡ now.files
+  pub cut_part : (input rest : List ℕ) (after : Outside) → input ≡ taken ++ rest → after.out ≡ now.out
+      → after.err ≡ now.err → after.files ≡ now.files
       → IsPart (session_course first input) before after
-  cut_part input rest after old h p o e f =
+  cut_part input rest after p o e f =
       let more = heard_more taken w.going rest in
       record {
         answered = whole_lines taken;
@@ -251,7 +243,7 @@ module _ (first : Talk) (taken : List ℕ) (held : Option (List ℕ)) (session :
           out = front_all before.out after.out told.out (o ∙ w.out);
           err = front_all before.err after.err told.err (e ∙ w.err);
         };
-        files = stay_told before.files after.files old told.state.files h (f ∙ w.files);
+        files = f ∙ w.files;
       }
 
 -- a front of what is said first
@@ -269,8 +261,7 @@ open_front first said session before opening after w o e = record {
 -- no line is answered yet, and the files are as they were
 pub opened_files : (first : Talk) (said : Said) (session : Known) (before opening : Outside)
     → Opens first said session before opening → opening.files ≡ when_told before.files first.state.files
-opened_files first said session before opening w =
-    stay_told before.files opening.files first.state.files first.state.files (sym w.files ∙ w.at.files) w.at.files
+opened_files first said session before opening w = w.at.files
 
 -- a part of the whole, where the opening is written in part
 pub open_part : (first : Talk) (input : List ℕ) (said : Said) (session : Known) (before opening after : Outside)
@@ -313,13 +304,13 @@ went input taken rest bytes more p q = append_assoc taken bytes more ∙ ap (λ 
 module _ (first : Talk) (taken : List ℕ) (held : Option (List ℕ)) (session : Known) (before now : Outside)
     (w : Waits first taken held session before now) where
   -- the same of the whole input
-  pub whole_at : (i input : List ℕ) (said : Said) (new : Known) (after : Outside) (old : FileMap) → i ≡ input
-      → before.files ≡ Some old → IsAt (written first taken held session before now w) (talk_on first i)
+  pub whole_at : (i input : List ℕ) (said : Said) (new : Known) (after : Outside) → i ≡ input
+      → IsAt (written first taken held session before now w) (talk_on first i)
       (record { said = said; session = new; files = after.files; steps = after.steps })
       → after.out ≡ grown now.out said.out.items → after.err ≡ grown now.err said.err.items
       → IsAll (output_of (talk_on first input)) before after
-  whole_at i input said new after old p h at o e = subst (λ t. IsAll (output_of (talk_on first t)) before after) p
-      (whole first taken held session before now w (talk_on first i) said new after old h at o e)
+  whole_at i input said new after p at o e = subst (λ t. IsAll (output_of (talk_on first t)) before after) p
+      (whole first taken held session before now w (talk_on first i) said new after at o e)
 
 -- an input is read to a line that ends the session
 pub heard_by : (input taken bytes more : List ℕ) (left : Option (List ℕ)) → (taken ++ bytes) ++ more ≡ input

@@ -12,6 +12,7 @@ use Rattle.session.specs.Input.{whole_lines, unfinished, lines_of}
 use Rattle.session.specs.Keeping.{AreLeft, KeepsAllBut, LineKeeps, SaveKeeps}
 use Rattle.session.specs.Standing.{Base, BreaksOff, IsAt, IsBefore, IsBroken, Now, Stands}
 use Rattle.session.specs.Talks.{Talk, talk_over}
+use Rattle.session.specs.Telling.{when_told}
 use Rattle.session.specs.declared.fault.SessionFault.{SessionFault}
 use Rattle.session.specs.declared.fault.SessionFault.TheVariants.{OutOfMemory, ReadFailed, WriteFailed}
 use Rattle.session.proofs.HeardLines.{heard_end, heard_feed, heard_more}
@@ -127,22 +128,30 @@ broken_at fault base talk lines now at = record {
   left = (talk.state.files, at.files, inl refl);
 }
 
--- the files behind a line that was not answered
-pub left_of_line : (A : Type 0) (talk : Talk) (part : List ℕ) (fault : SessionFault) (files : Option FileMap)
-    → LineKeeps {A = A} (saved_by part) (Err fault) (Some talk.state.files) files
-    → (m : FileMap) × (files ≡ Some m) × AreLeft (fault ≡ WriteFailed) (part ∷ []) talk.state.files m
-left_of_line A talk part fault files kept = by (saved_by part) refl fault kept
+-- the files after a save that failed
+left_of_save : (told : Option FileMap) (left : FileMap) (part name : List ℕ) (files : Option FileMap)
+    → saved_by part ≡ Some name → KeepsAllBut name (when_told told left) files
+    → (m : FileMap) × (files ≡ when_told told m) × AreLeft (WriteFailed ≡ WriteFailed) (part ∷ []) left m
+left_of_save None left part name files e kept = (left, kept, inl refl)
+left_of_save (Some old) left part name files e kept = (
+  kept.0,
+  kept.1,
+  inr (refl, record { line = part; later = []; name = name; next = refl; saves = e; others = kept.2 }),
+)
+
+-- the files after a line that was not answered
+pub left_of_line : (A : Type 0) (told : Option FileMap) (talk : Talk) (part : List ℕ) (fault : SessionFault)
+    (files : Option FileMap)
+    → LineKeeps {A = A} (saved_by part) (Err fault) (when_told told talk.state.files) files
+    → (m : FileMap) × (files ≡ when_told told m) × AreLeft (fault ≡ WriteFailed) (part ∷ []) talk.state.files m
+left_of_line A told talk part fault files kept = by (saved_by part) refl fault kept
   where
     by : (named : Option (List ℕ)) → saved_by part ≡ named → (f : SessionFault)
-        → LineKeeps {A = A} named (Err f) (Some talk.state.files) files
-        → (m : FileMap) × (files ≡ Some m) × AreLeft (f ≡ WriteFailed) (part ∷ []) talk.state.files m
+        → LineKeeps {A = A} named (Err f) (when_told told talk.state.files) files
+        → (m : FileMap) × (files ≡ when_told told m) × AreLeft (f ≡ WriteFailed) (part ∷ []) talk.state.files m
     by None e f k = (talk.state.files, k, inl refl)
     by (Some name) e ReadFailed k = (talk.state.files, k, inl refl)
-    by (Some name) e WriteFailed k = (
-      k.0,
-      k.1,
-      inr (refl, record { line = part; later = []; name = name; next = refl; saves = e; others = k.2 }),
-    )
+    by (Some name) e WriteFailed k = left_of_save told talk.state.files part name files e k
     by (Some name) e OutOfMemory k = (talk.state.files, k, inl refl)
 
 module _ (fault : SessionFault) (base : Base) (first : Talk) (taken : List ℕ) (held : Option (List ℕ)) (now : Now)

@@ -9,11 +9,16 @@ use Rattle.def_entry.proofs.CutTexts.{cut-is, cut-none}
 use Rattle.def_lines.specs.Words.{is_empty}
 use Rattle.session.specs.Hearing.{heard, is_last, readable}
 use Rattle.session.specs.Input.{lines_of, whole_lines, unfinished}
-use Rattle.session.specs.Standing.{Base, Now, IsAt, IsBroken, Stands, IsOver}
+use Rattle.session.specs.Standing.{Base, Holds, Now, IsAt, IsBroken, Stands, IsOver}
 use Rattle.session.specs.Talks.{Talk, talk_over}
 use Rattle.session.specs.declared.fault.SessionFault.{SessionFault}
 use Rattle.session.proofs.Breaking.{broken_line, broken_rest}
 use Rattle.session.proofs.Talking.{next, fed_piece, fed_line, fed_last}
+
+-- the lines of a session that stands are cut behind the bytes taken
+pub stands_holds : (base : Base) (first : Talk) (taken : List ℕ) (held : Option (List ℕ)) (now : Now)
+    → Stands base first taken held now → Holds taken held
+stands_holds base first taken held now s = record { going = s.going; part = s.part }
 
 -- what stands so far of a block: this much of it is answered, and the rest is to come
 module _ (base : Base) (first : Talk) (taken block ready rest : List ℕ) (held : Option (List ℕ)) (now : Now)

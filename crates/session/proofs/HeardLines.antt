@@ -2,13 +2,14 @@
 use Rattle.std.proofs.Common.{◌≡◌, ◌++◌, ◌∷◌, ◌||◌, ◌∙◌, [], ℕ, List, Bool, true, false, cond, refl, sym, ap, subst}
 use Rattle.std.proofs.Common.{append_assoc, Some, None, Option}
 use Rattle.std.specs.List.{list_any}
-use Rattle.std.proofs.lemmas.List.{append-nil}
 use Rattle.std.proofs.lemmas.List.Folds.{list_any-append}
 use Rattle.def_entry.specs.Cuts.{cut_at, lacks}
 use Rattle.def_entry.proofs.CutTexts.{cut-is, cut-none}
-use Rattle.session.specs.Hearing.{NamesNoFile, heard, is_last, names_file_in, readable}
+use Rattle.units_io.specs.FileMap.{FileMap}
+use Rattle.session.specs.Hearing.{NamesNoFile, any_loads_file, heard, is_last, loads_file_in, names_file_in, readable}
 use Rattle.session.specs.Input.{cut_from, lines_of, unfinished, whole_lines}
 use Rattle.session.specs.Standing.{Holds}
+use Rattle.session.specs.Telling.{IsToldIf}
 use Rattle.session.proofs.Cutting.{line_open, lines_line, lines_split, open_line, open_piece, whole_line, whole_piece}
 use Rattle.session.proofs.Cutting.{whole_split}
 
@@ -143,13 +144,14 @@ module _ (taken block ready rest : List ℕ) (held : Option (List ℕ)) (b : blo
       }),
     )
 
-    -- if no line of the input names a file, this one does not
-    pub line_names_none : (more : List ℕ) → NamesNoFile ((taken ++ block) ++ more) → names_file_in ended ≡ false
-    line_names_none more none =
-        none-among names_file_in (whole_lines (taken ++ ready)) ended
+    -- if no line of the input that is heard has a property, this one has it not
+    line_has_none : (p : List ℕ → Bool) (more : List ℕ)
+        → list_any p (heard (lines_of ((taken ++ block) ++ more))) ≡ false → p ended ≡ false
+    line_has_none p more none =
+        none-among p (whole_lines (taken ++ ready)) ended
         (cond (is_last ended) [] (heard (lines_of (behind ++ more))))
-        (ap (list_any names_file_in) (sym (heard_feed (taken ++ ready) h.going piece parts.1 (behind ++ more)))
-        ∙ ap (λ t. list_any names_file_in (heard (lines_of t))) regroup ∙ none)
+        (ap (list_any p) (sym (heard_feed (taken ++ ready) h.going piece parts.1 (behind ++ more)))
+        ∙ ap (λ t. list_any p (heard (lines_of t))) regroup ∙ none)
       where
         regroup : (taken ++ ready) ++ (piece ++ 10 ∷ (behind ++ more)) ≡ (taken ++ block) ++ more
         regroup =
@@ -157,9 +159,36 @@ module _ (taken block ready rest : List ℕ) (held : Option (List ℕ)) (b : blo
             ∙ sym (append_assoc (taken ++ ready) (piece ++ 10 ∷ behind) more)
             ∙ ap (λ t. t ++ more) (whole (piece ++ 10 ∷ behind) parts.0)
 
--- nor does the last line, which no line feed ends
-pub end_names_none : (input : List ℕ) (held : Option (List ℕ)) → Holds input held → (unfinished input ≡ [] → ⊥)
-    → NamesNoFile input → names_file_in (unfinished input) ≡ false
-end_names_none input held h some none =
-    none-among names_file_in (whole_lines input) (unfinished input) []
-    (ap (list_any names_file_in) (sym (heard_end input h.going some)) ∙ none)
+    -- if none names a file, this one does not
+    pub line_names_none : (more : List ℕ) → NamesNoFile ((taken ++ block) ++ more) → names_file_in ended ≡ false
+    line_names_none more none = line_has_none names_file_in more none
+
+    -- files that are told if one of them loads a file are told if this one does
+    pub line_told : (more : List ℕ) (files : Option FileMap)
+        → IsToldIf (any_loads_file ((taken ++ block) ++ more)) files → IsToldIf (loads_file_in ended) files
+    line_told more None told = line_has_none loads_file_in more told
+    line_told more (Some old) told = tt
+
+-- the last line, which no line feed ends
+module _ (input : List ℕ) (held : Option (List ℕ)) (h : Holds input held) (some : unfinished input ≡ [] → ⊥) where
+  end_has_none : (p : List ℕ → Bool) → list_any p (heard (lines_of input)) ≡ false → p (unfinished input) ≡ false
+  end_has_none p none =
+      none-among p (whole_lines input) (unfinished input) []
+      (ap (list_any p) (sym (heard_end input h.going some)) ∙ none)
+
+  pub end_names_none : NamesNoFile input → names_file_in (unfinished input) ≡ false
+  end_names_none none = end_has_none names_file_in none
+
+  pub end_told : (files : Option FileMap) → IsToldIf (any_loads_file input) files
+      → IsToldIf (loads_file_in (unfinished input)) files
+  end_told None told = end_has_none loads_file_in told
+  end_told (Some old) told = tt
+
+-- the same line, and the same input
+pub told_line : (line same : List ℕ) (files : Option FileMap) → line ≡ same → IsToldIf (loads_file_in same) files
+    → IsToldIf (loads_file_in line) files
+told_line line same files e told = subst (λ l. IsToldIf (loads_file_in l) files) (sym e) told
+
+pub told_input : (i input : List ℕ) (files : Option FileMap) → i ≡ input → IsToldIf (any_loads_file input) files
+    → IsToldIf (any_loads_file i) files
+told_input i input files e told = subst (λ t. IsToldIf (any_loads_file t) files) (sym e) told

@@ -25,7 +25,7 @@ use Rattle.session.proofs.Writing.{fed_on, fed_over}
 pub stands_first :
     (session : Known) (said : Said) (held : Option (List ℕ)) (steps : ℕ) → said.out.items ≡ [] → said.err.items ≡ []
     → held ≡ Some []
-    → Stands (at_first steps) (silent session) [] held
+    → Stands (at_first (Some no_files) steps) (silent session) [] held
     (record { said = said; session = session; files = Some no_files; steps = steps })
 stands_first session said held steps o e h = record {
   at = record { out = sym o; err = sym e; session = refl; files = refl; steps = omega arith };
@@ -34,17 +34,18 @@ stands_first session said held steps o e h = record {
 }
 
 -- what is said of a talk where the session stands behind it
-pub talked_at : (talk : Talk) (now : Now) (steps : ℕ) → IsAt (at_first steps) talk now
+pub talked_at : (talk : Talk) (now : Now) (steps : ℕ) → IsAt (at_first (Some no_files) steps) talk now
     → IsTalked talk now.said now.session steps now.steps
 talked_at talk now steps at = record { out = sym at.out; session = at.session; steps = at.steps }
 
 -- the same behind its last line
-pub talked_over : (first : Talk) (lines : List ℕ) (now : Now) (steps : ℕ) → IsOver (at_first steps) first lines
+pub talked_over : (first : Talk) (lines : List ℕ) (now : Now) (steps : ℕ)
+    → IsOver (at_first (Some no_files) steps) first lines
     (lines ++ []) now
     → IsTalked (talk_on first lines) now.said now.session steps now.steps
 talked_over first lines now steps over =
     talked_at (talk_on first lines) now steps
-    (subst (λ bytes. IsAt (at_first steps) (talk_on first bytes) now) (append-nil lines) over.at)
+    (subst (λ bytes. IsAt (at_first (Some no_files) steps) (talk_on first bytes) now) (append-nil lines) over.at)
 
 -- lines of which some are taken up, and then more
 module _ (base : Base) (first : Talk) (lines done rest : List ℕ) (b : lines ≡ done ++ rest) where

@@ -1,19 +1,17 @@
 -- A talk over lines, part by part.
-use Rattle.std.proofs.Common.{◌≡◌, ◌++◌, ◌∷◌, ◌||◌, [], ℕ, List, Bool, true, false, cond, refl, sym, ap, subst, ◌∙◌}
+use Rattle.std.proofs.Common.{◌≡◌, ◌++◌, ◌∷◌, [], ℕ, List, true, false, cond, refl, sym, ap, subst, ◌∙◌}
 use Rattle.std.proofs.Common.{append_assoc, Some}
 use Rattle.std.specs.declared.option.Option.{Option}
 use Rattle.std.specs.List.{list_any}
 use Rattle.std.proofs.lemmas.List.{append-nil}
-use Rattle.std.proofs.lemmas.List.Folds.{list_any-append}
 use Rattle.def_entry.specs.Cuts.{lacks}
 use Rattle.session.specs.Hearing.{is_last, heard, readable}
-use Rattle.session.specs.Input.{whole_lines, unfinished, lines_of, cut_from}
+use Rattle.session.specs.Input.{whole_lines, unfinished, lines_of}
 use Rattle.session.specs.Steps.{answer}
 use Rattle.session.specs.Talks.{Talk, with_answer, spoken, talk_over, talk_on}
 use Rattle.session.specs.Standing.{Base, Now, IsAt, Begins, IsBefore, Stands, IsOver}
-use Rattle.session.specs.declared.said.Said.{Said}
 use Rattle.session.proofs.Cutting.{nothing_open, open_line, open_piece, whole_line, whole_piece}
-use Rattle.session.proofs.HeardLines.{heard-going, heard_end, heard_feed, heard_more, last_among, last_feed}
+use Rattle.session.proofs.HeardLines.{heard-going, heard_end, heard_feed, last_among, last_feed}
 
 -- lines are answered one behind another
 pub talk-append : (talk : Talk) (xs ys : List (List ℕ)) → talk_over talk (xs ++ ys) ≡ talk_over (talk_over talk xs) ys

@@ -1,5 +1,5 @@
 -- An undo after an edit, and a load of what was saved.
-use Rattle.std.proofs.Common.{◌≡◌, ◌∙◌, ◌≤◌, refl, sym, ap, ℕ, Bool, true, false, true≢false, List, [], Option, Some}
+use Rattle.std.proofs.Common.{◌≡◌, ◌∙◌, ◌≤◌, refl, sym, ap, ℕ, true, false, true≢false, List, [], Option, Some}
 use Rattle.std.proofs.Common.{None, Result, Ok, Err, if◌then◌else◌, length, cond, arith}
 use Rattle.std.specs.Prelude.{nat_lt}
 use Rattle.std.proofs.lemmas.Bool.Decides.{nat_tests}

@@ -2,13 +2,12 @@
 use Rattle.std.proofs.Common.{MatchResult, inl, ◌≡◌, ◌++◌, [], ℕ, List, Bool, true, false, refl, sym, ap, subst, ◌∙◌}
 use Rattle.std.proofs.Common.{append_assoc, length, ◌==◌, Some, Result, Ok, Err}
 use Rattle.std.specs.declared.option.Option.{Option}
-use Rattle.std.specs.List.{list_any}
 use Rattle.std.proofs.lemmas.List.{append-nil}
 use Rattle.def_lines.proofs.Trimming.{empty-nil}
 use Rattle.units_io.specs.Bytes.{grown, GrowsByFront}
 use Rattle.units_io.specs.Faults.{Rose}
 use Rattle.units_io.specs.FileMap.{FileMap}
-use Rattle.session.specs.Hearing.{heard, is_last}
+use Rattle.session.specs.Hearing.{heard}
 use Rattle.session.specs.Input.{lines_of, whole_lines}
 use Rattle.session.specs.Outside.{Outside, outside_of}
 use Rattle.session.specs.Runs.{end_of, last_end}
@@ -78,41 +77,38 @@ module _ (first : Talk) (taken block ready rest left more : List ℕ) (b : block
   all_input = (taken ++ block) ++ more
 
   -- in part
-  part_if : (old : FileMap) → start.files ≡ Some old → GrowsByFront now.out after.out said.out.items
-      → GrowsByFront now.err after.err said.err.items
+  part_if : GrowsByFront now.out after.out said.out.items → GrowsByFront now.err after.err said.err.items
       → IsPartIf (fed ≡ Err WriteFailed) (session_course first all_input) start after
-  part_if old told o e =
-      part_by first (taken ++ ready) held session start now w (fed ≡ Err WriteFailed) all_input said new after old told
+  part_if o e =
+      part_by first (taken ++ ready) held session start now w (fed ≡ Err WriteFailed) all_input said new after
       (subst (λ i. BreaksOff (fed ≡ Err WriteFailed) stood first (heard (lines_of i)) stands_now)
       (same_input taken block ready rest more b)
       (fed_broken fed stood first (taken ++ ready) rest left more held_now stands_now up)) o e
 
   -- a part of what was said is written
-  pub part_written : (old : FileMap) → start.files ≡ Some old → GrowsByFront now.out after.out said.out.items
-      → GrowsByFront now.err after.err said.err.items
+  pub part_written : GrowsByFront now.out after.out said.out.items → GrowsByFront now.err after.err said.err.items
       → (fed ≡ Err WriteFailed → Rose start.store_faults after.store_faults)
       → IsPartBut (session_course first all_input) start after
-  part_written old told o e rose = part_but Bool fed first all_input start after (part_if old told o e) rose
+  part_written o e rose = part_but Bool fed first all_input start after (part_if o e) rose
 
   -- in full, and it is the last
-  whole_written : (old : FileMap) → start.files ≡ Some old → after.out ≡ grown now.out said.out.items
-      → after.err ≡ grown now.err said.err.items → fed ≡ Ok true
+  whole_written : after.out ≡ grown now.out said.out.items → after.err ≡ grown now.err said.err.items → fed ≡ Ok true
       → IsAll (output_of (talk_on first all_input)) start after
-  whole_written old told o e is =
+  whole_written o e is =
       whole_at first (taken ++ ready) held session start now w (((taken ++ ready) ++ rest) ++ more) all_input said new
-      after old (same_input taken block ready rest more b) told
+      after (same_input taken block ready rest more b)
       (fed_over fed stood first (taken ++ ready) rest left more held_now stands_now is up).at o e
 
   -- by how the session ends
-  pub ended_written : (ending : SessionEnd) → Some ending ≡ end_of fed → (old : FileMap) → start.files ≡ Some old
-      → after.out ≡ grown now.out said.out.items → after.err ≡ grown now.err said.err.items
+  pub ended_written : (ending : SessionEnd) → Some ending ≡ end_of fed → after.out ≡ grown now.out said.out.items
+      → after.err ≡ grown now.err said.err.items
       → (fed ≡ Err ReadFailed → Rose start.fetch_faults after.fetch_faults)
       → (fed ≡ Err WriteFailed → Rose start.store_faults after.store_faults)
       → IsEnded (session_course first all_input) ending start after
-  ended_written ending q old told o e rose stored =
+  ended_written ending q o e rose stored =
       ended_by fed ending first all_input start after q
-      (part_if old told (front_all now.out after.out said.out.items o) (front_all now.err after.err said.err.items e))
-      (whole_written old told o e) rose stored
+      (part_if (front_all now.out after.out said.out.items o) (front_all now.err after.err said.err.items e))
+      (whole_written o e) rose stored
 
   -- in full, and the session goes on behind more of the block
   pub waits_on : after.out ≡ grown now.out said.out.items → after.err ≡ grown now.err said.err.items → fed ≡ Ok false
@@ -171,11 +167,10 @@ module _ (first : Talk) (input : List ℕ) (held : Option (List ℕ)) (session :
   abbrev stands_last : Now
   stands_last = now_of said new after.files after.steps
 
-  last_if : (old : FileMap) → start.files ≡ Some old → GrowsByFront now.out after.out said.out.items
-      → GrowsByFront now.err after.err said.err.items
+  last_if : GrowsByFront now.out after.out said.out.items → GrowsByFront now.err after.err said.err.items
       → IsPartIf (fed ≡ Err WriteFailed) (session_course first input) start after
-  last_if old told o e =
-      part_by first input held session start now w (fed ≡ Err WriteFailed) input said new after old told (by fed up) o e
+  last_if o e =
+      part_by first input held session start now w (fed ≡ Err WriteFailed) input said new after (by fed up) o e
     where
       by : (r : Result A SessionFault)
           → MatchResult r (λ _. IsAt stood_last (talk_on first input) stands_last)
@@ -187,22 +182,21 @@ module _ (first : Talk) (input : List ℕ) (held : Option (List ℕ)) (session :
           stands_last (λ is. ap Err is) broken
 
   -- a part of what was said last is written
-  pub last_part : (old : FileMap) → start.files ≡ Some old → GrowsByFront now.out after.out said.out.items
-      → GrowsByFront now.err after.err said.err.items
+  pub last_part : GrowsByFront now.out after.out said.out.items → GrowsByFront now.err after.err said.err.items
       → (fed ≡ Err WriteFailed → Rose start.store_faults after.store_faults)
       → IsPartBut (session_course first input) start after
-  last_part old told o e rose = part_but A fed first input start after (last_if old told o e) rose
+  last_part o e rose = part_but A fed first input start after (last_if o e) rose
 
   -- all of it is, and the session ends
-  pub last_written : (ending : SessionEnd) → ending ≡ last_end fed → (old : FileMap) → start.files ≡ Some old
-      → after.out ≡ grown now.out said.out.items → after.err ≡ grown now.err said.err.items
+  pub last_written : (ending : SessionEnd) → ending ≡ last_end fed → after.out ≡ grown now.out said.out.items
+      → after.err ≡ grown now.err said.err.items
       → (fed ≡ Err ReadFailed → Rose start.fetch_faults after.fetch_faults)
       → (fed ≡ Err WriteFailed → Rose start.store_faults after.store_faults)
       → IsEnded (session_course first input) ending start after
-  last_written ending q old told o e rose stored =
+  last_written ending q o e rose stored =
       subst (λ (x : SessionEnd). IsEnded (session_course first input) x start after) (sym q)
       (by fed up
-      (last_if old told (front_all now.out after.out said.out.items o) (front_all now.err after.err said.err.items e))
+      (last_if (front_all now.out after.out said.out.items o) (front_all now.err after.err said.err.items e))
       rose stored)
     where
       by : (r : Result A SessionFault)
@@ -213,5 +207,5 @@ module _ (first : Talk) (input : List ℕ) (held : Option (List ℕ)) (session :
           → (r ≡ Err WriteFailed → Rose start.store_faults after.store_faults)
           → IsEnded (session_course first input) (last_end r) start after
       by (Ok done) at part f s =
-          whole first input held session start now w (talk_on first input) said new after old told at o e
+          whole first input held session start now w (talk_on first input) said new after at o e
       by (Err fault) broken part f s = by_fault A (Err fault) first input start after part fault refl f s

@@ -1,6 +1,6 @@
 -- Some lines, and what they ask for.
 use Rattle.std.specs.Prelude.{◌≡◌, [], ℕ, List, codes}
-use Rattle.session.specs.Commands.{Bad, Blank, Command, Conformable, Define, DropLast, Edit, Expression, Load, Locale}
+use Rattle.session.specs.Commands.{Bad, Blank, Conformable, Define, DropLast, Edit, Expression, Load, Locale}
 use Rattle.session.specs.Commands.{Quit, Redo, Save, Search, Set, Stats, Undo, Unknown, Unwatch, Watch, command_of}
 
 -- the word of a command that lacks what it needs

@@ -1,7 +1,7 @@
 -- The lines that a session hears.
 use Rattle.std.specs.Prelude.{◌≡◌, ◌∷◌, [], ℕ, List, Bool, false, nat_le, length, if◌then◌else◌, Option, Some, None}
 use Rattle.std.specs.List.{list_any}
-use Rattle.session.specs.Commands.{command_of, is_quit, names_file, saved_in}
+use Rattle.session.specs.Commands.{command_of, is_load, is_quit, names_file, saved_in}
 use Rattle.session.specs.Input.{lines_of}
 
 -- the longest line that is read
@@ -40,6 +40,18 @@ names_file_read (Some line) = names_file (command_of line)
 
 abbrev pub names_file_in : (line : List ℕ) → Bool
 names_file_in line = names_file_read (readable line)
+
+-- a line that loads a file, unless it is too long to be read
+abbrev pub loads_file_read : Option (List ℕ) → Bool
+loads_file_read None = false
+loads_file_read (Some line) = is_load (command_of line)
+
+abbrev pub loads_file_in : (line : List ℕ) → Bool
+loads_file_in line = loads_file_read (readable line)
+
+-- a line of an input that is heard loads a file
+abbrev pub any_loads_file : (input : List ℕ) → Bool
+any_loads_file input = list_any loads_file_in (heard (lines_of input))
 
 -- no line of an input that is heard names a file
 abbrev pub NamesNoFile : (input : List ℕ) → Type 0

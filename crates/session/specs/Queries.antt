@@ -1,5 +1,6 @@
 -- What queries and edits leave of a live table.
 use Rattle.std.specs.Prelude.{◌≡◌, ◌+◌, ℕ, List}
+use Rattle.std.specs.FinMap as map_of
 use Rattle.deck.specs.Decks.{Contents}
 use Rattle.live_table.specs.Shown.{Follows, Shown, state}
 use Rattle.live_table.specs.States.{Event, State, after_all}
@@ -11,6 +12,10 @@ shown_with deck s = record { deck = deck; kept = s.kept; reductions = s.reductio
 -- what these events leave, which lead to this deck
 unfoldable pub after_events : List Event → Contents → Shown → Shown
 after_events events deck table = shown_with deck (after_all events (state table 0))
+
+-- a table over a deck of which no name is settled
+abbrev pub fresh : Contents → Shown
+fresh deck = record { deck = deck; kept = map_of.empty; reductions = 0 }
 
 -- queries leave the deck
 abbrev pub asked_table : List Event → Shown → Shown

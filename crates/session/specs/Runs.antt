@@ -3,13 +3,13 @@ use Rattle.std.specs.Prelude.{◌≡◌, ◌⊎◌, ◌≤◌, ◌++◌, ℕ, Li
 use Rattle.std.specs.declared.option.Option.{Option}
 use Rattle.std.specs.List.{list_any}
 use Rattle.units_io.specs.Faults.{Rose}
-use Rattle.units_io.specs.FileMap.{FileMap}
-use Rattle.session.specs.Hearing.{is_last}
+use Rattle.session.specs.Hearing.{any_loads_file, is_last}
 use Rattle.session.specs.Input.{whole_lines}
 use Rattle.session.specs.Outside.{GrowsAtLeast, Outside, IsReadToEnd, TookMoreThan}
 use Rattle.session.specs.Sessions.{Known}
 use Rattle.session.specs.Standing.{Holds}
 use Rattle.session.specs.Talks.{Talk}
+use Rattle.session.specs.Telling.{IsToldIf}
 use Rattle.session.specs.Waiting.{Opens, Waits}
 use Rattle.session.specs.Worlds.{World, outside}
 use Rattle.session.specs.Written.{IsEnded, session_course}
@@ -40,9 +40,10 @@ pub record IsSessionRun (said : Said) (session : Known) (ending : SessionEnd) (b
   -- at the end both sinks have all that the session says over its whole input, and the files are as it leaves them;
   -- or the first lines are answered, each sink has a front of what is shown for these, and the files are as they leave
   -- them; if the input is too long, or the source failed, these lines are the whole lines of the bytes taken, and all
-  -- is shown; a store that failed can have spoilt the one file that the next line saves
+  -- is shown; a store that failed can have spoilt the one file that the next line saves. Files that no line loads may
+  -- hold anything, and nothing need be told of them
   pub told : (first : Talk) (input : List ℕ) (start : Outside) → before.source.left ≡ Some input →
-      Opens first said session start (outside before) →
+      IsToldIf (any_loads_file input) before.files.told → Opens first said session start (outside before) →
       IsEnded (session_course first input) ending start (outside after)
   -- a session that is done has read its input to the end, or to a line that ends it
   pub heard : (input : List ℕ) → before.source.left ≡ Some input → ending ≡ Done →
@@ -53,8 +54,8 @@ pub record IsSessionRun (said : Said) (session : Known) (ending : SessionEnd) (b
 -- the same of a session that waits for its first line, all that it said before is written
 pub record AreAnswered (held : Option (List ℕ)) (session : Known) (ending : SessionEnd) (before after : World) : Type 0
   where
-    pub told : (first : Talk) (input : List ℕ) (start : Outside) (files : FileMap) →
-        before.source.left ≡ Some input → start.files ≡ Some files → start.fetch_faults ≤ before.files.fetch_faults →
+    pub told : (first : Talk) (input : List ℕ) (start : Outside) → before.source.left ≡ Some input →
+        IsToldIf (any_loads_file input) start.files → start.fetch_faults ≤ before.files.fetch_faults →
         start.store_faults ≤ before.files.store_faults →
         Waits first [] held session start (outside before) →
         IsEnded (session_course first input) ending start (outside after)
@@ -73,7 +74,8 @@ pub record AreLater (before now : World) : Type 0 where
 -- a session that waits has answered a block of its input, all that this gave is written, and it waits again
 pub record GoesOn (block : List ℕ) (held : Option (List ℕ)) (session : Known) (held_now : Option (List ℕ))
     (session_now : Known) (before after : World) : Type 0 where
-  pub waits : (first : Talk) (taken : List ℕ) (start : Outside) →
+  pub waits : (first : Talk) (taken more : List ℕ) (start : Outside) →
+      IsToldIf (any_loads_file ((taken ++ block) ++ more)) start.files →
       Waits first taken held session start (outside before) →
       Waits first (taken ++ block) held_now session_now start (outside after)
   pub later : AreLater before after
@@ -82,7 +84,8 @@ pub record GoesOn (block : List ℕ) (held : Option (List ℕ)) (session : Known
 -- a line of a block of its input, or a fault at it, has ended a session that waits so
 pub record EndsInBlock (ending : SessionEnd) (block : List ℕ) (held : Option (List ℕ)) (session : Known)
     (before after : World) : Type 0 where
-  pub told : (first : Talk) (taken more : List ℕ) (start : Outside) (files : FileMap) → start.files ≡ Some files →
+  pub told : (first : Talk) (taken more : List ℕ) (start : Outside) →
+      IsToldIf (any_loads_file ((taken ++ block) ++ more)) start.files →
       start.fetch_faults ≤ before.files.fetch_faults → start.store_faults ≤ before.files.store_faults →
       Waits first taken held session start (outside before) →
       IsEnded (session_course first ((taken ++ block) ++ more)) ending start (outside after)
@@ -100,7 +103,7 @@ IsBlockAnswered (Some ending) block held session held_now session_now before aft
 -- a session that waits for more has ended so at the end of its input
 pub record IsEndAnswered (ending : SessionEnd) (held : Option (List ℕ)) (session : Known) (before after : World)
     : Type 0 where
-  pub told : (first : Talk) (input : List ℕ) (start : Outside) (files : FileMap) → start.files ≡ Some files →
+  pub told : (first : Talk) (input : List ℕ) (start : Outside) → IsToldIf (any_loads_file input) start.files →
       start.fetch_faults ≤ before.files.fetch_faults → start.store_faults ≤ before.files.store_faults →
       Waits first input held session start (outside before) →
       IsEnded (session_course first input) ending start (outside after)

@@ -1,5 +1,5 @@
 -- Where a session stands while its input comes.
-use Rattle.std.specs.Prelude.{◌≡◌, ◌+◌, ◌++◌, ℕ, List, Bool, true, false, Result, Ok, Err, Some, ⊤}
+use Rattle.std.specs.Prelude.{◌≡◌, ◌+◌, ◌++◌, ℕ, List, Bool, true, false, Result, Ok, Err, ⊤}
 use Rattle.std.specs.declared.option.Option.{Option}
 use Rattle.std.specs.List.{list_any}
 use Rattle.units_io.specs.FileMap.{FileMap}
@@ -8,14 +8,16 @@ use Rattle.session.specs.Input.{lines_of, whole_lines, unfinished}
 use Rattle.session.specs.Keeping.{AreLeft}
 use Rattle.session.specs.Sessions.{Known}
 use Rattle.session.specs.Talks.{Talk, talk_over, talk_on}
+use Rattle.session.specs.Telling.{when_told}
 use Rattle.session.specs.declared.fault.SessionFault.{SessionFault}
 use Rattle.session.specs.declared.fault.SessionFault.TheVariants.{WriteFailed}
 use Rattle.session.specs.declared.said.Said.{Said}
 
--- what was written before, and the count of steps at the start
+-- what was written before, what was told of the files, and the count of steps at the start
 pub record Base : Type 0 where
   pub out : List ℕ
   pub err : List ℕ
+  pub files : Option FileMap
   pub steps : ℕ
 
 -- what the program has: the bytes that are said and not yet written, the session, the files, and the count of steps
@@ -28,12 +30,12 @@ pub record Now : Type 0 where
 abbrev pub now_of : Said → Known → (files : Option FileMap) → (steps : ℕ) → Now
 now_of said session files steps = record { said = said; session = session; files = files; steps = steps }
 
--- the program stands at this point of the talk
+-- the program stands at this point of the talk; files of which nothing is told may be any
 pub record IsAt (base : Base) (talk : Talk) (now : Now) : Type 0 where
   pub out : talk.out ≡ base.out ++ now.said.out.items
   pub err : talk.err ≡ base.err ++ now.said.err.items
   pub session : now.session ≡ talk.state.session
-  pub files : now.files ≡ Some talk.state.files
+  pub files : now.files ≡ when_told base.files talk.state.files
   pub steps : now.steps ≡ base.steps + talk.steps
 
 -- some bytes are the front of others
@@ -53,7 +55,8 @@ pub record BreaksOff (failed : Type 0) (base : Base) (talk : Talk) (lines : List
   pub rest : List (List ℕ)
   pub split : lines ≡ answered ++ rest
   pub before : IsBefore base (talk_over talk answered) now.said
-  pub left : (m : FileMap) × (now.files ≡ Some m) × AreLeft failed rest (talk_over talk answered).state.files m
+  pub left : (m : FileMap) × (now.files ≡ when_told base.files m)
+      × AreLeft failed rest (talk_over talk answered).state.files m
 
 -- the answers to these lines broke off by a fault
 abbrev pub IsBroken : SessionFault → Base → Talk → (lines : List (List ℕ)) → Now → Type 0

@@ -1,5 +1,5 @@
 -- The made-up definitions and lines of a trial.
-use Rattle.std.specs.Prelude.{◌++◌, ◌+◌, ◌*◌, ◌/◌, ◌%◌, [], ℕ, zero, suc, List, codes}
+use Rattle.std.specs.Prelude.{◌≡◌, ◌++◌, ◌+◌, ◌*◌, ◌/◌, ◌%◌, [], ℕ, zero, suc, List, codes}
 use Rattle.std.specs.Fmt.{decimal}
 
 -- the name of a unit by number
@@ -31,3 +31,8 @@ round n k =
 abbrev pub rounds : (n k : ℕ) → List ℕ
 rounds n zero = []
 rounds n (suc k) = rounds n k ++ round n (suc k)
+
+-- law: the definitions of a trial of three rounds, and its second round
+pub record TrialExamples : Type 0 where
+  pub three : definitions 3 ≡ codes "u_0 !\nu_1 2 u_0\nu_2 3 u_1\nu_3 1 u_1\n"
+  pub second : round 3 2 ≡ codes ":define u_3 4 u_1\nu_2\nu_0\n"

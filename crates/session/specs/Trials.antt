@@ -1,12 +1,12 @@
 -- A trial: a session over made-up definitions and made-up lines.
 use Rattle.std.specs.Prelude.{◌++◌, ◌+◌, [], ℕ, List, None, true, length, codes}
-use Rattle.std.specs.FinMap as map_of
 use Rattle.units_io.specs.FileMap.{no_files}
 use Rattle.deck.specs.Decks.{Contents}
 use Rattle.deck.specs.declared.settings.Settings.{Settings}
 use Rattle.live_table.specs.Shown.{Shown}
 use Rattle.reply.specs.declared.options.Options.{Options}
 use Rattle.session.specs.Counting.{counted, statistics}
+use Rattle.session.specs.Queries.{fresh}
 use Rattle.session.specs.Sessions.{Known, known, state_of}
 use Rattle.session.specs.Talks.{Talk, talk_on}
 use Rattle.session.specs.TextDecks.{text_deck}
@@ -20,8 +20,7 @@ silent session = record { out = []; err = []; steps = 0; state = state_of sessio
 -- a quiet session over a deck of which no name is settled
 abbrev pub quiet_session : Options → Contents → Known
 quiet_session options deck =
-    known (record options { quiet = true }) (record { deck = deck; kept = map_of.empty; reductions = 0 }) None
-    no_versions []
+    known (record options { quiet = true }) (fresh deck) None no_versions []
 
 -- what is told of a trial, and how many names it settled
 pub record Trial : Type 0 where

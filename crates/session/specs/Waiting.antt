@@ -1,19 +1,21 @@
 -- Where a session stands between two pieces of its input.
-use Rattle.std.specs.Prelude.{◌≡◌, ◌+◌, ◌-◌, ◌^◌, ◌≤◌, ◌⊎◌, [], ℕ, List, false, Some}
+use Rattle.std.specs.Prelude.{◌≡◌, ◌+◌, ◌-◌, ◌^◌, ◌≤◌, ◌⊎◌, [], ℕ, List, false}
 use Rattle.std.specs.declared.option.Option.{Option}
 use Rattle.std.specs.List.{list_any}
 use Rattle.units_io.specs.Bytes.{grown}
+use Rattle.units_io.specs.FileMap.{FileMap}
 use Rattle.session.specs.Hearing.{is_last, readable}
 use Rattle.session.specs.Input.{whole_lines, unfinished}
 use Rattle.session.specs.Outside.{Outside}
 use Rattle.session.specs.Sessions.{Known}
 use Rattle.session.specs.Standing.{Base, IsAt}
 use Rattle.session.specs.Talks.{Talk, talk_over}
+use Rattle.session.specs.Telling.{when_told}
 use Rattle.session.specs.declared.said.Said.{Said}
 
 -- nothing was written before a session
-abbrev pub at_first : (steps : ℕ) → Base
-at_first steps = record { out = []; err = []; steps = steps }
+abbrev pub at_first : (files : Option FileMap) → (steps : ℕ) → Base
+at_first files steps = record { out = []; err = []; files = files; steps = steps }
 
 -- a session is opened behind some planning, which wrote nothing; what it says first is not written yet
 pub record Opens (first : Talk) (said : Said) (session : Known) (before now : Outside) : Type 0 where
@@ -22,7 +24,7 @@ pub record Opens (first : Talk) (said : Said) (session : Known) (before now : Ou
   pub files : now.files ≡ before.files
   pub faults : before.fetch_faults ≤ now.fetch_faults
   pub stores : before.store_faults ≤ now.store_faults
-  pub at : IsAt (at_first before.steps) first
+  pub at : IsAt (at_first before.files before.steps) first
       (record { said = said; session = session; files = now.files; steps = now.steps })
 
 -- the whole lines of the bytes taken are answered and written, none of them is the last, and the rest is held
@@ -30,7 +32,7 @@ pub record Waits (first : Talk) (taken : List ℕ) (held : Option (List ℕ)) (n
     : Type 0 where
   pub out : now.out ≡ grown before.out (talk_over first (whole_lines taken)).out
   pub err : now.err ≡ grown before.err (talk_over first (whole_lines taken)).err
-  pub files : now.files ≡ Some (talk_over first (whole_lines taken)).state.files
+  pub files : now.files ≡ when_told before.files (talk_over first (whole_lines taken)).state.files
   pub steps : now.steps ≡ before.steps + (talk_over first (whole_lines taken)).steps
   pub session : new ≡ (talk_over first (whole_lines taken)).state.session
   pub going : list_any is_last (whole_lines taken) ≡ false

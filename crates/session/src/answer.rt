@@ -1,6 +1,6 @@
 //! The answer to a line of a session.
 
-ghost use Rattle.std.specs.Prelude.{◌≡◌, ◌≤◌, ℕ, List, length, None, Some, IfOk, IsErrOf, OnOk, [], false, true};
+ghost use Rattle.std.specs.Prelude.{◌≡◌, ◌≤◌, List, length, None, Some, IfOk, IsErrOf, OnOk, [], false, true};
 ghost use Rattle.units_io.specs.FileMap.{FileMap, longest_file, with_file};
 ghost use Rattle.units_io.specs.Faults.{Rose};
 ghost use Rattle.deck_save.specs.Saved.{saved_file};

@@ -5,8 +5,10 @@ ghost use Rattle.session.specs.CommandExamples.{CommandExamples};
 ghost use Rattle.session.specs.HistoryLaws.{HistoryLaws, SaveLaw};
 ghost use Rattle.session.specs.Laws.{LineLaws};
 ghost use Rattle.session.specs.Queries.{LeavesLaw};
+ghost use Rattle.session.specs.TrialLines.{TrialExamples};
 
 use deck_save::saved_decks_are_given_back;
+use reply::grant_examples_law;
 
 /// The lines of an input, and which of them a session hears.
 pub fn line_laws()
@@ -26,6 +28,13 @@ pub fn command_examples()
 /// What some lines are answered with.
 pub fn answer_examples()
     ensures { AnswerExamples }
+{
+    grant_examples_law();
+}
+
+/// The definitions and a round of a short trial.
+pub fn trial_examples()
+    ensures { TrialExamples }
 {}
 
 /// Cached outcomes change no answer but that to `:stats`, versions of the deck change none but those to `:undo` and

@@ -24,7 +24,10 @@ mod watching;
 pub use answer::LineReply;
 pub use command::{Command, DeckEdit, read_command};
 pub use fault::SessionFault;
-pub use laws::{answer_examples, command_examples, history_laws, leaves_law, line_laws, save_law};
+pub use laws::{
+    answer_examples, command_examples, history_laws, leaves_law, line_laws, save_law,
+    trial_examples,
+};
 pub use lines::notice_lines;
 pub use over_source::{SessionEnd, run_session};
 pub use said::Said;

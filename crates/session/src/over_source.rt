@@ -42,8 +42,9 @@ const MOST_INPUT: u64 = 4_294_967_296;
 /// whole input. With another ending the first lines are answered: each sink has a front of what is shown for these, and
 /// the files are as these leave them, but perhaps for one that could not be written; if the input is too long, or the
 /// source failed, these are the whole lines of the bytes taken, and all is shown. Every ending but `Done` and want of
-/// memory has its cause. `unasked`: if no line names a file, no file is asked for. `opening`: nothing is taken from the
-/// source before the opening is written. `order`: nothing is written to `out` before the opening's notices.
+/// memory has its cause. Nothing need be told of the files if no line loads one. `unasked`: if no line names a file, no
+/// file is asked for. `opening`: nothing is taken from the source before the opening is written. `order`: nothing is
+/// written to `out` before the opening's notices.
 pub fn run_session<S: Source, O: Sink, E: Sink, F: Files, L: Ledger>(
     alloc: Global,
     session: &mut Session,

@@ -6,7 +6,8 @@ ghost use Rattle.std.specs.Option.{option_copied};
 ghost use Rattle.units_io.specs.FileMap.{FileMap};
 ghost use Rattle.session.specs.Answering.{AreCounted, IsAnswered, file_faults, scene_of};
 ghost use Rattle.session.specs.Hearing.{heard, is_last, is_last_read, longest_line, readable, saved_by_read};
-ghost use Rattle.session.specs.Hearing.{NamesNoFile, names_file_in, names_file_read};
+ghost use Rattle.session.specs.Hearing.{NamesNoFile, any_loads_file, loads_file_in, loads_file_read};
+ghost use Rattle.session.specs.Hearing.{names_file_in, names_file_read};
 ghost use Rattle.session.specs.Input.{lines_of};
 ghost use Rattle.session.specs.Keeping.{LineKeeps};
 ghost use Rattle.session.specs.Parts.{IsLine};
@@ -14,6 +15,7 @@ ghost use Rattle.session.specs.Sessions.{state_of};
 ghost use Rattle.session.specs.Standing.{Base, Fed, Holds, IsAt, IsBroken, IsTakenUp, Stands, now_of};
 ghost use Rattle.session.specs.Steps as spec;
 ghost use Rattle.session.specs.Talks.{Talk, with_answer, talk_on};
+ghost use Rattle.session.specs.Telling.{IsToldIf, TellsIf};
 
 use crate::answer::LineReply;
 use crate::fault::SessionFault;
@@ -38,7 +40,8 @@ pub(crate) fn feed<F: Files, L: Ledger>(
     steps: &mut Steps<L>,
     rest: &mut &[u8],
 ) -> Result<bool, SessionFault>
-    ensures told { (base : Base) (first : Talk) (taken more : List ℕ) → Stands base first taken held.old
+    ensures told { (base : Base) (first : Talk) (taken more : List ℕ) →
+        IsToldIf (any_loads_file ((taken ++ rest.old.now) ++ more)) base.files → Stands base first taken held.old
         (now_of said.old session.old (F.files files.old) steps.old) →
         Fed result base first taken rest.old.now rest.new.now more held.new
         (now_of said.new session.new (F.files files.new) steps.new) }
@@ -78,7 +81,8 @@ pub(crate) fn feed_end<F: Files, L: Ledger>(
     files: &mut F,
     steps: &mut Steps<L>,
 ) -> Result<(), SessionFault>
-    ensures told { (base : Base) (first : Talk) (input : List ℕ) → Stands base first input held.now
+    ensures told { (base : Base) (first : Talk) (input : List ℕ) → IsToldIf (any_loads_file input) base.files →
+        Stands base first input held.now
         (now_of said.old session.old (F.files files.old) steps.old) →
         MatchResult result
         (λ _. IsAt base (talk_on first input)
@@ -108,7 +112,8 @@ fn end_line<F: Files, L: Ledger>(
     steps: &mut Steps<L>,
     piece: &[u8],
 ) -> Result<bool, SessionFault>
-    ensures told { (base : Base) (talk : Talk) (part : List ℕ) → held.old ≡ readable part → IsAt base talk
+    ensures told { (base : Base) (talk : Talk) (part : List ℕ) → held.old ≡ readable part →
+        IsToldIf (loads_file_in (part ++ piece.now)) base.files → IsAt base talk
         (now_of said.old session.old (F.files files.old) steps.old) →
         MatchResult result
         (λ done. (done ≡ is_last (part ++ piece.now)) × (held.new ≡ Some [])
@@ -160,7 +165,7 @@ fn reply<F: Files, L: Ledger>(
 ) -> Result<bool, SessionFault>
     requires { IfSome line (λ line. length line.now ≤ longest_line) }
     ensures told { (base : Base) (talk : Talk) (part : List ℕ) → option_copied line.entry ≡ readable part →
-        IsAt base talk
+        IsToldIf (loads_file_in part) base.files → IsAt base talk
         (now_of said.old session.old (F.files files.old) steps.old) →
         MatchResult result
         (λ done. (done ≡ is_last part) × IsAt base (with_answer talk (spec.answer talk.state part) part)
@@ -191,7 +196,7 @@ fn answer_line<F: Files, L: Ledger>(
     steps: &mut Steps<L>,
 ) -> Result<LineReply, SessionFault>
     requires { IfSome line (λ line. length line.now ≤ longest_line) }
-    ensures answer { (m : FileMap) → F.files files.old ≡ Some m →
+    ensures answer { (m : FileMap) → TellsIf (loads_file_read (option_copied line.entry)) (F.files files.old) m →
         IsAnswered (spec.answer_read (state_of session.old m) (option_copied line.entry)) result
         (scene_of session.old (F.files files.old) steps.old)
         (scene_of session.new (F.files files.new) steps.new) }

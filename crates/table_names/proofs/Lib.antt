@@ -7,8 +7,10 @@ pub mod LineKinds
 pub mod Lookups
 pub mod MeaningKinds
 pub mod Meanings
+pub mod Meeting
 pub mod Members
 pub mod OneFault
 pub mod Paths
 pub mod Reaching
+pub mod Standing
 pub mod TargetKinds

@@ -1,91 +1,110 @@
 -- The kinds of the targets of words.
-use Rattle.std.proofs.Common.{◌≡◌, ◌≢◌, ℕ, zero, suc, Bool, true, false, cond, List, [], ◌∷◌, ◌++◌, length, take, drop}
-use Rattle.std.proofs.Common.{codes, refl}
+use Rattle.std.proofs.Common.{◌≡◌, ◌≢◌, ◌&&◌, ℕ, zero, suc, Bool, true, false, cond, List, [], ◌∷◌, ◌++◌, length, take}
+use Rattle.std.proofs.Common.{drop, flat_map, Contains, refl, sym, ap, subst, inl, inr}
+use Rattle.std.specs.List.{list_all}
 use Rattle.expr_tree.specs.declared.word_list.WordKind.{WordKind}
 use Rattle.expr_tree.specs.declared.word_list.WordKind.TheVariants as place
 use Rattle.expr_tree.specs.declared.word_list.WordUse.{WordUse}
 use Rattle.def_entry.specs.declared.key.Key.{Key}
-use Rattle.def_entry.specs.declared.key.Kind.{Kind}
 use Rattle.def_entry.specs.declared.key.Kind.TheVariants as kind
 use Rattle.def_entry.specs.Keys.{key}
+use Rattle.def_entry.specs.SameKeys.{is_same_kind}
 use Rattle.def_entry.specs.Tables.{Table, is_present}
-use Rattle.name_lookup.specs.Order.{has_ending, plan, try_kinds, try_prefixes, try_stem_if, try_stems, with_prefix}
-use Rattle.name_lookup.specs.Order.{without}
-use Rattle.name_lookup.specs.Plans.{Found, Asks, Gives, Plan, run}
+use Rattle.name_lookup.specs.Candidates.{candidates, first_present, part_candidates, prefix_candidate}
+use Rattle.name_lookup.specs.Candidates.{prefix_candidates, prefix_candidates_within, singular_candidates}
+use Rattle.name_lookup.specs.Plurals.{singulars}
 use Rattle.tree_eval.specs.Expansion.{inverted_word}
 use Rattle.table_names.specs.Leads.{targets}
+use Rattle.table_names.proofs.Members.{member_cases, no_member}
 
--- none, one, or a prefix and a unit
+-- the key is no list
+abbrev pub IsNoList : Key → Type 0
+IsNoList k = is_same_kind k.kind kind.List ≡ false
+
+-- none, one that is no list, or a prefix and a unit
 abbrev pub AreTargets : List Key → Type 0
 AreTargets [] = Unit {0}
-AreTargets (n ∷ []) = Unit {0}
+AreTargets (n ∷ []) = IsNoList n
 AreTargets (n ∷ m ∷ []) = (n.kind ≡ kind.Prefix) × (m.kind ≡ kind.Unit)
 AreTargets (n ∷ m ∷ o ∷ ks) = ⊥
 
--- a plan that gives only such
-abbrev GivesTargets : Plan → Type 0
-GivesTargets (Gives ks) = AreTargets ks
-GivesTargets (Asks k present absent) = GivesTargets present × GivesTargets absent
+-- candidates that are all such
+abbrev AreCandidates : List (List Key) → Type 0
+AreCandidates [] = Unit {0}
+AreCandidates (c ∷ cs) = AreTargets c × AreCandidates cs
 
--- where each end of a plan gives targets of the right kinds, so does its run
-run_gives : (has : Key → Bool) (p : Plan) → GivesTargets p → AreTargets (run has p).targets
-run_gives has (Gives ks) h = h
-run_gives has (Asks k present absent) h =
-    either (has k) (run has present) (run has absent) (run_gives has present h.0) (run_gives has absent h.1)
+-- the first present one is one of them, or none
+first_is : (has : Key → Bool) (cs : List (List Key)) → AreCandidates cs → AreTargets (first_present has cs)
+first_is has [] h = tt
+first_is has (c ∷ cs) h = either (list_all has c) c (first_present has cs) h.0 (first_is has cs h.1)
   where
-    either : (b : Bool) (f g : Found) → AreTargets f.targets → AreTargets g.targets → AreTargets (cond b f g).targets
-    either true f g p q = p
-    either false f g p q = q
+    either : (b : Bool) (ks ls : List Key) → AreTargets ks → AreTargets ls → AreTargets (cond b ks ls)
+    either true ks ls p q = p
+    either false ks ls p q = q
 
--- a unit behind a prefix gives a prefix, or a prefix and a unit
-with_prefix_gives : (w rest : List ℕ) (next : Plan) → GivesTargets next
-    → GivesTargets (with_prefix (key kind.Prefix w) rest next)
-with_prefix_gives w [] next h = tt
-with_prefix_gives w (b ∷ bs) next h = ((refl, refl), h)
+joined : (cs ds : List (List Key)) → AreCandidates cs → AreCandidates ds → AreCandidates (cs ++ ds)
+joined [] ds g h = h
+joined (c ∷ cs) ds g h = (g.0, joined cs ds g.1 h)
 
--- so do all prefixes of a word
-prefixes_give : (k : ℕ) (w : List ℕ) (next : Plan) → GivesTargets next → GivesTargets (try_prefixes k w next)
-prefixes_give zero w next h = h
-prefixes_give (suc k) w next h = (
-  with_prefix_gives (take (suc k) w) (drop (suc k) w) (try_prefixes k w next) (prefixes_give k w next h),
-  prefixes_give k w next h,
-)
+-- a prefix, or a prefix and a unit
+with_prefix : (front rest : List ℕ) → AreTargets (prefix_candidate front rest)
+with_prefix front [] = refl
+with_prefix front (b ∷ bs) = (refl, refl)
 
--- so does a stem that there may be
-stem_gives : (b : Bool) (stem : List ℕ) (next : Plan) → GivesTargets next → GivesTargets (try_stem_if b stem next)
-stem_gives true stem next h = (tt, prefixes_give (length stem) stem next h)
-stem_gives false stem next h = h
+with_prefixes : (k : ℕ) (word : List ℕ) → AreCandidates (prefix_candidates_within k word)
+with_prefixes zero word = tt
+with_prefixes (suc k) word = (with_prefix (take (suc k) word) (drop (suc k) word), with_prefixes k word)
 
--- so do the stems of a plural
-stems_give : (w : List ℕ) (next : Plan) → GivesTargets next → GivesTargets (try_stems w next)
-stems_give w next h =
-    stem_gives (has_ending 2 (codes "s") w) (without 1 w) _ (stem_gives (has_ending 3 (codes "es") w) (without 2 w) _
-    (stem_gives (has_ending 4 (codes "ies") w) (without 3 w ++ codes "y") next h))
+of_singulars : (words : List (List ℕ)) → AreCandidates (flat_map singular_candidates words)
+of_singulars [] = tt
+of_singulars (w ∷ ws) =
+    joined (singular_candidates w) (flat_map singular_candidates ws) (refl, with_prefixes (length w) w)
+    (of_singulars ws)
 
--- so do two kinds, and then the parts of a word
-kinds_give : (first second : Kind) (w : List ℕ) → GivesTargets (try_kinds first second w (Gives []))
-kinds_give first second w =
-    (tt, (tt, stems_give w (try_prefixes (length w) w (Gives [])) (prefixes_give (length w) w (Gives []) tt)))
+of_parts : (word : List ℕ) → AreCandidates (part_candidates word)
+of_parts word =
+    joined (flat_map singular_candidates (singulars word)) (prefix_candidates word) (of_singulars (singulars word))
+    (with_prefixes (length word) word)
 
--- so does the plan of each word
-plan_gives : (at : WordKind) (w : List ℕ) → GivesTargets (plan at w)
-plan_gives place.Plain w = kinds_give kind.Unit kind.Func w
-plan_gives place.Call w = kinds_give kind.Func kind.Unit w
-plan_gives place.Inverse w = (tt, tt)
+-- all candidates of a word are such
+are_candidates : (at : WordKind) (word : List ℕ) → AreCandidates (candidates at word)
+are_candidates place.Plain word = (refl, (refl, of_parts word))
+are_candidates place.Call word = (refl, (refl, of_parts word))
+are_candidates place.Inverse word = (refl, tt)
 
--- the targets of each word are none, one, or a prefix and a unit
+-- the targets of each word are none, one that is no list, or a prefix and a unit
 pub are_targets : (table : Table) (u : WordUse) → AreTargets (targets table u)
-are_targets table u = run_gives (is_present table) (plan u.kind u.text) (plan_gives u.kind u.text)
+are_targets table u = first_is (is_present table) (candidates u.kind u.text) (are_candidates u.kind u.text)
 
--- a word behind a `~` that has targets has its function
+-- none of several such keys is a list
+member_no_list : (ks : List Key) → AreTargets ks → (n : Key) → Contains ks n → IsNoList n
+member_no_list [] h n i = absurd (no_member n i)
+member_no_list (k ∷ []) h n i =
+    elim (member_cases n k [] i) [
+      | inl e ↦ subst (λ (x : Key). IsNoList x) (sym e) h
+      | inr j ↦ absurd (no_member n j)
+    ]
+member_no_list (k ∷ l ∷ []) h n i =
+    elim (member_cases n k (l ∷ []) i) [
+      | inl e ↦ subst (λ (x : Key). IsNoList x) (sym e) (ap (λ x. is_same_kind x kind.List) h.0)
+      | inr j ↦ elim (member_cases n l [] j) [
+        | inl f ↦ subst (λ (x : Key). IsNoList x) (sym f) (ap (λ x. is_same_kind x kind.List) h.1)
+        | inr o ↦ absurd (no_member n o)
+      ]
+    ]
+member_no_list (k ∷ l ∷ m ∷ ks) h n i = absurd h
+
+-- no target is a list
+pub target_no_list : (table : Table) (u : WordUse) (n : Key) → Contains (targets table u) n → IsNoList n
+target_no_list table u n i = member_no_list (targets table u) (are_targets table u) n i
+
+-- the target of a word after a `~`, if it has any, is its function
 pub inverse_target :
     (table : Table) (w : List ℕ) → targets table (inverted_word w) ≢ []
     → targets table (inverted_word w) ≡ key kind.Func w ∷ []
 inverse_target table w = by (is_present table (key kind.Func w))
   where
-    found : Bool → Found
-    found b = cond b (run (is_present table) (Gives (key kind.Func w ∷ []))) (run (is_present table) (Gives []))
-
-    by : (b : Bool) → (found b).targets ≢ [] → (found b).targets ≡ key kind.Func w ∷ []
+    by : (b : Bool) → cond (b && true) (key kind.Func w ∷ []) [] ≢ []
+        → cond (b && true) (key kind.Func w ∷ []) [] ≡ key kind.Func w ∷ []
     by true some = refl
     by false some = absurd (some refl)

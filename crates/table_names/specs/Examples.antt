@@ -1,5 +1,5 @@
 -- A small table, by hand.
-use Rattle.std.specs.Prelude.{◌≡◌, ℕ, true, false, List, [], ◌∷◌, Some, None, codes, pos}
+use Rattle.std.specs.Prelude.{◌≡◌, ℕ, true, false, List, [], ◌∷◌, ◌++◌, Some, None, codes, pos}
 use Rattle.expr_tree.specs.declared.word_list.WordUse.{WordUse}
 use Rattle.expr_tree.specs.Syntax.{Number, Word}
 use Rattle.expr_tree.specs.Words.{words_in}
@@ -43,6 +43,9 @@ c = unit (codes "c")
 abbrev pub d : Key
 d = unit (codes "d")
 
+abbrev pub e : Key
+e = unit (codes "e")
+
 abbrev pub k : Key
 k = prefix (codes "k")
 
@@ -63,9 +66,22 @@ small =
 abbrev pub alone : List ℕ → List WordUse
 alone w = words_in (Word w)
 
--- law: the chain of a cycle begins where it is asked for; an unknown word is told with the key in whose
--- entry it stands; what is reached; what is looked at; what is stood for; `c` depends on an absent key
--- that would come before `k` and `m`
+-- the words of two words, one after the other
+abbrev pub two_words : List ℕ → List ℕ → List WordUse
+two_words v w = alone v ++ alone w
+
+-- `small`, and a unit `sin`
+abbrev pub with_sin : Table
+with_sin = (unit (codes "sin"), entry Primitive) ∷ small
+
+-- `small`, and a prefix `p` that stands for the unknown word `xm`
+abbrev pub with_bad_prefix : Table
+with_bad_prefix = (prefix (codes "p"), word_entry (codes "xm")) ∷ small
+
+-- law: The chain of a cycle begins at the name that was asked for. An unknown word comes with the key of the entry
+-- that has it. A refused name is refused, whether it is present or not. Faults are met from left to right, in a prefix
+-- before its unit. Then what a name reaches, looks at and stands for; `c` depends on an absent key that would be
+-- preferred to `k` and `m`.
 pub record ExamplesLaw : Type 0 where
   pub from_a : name_fault small (alone (codes "a")) ≡ Some (Cycle (a ∷ b ∷ a ∷ []))
   pub from_b : name_fault small (alone (codes "kb")) ≡ Some (Cycle (b ∷ a ∷ b ∷ []))
@@ -73,6 +89,13 @@ pub record ExamplesLaw : Type 0 where
   pub inside : name_fault small (alone (codes "d")) ≡ Some (Unknown (codes "xm") (Some d))
   pub outside : name_fault small (alone (codes "xm")) ≡ Some (Unknown (codes "xm") None)
   pub refused : name_fault small (alone (codes "sin")) ≡ Some (Refused (codes "sin") None)
+  pub refused_before_targets : name_fault with_sin (alone (codes "sin")) ≡ Some (Refused (codes "sin") None)
+  pub refused_inside : key_fault ((e, word_entry (codes "sin")) ∷ small) e ≡ Some (Refused (codes "sin") (Some e))
+  pub unknown_then_cycle : name_fault small (two_words (codes "xm") (codes "a")) ≡ Some (Unknown (codes "xm") None)
+  pub cycle_then_unknown : name_fault small (two_words (codes "a") (codes "xm")) ≡ Some (Cycle (a ∷ b ∷ a ∷ []))
+  pub clean_then_unknown : name_fault small (two_words (codes "c") (codes "xm")) ≡ Some (Unknown (codes "xm") None)
+  pub prefix_before_unit : name_fault with_bad_prefix (alone (codes "pa"))
+      ≡ Some (Unknown (codes "xm") (Some (prefix (codes "p"))))
   pub closed : name_fault small (alone (codes "c")) ≡ None
   pub reached : reach small (alone (codes "c")) ≡ c ∷ k ∷ m ∷ []
   pub looked_at : key_looked_keys small c ≡ km ∷ key kind.Func (codes "km") ∷ prefix (codes "km") ∷ k ∷ m ∷ []

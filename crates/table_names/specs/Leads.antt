@@ -4,15 +4,16 @@ use Rattle.expr_tree.specs.declared.word_list.WordUse.{WordUse}
 use Rattle.def_entry.specs.declared.key.Key.{Key}
 use Rattle.def_entry.specs.SameKeys.{is_among}
 use Rattle.def_entry.specs.Tables.{Table, is_present, keys_of}
+use Rattle.name_lookup.specs.Candidates.{Found, candidates, found}
 use Rattle.name_lookup.specs.Order.{plan}
-use Rattle.name_lookup.specs.Plans.{Found, run}
+use Rattle.name_lookup.specs.Plans.{run}
 use Rattle.table_names.specs.Words.{key_words}
 
--- the lookup of a word in a table
+-- the lookup of a word in a table: its first candidate of which every key has an entry
 abbrev pub word_lookup : Table → WordUse → Found
-word_lookup table u = run (is_present table) (plan u.kind u.text)
+word_lookup table u = found (is_present table) (candidates u.kind u.text)
 
--- law: the keys of the entries of a table, as lookup asks for keys, give the same
+-- law: the plan by which the code looks up a word among the keys of the entries leads to the same
 abbrev pub LookupLaw : Type 0
 LookupLaw = (table : Table) (u : WordUse) → run (is_among (keys_of table)) (plan u.kind u.text) ≡ word_lookup table u
 

@@ -5,8 +5,13 @@ pub mod Edits
 pub mod Examples
 pub mod FaultLaws
 pub mod Faults
+pub mod FunctionExamples
 pub mod Kinds
 pub mod Leads
 pub mod Meanings
+pub mod Meets
+pub mod MeetsLaws
 pub mod Reach
+pub mod StandsFor
+pub mod StandsForLaws
 pub mod Words

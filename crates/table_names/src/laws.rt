@@ -5,10 +5,24 @@ ghost use Rattle.table_names.specs.ClosedLaws.{ClosedLaw};
 ghost use Rattle.table_names.specs.Edits.{UnaffectedLaw};
 ghost use Rattle.table_names.specs.Examples.{ExamplesLaw};
 ghost use Rattle.table_names.specs.FaultLaws.{FaultLaw, PathLaw};
+ghost use Rattle.table_names.specs.FunctionExamples.{FunctionExamplesLaw};
 ghost use Rattle.table_names.specs.Kinds.{KindLaw};
 ghost use Rattle.table_names.specs.Leads.{LookupLaw};
 ghost use Rattle.table_names.specs.Meanings.{ClosedMeaningLaw};
+ghost use Rattle.table_names.specs.MeetsLaws.{MeetsLaw};
 ghost use Rattle.table_names.specs.Reach.{ReachLaw};
+ghost use Rattle.table_names.specs.StandsForLaws.{StandsForLaw};
+
+/// A name stands for at most one meaning. In a table that fits kinds it stands for one exactly if it has no name
+/// fault, and that meaning is the computed one.
+pub fn stands_for_law()
+    ensures { StandsForLaw }
+{}
+
+/// Words meet at most one name fault, and none exactly if they are clean. That fault is the computed one.
+pub fn meets_law()
+    ensures { MeetsLaw }
+{}
 
 /// What a word leads to in a table is what `resolve` finds among the keys of its entries.
 pub fn lookup_law()
@@ -54,6 +68,11 @@ pub fn affected_law()
 /// What an edit does not affect is as it was before.
 pub fn unaffected_law()
     ensures { UnaffectedLaw }
+{}
+
+/// Some functions have the ranks and the name faults that were found by hand.
+pub fn function_examples_law()
+    ensures { FunctionExamplesLaw }
 {}
 
 /// A small table has the faults, the meanings and the affected keys that were found by hand.

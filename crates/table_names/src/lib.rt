@@ -7,6 +7,6 @@ mod laws;
 
 pub use fault::NameFault;
 pub use laws::{
-    affected_law, closed_law, closed_meaning_law, examples_law, fault_law, kind_law, lookup_law,
-    path_law, reach_law, unaffected_law,
+    affected_law, closed_law, closed_meaning_law, examples_law, fault_law, function_examples_law,
+    kind_law, lookup_law, meets_law, path_law, reach_law, stands_for_law, unaffected_law,
 };

@@ -8,6 +8,7 @@ pub mod Multiples
 pub mod Places
 pub mod Same
 pub mod Targets
+pub mod UnitMaps
 pub mod Uses
 pub mod Weight
 pub mod Words

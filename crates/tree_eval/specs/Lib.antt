@@ -15,4 +15,5 @@ pub mod Refusals
 pub mod Steps
 pub mod Tests
 pub mod Told
+pub mod UnitExamples
 pub mod Value

@@ -29,7 +29,7 @@ pub use fault::{EvalFault, ValueFault};
 pub use function::{apply, unapply};
 pub use holder::{Holder, Part};
 pub use kept_fault::KeptFault;
-pub use laws::{examples_law, expansion_law, kept_law, meaning_law};
+pub use laws::{examples_law, expansion_law, kept_law, meaning_law, unit_examples_law};
 pub use meaning::Meaning;
 pub use outcome::Outcome;
 pub use reduction::reduce;

@@ -1,4 +1,5 @@
 pub mod Answers
+pub mod Columns
 pub mod Definitions
 pub mod Edits
 pub mod Faults

@@ -43,3 +43,4 @@ code status.ArgumentNeeded = 50
 code status.CallsTooDeep = 51
 code status.ListUnitNotPositive = 52
 code status.ConformabilityError = 53
+code status.CellError = 54

@@ -4,6 +4,7 @@
 #![tactic(auto)]
 
 mod answer;
+mod column;
 mod converting;
 mod definitions;
 mod edit_answer;
@@ -19,6 +20,7 @@ mod turn_answer;
 mod unit_table;
 mod valuing;
 
+pub use column::{UnitsColumn, units_convert_column};
 pub use converting::units_convert;
 pub use definitions::{UnitsDefinitions, UnitsEntry};
 pub use editing::{units_define, units_drop, units_redo, units_undo};

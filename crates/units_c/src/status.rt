@@ -45,6 +45,7 @@ pub enum Status {
     CallsTooDeep = 51,
     ListUnitNotPositive = 52,
     ConformabilityError = 53,
+    CellError = 54,
 }
 
 impl Status {

@@ -1,5 +1,5 @@
 -- The conversion of a column.
-use Rattle.std.proofs.Common.{◌≡◌, ◌+◌, ◌∙◌, ℕ, Bool, true, false, List, refl, ap, subst}
+use Rattle.std.proofs.Common.{◌≡◌, ◌+◌, ◌∙◌, ℕ, Bool, true, false, List, Option, refl, sym, ap, subst}
 use Rattle.std.proofs.Common.{if◌then◌else◌}
 use Rattle.deck.specs.Tables.{table}
 use Rattle.live_table.specs.Shown.{Follows, Shown}
@@ -7,8 +7,8 @@ use Rattle.live_table.specs.States.{Event}
 use Rattle.reply.specs.declared.options.Options.{Options}
 use Rattle.units_io.specs.Bytes.{grown}
 use Rattle.units_io.specs.FileMap.{FileMap}
-use Rattle.session.specs.Outside.{Outside}
-use Rattle.session.specs.Queries.{LeavesLaw}
+use Rattle.session.specs.Outside.{Outside, outside_of}
+use Rattle.session.specs.Queries.{LeavesLaw, fresh}
 use Rattle.session.specs.Telling.{when_told}
 use Rattle.column_convert.specs.Inputs.{input_of}
 use Rattle.column_convert.specs.Rows.{queries, rows}
@@ -18,16 +18,16 @@ use Rattle.column_run.specs.declared.end.ColumnEnd.{ColumnEnd}
 use Rattle.column_run.specs.declared.end.ColumnEnd.TheVariants as column
 use Rattle.session.proofs.Blocks.{front_all}
 use Rattle.units_run.specs.Calls.{column_run, rows_of, steps_of}
-use Rattle.units_run.specs.Endings.{IsConverted, IsStated, IsWorked, MayEnd, column_status}
+use Rattle.units_run.specs.Endings.{IsConverted, IsLeftOf, IsStated, IsWorked, MayEnd, column_status}
 use Rattle.units_run.specs.Planning.{IsColumn, IsPlan}
 use Rattle.units_run.specs.Plans as plans
 use Rattle.units_run.specs.Plans.{ColumnWork}
-use Rattle.units_run.specs.Work.{fresh}
 use Rattle.units_run.specs.declared.column_plan.ColumnPlan.{ColumnPlan}
 use Rattle.units_run.specs.declared.plan.Plan.TheVariants.{Columns}
 use Rattle.units_run.specs.declared.status.Status.{Status}
 use Rattle.units_run.specs.declared.status.Status.TheVariants as status
 use Rattle.units_run.specs.declared.status.Status.TheVariants.{Done, Refused}
+use Rattle.units_run.proofs.Running.{plan_course, plan_end}
 
 -- the ending of rows, as one of the run
 done_by : (refused : Bool) → (if refused then column.Refused else column.Done) ≡ column.Done
@@ -86,6 +86,22 @@ pub planned_column : (want : plans.Plan) (m : FileMap) (plan : ColumnPlan) (old 
 planned_column (plans.Whole run) m plan old new planned = absurd planned
 planned_column (plans.Opened talk) m plan old new planned = absurd planned
 planned_column (plans.Columns work) m plan old new planned = (work, refl, planned)
+
+-- what it leaves, whatever the files are called
+pub column_left : (want : plans.Plan) (work : ColumnWork) (m : FileMap) (input : List ℕ) (status : Status)
+    (before : Outside) (left out err : Option (List ℕ)) (files same : Option FileMap) (fetches stores steps : ℕ)
+    → want ≡ plans.Columns work → files ≡ same
+    → IsConverted (column_run work m input).output (column_run work m input).status status before
+    (outside_of left out err same fetches stores steps)
+    → IsLeftOf want (plan_course want m input) (plan_end want m input) status before
+    (outside_of left out err files fetches stores steps)
+column_left want work m input status before left out err files same fetches stores steps is kept converts =
+    subst
+    (λ (w : plans.Plan). IsLeftOf w (plan_course w m input) (plan_end w m input) status before
+    (outside_of left out err files fetches stores steps)) (sym is)
+    (subst
+    (λ (f : Option FileMap). IsConverted (column_run work m input).output (column_run work m input).status status before
+    (outside_of left out err f fetches stores steps)) (sym kept) converts)
 
 -- only a run that is over came to its end
 pub over_worked : (end : ColumnEnd) → IsWorked (column_status end) → is_over end ≡ true

@@ -7,7 +7,10 @@ use Rattle.std.specs.List.Sorted.{IsStrictlySortedBy}
 use Rattle.units_io.specs.Fetching.{answer_of}
 use Rattle.units_io.specs.FileMap.{FileMap}
 use Rattle.units_io.specs.Named.{Pairs}
+use Rattle.frac128.specs.Divisors.{gcd, gcd_within}
 use Rattle.frac128.specs.Numerals.{greatest}
+use Rattle.frac128.specs.Steps.{reduced}
+use Rattle.piecewise.specs.Points.{rises}
 use Rattle.expr_tree.specs.Faults.{fault_from}
 use Rattle.expr_tree.specs.Lexemes.{lexemes_from, tokens_in}
 use Rattle.expr_tree.specs.Parsed.{parsed}
@@ -15,9 +18,14 @@ use Rattle.expr_tree.specs.Reading.{tree_of}
 use Rattle.command_line.specs.Examples.{AreLine, no_line}
 use Rattle.command_line.specs.declared.fields.CommandLine.{CommandLine}
 use Rattle.def_entry.specs.Entries.{Entry, Primitive}
+use Rattle.def_entry.specs.Forms.{form_of}
 use Rattle.def_entry.specs.Headings.{heading}
+use Rattle.def_entry.specs.Intervals.{interval_at}
 use Rattle.def_entry.specs.KeyOrder.{key_cmp}
 use Rattle.def_entry.specs.Keys.{key}
+use Rattle.def_entry.specs.Numbers.{number_of as numeral_of}
+use Rattle.def_entry.specs.Options.{options_from}
+use Rattle.def_entry.specs.PointLists.{points_of}
 use Rattle.def_entry.specs.Reading.{what_of}
 use Rattle.def_entry.specs.SameKeys.{is_among, is_same}
 use Rattle.def_entry.specs.Tables.{Table, is_present}
@@ -37,8 +45,11 @@ use Rattle.deck.specs.KeyLists.{KeyListLaw, table_keys}
 use Rattle.deck.specs.Loading.{empty_deck, with_answer}
 use Rattle.deck.specs.Tables.{definitions, table}
 use Rattle.deck.specs.declared.fault.DeckFault.{DeckFault}
-use Rattle.reply.specs.GrantExamples.{expression, number_of, numeral, primitive_unit}
+use Rattle.reply.specs.Examples.{default, granted, refused}
+use Rattle.reply.specs.GrantExamples.{GrantExamplesLaw, expression, measures, number_of, numeral, primitive_unit}
 use Rattle.reply.specs.Options.{style_of}
+use Rattle.reply.specs.Replies.{conversion_reply}
+use Rattle.reply.specs.declared.reply.Reply.{Reply}
 use Rattle.session.specs.Commands.{colon_command, command_in}
 use Rattle.session.specs.Hearing.{heard, readable}
 use Rattle.session.specs.Input.{lines_of}
@@ -47,13 +58,14 @@ use Rattle.session.specs.Queries.{after_events}
 use Rattle.session.specs.Sessions.{prompt}
 use Rattle.session.specs.Steps.{answer_to}
 use Rattle.session.specs.Talks.{opening}
+use Rattle.survey.specs.Asked.{converted}
 use Rattle.survey.specs.Checks.{check_among}
 use Rattle.units_run.specs.Calls.{run_over}
-use Rattle.units_run.specs.FileExamples.{Gives, IsRunWith}
+use Rattle.units_run.specs.FileExamples.{Gives, IsRunWith, measures_text}
 use Rattle.units_run.specs.Options.{options_of}
 use Rattle.units_run.specs.Plans.{Plan}
 use Rattle.units_run.specs.Settings.{settings_of}
-use Rattle.units_run.specs.Work.{deck_plan, file_plan, plan_by}
+use Rattle.units_run.specs.Work.{deck_plan, file_plan, plan_by, replied, work_by}
 use Rattle.units_run.specs.declared.status.Status.{Status}
 use Rattle.units_run.specs.declared.status.Status.TheVariants.{Done, Refused}
 use Rattle.units_run.proofs.Planned.{plan_taken}
@@ -88,12 +100,90 @@ run_by_file words line text input out err status is trial file gives vars files 
     files) told))
     (gives vars files)
 
--- ---- a definition
+-- ---- a conversion
 
 module _ (vars : Pairs) (files : FileMap) (line : CommandLine) (text : List ℕ) where
   -- the deck of a file of this text
   abbrev pub deck_over : Contents
   deck_over = with_excerpt (deck_of files first text) (empty_deck (settings_of line vars))
+
+-- the deck of the measures is within the limits, and its table is that of the examples of replies
+measures_made : (vars : Pairs) (files : FileMap) (line : CommandLine)
+    → with_answer files first (answer_of (Some measures_text)) (empty_deck (settings_of line vars))
+    ≡ Ok (deck_over vars files line measures_text)
+unfolding pass_limit deck_of rest_excerpt reading_of entry_in kind_of words_of heading what_of parsed tree_of fault_from
+    lexemes_from tokens_in greatest points_of options_from interval_at form_of numeral_of reduced gcd gcd_within rises
+measures_made vars files line = refl
+
+measures_noticed : (vars : Pairs) (files : FileMap) (line : CommandLine)
+    → (deck_over vars files line measures_text).notices ≡ []
+unfolding deck_of rest_excerpt reading_of entry_in kind_of words_of heading what_of parsed tree_of fault_from
+    lexemes_from
+    tokens_in greatest points_of options_from interval_at form_of numeral_of reduced gcd gcd_within rises
+measures_noticed vars files line = refl
+
+measures_table : (vars : Pairs) (files : FileMap) (line : CommandLine)
+    → table (deck_over vars files line measures_text) ≡ measures
+unfolding definitions deck_of rest_excerpt reading_of entry_in behind_line kind_of words_of heading what_of parsed
+    tree_of
+    fault_from lexemes_from tokens_in greatest points_of options_from interval_at form_of numeral_of reduced gcd
+    gcd_within rises
+measures_table vars files line = refl
+
+-- the run over the measures of a line that converts
+measures_run : (line : CommandLine) (from to : List ℕ) (reply : Reply)
+    → ((d : Contents) (files : FileMap) → work_by line.from line d files
+    ≡ replied d (converted (table d) default from to))
+    → conversion_reply measures default from to ≡ reply
+    → (vars : Pairs) (files : FileMap)
+    → IsRunWith (run_over (plan_over line measures_text vars files) files [] none_heard) reply.text []
+    (if reply.refused then Refused else Done)
+measures_run line from to reply converts is vars files =
+    let deck = deck_over vars files line measures_text in
+    let replies : conversion_reply (table deck) default from to ≡ reply =
+    ap (λ (t : Table). conversion_reply t default from to) (measures_table vars files line) ∙ is in
+    subst
+    (λ (plan : Plan). IsRunWith (run_over plan files [] none_heard) reply.text []
+    (if reply.refused then Refused else Done))
+    (sym
+    (ap (λ (o : Result Contents DeckFault). file_plan line first o files) (measures_made vars files line)
+    ∙ converts deck files)) (
+      ap (λ (r : Reply). r.text) replies,
+      ap lines_of_texts (measures_noticed vars files line),
+      ap (λ (r : Reply). if r.refused then Refused else Done) replies,
+    )
+
+abbrev converting : (from to : List ℕ) → CommandLine
+converting from to = record no_line { file = Some first; from = Some from; to = Some to }
+
+asks_conversion : (d : Contents) (files : FileMap)
+    → work_by (converting (codes "2 km") (codes " yards ")).from (converting (codes "2 km") (codes " yards ")) d files
+    ≡ replied d (converted (table d) default (codes "2 km") (codes " yards "))
+unfolding options_of line_content
+asks_conversion d files = refl
+
+asks_unlike : (d : Contents) (files : FileMap)
+    → work_by (converting (codes "m") (codes "s")).from (converting (codes "m") (codes "s")) d files
+    ≡ replied d (converted (table d) default (codes "m") (codes "s"))
+unfolding options_of line_content
+asks_unlike d files = refl
+
+pub converts : GrantExamplesLaw → (vars : Pairs) (files : FileMap)
+    → IsRunWith (run_over (plan_over (converting (codes "2 km") (codes " yards ")) measures_text vars files) files []
+    none_heard)
+    (codes "\t* 2187.2266\n\t/ 0.0004572\n") [] Done
+converts law =
+    measures_run (converting (codes "2 km") (codes " yards ")) (codes "2 km") (codes " yards ")
+    (granted (codes "\t* 2187.2266\n\t/ 0.0004572\n")) asks_conversion law.linear
+
+pub refuses : GrantExamplesLaw → (vars : Pairs) (files : FileMap)
+    → IsRunWith (run_over (plan_over (converting (codes "m") (codes "s")) measures_text vars files) files [] none_heard)
+    (codes "conformability error\n\t1 m\n\t1 s\n") [] Refused
+refuses law =
+    measures_run (converting (codes "m") (codes "s")) (codes "m") (codes "s")
+    (refused (codes "conformability error\n\t1 m\n\t1 s\n")) asks_unlike law.unlike
+
+-- ---- a definition
 
 abbrev defining : CommandLine
 defining = record no_line { file = Some first; from = Some (codes "feet") }

@@ -27,7 +27,7 @@ use Rattle.units_run.specs.Asked.{asked_for}
 use Rattle.units_run.specs.Endings.{IsLeft, IsLeftOf, IsStated}
 use Rattle.units_run.specs.Granted.{AsksForConversion, GrantsExactly, definitions_by}
 use Rattle.units_run.specs.Headline.{IsRun}
-use Rattle.units_run.specs.Needs.{needs_input}
+use Rattle.units_run.specs.Needs.{fetches_file, needs_files, needs_input}
 use Rattle.units_run.specs.Options.{options_of}
 use Rattle.units_run.specs.Plans.{Plan}
 use Rattle.units_run.specs.Settings.{settings_of}
@@ -35,7 +35,7 @@ use Rattle.units_run.specs.Work.{deck_plan, file_plan, from_plan, plan_by, plan_
 use Rattle.units_run.specs.declared.status.Status.{Status}
 use Rattle.units_run.specs.declared.status.Status.TheVariants.{Done, Refused, Usage, NoFile, ReadFault, WriteFault}
 use Rattle.units_run.specs.declared.status.Status.TheVariants.{NoMemory, InputTooLong}
-use Rattle.units_run.proofs.Planned.{plan_taken}
+use Rattle.units_run.proofs.Planned.{fetches_none, plan_taken, tells_less}
 use Rattle.units_run.proofs.Running.{plan_course, plan_end}
 use Rattle.units_run.proofs.Statuses.{told_some}
 
@@ -138,7 +138,9 @@ granted_by law words vars ending before after run files deck from to told asks s
     (subst
     (λ (p : Plan). IsLeftOf p (plan_course p files input.0) (plan_end p files input.0) ending (outside before)
     (outside after))
-    (conversion_plan words vars files deck from to asks) (run.leaves files input.0 told input.1)) in
+    (conversion_plan words vars files deck from to asks) (run.leaves files input.0
+    (tells_less (needs_files words) (fetches_file words input.0) before.files.told files (fetches_none words input.0)
+    told) input.1)) in
     record {
       reply = conversion_reply (table deck) (options_of line) from to;
       grants = law deck (options_of line) from to;

@@ -12,9 +12,10 @@ use Rattle.deck.specs.Decks.{Contents}
 use Rattle.deck.specs.Loading.{IsLoaded, MayFail, faults_after_load}
 use Rattle.deck.specs.declared.fault.DeckFault.{DeckFault}
 use Rattle.deck.specs.declared.fault.DeckFault.TheVariants as fault
-use Rattle.session.specs.Telling.{TellsIf}
+use Rattle.session.specs.Hearing.{any_loads_file}
+use Rattle.session.specs.Telling.{IsToldIf, TellsIf}
 use Rattle.units_run.specs.Definitions.{no_deck_line}
-use Rattle.units_run.specs.Needs.{converts_column, is_column, is_session, loads_file, most_input}
+use Rattle.units_run.specs.Needs.{converts_column, fetches_file, is_column, is_session, loads_file, most_input}
 use Rattle.units_run.specs.Needs.{needs_definitions, needs_files}
 use Rattle.units_run.specs.Needs.{opens_session}
 use Rattle.units_run.specs.Planning.{IsPlanned}
@@ -102,6 +103,39 @@ pub tells_needed : {X : Type 0} (needed : Bool) (o : Option X) (x : X) → neede
 tells_needed true None x e h = cc
 tells_needed false None x e h = cc
 tells_needed needed (Some told) x e h = ap Some h
+
+-- a file is fetched only if the words need files
+and_false : (a b : Bool) → a ≡ true → (a && b) ≡ false → b ≡ false
+and_false true b e f = f
+and_false false b e f = cc
+
+none_fetched : (taken loads session named : Bool) → (taken && (loads || session)) ≡ false
+    → ((taken && loads) || ((taken && session) && named)) ≡ false
+none_fetched false loads session named e = refl
+none_fetched true true session named e = cc
+none_fetched true false true named e = cc
+none_fetched true false false named e = refl
+
+pub fetches_none : (words : List (List ℕ)) (input : List ℕ) → needs_files words ≡ false
+    → fetches_file words input ≡ false
+fetches_none words input none =
+    let line = command_line_of words in
+    none_fetched (are_taken words) (loads_file line) (is_session line) (any_loads_file input) none
+
+-- files that are told if one is fetched are told if a line of the session loads one
+pub session_told : (words : List (List ℕ)) (input : List ℕ) (files : Option FileMap) (m : FileMap)
+    → opens_session words ≡ true → TellsIf (fetches_file words input) files m → IsToldIf (any_loads_file input) files
+session_told words input (Some told) m opens s = tt
+session_told words input None m opens s =
+    and_false (opens_session words) (any_loads_file input) opens
+    (right_false (needs_definitions words) (opens_session words && any_loads_file input) s)
+
+-- they serve for the definition file
+pub definitions_told : (words : List (List ℕ)) (input : List ℕ) (files : Option FileMap) (m : FileMap)
+    → TellsIf (fetches_file words input) files m → TellsIf (needs_definitions words) files m
+definitions_told words input files m s =
+    tells_less (fetches_file words input) (needs_definitions words) files m
+    (left_false (needs_definitions words) (opens_session words && any_loads_file input)) s
 
 -- what is told is told, needed or not
 pub tells_told : {X : Type 0} (needed : Bool) (o : Option X) (x : X) → o ≡ Some x → TellsIf needed o x

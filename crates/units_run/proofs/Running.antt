@@ -1,6 +1,6 @@
 -- The run of a plan.
 use Rattle.std.proofs.Common.{◌≡◌, ◌≤◌, ◌⊎◌, [], inl, inr, ℕ, List, Bool, true, false, Some, None, refl, sym, ap, subst}
-use Rattle.std.proofs.Common.{◌∙◌, ◌||◌, arith}
+use Rattle.std.proofs.Common.{◌∙◌, ◌||◌, arith, unwrap_or}
 use Rattle.std.specs.declared.option.Option.{Option}
 use Rattle.units_io.specs.Bytes.{grown, GrowsByFront}
 use Rattle.units_io.specs.Faults.{Rose}
@@ -21,7 +21,7 @@ use Rattle.session.specs.declared.said.Said.{Said}
 use Rattle.units_run.specs.Calls.{run_over}
 use Rattle.units_run.specs.Endings.{IsFaultless, IsLeft, IsLeftOf, IsStated, IsWorked, MayEnd, status_of}
 use Rattle.units_run.specs.LeftAlone.{OpensNone, TakesNone}
-use Rattle.units_run.specs.Needs.{converts_column, needs_files, opens_session}
+use Rattle.units_run.specs.Needs.{converts_column, needs_definitions, opens_session}
 use Rattle.units_run.specs.Planning.{IsPlan}
 use Rattle.units_run.specs.Plans as plans
 use Rattle.units_run.specs.Work.{plan_of}
@@ -88,10 +88,14 @@ whole_run (plans.Whole run) files input said status before after stated planned 
 whole_run (plans.Opened talk) files input said status before after stated planned out err kept = absurd planned
 whole_run (plans.Columns work) files input said status before after stated planned out err kept = absurd planned
 
+-- the same files
+files_same : (files same : FileMap) → Some files ≡ Some same → files ≡ same
+files_same files same e = ap (λ (o : Option FileMap). unwrap_or o files) e
+
 -- a session that is opened
 pub opened_talk : (want : plans.Plan) (files : FileMap) (said : Said) (session : Known) (before now : Outside)
     → IsPlan want files (Opened said session) before.steps now.steps → now.out ≡ before.out → now.err ≡ before.err
-    → now.files ≡ before.files → before.files ≡ Some files → before.fetch_faults ≤ now.fetch_faults
+    → now.files ≡ before.files → before.files ≡ when_told before.files files → before.fetch_faults ≤ now.fetch_faults
     → before.store_faults ≤ now.store_faults → (first : Talk) × (want ≡ plans.Opened first) × Opens first said session
     before now
 opened_talk (plans.Whole run) files said session before now planned out err kept told faults stores = absurd planned
@@ -109,7 +113,7 @@ opened_talk (plans.Opened first) files said session before now planned out err k
       out = planned.out;
       err = planned.err;
       session = planned.session;
-      files = kept ∙ told ∙ planned.files;
+      files = kept ∙ told ∙ ap (when_told before.files) (files_same files first.state.files planned.files);
       steps = planned.steps;
     };
   },
@@ -288,7 +292,7 @@ neither a b (inr x) = b x
 -- a session that was opened is no run that opens none
 pub session_opens : (words : List (List ℕ)) (vars : Pairs) (told : Option FileMap) (said : Said) (session : Known)
     (e : SessionEnd) (ending : Status) (old new : ℕ) → opens_session words ≡ true → status_of e ≡ ending
-    → ((m : FileMap) → TellsIf (needs_files words) told m
+    → ((m : FileMap) → TellsIf (needs_definitions words) told m
     → IsPlan (plan_of words vars m) m (Opened said session) old new) → OpensNone words vars ending told → ⊥
 session_opens words vars told said session e ending old new opens is planned =
     neither (not_both (opens_session words) opens)

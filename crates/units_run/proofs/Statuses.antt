@@ -12,13 +12,14 @@ use Rattle.session.specs.Written.{Course, Output, whole}
 use Rattle.units_run.specs.Calls.{course_of, run_of, run_over}
 use Rattle.units_run.specs.Endings.{IsConverted, IsLeft, IsLeftOf, IsStated}
 use Rattle.units_run.specs.Headline.{IsRun}
-use Rattle.units_run.specs.Needs.{needs_files, needs_input}
+use Rattle.units_run.specs.Needs.{fetches_file, needs_files, needs_input}
 use Rattle.units_run.specs.Plans.{IsWhole, Plan, Whole, Opened, Columns}
 use Rattle.units_run.specs.Work.{plan_of}
 use Rattle.units_run.specs.declared.status.Status.{Status}
 use Rattle.units_run.specs.declared.status.Status.TheVariants.{Done, Refused, Usage, NoFile, ReadFault, WriteFault}
 use Rattle.units_run.specs.declared.status.Status.TheVariants.{NoMemory, InputTooLong}
 use Rattle.units_run.proofs.Needing.{any_files, no_input}
+use Rattle.units_run.proofs.Planned.{fetches_none, tells_less}
 
 -- a stated ending is the wanted one
 left_status : (course : Course) (wanted ending : Status) (before after : Outside) → IsStated ending
@@ -76,7 +77,9 @@ status_of_run words vars ending before after run no_files none stated files inpu
     plan_status plan
     (course_of (record { words = words; vars = vars; files = told.0; input = left.0 }))
     (run_of (record { words = words; vars = vars; files = told.0; input = left.0 })).status ending (outside before)
-    (outside after) stated (run.leaves told.0 left.0 told.1 left.1)
+    (outside after) stated (run.leaves told.0 left.0
+    (tells_less (needs_files words) (fetches_file words left.0) before.files.told told.0 (fetches_none words left.0)
+    told.1) left.1)
     ∙ whole_status plan told.0 files left.0 input (heard (lines_of left.0)) (heard (lines_of input))
     (no_input words vars told.0 none)
     ∙ subst

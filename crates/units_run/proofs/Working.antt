@@ -13,7 +13,7 @@ use Rattle.reply.specs.declared.options.Options.{Options}
 use Rattle.reply.specs.declared.reply.Reply.{Reply}
 use Rattle.reply.specs.Options.{style_of}
 use Rattle.session.specs.Lines.{lines_of_texts}
-use Rattle.session.specs.Queries.{LeavesLaw, newly}
+use Rattle.session.specs.Queries.{LeavesLaw, fresh, newly}
 use Rattle.session.specs.declared.said.Said.{Said}
 use Rattle.survey.specs.Asked.{Asked}
 use Rattle.survey.specs.Checks.{check_report, check_queries}
@@ -21,7 +21,7 @@ use Rattle.units_run.specs.Asked.{asked_for}
 use Rattle.units_run.specs.Checks.{report_of}
 use Rattle.units_run.specs.Options.{options_of}
 use Rattle.units_run.specs.Planning.{IsFor, IsPlan}
-use Rattle.units_run.specs.Work.{checked, checked_lines, fresh, from_plan, replied, work_by}
+use Rattle.units_run.specs.Work.{checked, checked_lines, from_plan, replied, work_by}
 use Rattle.def_lines.specs.Lines.{line_content}
 use Rattle.units_run.specs.declared.check_plan.CheckPlan.{CheckPlan}
 use Rattle.units_run.specs.declared.plan.Plan.{Plan}

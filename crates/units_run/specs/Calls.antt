@@ -8,11 +8,11 @@ use Rattle.units_io.specs.FileMap.{FileMap}
 use Rattle.units_io.specs.Named.{Pairs}
 use Rattle.session.specs.Hearing.{heard}
 use Rattle.session.specs.Input.{lines_of}
-use Rattle.session.specs.Queries.{newly}
+use Rattle.session.specs.Queries.{fresh, newly}
 use Rattle.session.specs.Talks.{talk_over}
 use Rattle.session.specs.Written.{Course, Output, output_of}
 use Rattle.units_run.specs.Plans.{Plan, Whole, Opened, Columns, ColumnWork}
-use Rattle.units_run.specs.Work.{fresh, plan_of}
+use Rattle.units_run.specs.Work.{plan_of}
 use Rattle.units_run.specs.declared.status.Status.{Status}
 use Rattle.units_run.specs.declared.status.Status.TheVariants.{Done, Refused}
 

@@ -16,7 +16,15 @@ Gives words text input out err status =
     (vars : Pairs) (files : FileMap) → file_of files (codes "first.units") ≡ Some text
     → IsRunWith (run_of (record { words = words; vars = vars; files = files; input = input })) out err status
 
+abbrev pub measures_text : List ℕ
+measures_text = codes "gauge[m] 1 2, 3 6\nHz 1/s\nyard 0.9144 m\nk- 1000\ns !\nm !\n"
+
 pub record FileExamples : Type 0 where
+  -- a conversion that is granted, and one of units that do not conform
+  pub converted : Gives (codes "-f" ∷ codes "first.units" ∷ codes "2 km" ∷ codes " yards " ∷ []) measures_text []
+      (codes "\t* 2187.2266\n\t/ 0.0004572\n") [] Done
+  pub unlike : Gives (codes "-f" ∷ codes "first.units" ∷ codes "m" ∷ codes "s" ∷ []) measures_text []
+      (codes "conformability error\n\t1 m\n\t1 s\n") [] Refused
   -- a definition that is asked for and refused, with a notice of the file
   pub defined : Gives (codes "-f" ∷ codes "first.units" ∷ codes "feet" ∷ []) (codes "m !\nfeet\n") []
       (codes "unknown unit: feet\n") (codes "first.units:2: bad definition\n") Refused

@@ -7,16 +7,16 @@ use Rattle.session.specs.Outside.{IsReadToEnd, Rests, TookMoreThan}
 use Rattle.session.specs.Telling.{TellsIf}
 use Rattle.units_run.specs.Endings.{IsFaultless, IsRunOf, IsStated, IsWorked, MayEndBy}
 use Rattle.units_run.specs.LeftAlone.{OpensNone}
-use Rattle.units_run.specs.Needs.{converts_column, most_input, needs_files, needs_input, opens_session}
+use Rattle.units_run.specs.Needs.{converts_column, fetches_file, most_input, needs_input, opens_session}
 use Rattle.session.specs.Worlds.{World, outside}
 use Rattle.units_run.specs.declared.status.Status.{Status}
 use Rattle.units_run.specs.declared.status.Status.TheVariants.{Done, ReadFault, WriteFault, InputTooLong}
 
 -- a run of these words and variables that ended so
 pub record IsRun (words : List (List ℕ)) (vars : Pairs) (ending : Status) (before after : World) : Type 0 where
-  -- it leaves what the run of these words and variables over the files and the input leaves that are told; those that
-  -- the words do not need may be any
-  pub leaves : (files : FileMap) (input : List ℕ) → TellsIf (needs_files words) before.files.told files →
+  -- it leaves what the run of these words and variables over the files and the input leaves that are told; input that
+  -- the words do not need may be any, and so may files if neither the words name a definition file nor a line loads one
+  pub leaves : (files : FileMap) (input : List ℕ) → TellsIf (fetches_file words input) before.files.told files →
       TellsIf (needs_input words) before.source.left input →
       IsRunOf (record { words = words; vars = vars; files = files; input = input }) ending
       (outside before) (outside after)
@@ -26,8 +26,7 @@ pub record IsRun (words : List (List ℕ)) (vars : Pairs) (ending : Status) (bef
   pub heard : (input : List ℕ) → before.source.left ≡ Some input → opens_session words ≡ true → ending ≡ Done →
       IsReadToEnd input after.source.left
   -- a column that is converted, also where a cell is an error, has read its input to the end
-  pub whole : (files : FileMap) (input : List ℕ) → TellsIf (needs_files words) before.files.told files →
-      before.source.left ≡ Some input → converts_column words ≡ true → IsWorked ending →
+  pub whole : (input : List ℕ) → before.source.left ≡ Some input → converts_column words ≡ true → IsWorked ending →
       after.source.left ≡ Some []
   -- a fault of reading is told only where a read or a fetch failed
   pub read : ending ≡ ReadFault →

@@ -4,7 +4,7 @@ use Rattle.std.specs.declared.option.Option.{Option}
 use Rattle.units_io.specs.FileMap.{FileMap}
 use Rattle.units_io.specs.Named.{Pairs}
 use Rattle.session.specs.Telling.{TellsIf}
-use Rattle.units_run.specs.Needs.{needs_files, needs_input, opens_session}
+use Rattle.units_run.specs.Needs.{needs_definitions, needs_input, opens_session}
 use Rattle.units_run.specs.Plans.{IsWhole}
 use Rattle.units_run.specs.Work.{plan_of}
 use Rattle.units_run.specs.declared.status.Status.{Status}
@@ -13,7 +13,7 @@ use Rattle.units_run.specs.declared.status.Status.TheVariants.{NoFile}
 -- over the files that are told all of the run is known before any input is taken
 abbrev pub IsPlannedWhole : (words : List (List ℕ)) → Pairs → (told : Option FileMap) → Type 0
 IsPlannedWhole words vars told =
-    (files : FileMap) × TellsIf (needs_files words) told files × IsWhole (plan_of words vars files)
+    (files : FileMap) × TellsIf (needs_definitions words) told files × IsWhole (plan_of words vars files)
 
 -- a run that takes no input: its words lead neither to a session nor to a column; or there is no deck for one, as its
 -- ending tells, or the files do

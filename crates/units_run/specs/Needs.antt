@@ -3,6 +3,7 @@ use Rattle.std.specs.Prelude.{◌&&◌, ◌||◌, ℕ, List, Bool, is_some, not,
 use Rattle.command_line.specs.Taken.{are_taken}
 use Rattle.command_line.specs.Fields.{command_line_of}
 use Rattle.command_line.specs.declared.fields.CommandLine.{CommandLine}
+use Rattle.session.specs.Hearing.{any_loads_file}
 
 -- neither FROM, `--check` nor `--trial` stands: a session, unless there is no deck
 abbrev pub is_session : CommandLine → Bool
@@ -35,6 +36,10 @@ needs_input words = opens_session words || converts_column words
 -- the most bytes of input that are taken
 abbrev pub most_input : (words : List (List ℕ)) → ℕ
 most_input words = if converts_column words then 16777216 else 4294967296
+
+-- a file is fetched: the definition file, or one that a line of the session loads
+abbrev pub fetches_file : (words : List (List ℕ)) → (input : List ℕ) → Bool
+fetches_file words input = needs_definitions words || (opens_session words && any_loads_file input)
 
 -- the words lead to a definition file, or to a session, whose lines may name files
 abbrev pub needs_files : (words : List (List ℕ)) → Bool

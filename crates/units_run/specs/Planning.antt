@@ -19,7 +19,7 @@ use Rattle.units_run.specs.Checks.{report_of, steps_of}
 use Rattle.units_run.specs.Endings.{IsConverted, MayEnd}
 use Rattle.units_run.specs.Plans as plans
 use Rattle.units_run.specs.declared.plan.Plan.{Plan}
-use Rattle.units_run.specs.Work.{fresh}
+use Rattle.session.specs.Queries.{fresh}
 use Rattle.units_run.specs.declared.check_plan.CheckPlan.{CheckPlan}
 use Rattle.units_run.specs.declared.column_plan.ColumnPlan.{ColumnPlan}
 use Rattle.units_run.specs.declared.plan.Plan.TheVariants.{Whole, Check, Opened, Columns}
@@ -57,7 +57,8 @@ abbrev pub IsPlan : plans.Plan → FileMap → Plan → (steps_old steps_new : �
 IsPlan (plans.Whole run) files (Whole said status) steps_old steps_new = IsSaid run said status steps_old steps_new
 IsPlan (plans.Whole run) files (Check plan) steps_old steps_new = IsCheck run plan steps_old steps_new
 IsPlan (plans.Opened talk) files (Opened said session) steps_old steps_new =
-    IsAt (at_first steps_old) talk (record { said = said; session = session; files = Some files; steps = steps_new })
+    IsAt (at_first (Some files) steps_old) talk
+    (record { said = said; session = session; files = Some files; steps = steps_new })
 IsPlan (plans.Columns work) files (Columns plan) steps_old steps_new = IsColumn work plan steps_old steps_new
 IsPlan want files plan steps_old steps_new = ⊥
 

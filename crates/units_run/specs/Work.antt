@@ -1,6 +1,5 @@
 -- What the words ask for: the usage line, a trial, a reply, a report, or a session.
 use Rattle.std.specs.Prelude.{◌++◌, ℕ, List, [], Option, Some, None, Result, Ok, Err, if◌then◌else◌, unwrap_or}
-use Rattle.std.specs.FinMap as map_of
 use Rattle.units_io.specs.FileMap.{FileMap}
 use Rattle.units_io.specs.Named.{Pairs}
 use Rattle.def_lines.specs.Words.{is_empty}
@@ -13,11 +12,10 @@ use Rattle.deck.specs.Loading.{after_load}
 use Rattle.deck.specs.Tables.{table}
 use Rattle.deck.specs.declared.fault.DeckFault.{DeckFault}
 use Rattle.deck.specs.declared.settings.Settings.{Settings}
-use Rattle.live_table.specs.Shown.{Shown}
 use Rattle.reply.specs.Options.{style_of}
 use Rattle.def_lines.specs.Lines.{line_content}
 use Rattle.session.specs.Lines.{lines_of_texts}
-use Rattle.session.specs.Queries.{newly}
+use Rattle.session.specs.Queries.{fresh, newly}
 use Rattle.session.specs.Sessions.{known, state_of}
 use Rattle.session.specs.Talks.{opened}
 use Rattle.session.specs.Trials.{Trial, trial}
@@ -30,10 +28,6 @@ use Rattle.units_run.specs.Options.{options_of}
 use Rattle.units_run.specs.Plans.{Plan, Whole, Opened, Columns, complaint}
 use Rattle.units_run.specs.Settings.{settings_of}
 use Rattle.units_run.specs.declared.status.Status.TheVariants.{Done, Refused, Usage, NoFile}
-
--- a deck of which no name is settled
-abbrev pub fresh : Contents → Shown
-fresh deck = record { deck = deck; kept = map_of.empty; reductions = 0 }
 
 -- a reply on `out`, with the notices on `err`
 abbrev pub replied : Contents → Asked → Plan

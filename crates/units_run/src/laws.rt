@@ -7,6 +7,7 @@ ghost use Rattle.units_run.specs.Laws.{EndingLaw, NeedLaws, StatusLaw};
 
 use command_line::{refused_examples, taken_examples};
 use deck::key_lists_are_one;
+use reply::grant_examples_law;
 
 /// Files and input that the words do not need change nothing.
 pub fn need_laws()
@@ -42,4 +43,5 @@ pub fn file_examples()
 {
     taken_examples();
     key_lists_are_one();
+    grant_examples_law();
 }

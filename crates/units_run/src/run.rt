@@ -35,8 +35,8 @@ use units_io::{Files, Sink, Source, Steps, Text, Vars};
 /// `run`: with a stated status (0 to 3) both sinks have all bytes of the run, its files and its count of steps are
 /// those of the run, and the status is its own. With another status each sink has a front of its bytes: if the input
 /// was too long (7), or the source failed (4), exactly what is shown for the whole lines of the bytes taken, and of a
-/// column no byte on `out`. `specs/Headline.antt` has all that holds of a run. `granted`: which conversions are
-/// granted, and with which numbers.
+/// column no byte on `out`. Files that the run does not fetch may hold anything, and nothing need be told of them.
+/// `specs/Headline.antt` has all that holds of a run. `granted`: which conversions are granted, and with which numbers.
 ///
 /// `source`: nothing is taken outside of a session and of a column, or if there is no deck. `opened`: nothing is taken
 /// before the opening of the session or the notices before a column are written, whatever the ending. `order`: nothing
@@ -63,10 +63,10 @@ pub fn units_main<S: Source, O: Sink, E: Sink, F: Files, L: Ledger>(
     ensures source { TakesNone words.now vars.now result (F.files files.old) → src.new ≡ src.old }
     ensures granted { GrantsExactly words.now vars.now result (F.files files.old)
         (O.written out.old) (O.written out.new) }
-    ensures opened { (m : FileMap) → TellsIf (needs_files words.now) (F.files files.old) m →
+    ensures opened { (m : FileMap) → TellsIf (needs_definitions words.now) (F.files files.old) m →
         (src.new ≡ src.old) ⊎ openings.IsOpened (plan_of words.now vars.now m) (O.written out.old) (O.written out.new)
         (E.written err.old) (E.written err.new) }
-    ensures order { (m : FileMap) → TellsIf (needs_files words.now) (F.files files.old) m →
+    ensures order { (m : FileMap) → TellsIf (needs_definitions words.now) (F.files files.old) m →
         (out.new ≡ out.old) ⊎ GrowsAtLeast (E.written err.old) (E.written err.new)
         (openings.first_on_err (plan_of words.now vars.now m)) }
     ensures unasked { needs_files words.now ≡ false → files.new ≡ files.old }

@@ -36,7 +36,7 @@ pub(crate) fn make_plan<F: Files, L: Ledger>(
     files: &mut F,
     steps: &mut Steps<L>,
 ) -> Result<Plan, Halt>
-    ensures told { (m : FileMap) → TellsIf (needs_files words.now) (F.files files.old) m →
+    ensures told { (m : FileMap) → TellsIf (needs_definitions words.now) (F.files files.old) m →
         IsPlanned (spec.plan_of words.now vars.now m) m result steps.old steps.new }
     ensures kind { IfOk result
         (IsFor (are_taken words.now) (loads_file (command_line_of words.now)) (opens_session words.now)

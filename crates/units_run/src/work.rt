@@ -4,6 +4,7 @@ ghost use Rattle.std.specs.Prelude.{unwrap_or};
 ghost use Rattle.std.specs.Prelude.{if◌then◌else◌};
 ghost use Rattle.units_io.specs.FileMap.{FileMap};
 ghost use Rattle.def_lines.specs.Lines.{line_content};
+ghost use Rattle.session.specs.Queries as queries;
 ghost use Rattle.units_run.specs.Endings.{MayEnd};
 ghost use Rattle.units_run.specs.Options.{HasColumn, HasDigits};
 ghost use Rattle.units_run.specs.Planning.{IsFor, IsPlanned};
@@ -69,7 +70,7 @@ fn reply_plan<L: Ledger>(
     steps: &mut Steps<L>,
 ) -> Result<Plan, AllocError>
     requires digits { HasDigits line.now }
-    requires fresh { table.old ≡ spec.fresh table.old.deck }
+    requires fresh { table.old ≡ queries.fresh table.old.deck }
     ensures told { (m : FileMap) → IsPlanned
         (spec.from_plan None line.now (line_content from.now) (line_content (unwrap_or line.now.to [])) table.old.deck)
         m result
@@ -105,7 +106,7 @@ fn column_plan(
 ) -> Result<Plan, AllocError>
     requires digits { HasDigits line.now }
     requires some { 1 ≤ column }
-    requires fresh { table ≡ spec.fresh table.deck }
+    requires fresh { table ≡ queries.fresh table.deck }
     ensures told { (m : FileMap) (n : ℕ) → IsPlanned
         (spec.from_plan (Some column) line.now (line_content from.now) (line_content (unwrap_or line.now.to []))
         table.deck) m result n n }
@@ -128,7 +129,7 @@ fn column_plan(
 // The check report, with the notices at its head.
 fn check_plan(alloc: Global, line: &CommandLine, table: LiveTable) -> Result<Plan, AllocError>
     requires digits { HasDigits line.now }
-    requires fresh { table ≡ spec.fresh table.deck }
+    requires fresh { table ≡ queries.fresh table.deck }
     ensures told { (m : FileMap) (n : ℕ) → IsPlanned (spec.checked line.now table.deck) m result n n }
     ensures kind { IfOk result (IsFor true false false false) }
 {
@@ -143,7 +144,7 @@ fn check_plan(alloc: Global, line: &CommandLine, table: LiveTable) -> Result<Pla
 // A session over a table of which no name is settled.
 fn session_plan(alloc: Global, line: &CommandLine, table: LiveTable) -> Result<Plan, AllocError>
     requires digits { HasDigits line.now }
-    requires fresh { table ≡ spec.fresh table.deck }
+    requires fresh { table ≡ queries.fresh table.deck }
     ensures told { (m : FileMap) (n : ℕ) → IsPlanned (spec.opened_over line.now table.deck m) m result n n }
     ensures kind { IfOk result (IsFor true false true false) }
 {

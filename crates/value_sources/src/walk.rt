@@ -88,7 +88,7 @@ impl Walk {
             return put_row(&mut self.rows, Row::new(mention, false));
         };
         self.marks[place] = true;
-        let mentions = entry_mentions(lookup, &mut self.tried, &mention)?;
+        let mentions = entry_mentions(lookup, &mut self.tried, &mention, place)?;
         push_reversed(&mut self.pending, mentions)?;
         put_row(&mut self.rows, Row::new(mention, true))
     }
@@ -143,11 +143,12 @@ fn unvisited_place(lookup: &Lookup, marks: &[bool], key: Option<&Key>) -> Option
     }
 }
 
-// The mentions of the words of the entry of a key, in order.
+// The mentions of the words of the entry of a key, in order. The entry is found faster if its line is at this place.
 fn entry_mentions(
     lookup: &Lookup,
     tried: &mut TriedKeys,
     mention: &Mention,
+    place: usize,
 ) -> Result<Vec<Mention>, AllocError>
     ensures { IfOk result (λ mentions. (n : AnyKey) → mention.now.target ≡ Some n → mentions.items
         ≡ mentions_spec.mentions (tables.table lookup.now.deck.now) (mention.now.depth + 1)
@@ -161,7 +162,7 @@ fn entry_mentions(
     let Some(key) = mention.key() else {
         return Ok(mentions);
     };
-    let Some(entry) = lookup.deck.entry(key.kind, key.name.as_bytes()) else {
+    let Some(entry) = lookup.deck.entry_near(place, key.kind, key.name.as_bytes()) else {
         return Ok(mentions);
     };
     lookup.put_entry_mentions(tried, &mut mentions, depth, entry.what)?;

@@ -91,6 +91,7 @@ class LibraryBackEnd:
 
     def __init__(self, calls: ctypes.CDLL, definitions: Definitions, built_in: Callable[[], bytes]) -> None:
         self._calls = calls
+        self._convert = calls.units_convert
         self._table = _Table()
         self._table_at = byref(self._table)
         self._number = _Number()
@@ -126,11 +127,11 @@ class LibraryBackEnd:
             texts = {16: f"no file: {name}", 17: f"file too long: {name}", 19: "deck full"}
             raise fault_of_status(status, texts.get(status, f"units_open returned {status}"))
 
-    def _text(self, call: Callable[..., int], *arguments: Any) -> bytes:
+    def _text(self, call: Callable[..., int], *arguments: Any) -> str:
         """Return the text of a call, or raise its fault. An edit is never made twice."""
         status = call(self._table_at, *arguments, self._buffer, self._size, self._length_at)
         if status == _DONE:
-            return self._view[: self._length.value].tobytes()
+            return str(self._view[: self._length.value], "utf-8", "surrogateescape")
         if status == _NO_ROOM:
             self._make_room(2 * self._length.value)
             return self._text(call, *arguments)
@@ -141,14 +142,13 @@ class LibraryBackEnd:
             return OutOfMemory("out of memory")
         if status == _CLOSED:
             return BackEndError("the table is closed")
-        text = self._view[: self._length.value].tobytes().decode("utf-8", "surrogateescape")
+        text = str(self._view[: self._length.value], "utf-8", "surrogateescape")
         return fault_of_status(status, text.rstrip("\n"))
 
     def convert(self, source: str, target: str) -> str:
         """See `BackEnd.convert`."""
         start, end = source.encode(), target.encode()
-        text = self._text(self._calls.units_convert, start, len(start), end, len(end), self._options_at)
-        return text[:-1].decode("utf-8", "surrogateescape")
+        return self._text(self._convert, start, len(start), end, len(end), self._options_at)[:-1]
 
     def value(self, expression: str) -> Quantity:
         """See `BackEnd.value`."""
@@ -158,7 +158,7 @@ class LibraryBackEnd:
         numerator = number.numerator_high << 64 | number.numerator_low
         denominator = number.denominator_high << 64 | number.denominator_low
         magnitude = Fraction(-numerator if number.negative else numerator, denominator)
-        return Quantity(magnitude, read_dimension(dimension.decode("utf-8", "surrogateescape")))
+        return Quantity(magnitude, read_dimension(dimension))
 
     def define(self, line: str) -> None:
         """See `BackEnd.define`."""
@@ -185,8 +185,7 @@ class LibraryBackEnd:
     def search(self, text: str) -> List[str]:
         """See `BackEnd.search`."""
         words = text.encode()
-        report = self._text(self._calls.units_search, words, len(words))
-        return report.decode("utf-8", "surrogateescape").splitlines()
+        return self._text(self._calls.units_search, words, len(words)).splitlines()
 
     def close(self) -> None:
         """See `BackEnd.close`."""

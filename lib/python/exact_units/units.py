@@ -4,18 +4,20 @@ from __future__ import annotations
 
 import os
 import re
+from decimal import Decimal
 from fractions import Fraction
 from typing import Iterable, Iterator, List, Mapping, Optional, Tuple, Union
 
 from .backend import BackEnd, Definitions
 from .faults import ArgumentNeeded, BackEndError, ConformabilityError, NotAnExpression
-from .quantity import Quantity, read_fraction, show_fraction
+from .quantity import Quantity, read_fraction
 
-Real = Union[int, float, Fraction]
+Real = Union[int, float, Fraction, Decimal]
 
 _FOLDER = os.path.dirname(os.path.abspath(__file__))
-# What a session does not take as an expression, and what is more than one line.
-_SPECIAL = re.compile(r"[\n\r\0;#]|\A[:?]|\A(?:search|quit|exit|help|conformable)(?:\s|\Z)")
+# What a session does not take as an expression: bytes, and first words.
+_has_special = re.compile(r"[\n\r\0;#]").search
+_is_command = re.compile(r"[:?]|(?:search|quit|exit|help|conformable)(?:\s|\Z)").match
 _LONGEST = 60_000
 
 
@@ -88,11 +90,7 @@ class Units:
         ...
         exact_units.faults.ConformabilityError: conformability error: 1 m and 1 s
         """
-        reply = self._back_end.convert(_expression(source), _expression(target))
-        number, space, dimension = reply.partition(" ")
-        if space:
-            raise ConformabilityError(f"not a plain number: {reply}")
-        return read_fraction(number)
+        return read_fraction(_plain(self._back_end.convert(_expression(source), _expression(target))))
 
     def to_float(self, source: str, target: str) -> float:
         """Return the float nearest to `convert(source, target)`.
@@ -113,8 +111,11 @@ class Units:
     def convert_column(self, numbers: Iterable[Real], source: str, target: str) -> List[float]:
         """Return each number of `source` in `target`, as the float nearest to the exact answer.
 
-        Two units are compared once. A function is evaluated for each number: a `source` such as ``tempF`` is applied to
-        it, and a `target` such as ``tempC`` is inverted.
+        A float counts as its exact binary value. Two units are compared once. A function is evaluated for each number:
+        a `source` such as ``tempF`` is applied to it, and a `target` such as ``tempC`` is inverted.
+
+        Raises `ConformabilityError` if the dimensions differ, the exception of a fault, `OverflowError` for an infinite
+        number or an answer past the largest float, and `ValueError` for NaN.
 
         >>> Units().convert_column([1, 2.5], "ft", "in")
         [12.0, 30.0]
@@ -126,8 +127,7 @@ class Units:
     def _column(self, numbers: Iterable[Real], source: str, target: str) -> Iterator[float]:
         one, unit = self.unit(source), self.unit(target)
         if one is None or unit is None:
-            for x in numbers:
-                yield float(self.convert(_applied(Fraction(x), source, is_function=one is None), target))
+            yield from self._evaluated(numbers, _expression(source), _expression(target), is_function=one is None)
             return
         if not one.conforms(unit):
             raise ConformabilityError(f"conformability error: {one} and {unit}")
@@ -137,6 +137,14 @@ class Units:
             n, d = x.as_integer_ratio()
             # Python rounds a quotient of whole numbers to the nearest float.
             yield n * top / (d * bottom)
+
+    def _evaluated(self, numbers: Iterable[Real], source: str, target: str, is_function: bool) -> Iterator[float]:
+        before, after = (f"{source}(", ")") if is_function else ("", f" ({source})")
+        convert = self._back_end.convert
+        for x in numbers:
+            n, d = x.as_integer_ratio()
+            top, _, bottom = _plain(convert(f"{before}{n}|{d}{after}", target)).partition("|")
+            yield int(top) / int(bottom or 1)
 
     def unit(self, text: str) -> Optional[Quantity]:
         """Return the value of a unit, or None for the name of a function."""
@@ -208,14 +216,16 @@ def _line(text: str) -> str:
 def _expression(text: str) -> str:
     """Return a text without the blanks around it, if both back ends take it as an expression."""
     text = text.strip(" \t")
-    if not text or len(text) > _LONGEST or _SPECIAL.search(text):
+    if not text or len(text) > _LONGEST or _has_special(text) or _is_command(text):
         raise NotAnExpression(f"not an expression: {_line(text)[:40]!r}")
     return text
 
 
-def _applied(x: Fraction, source: str, is_function: bool) -> str:
-    number = show_fraction(x)
-    return f"{source}({number})" if is_function else f"{number} ({source})"
+def _plain(reply: str) -> str:
+    """Return a reply that is a number alone."""
+    if " " in reply:
+        raise ConformabilityError(f"not a plain number: {reply}")
+    return reply
 
 
 def _open(definitions: Definitions, backend: str, library: Optional[str], program: Optional[str]) -> BackEnd:

@@ -14,6 +14,7 @@ import re
 import tempfile
 import threading
 import unittest
+from decimal import Decimal
 from fractions import Fraction
 from pathlib import Path
 from typing import Any
@@ -160,7 +161,8 @@ class BackEndTests:
         self.assertEqual(self.units.search("zzz"), [])
 
     def test_columns(self) -> None:
-        numbers = [random.Random(7).uniform(-1e9, 1e9) for _ in range(200)] + [0, 1, Fraction(1, 3), 1e-300, 1e300]
+        rng = random.Random(7)
+        numbers = [rng.uniform(-1e9, 1e9) for _ in range(200)] + [0, 1, Fraction(1, 3), Decimal("0.1"), 1e-300, 1e300]
         ratio = self.units.convert("ft", "inch")
         nearest = [float(Fraction(x) * ratio) for x in numbers]
         self.assertEqual(self.units.convert_column(numbers, "ft", "inch"), nearest)
@@ -360,7 +362,7 @@ class HeaderTests(unittest.TestCase):
     def test_statuses_are_those_of_the_header(self) -> None:
         header = dict(re.findall(r"UNITS_(\w+) = (\d+)", HEADER.read_text()))
         kinds = {str(kind.status) for kind in faults.KINDS}
-        others = {"DONE", "NO_ROOM", "CLOSED", "ALREADY_OPEN", "BAD_OPTIONS", "READ_FAILED"}
+        others = {"DONE", "NO_ROOM", "CLOSED", "ALREADY_OPEN", "BAD_OPTIONS", "READ_FAILED", "CELL_ERROR"}
         self.assertEqual({n for name, n in header.items() if name not in others}, kinds)
 
 

@@ -16,6 +16,7 @@ use crate::holding::holds;
 use crate::places::LastPlaces;
 use deck_lines::{KeyNumber, LineStore};
 use def_entry::{Kind, key_order_law};
+use memchr::memmem::Finder;
 use std::alloc::{AllocError, Global};
 use std::cmp::Ordering;
 
@@ -48,21 +49,22 @@ impl Deck {
         ensures in_place { IfOk result (λ keys. All (IsInPlace self.now.lines) keys.items) }
     {
         key_order_law();
+        let finder = Finder::new(text);
         let mut keys = Vec::new(alloc);
-        push_placed(&mut keys, &self.store, &self.last, text, Kind::Unit)?;
-        push_placed(&mut keys, &self.store, &self.last, text, Kind::Prefix)?;
-        push_placed(&mut keys, &self.store, &self.last, text, Kind::Func)?;
-        push_placed(&mut keys, &self.store, &self.last, text, Kind::List)?;
+        push_placed(&mut keys, &self.store, &self.last, &finder, Kind::Unit)?;
+        push_placed(&mut keys, &self.store, &self.last, &finder, Kind::Prefix)?;
+        push_placed(&mut keys, &self.store, &self.last, &finder, Kind::Func)?;
+        push_placed(&mut keys, &self.store, &self.last, &finder, Kind::List)?;
         Ok(in_order(keys))
     }
 }
 
-// Puts the keys of a kind that have a last place, and whose names hold a text, behind some keys.
+// Puts the keys of a kind that have a last place, and whose names hold the text of a finder, behind some keys.
 fn push_placed<'a>(
     keys: &mut Vec<PlacedKey<'a>>,
     store: &'a LineStore,
     last: &LastPlaces,
-    text: &[u8],
+    finder: &Finder<'_>,
     kind: Kind,
 ) -> Result<(), AllocError>
     requires places { ArePlaced store.now last.now }
@@ -70,27 +72,27 @@ fn push_placed<'a>(
     ensures numbering { IsNumbering store.now }
     ensures in_place { OnOk result (All (IsInPlace store.now.lines) keys.new.items) }
     ensures keys { OnOk result (map placed_key keys.new.items ≡ map placed_key keys.old.items
-        ++ keys_where (is_found store.now.names last.now text.now) kind 0 (names_of store.now.names kind)) }
+        ++ keys_where (is_found store.now.names last.now finder.now) kind 0 (names_of store.now.names kind)) }
 {
     for number in 0..store.name_count(kind) {
-        push_if_placed(keys, store, last, text, KeyNumber { kind, number })?;
+        push_if_placed(keys, store, last, finder, KeyNumber { kind, number })?;
     }
     Ok(())
 }
 
-// Puts the key of this number behind some keys, where it has a last place and its name holds a text.
+// Puts the key of this number behind some keys, where it has a last place and its name holds the text.
 fn push_if_placed<'a>(
     keys: &mut Vec<PlacedKey<'a>>,
     store: &'a LineStore,
     last: &LastPlaces,
-    text: &[u8],
+    finder: &Finder<'_>,
     n: KeyNumber,
 ) -> Result<(), AllocError>
     requires places { ArePlaced store.now last.now }
     requires placed { All (IsInPlace store.now.lines) keys.old.items }
     ensures in_place { OnOk result (All (IsInPlace store.now.lines) keys.new.items) }
     ensures keys { OnOk result (map placed_key keys.new.items ≡ map placed_key keys.old.items
-        ++ key_if (is_found store.now.names last.now text.now n) (key_at store.now.names n)) }
+        ++ key_if (is_found store.now.names last.now finder.now n) (key_at store.now.names n)) }
 {
     let Some(place) = last.get(n) else {
         return Ok(());
@@ -98,7 +100,7 @@ fn push_if_placed<'a>(
     let Some(name) = store.name(n) else {
         return Ok(());
     };
-    if !holds(name, text) {
+    if !holds(name, finder) {
         return Ok(());
     }
     let kind = n.kind;

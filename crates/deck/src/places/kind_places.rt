@@ -1,6 +1,6 @@
 //! The places of the keys of one kind.
 
-ghost use Rattle.std.specs.Prelude.{◌≡◌, ◌<◌, [], None, Some, map, length, set, option_map, OnOk};
+ghost use Rattle.std.specs.Prelude.{◌≡◌, ◌<◌, [], None, Some, length, set, OnOk};
 ghost use Rattle.deck.specs.KindPlaces as spec;
 
 use std::alloc::{AllocError, Global};
@@ -94,31 +94,5 @@ impl KindPlaces {
             self.count -= 1;
         }
         self.places[number] = None;
-    }
-
-    /// The places when the line at one of them is gone.
-    pub(crate) fn close_gap(&mut self, gap: usize)
-        ensures { self.new ≡ map (option_map (spec.without_gap gap)) self.old }
-    {
-        close_gap(self.places.as_mut_slice(), gap);
-    }
-}
-
-// Makes each place behind the gap one less.
-fn close_gap(places: &mut [Option<usize>], gap: usize)
-    ensures { places.new ≡ map (option_map (spec.without_gap gap)) places.old }
-{
-    for i in 0..places.len() {
-        places[i] = without_gap(places[i], gap);
-    }
-}
-
-// A place, when the line at the gap is gone.
-fn without_gap(place: Option<usize>, gap: usize) -> Option<usize>
-    ensures { result ≡ option_map (spec.without_gap gap) place }
-{
-    match place {
-        Some(place) if gap < place => Some(place - 1),
-        _ => place,
     }
 }

@@ -1,13 +1,16 @@
 //! The last places of keys.
 
-ghost use Rattle.std.specs.Prelude.{◌≡◌, ◌<◌, [], Some, map, length, set, option_map, OnOk, if◌then◌else◌};
+ghost use Rattle.std.specs.Prelude.{◌≡◌, ◌<◌, ◌+◌, ℕ, [], ◌≢◌, Some, map, length, set, option_map, OnOk, if◌then◌else◌};
 ghost use Rattle.def_entry.specs.declared.key.Kind as key_kind;
 ghost use Rattle.def_entry.specs.SameKeys.{is_same_kind};
+ghost use Rattle.deck_lines.specs.declared.key_number.KeyNumber as number_spec;
 ghost use Rattle.deck.specs.KindPlaces as kind_spec;
 ghost use Rattle.deck.specs.LastPlaces as spec;
+ghost use Rattle.deck.specs.PlacedKeys.{AreDefined};
+ghost use Rattle.deck.specs.declared.places.last_places.LastPlaces as places_spec;
 
 use super::kind_places::KindPlaces;
-use deck_lines::KeyNumber;
+use deck_lines::{KeyNumber, LineStore};
 use def_entry::Kind;
 use std::alloc::{AllocError, Global};
 
@@ -95,15 +98,44 @@ impl LastPlaces {
         }
     }
 
-    /// The places when the line at one of them is gone.
-    pub(crate) fn close_gap(&mut self, gap: usize)
+    /// The places when the line at `gap` is gone. It goes over the lines after that line.
+    pub(crate) fn close_gap(&mut self, store: &LineStore, gap: usize)
+        requires inside { gap < length store.now.lines }
+        requires defined { AreDefined store.now self.old }
         ensures { (kind : key_kind.Kind) → spec.places_of self.new kind
             ≡ map (option_map (kind_spec.without_gap gap)) (spec.places_of self.old kind) }
     {
-        self.units.close_gap(gap);
-        self.prefixes.close_gap(gap);
-        self.functions.close_gap(gap);
-        self.lists.close_gap(gap);
+        store.lines_few();
+        for place in gap + 1..store.len() {
+            self.move_line_back(store, place);
+        }
+    }
+
+    // Makes the last place of the key that the line at `place` defines one less if it is `place`.
+    fn move_line_back(&mut self, store: &LineStore, place: usize)
+        ensures { (gap : ℕ) (old : places_spec.LastPlaces) → gap < place → AreDefined store.now old
+            → spec.IsMovedTo gap place old self.old → spec.IsMovedTo gap (place + 1) old self.new }
+    {
+        if let Some(n) = store.key_number(place) {
+            self.move_back(n, place);
+        }
+    }
+
+    // Makes the place of the key of this number one less if it is `place`. All others stay.
+    fn move_back(&mut self, n: KeyNumber, place: usize)
+        ensures own { spec.place_at self.new n
+            ≡ option_map (kind_spec.moved_back place) (spec.place_at self.old n) }
+        ensures others { (m : number_spec.KeyNumber) → m ≢ n
+            → spec.place_at self.new m ≡ spec.place_at self.old m }
+        ensures room { (kind : key_kind.Kind)
+            → length (spec.places_of self.new kind) ≡ length (spec.places_of self.old kind) }
+    {
+        let Some(own) = self.get(n) else {
+            return;
+        };
+        if own == place {
+            self.put(n, place.saturating_sub(1));
+        }
     }
 
     // The places of the keys of a kind.

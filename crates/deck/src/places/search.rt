@@ -1,23 +1,84 @@
 //! The last place of one key.
 
-ghost use Rattle.std.specs.Prelude.{◌≡◌, ◌==◌, ◌&&◌, ◌++◌, Some, length};
+ghost use Rattle.std.specs.Prelude.{◌≡◌, ◌≤◌, ◌<◌, ◌==◌, ◌&&◌, ◌++◌, Bool, List, Some, false, length, set, take, IfOk};
 ghost use Rattle.def_entry.specs.SameKeys as keys;
 ghost use Rattle.def_entry.specs.declared.key.Key as key_spec;
 ghost use Rattle.deck_lines.specs.Names.{key_at};
+ghost use Rattle.deck_lines.specs.Numbering.{IsNumbering};
 ghost use Rattle.deck_lines.specs.Stores.{definition_at};
-ghost use Rattle.deck.specs.Tables.{Definitions, definition_by, definitions_by, place_of};
+ghost use Rattle.deck.specs.Active.{active_lines};
+ghost use Rattle.deck.specs.Tables.{Definitions, definition_by, definitions_by, last_place, place_of};
 
+use crate::force::active_flags;
+use crate::settings::Settings;
 use deck_lines::{KeyNumber, LineStore};
 use def_entry::Kind;
+use std::alloc::{AllocError, Global};
 
-/// The place of the last line of the key of this number among the lines whose flag is true. It takes no memory.
-pub(crate) fn last_of(store: &LineStore, flags: &[bool], n: KeyNumber) -> Option<usize>
-    requires { length flags.now ≡ length store.now.lines }
+/// The place of the last active line of a key without its last active line, which is at `place`. The texts of the
+/// lines are read only if an earlier line defines the key. The only error is want of memory.
+pub(crate) fn uncovered_by(
+    alloc: Global,
+    store: &LineStore,
+    settings: &Settings,
+    place: usize,
+    n: KeyNumber,
+) -> Result<Option<usize>, AllocError>
+    requires inside { place < length store.now.lines }
+    requires last { (k : key_spec.Key) → key_at store.now.names n ≡ Some k
+        → last_place settings.now store.now.lines k ≡ Some place }
+    ensures { IfOk result (λ uncovered. (k : key_spec.Key) → key_at store.now.names n ≡ Some k
+        → uncovered ≡ place_of (definitions_by (set (active_lines settings.now store.now.lines) place false)
+        store.now.lines) k) }
+{
+    let end = end_of_definitions(store, n, place);
+    if end == 0 {
+        return Ok(None);
+    }
+    let flags = active_flags(alloc, store, settings)?;
+    Ok(last_of(store, flags.as_slice(), end, n))
+}
+
+// The number of lines up to the last one before `place` that defines the key of this number, active or not. It is 0
+// if there is none.
+fn end_of_definitions(store: &LineStore, n: KeyNumber, place: usize) -> usize
+    requires { place ≤ length store.now.lines }
+    ensures within { result ≤ place }
+    ensures same { (k : key_spec.Key) (flags : List Bool) → key_at store.now.names n ≡ Some k
+        → length flags ≡ length store.now.lines
+        → place_of (definitions_by (take place flags) (take place store.now.lines)) k
+        ≡ place_of (definitions_by (take result flags) (take result store.now.lines)) k }
+{
+    let mut end = place;
+    while end > 0 && !defines(store, end - 1, n) {
+        end -= 1;
+    }
+    end
+}
+
+// Whether the line at a place defines the key of this number.
+fn defines(store: &LineStore, place: usize, n: KeyNumber) -> bool
+    ensures numbering { IsNumbering store.now }
+    ensures other { (k : key_spec.Key) (active : Bool) (ds : Definitions) → result ≡ false
+        → key_at store.now.names n ≡ Some k
+        → place_of ds k ≡ place_of (definition_by place active (definition_at store.now.lines place) ++ ds) k }
+{
+    match store.key_number(place) {
+        Some(own) => is_same_number(own, n),
+        None => false,
+    }
+}
+
+// The place of the last line of the key of this number among the first lines, so many, whose flag is true. It takes
+// no memory.
+fn last_of(store: &LineStore, flags: &[bool], end: usize, n: KeyNumber) -> Option<usize>
+    requires flags { length flags.now ≡ length store.now.lines }
+    requires within { end ≤ length store.now.lines }
     ensures { (k : key_spec.Key) → key_at store.now.names n ≡ Some k
-        → result ≡ place_of (definitions_by flags.now store.now.lines) k }
+        → result ≡ place_of (definitions_by (take end flags.now) (take end store.now.lines)) k }
 {
     let mut last = None;
-    for place in 0..flags.len() {
+    for place in 0..end {
         last = later_of(store, n, last, flags[place], place);
     }
     last

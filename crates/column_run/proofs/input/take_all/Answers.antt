@@ -1,4 +1,4 @@
-use Rattle.std.proofs.Common.{◌++◌, ◌∙◌, List, ℕ, Some, inl, length, take, sym, ap, refl, arith}
+use Rattle.std.proofs.Common.{◌++◌, ◌∙◌, List, ℕ, Some, inl, length, take, sym, ap, arith}
 use Rattle.session.proofs.Blocks.{loses, no_rest, none_left, rose_since, took_enough, went}
 use Rattle.column_run.proofs.Taking.{ended_input, took_bytes}
 use Rattle.column_run.proofs.input.take_all.Goals as goal

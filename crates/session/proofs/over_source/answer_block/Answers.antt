@@ -1,7 +1,8 @@
-use Rattle.std.proofs.Common.{◌++◌, [], refl, sym, ◌∙◌, arith}
+use Rattle.std.proofs.Common.{◌++◌, refl, sym, ◌∙◌, arith}
 use Rattle.session.proofs.Blocks.{either_rose, later_than, rose_from, rose_since, same_input, stands}
 use Rattle.session.proofs.Ending.{done_by, fed_cause, goes_on, write_cause}
 use Rattle.session.proofs.Faulting.{still}
+use Rattle.session.proofs.HeardLines.{told_input}
 use Rattle.session.proofs.Growing.{front_grows, grows_again, same_grows}
 use Rattle.session.proofs.TakingUp.{block_last, holds_behind, holds_first, holds_on, names_none_at}
 use Rattle.session.proofs.Writing.{ended_written, part_written, waits_at_first, waits_behind, waits_on}
@@ -17,16 +18,18 @@ loop-rest-init g c = record {
   err_grows = same_grows _;
   holds = λ taken h. holds_first taken c.args.block.now _ h;
   unasked = λ taken more h none. refl;
-  waits = λ first taken start was is w. waits_at_first first taken c.args.block.now _ _ start was is _ _ _ _ _ _ w;
+  waits = λ first taken more start was is t w. waits_at_first first taken c.args.block.now _ _ start was is _ _ _ _ _ _
+      w;
 }
 
 pub returns-in_default-clause-run : goal.returns-in_default-clause-run
 returns-in_default-clause-run g c = λ was is. record {
-  told = λ first taken more start files told fetches stores w.
-      let p = c.loop-rest.invariant.waits first taken start was.left is.left w in
+  told = λ first taken more start t fetches stores w.
+      let p = c.loop-rest.invariant.waits first taken more start was.left is.left t w in
       let s = stands first (taken ++ p.0) _ _ _ _ p.2 c.clear.new.self c.clear.ensures.out c.clear.ensures.err in
       part_written first taken c.args.block.now p.0 c.loop-rest.rest.now c.feed-fed.new.rest.now more p.1 _ _ _ _ p.2
-      c.feed-fed.result _ c.feed-fed.new.said _ _ (c.feed-fed.ensures.told _ first (taken ++ p.0) more s) files told
+      c.feed-fed.result _ c.feed-fed.new.said _ _ (c.feed-fed.ensures.told _ first (taken ++ p.0) more
+      (told_input _ _ start.files (same_input taken c.args.block.now p.0 c.loop-rest.rest.now more p.1) t) s)
       c.write.ensures.out c.write.ensures.err
       (λ failed. rose_from _ _ _ _ stores c.loop-rest.invariant.stores_later
       (c.feed-fed.ensures.faults.written failed));
@@ -40,12 +43,14 @@ returns-in_default-clause-run g c = λ was is. record {
 
 pub returns-in-Some-clause-run : goal.returns-in-Some-clause-run
 returns-in-Some-clause-run g c = λ was is. record {
-  told = λ first taken more start files told fetches stores w.
-      let p = c.loop-rest.invariant.waits first taken start was.left is.left w in
+  told = λ first taken more start t fetches stores w.
+      let p = c.loop-rest.invariant.waits first taken more start was.left is.left t w in
       let s = stands first (taken ++ p.0) _ _ _ _ p.2 c.clear.new.self c.clear.ensures.out c.clear.ensures.err in
       ended_written first taken c.args.block.now p.0 c.loop-rest.rest.now c.feed-fed.new.rest.now more p.1 _ _ _ _ p.2
-      c.feed-fed.result _ c.feed-fed.new.said _ _ (c.feed-fed.ensures.told _ first (taken ++ p.0) more s) c.in-Some.end
-      c.in-Some.ensures files told c.in-Ok.ensures.whole.0 c.in-Ok.ensures.whole.1
+      c.feed-fed.result _ c.feed-fed.new.said _ _ (c.feed-fed.ensures.told _ first (taken ++ p.0) more
+      (told_input _ _ start.files (same_input taken c.args.block.now p.0 c.loop-rest.rest.now more p.1) t) s)
+      c.in-Some.end
+      c.in-Some.ensures c.in-Ok.ensures.whole.0 c.in-Ok.ensures.whole.1
       (λ failed. rose_from _ _ _ _ fetches c.loop-rest.invariant.fetches_later
       (c.feed-fed.ensures.faults.cause failed))
       (λ failed. rose_from _ _ _ _ stores c.loop-rest.invariant.stores_later
@@ -80,18 +85,19 @@ loop-rest-preserved g c = record {
       c.feed-fed.ensures.unasked (taken ++ p.0) more p.2
       (names_none_at _ _ (same_input taken c.args.block.now p.0 c.loop-rest.rest.now more p.1) none)
       ∙ c.loop-rest.invariant.unasked taken more h none;
-  waits = λ first taken start was is w.
-      let p = c.loop-rest.invariant.waits first taken start was is w in
+  waits = λ first taken more start was is t w.
+      let p = c.loop-rest.invariant.waits first taken more start was is t w in
       let s = stands first (taken ++ p.0) _ _ _ _ p.2 c.clear.new.self c.clear.ensures.out c.clear.ensures.err in
-      waits_on first taken c.args.block.now p.0 c.loop-rest.rest.now c.feed-fed.new.rest.now [] p.1 _ _ _ _ p.2
-      c.feed-fed.result _ c.feed-fed.new.said _ _ (c.feed-fed.ensures.told _ first (taken ++ p.0) [] s)
+      waits_on first taken c.args.block.now p.0 c.loop-rest.rest.now c.feed-fed.new.rest.now more p.1 _ _ _ _ p.2
+      c.feed-fed.result _ c.feed-fed.new.said _ _ (c.feed-fed.ensures.told _ first (taken ++ p.0) more
+      (told_input _ _ start.files (same_input taken c.args.block.now p.0 c.loop-rest.rest.now more p.1) t) s)
       c.in-Ok.ensures.whole.0 c.in-Ok.ensures.whole.1 (goes_on c.feed-fed.result c.in_default-end_of.ensures);
 }
 
 pub returns-clause-run : goal.returns-clause-run
 returns-clause-run g c = λ was is. record {
-  waits = λ first taken start w.
-      let p = c.loop-rest.invariant.waits first taken start was.left is.left w in
+  waits = λ first taken more start t w.
+      let p = c.loop-rest.invariant.waits first taken more start was.left is.left t w in
       waits_behind first taken c.args.block.now p.0 c.loop-rest.rest.now _ _ start _ p.1
       (sym c.is_empty.ensures ∙ c.loop-rest-test.false) p.2;
   later = record {

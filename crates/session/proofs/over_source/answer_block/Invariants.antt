@@ -1,9 +1,10 @@
 use Rattle.std.proofs.Common.{◌≡◌, ◌++◌, ◌≤◌, [], ℕ, List, length}
 use Rattle.std.specs.declared.option.Option.{Option}
-use Rattle.session.specs.Hearing.{NamesNoFile}
+use Rattle.session.specs.Hearing.{NamesNoFile, any_loads_file}
 use Rattle.session.specs.Outside.{GrowsAtLeast, Outside, outside_of}
 use Rattle.session.specs.Standing.{Holds}
 use Rattle.session.specs.Talks.{Talk}
+use Rattle.session.specs.Telling.{IsToldIf}
 use Rattle.session.specs.Waiting.{Waits}
 use Rattle.session.proofs.over_source.answer_block.Given as goal
 
@@ -19,7 +20,8 @@ invariant-loop-rest g l = record {
       (done : List ℕ) × (l.block ≡ done ++ l.rest) × Holds (taken ++ done) l.held;
   unasked : (taken more : List ℕ) → Holds taken l.initial.held → NamesNoFile ((taken ++ l.block) ++ more) →
       l.files ≡ l.initial.files;
-  waits : (first : Talk) (taken : List ℕ) (start : Outside) (was is : Option (List ℕ)) →
+  waits : (first : Talk) (taken more : List ℕ) (start : Outside) (was is : Option (List ℕ)) →
+      IsToldIf (any_loads_file ((taken ++ l.block) ++ more)) start.files →
       Waits first taken l.initial.held l.initial.session start
       (outside_of was (g.O.Sink.written l.initial.out) (g.E.Sink.written l.initial.err)
       (g.F.Files.files l.initial.files) (g.F.Files.faults l.initial.files)

@@ -4,15 +4,16 @@ use Rattle.session.proofs.Blocks.{all_heard, cut, cut_part, heard_by, later_than
 use Rattle.session.proofs.Blocks.{rose_since, took_enough, took_more, went}
 use Rattle.session.proofs.Ending.{cause_since, ended_at, length_cause, read_cause}
 use Rattle.session.proofs.Growing.{grows_again}
+use Rattle.session.proofs.HeardLines.{told_input}
 use Rattle.session.proofs.TakingUp.{names_none_at}
 use Rattle.session.proofs.over_source.answer_blocks.Goals as goal
 
 pub returns-in-Err-clause-run : goal.returns-in-Err-clause-run
 returns-in-Err-clause-run g c = record {
-  told = λ first input start m q fm ff fs at.
-      let p = c.loop-total.invariant.stands first input start q at in (
-        cut_part first p.0 _ _ _ _ p.4 input p.1 _ m fm p.2 refl refl refl,
-        λ calm. cut first p.0 _ _ _ _ p.4 input p.1 _ m fm p.2 (c.in-Err.ensures.kept ∙ p.3) refl refl refl refl,
+  told = λ first input start q t ff fs at.
+      let p = c.loop-total.invariant.stands first input start q t at in (
+        cut_part first p.0 _ _ _ _ p.4 input p.1 _ p.2 refl refl refl,
+        λ calm. cut first p.0 _ _ _ _ p.4 input p.1 _ p.2 (c.in-Err.ensures.kept ∙ p.3) refl refl refl refl,
       );
   heard = λ input q h d. cc;
   caused = read_cause _ _ (rose_since _ _ _ c.loop-total.invariant.earlier c.in-Err.ensures.cause.failed);
@@ -28,11 +29,13 @@ returns-then-n-eq0-clause-run g c =
     let first_seen = source_of (g.S.Source.left c.args.src.now) (g.S.Source.taken c.args.src.now)
     (g.S.Source.faults c.args.src.now) in
     record {
-      told = λ first input start m q fm ff fs at.
-          let p = c.loop-total.invariant.stands first input start q at in
+      told = λ first input start q t ff fs at.
+          let p = c.loop-total.invariant.stands first input start q t at in
           ended_at first p.0 input c.answer_end.result start _
           (all_heard input p.0 p.1 p.2 (none_left _ p.1 p.3 (c.in-Ok.ensures.end c.if-n-eq0.true)))
-          ((c.answer_end.ensures.run old new).told first p.0 start m fm
+          ((c.answer_end.ensures.run old new).told first p.0 start
+          (told_input _ _ start.files
+          (all_heard input p.0 p.1 p.2 (none_left _ p.1 p.3 (c.in-Ok.ensures.end c.if-n-eq0.true))) t)
           (later_than _ _ _ ff c.loop-total.invariant.later) (later_than _ _ _ fs c.loop-total.invariant.stores_later)
           p.4);
       heard = λ input q h d.
@@ -58,11 +61,12 @@ returns-in-Some-clause-run g c =
     let first_seen = source_of (g.S.Source.left c.args.src.now) (g.S.Source.taken c.args.src.now)
     (g.S.Source.faults c.args.src.now) in
     record {
-      told = λ first input start m q fm ff fs at.
-          let p = c.loop-total.invariant.stands first input start q at in
+      told = λ first input start q t ff fs at.
+          let p = c.loop-total.invariant.stands first input start q t at in
           let lost = loses _ _ p.1 (take c.in-Ok.n c.take.new.buf) p.3 c.in-Ok.ensures.bytes in
           ended_at first _ input c.in-Some.end start _ (went input p.0 p.1 _ lost.0 p.2 lost.2)
-          ((c.in-Some.ensures.run old new).told first p.0 lost.0 start m fm
+          ((c.in-Some.ensures.run old new).told first p.0 lost.0 start
+          (told_input _ _ start.files (went input p.0 p.1 _ lost.0 p.2 lost.2) t)
           (later_than _ _ _ ff c.loop-total.invariant.later) (later_than _ _ _ fs c.loop-total.invariant.stores_later)
           p.4);
       heard = λ input q h d.
@@ -81,10 +85,10 @@ returns-in-Some-clause-run g c =
 
 pub returns-clause-run : goal.returns-clause-run
 returns-clause-run g c = record {
-  told = λ first input start m q fm ff fs at.
-      let p = c.loop-total.invariant.stands first input start q at in (
-        cut_part first p.0 _ _ _ _ p.4 input p.1 _ m fm p.2 refl refl refl,
-        cut first p.0 _ _ _ _ p.4 input p.1 _ m fm p.2 p.3 refl refl refl refl,
+  told = λ first input start q t ff fs at.
+      let p = c.loop-total.invariant.stands first input start q t at in (
+        cut_part first p.0 _ _ _ _ p.4 input p.1 _ p.2 refl refl refl,
+        cut first p.0 _ _ _ _ p.4 input p.1 _ p.2 p.3 refl refl refl refl,
       );
   heard = λ input q h d. cc;
   caused = length_cause _ _ (took_enough c.loop-total.total 4294967296 _ _ c.loop-total.invariant.counted
@@ -124,14 +128,15 @@ loop-total-preserved g c =
           ∙ c.loop-total.invariant.unasked input q h none;
       room = (omega (arith, c.loop-total.invariant.room.0), omega (arith, c.loop-total.invariant.room.1));
       counted = took_more c.loop-total.total c.in-Ok.n _ _ _ c.loop-total.invariant.counted c.in-Ok.ensures.count;
-      stands = λ first input start q at.
-          let p = c.loop-total.invariant.stands first input start q at in
+      stands = λ first input start q t at.
+          let p = c.loop-total.invariant.stands first input start q t at in
           let lost = loses _ _ p.1 (take c.in-Ok.n c.take.new.buf) p.3 c.in-Ok.ensures.bytes in (
             p.0 ++ take c.in-Ok.n c.take.new.buf,
             lost.0,
             sym (went input p.0 p.1 _ lost.0 p.2 lost.2),
             lost.1,
-            behind.waits first p.0 start p.4,
+            behind.waits first p.0 lost.0 start
+                (told_input _ _ start.files (went input p.0 p.1 _ lost.0 p.2 lost.2) t) p.4,
           );
     }
 

@@ -1,8 +1,9 @@
 use Rattle.std.proofs.Common.{◌≡◌, ◌++◌, ◌≤◌, ◌-◌, ℕ, List, Some, length, ◌<◌, []}
-use Rattle.session.specs.Hearing.{NamesNoFile}
+use Rattle.session.specs.Hearing.{NamesNoFile, any_loads_file}
 use Rattle.session.specs.Outside.{GrowsAtLeast, Outside, outside_of}
 use Rattle.session.specs.Standing.{Holds}
 use Rattle.session.specs.Talks.{Talk}
+use Rattle.session.specs.Telling.{IsToldIf}
 use Rattle.session.specs.Waiting.{TookAtLeast, Waits}
 use Rattle.session.proofs.over_source.answer_blocks.Given as goal
 
@@ -23,7 +24,7 @@ invariant-loop-total g l = record {
   unasked : (input : List ℕ) → g.S.Source.left l.initial.src ≡ Some input → Holds [] l.initial.held →
       NamesNoFile input → l.files ≡ l.initial.files;
   stands : (first : Talk) (input : List ℕ) (start : Outside) → g.S.Source.left l.initial.src ≡ Some input →
-      Waits first [] l.initial.held l.initial.session start
+      IsToldIf (any_loads_file input) start.files → Waits first [] l.initial.held l.initial.session start
       (outside_of (g.S.Source.left l.initial.src) (g.O.Sink.written l.initial.out) (g.E.Sink.written l.initial.err)
       (g.F.Files.files l.initial.files) (g.F.Files.faults l.initial.files)
       (g.F.Files.store_faults l.initial.files) l.initial.steps) →

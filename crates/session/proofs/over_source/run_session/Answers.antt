@@ -1,4 +1,6 @@
-use Rattle.std.proofs.Common.{[], inl, inr, refl, arith, sym, ◌∙◌}
+use Rattle.std.proofs.Common.{[], inl, inr, refl, arith, subst, sym, ◌∙◌}
+use Rattle.session.specs.Hearing.{any_loads_file}
+use Rattle.session.specs.Telling.{IsToldIf}
 use Rattle.session.proofs.Blocks.{any_rose, open_part, opens}
 use Rattle.session.proofs.Ending.{memory_cause, unwritten, write_cause}
 use Rattle.session.proofs.Growing.{all_grows, grows_more, order_grows}
@@ -8,7 +10,7 @@ use Rattle.session.proofs.over_source.run_session.Goals as goal
 
 pub returns-in_default-clause-run : goal.returns-in_default-clause-run
 returns-in_default-clause-run g c = record {
-  told = λ first input start q at. unwritten first input _ _ start _ at;
+  told = λ first input start q t at. unwritten first input _ _ start _ at;
   heard = λ input q d. cc;
   caused = memory_cause _ _;
 }
@@ -21,7 +23,7 @@ returns-in_default-clause-order g c = inl refl
 
 pub returns-in-Err-clause-run : goal.returns-in-Err-clause-run
 returns-in-Err-clause-run g c = record {
-  told = λ first input start q at.
+  told = λ first input start q t at.
       open_part first input _ _ start _ _ at c.write.ensures.out c.write.ensures.err refl;
   heard = λ input q d. cc;
   caused = write_cause _ _ c.in-Err.ensures.cause;
@@ -35,8 +37,9 @@ returns-in-Err-clause-order g c = order_grows _ _ _ c.args.said.now.err.items c.
 
 pub returns-clause-run : goal.returns-clause-run
 returns-clause-run g c = record {
-  told = λ first input start q at.
-      c.answer_blocks.ensures.run.told first input start _ q (sym at.files ∙ at.at.files) at.faults at.stores
+  told = λ first input start q t at.
+      c.answer_blocks.ensures.run.told first input start q (subst (IsToldIf (any_loads_file input)) at.files t)
+      at.faults at.stores
       (opens first _ _ _ start _ _ at c.in-Ok-write.ensures.whole.0 c.in-Ok-write.ensures.whole.1 refl refl
       (c.new-held.ensures ∙ sym (readable_short [] (omega arith))));
   heard = λ input q d.

@@ -3,23 +3,27 @@ use Rattle.session.specs.Hearing.{names_file_in, names_file_read}
 use Rattle.session.specs.declared.fault.SessionFault.TheVariants.{OutOfMemory}
 use Rattle.session.proofs.Breaking.{broken_at}
 use Rattle.session.proofs.Feeding.{line_ended, no_part}
+use Rattle.session.proofs.HeardLines.{told_line}
 use Rattle.session.proofs.TakingUp.{last_line}
 use Rattle.session.proofs.talk.end_line.Goals as goal
 
 pub returns-then-is_empty-clause-told : goal.returns-then-is_empty-clause-told
-returns-then-is_empty-clause-told g c = λ base talk part h at.
+returns-then-is_empty-clause-told g c = λ base talk part h t at.
     line_ended base talk c.reply-done.result c.args.piece.now (part ++ c.args.piece.now) c.clear.new.self _
     (no_part part c.args.piece.now (sym (c.is_empty.ensures part h) ∙ c.if-is_empty.true)) c.clear.ensures
-    (c.reply-done.ensures.told base talk c.args.piece.now c.short.ensures.is at)
+    (c.reply-done.ensures.told base talk c.args.piece.now c.short.ensures.is
+    (told_line _ _ base.files
+    (no_part part c.args.piece.now (sym (c.is_empty.ensures part h) ∙ c.if-is_empty.true)) t) at)
 
 pub returns-clause-told : goal.returns-clause-told
-returns-clause-told g c = λ base talk part h at.
+returns-clause-told g c = λ base talk part h t at.
     line_ended base talk c.reply-done-2.result (part ++ c.args.piece.now) (part ++ c.args.piece.now) c.clear-2.new.self
     _ refl c.clear-2.ensures
-    (c.reply-done-2.ensures.told base talk (part ++ c.args.piece.now) (c.line.ensures.is ∙ c.in-Ok.ensures part h) at)
+    (c.reply-done-2.ensures.told base talk (part ++ c.args.piece.now) (c.line.ensures.is ∙ c.in-Ok.ensures part h) t
+    at)
 
 pub returns-in-Err-clause-told : goal.returns-in-Err-clause-told
-returns-in-Err-clause-told g c = λ base talk part h at.
+returns-in-Err-clause-told g c = λ base talk part h t at.
     broken_at OutOfMemory base talk ((part ++ c.args.piece.now) ∷ []) _ at
 
 pub returns-then-is_empty-clause-last : goal.returns-then-is_empty-clause-last

@@ -6,15 +6,18 @@ use Rattle.session.specs.Input.{whole_lines, unfinished}
 use Rattle.session.specs.Standing.{now_of}
 use Rattle.session.specs.Talks.{talk_over}
 use Rattle.session.specs.declared.fault.SessionFault.TheVariants.{OutOfMemory}
-use Rattle.session.proofs.Feeding.{line_fed, line_lost, line_over, rest_held, rest_lost}
-use Rattle.session.proofs.HeardLines.{line_holds, line_last, line_names_none, rest_holds}
+use Rattle.session.proofs.Feeding.{line_fed, line_lost, line_over, rest_held, rest_lost, stands_holds}
+use Rattle.session.proofs.HeardLines.{line_holds, line_last, line_names_none, line_told, rest_holds}
 use Rattle.session.proofs.talk.feed.Goals as goal
 
 pub returns-in-Ok-true-clause-told : goal.returns-in-Ok-true-clause-told
-returns-in-Ok-true-clause-told g c = λ base first taken more s.
-    let p = c.loop-piece.invariant.fed base first taken s in
+returns-in-Ok-true-clause-told g c = λ base first taken more t s.
+    let p = c.loop-piece.invariant.fed base first taken more t s in
     let told = c.in-Ok-true.ensures.told base (talk_over first (whole_lines (taken ++ p.0)))
-    (unfinished (taken ++ p.0)) p.2.part p.2.at in
+    (unfinished (taken ++ p.0)) p.2.part
+    (line_told taken c.args.rest.now.now p.0 c.loop-piece.rest.now c.loop-piece.held p.1
+    (stands_holds base first _ _ _ p.2)
+    c.in-Some.piece.now c.in-Some.behind.now (sym c.in-Some.ensures) more base.files t) p.2.at in
     line_over base first taken c.args.rest.now.now p.0 c.loop-piece.rest.now c.loop-piece.held
     (now_of c.loop-piece.said c.loop-piece.session (g.F.Files.files c.loop-piece.files) c.loop-piece.steps) p.1 p.2
     c.in-Some.piece.now
@@ -23,21 +26,26 @@ returns-in-Ok-true-clause-told g c = λ base first taken more s.
     (sym c.in-Ok-true.field-0-test ∙ told.0) told.2
 
 pub returns-in-Err-clause-told : goal.returns-in-Err-clause-told
-returns-in-Err-clause-told g c = λ base first taken more s.
-    let p = c.loop-piece.invariant.fed base first taken s in
+returns-in-Err-clause-told g c = λ base first taken more t s.
+    let p = c.loop-piece.invariant.fed base first taken more t s in
     line_lost base first taken c.args.rest.now.now p.0 c.loop-piece.rest.now c.loop-piece.held
     (now_of c.loop-piece.said c.loop-piece.session (g.F.Files.files c.loop-piece.files) c.loop-piece.steps) p.1 p.2
     c.in-Some.piece.now
     c.in-Some.behind.now (sym c.in-Some.ensures) c.in-Err.fault more
     (now_of c.end_line.new.said c.end_line.new.session (g.F.Files.files c.end_line.new.files) c.end_line.new.steps)
     (c.in-Err.ensures.told base (talk_over first (whole_lines (taken ++ p.0))) (unfinished (taken ++ p.0)) p.2.part
-    p.2.at)
+    (line_told taken c.args.rest.now.now p.0 c.loop-piece.rest.now c.loop-piece.held p.1
+    (stands_holds base first _ _ _ p.2)
+    c.in-Some.piece.now c.in-Some.behind.now (sym c.in-Some.ensures) more base.files t) p.2.at)
 
 pub returns-then-is_long-clause-told : goal.returns-then-is_long-clause-told
-returns-then-is_long-clause-told g c = λ base first taken more s.
-    let p = c.loop-piece.invariant.fed base first taken s in
+returns-then-is_long-clause-told g c = λ base first taken more t s.
+    let p = c.loop-piece.invariant.fed base first taken more t s in
     let told = c.in-Ok-false.ensures.told base (talk_over first (whole_lines (taken ++ p.0)))
-    (unfinished (taken ++ p.0)) p.2.part p.2.at in
+    (unfinished (taken ++ p.0)) p.2.part
+    (line_told taken c.args.rest.now.now p.0 c.loop-piece.rest.now c.loop-piece.held p.1
+    (stands_holds base first _ _ _ p.2)
+    c.in-Some.piece.now c.in-Some.behind.now (sym c.in-Some.ensures) more base.files t) p.2.at in
     line_fed base first taken c.args.rest.now.now p.0 c.loop-piece.rest.now c.loop-piece.held
     (now_of c.loop-piece.said c.loop-piece.session (g.F.Files.files c.loop-piece.files) c.loop-piece.steps) p.1 p.2
     c.in-Some.piece.now
@@ -65,10 +73,13 @@ loop-piece-preserved g c = record {
       (line_names_none taken c.args.rest.now.now p.0 c.loop-piece.rest.now c.loop-piece.held p.1 p.2
       c.in-Some.piece.now c.in-Some.behind.now (sym c.in-Some.ensures) more none)
       ∙ c.loop-piece.invariant.unasked taken more h none;
-  fed = λ base first taken s.
-      let p = c.loop-piece.invariant.fed base first taken s in
+  fed = λ base first taken more t s.
+      let p = c.loop-piece.invariant.fed base first taken more t s in
       let told = c.in-Ok-false.ensures.told base (talk_over first (whole_lines (taken ++ p.0)))
-      (unfinished (taken ++ p.0)) p.2.part p.2.at in
+      (unfinished (taken ++ p.0)) p.2.part
+      (line_told taken c.args.rest.now.now p.0 c.loop-piece.rest.now c.loop-piece.held p.1
+      (stands_holds base first _ _ _ p.2)
+      c.in-Some.piece.now c.in-Some.behind.now (sym c.in-Some.ensures) more base.files t) p.2.at in
       line_fed base first taken c.args.rest.now.now p.0 c.loop-piece.rest.now c.loop-piece.held
       (now_of c.loop-piece.said c.loop-piece.session (g.F.Files.files c.loop-piece.files) c.loop-piece.steps) p.1 p.2
       c.in-Some.piece.now
@@ -78,8 +89,8 @@ loop-piece-preserved g c = record {
 }
 
 pub returns-in-Ok-clause-told : goal.returns-in-Ok-clause-told
-returns-in-Ok-clause-told g c = λ base first taken more s.
-    let p = c.loop-piece.invariant.fed base first taken s in (
+returns-in-Ok-clause-told g c = λ base first taken more t s.
+    let p = c.loop-piece.invariant.fed base first taken more t s in (
       c.args.rest.now.now,
       sym (append-nil c.args.rest.now.now),
       rest_held base first taken c.args.rest.now.now p.0 c.loop-piece.rest.now c.loop-piece.held
@@ -90,8 +101,8 @@ returns-in-Ok-clause-told g c = λ base first taken more s.
     )
 
 pub returns-in-Err-add-clause-told : goal.returns-in-Err-add-clause-told
-returns-in-Err-add-clause-told g c = λ base first taken more s.
-    let p = c.loop-piece.invariant.fed base first taken s in
+returns-in-Err-add-clause-told g c = λ base first taken more t s.
+    let p = c.loop-piece.invariant.fed base first taken more t s in
     rest_lost base first taken c.args.rest.now.now p.0 c.loop-piece.rest.now c.loop-piece.held
     (now_of c.loop-piece.said c.loop-piece.session (g.F.Files.files c.loop-piece.files) c.loop-piece.steps) p.1 p.2
     OutOfMemory more

@@ -4,28 +4,32 @@ use Rattle.session.specs.Input.{whole_lines, unfinished}
 use Rattle.session.specs.Talks.{talk_over}
 use Rattle.session.proofs.Breaking.{broken_end}
 use Rattle.session.proofs.Talking.{end_line, end_open}
-use Rattle.session.proofs.Feeding.{empty_part, some_part}
-use Rattle.session.proofs.HeardLines.{end_names_none}
+use Rattle.session.proofs.Feeding.{empty_part, some_part, stands_holds}
+use Rattle.session.proofs.HeardLines.{end_names_none, end_told}
 use Rattle.session.proofs.talk.feed_end.Goals as goal
 
 pub returns-then-is_empty-clause-told : goal.returns-then-is_empty-clause-told
-returns-then-is_empty-clause-told g c = λ base first input s.
+returns-then-is_empty-clause-told g c = λ base first input t s.
     end_open base first input _ _ s
     (empty_part (unfinished input) (sym (c.is_empty.ensures (unfinished input) s.part) ∙ c.if-is_empty.true))
 
 pub returns-in-Ok-clause-told : goal.returns-in-Ok-clause-told
-returns-in-Ok-clause-told g c = λ base first input s.
+returns-in-Ok-clause-told g c = λ base first input t s.
     end_line base first input _ _ s _
     (some_part (unfinished input) (sym (c.is_empty.ensures (unfinished input) s.part) ∙ c.if-is_empty.false))
     (c.in-Ok.ensures.told base (talk_over first (whole_lines input)) (unfinished input) (c.line.ensures.is ∙ s.part)
-    s.at).1
+    (end_told input c.args.held.now (stands_holds base first _ _ _ s)
+    (some_part (unfinished input) (sym (c.is_empty.ensures (unfinished input) s.part) ∙ c.if-is_empty.false)) base.files
+    t) s.at).1
 
 pub returns-in-Err-clause-told : goal.returns-in-Err-clause-told
-returns-in-Err-clause-told g c = λ base first input s.
+returns-in-Err-clause-told g c = λ base first input t s.
     broken_end c.in-Err.fault base first input _ _ s _
     (some_part (unfinished input) (sym (c.is_empty.ensures (unfinished input) s.part) ∙ c.if-is_empty.false))
     (c.in-Err.ensures.told base (talk_over first (whole_lines input)) (unfinished input) (c.line.ensures.is ∙ s.part)
-    s.at)
+    (end_told input c.args.held.now (stands_holds base first _ _ _ s)
+    (some_part (unfinished input) (sym (c.is_empty.ensures (unfinished input) s.part) ∙ c.if-is_empty.false)) base.files
+    t) s.at)
 
 pub returns-in-Ok-clause-unasked : goal.returns-in-Ok-clause-unasked
 returns-in-Ok-clause-unasked g c = λ input h none.

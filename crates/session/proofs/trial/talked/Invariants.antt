@@ -8,7 +8,7 @@ use Rattle.session.proofs.trial.talked.Given as goal
 abbrev pub invariant-loop-rest : goal.invariant-loop-rest
 invariant-loop-rest g l =
     (done : List ℕ) × (l.lines ≡ done ++ l.rest)
-    × Stands (at_first l.initial.steps) (silent l.initial.session) done l.held
+    × Stands (at_first (Some no_files) l.initial.steps) (silent l.initial.session) done l.held
     (now_of l.said l.session (Some no_files) l.steps)
 
 abbrev pub decreases-loop-rest : goal.decreases-loop-rest

@@ -1,12 +1,15 @@
 use Rattle.std.proofs.Common.{[], refl}
-use Rattle.units_run.proofs.FileRuns.{defines, finds, finds_none, run_by_file, talks}
+use Rattle.units_run.proofs.FileRuns.{converts, defines, finds, finds_none, refuses, run_by_file, talks}
 use Rattle.units_run.proofs.laws.file_examples.Goals as goal
 
 pub returns : goal.returns
 returns c =
     let taken = c.taken_examples.ensures in
+    let law = c.grant_examples_law.ensures in
     let keys = c.key_lists_are_one.ensures in
     record {
+      converted = run_by_file _ _ _ [] _ _ _ taken.conversion_by_file refl refl (converts law);
+      unlike = run_by_file _ _ _ [] _ _ _ taken.letters_by_file refl refl (refuses law);
       defined = run_by_file _ _ _ [] _ _ _ taken.definition_by_file refl refl defines;
       checked = run_by_file _ _ _ [] _ _ _ taken.check_of_file refl refl (finds keys);
       sound = run_by_file _ _ _ [] _ _ _ taken.check_of_file refl refl (finds_none keys);

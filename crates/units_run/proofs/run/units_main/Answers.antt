@@ -1,12 +1,11 @@
 use Rattle.std.proofs.Common.{◌≡◌, ◌∙◌, ◌⊎◌, ◌||◌, ℕ, Bool, Err, ap, false, inl, inr, refl, sym, subst, true}
 use Rattle.units_io.specs.Faults.{Rose}
-use Rattle.session.specs.Outside.{Outside}
-use Rattle.std.specs.declared.option.Option.{Option}
-use Rattle.units_io.specs.FileMap.{FileMap}
+use Rattle.session.specs.Hearing.{any_loads_file}
+use Rattle.session.specs.Outside.{outside_of}
+use Rattle.session.specs.Telling.{IsToldIf}
 use Rattle.command_line.specs.Fields.{command_line_of}
 use Rattle.units_run.specs.Endings.{IsLeftOf, IsStated, IsWorked, MayEnd}
 use Rattle.units_run.specs.LeftAlone.{OpensNone}
-use Rattle.units_run.specs.Plans as plans
 use Rattle.session.specs.Outside.{TookMoreThan}
 use Rattle.units_run.specs.Needs.{converts_column, loads_file, needs_input, opens_session}
 use Rattle.units_run.specs.Work.{plan_of}
@@ -16,7 +15,7 @@ use Rattle.units_run.proofs.Running.{cut_run, memory_done, memory_long, memory_r
 use Rattle.units_run.proofs.Seeing.{plan_sees}
 use Rattle.session.proofs.Blocks.{of_two}
 use Rattle.units_run.proofs.Planned.{column_most, false_by, input_files, no_column, not_both, or_true, session_most}
-use Rattle.units_run.proofs.Planned.{left_false, right_false, tells_needed}
+use Rattle.units_run.proofs.Planned.{definitions_told, left_false, right_false, session_told, tells_needed}
 use Rattle.units_run.proofs.Running.{done_end, long_end, may_end_stated, neither, no_column_worked, no_fault}
 use Rattle.units_run.proofs.Running.{no_session_done, no_write, none_converted, not_long, opened_run, opened_talk}
 use Rattle.units_run.proofs.Running.{plan_course, plan_end, read_end, same_le, session_may_end, session_opens}
@@ -26,7 +25,7 @@ use Rattle.units_run.proofs.Granting.{granted_by}
 use Rattle.units_run.proofs.Opening.{check_order, column_opening, column_order, session_opening, session_order}
 use Rattle.units_run.proofs.Opening.{whole_order}
 use Rattle.units_run.proofs.Checking.{check_run, check_short, check_unread, check_worked}
-use Rattle.units_run.proofs.Converting.{planned_column, worked_may_end}
+use Rattle.units_run.proofs.Converting.{column_left, planned_column, worked_may_end}
 use Rattle.units_run.proofs.run.units_main.Goals as goal
 
 pub returns-in-Ok-clause-run : goal.returns-in-Ok-clause-run
@@ -37,12 +36,13 @@ returns-in-Ok-clause-run g c =
     record {
       leaves = λ m input s q.
           whole_run (plan_of c.args.words.now c.args.vars.now m) m input planned.said planned.status _ _ stated
-          (rw planned.field-0-is at (planned.ensures.told m s)) c.in-Ok.ensures.whole.0 c.in-Ok.ensures.whole.1
+          (rw planned.field-0-is at (planned.ensures.told m (definitions_told c.args.words.now input _ m s)))
+          c.in-Ok.ensures.whole.0 c.in-Ok.ensures.whole.1
           (planned.ensures.kept ∙ tells_stay _ _ m s);
       ends = λ ends. kind.1;
       heard = λ input q opens done.
           absurd (no_session_done _ (converts_column c.args.words.now) planned.status kind.0 opens done);
-      whole = λ m input s q column over.
+      whole = λ input q column over.
           absurd (no_column_worked (opens_session c.args.words.now) _ planned.status kind.0 column over);
       read = λ is. absurd (subst IsStated is stated);
       write = λ is. absurd (subst IsStated is stated);
@@ -63,7 +63,8 @@ returns-in-Ok-Check-clause-run g c =
     record {
       leaves = λ m input s q.
           check_run (plan_of c.args.words.now c.args.vars.now m) m input planned.plan c.write_check.result _ _ _
-          (rw planned.field-0-is at (planned.ensures.told m s)) ended.written ended.steps refl
+          (rw planned.field-0-is at (planned.ensures.told m (definitions_told c.args.words.now input _ m s)))
+          ended.written ended.steps refl
           (planned.ensures.kept ∙ tells_stay _ _ m s);
       ends = λ stated.
           taken_may_end _ (loads_file (command_line_of c.args.words.now)) _ false c.write_check.result kind.0
@@ -74,7 +75,7 @@ returns-in-Ok-Check-clause-run g c =
           absurd
           (not_both _ opens
           (left_false (opens_session c.args.words.now) (converts_column c.args.words.now) kind.1));
-      whole = λ m input s q column over.
+      whole = λ input q column over.
           absurd
           (not_both _ column
           (right_false (opens_session c.args.words.now) (converts_column c.args.words.now) kind.1));
@@ -88,24 +89,12 @@ returns-in-Ok-Check-clause-run g c =
 
 pub returns-in-Ok-Opened-clause-run : goal.returns-in-Ok-Opened-clause-run
 returns-in-Ok-Opened-clause-run g c =
-    let before : Outside = record {
-      left = g.S.Source.left c.args.src.now;
-      out = g.O.Sink.written c.args.out.now;
-      err = g.E.Sink.written c.args.err.now;
-      files = g.F.Files.files c.args.files.now;
-      fetch_faults = g.F.Files.faults c.args.files.now;
-      store_faults = g.F.Files.store_faults c.args.files.now;
-      steps = c.args.steps.now;
-    } in
-    let after : Outside = record {
-      left = g.S.Source.left c.run_session-end.new.src;
-      out = g.O.Sink.written c.run_session-end.new.out;
-      err = g.E.Sink.written c.run_session-end.new.err;
-      files = g.F.Files.files c.run_session-end.new.files;
-      fetch_faults = g.F.Files.faults c.run_session-end.new.files;
-      store_faults = g.F.Files.store_faults c.run_session-end.new.files;
-      steps = c.run_session-end.new.steps;
-    } in
+    let before = outside_of (g.S.Source.left c.args.src.now) (g.O.Sink.written c.args.out.now)
+    (g.E.Sink.written c.args.err.now) (g.F.Files.files c.args.files.now) (g.F.Files.faults c.args.files.now)
+    (g.F.Files.store_faults c.args.files.now) c.args.steps.now in
+    let end = c.run_session-end.new in
+    let after = outside_of (g.S.Source.left end.src) (g.O.Sink.written end.out) (g.E.Sink.written end.err)
+    (g.F.Files.files end.files) (g.F.Files.faults end.files) (g.F.Files.store_faults end.files) end.steps in
     let opened = c.in-Ok-Opened in
     let kind = rw opened.field-0-is at opened.ensures.kind in
     let ended = c.run_session-end.ensures.run in
@@ -135,21 +124,23 @@ returns-in-Ok-Opened-clause-run g c =
           let session : opens_session c.args.words.now ≡ true = kind.1 in
           let need : needs_input c.args.words.now ≡ true =
           ap (λ (b : Bool). b || converts_column c.args.words.now) session in
-          let plan = rw opened.field-0-is at (opened.ensures.told m s) in
-          let files = tells_needed _ _ m (input_files c.args.words.now session) s in
+          let plan =
+          rw opened.field-0-is at (opened.ensures.told m (definitions_told c.args.words.now input _ m s)) in
           let talk =
-          opened_talk want m opened.said opened.session before _ plan refl refl opened.ensures.kept files
+          opened_talk want m opened.said opened.session before _ plan refl refl opened.ensures.kept (tells_stay _ _ m s)
           (same_le _ _ opened.ensures.calm) (same_le _ _ opened.ensures.stores) in
           subst
           (λ (st : Status). IsLeftOf want (plan_course want m input) (plan_end want m input) st before after) is
           (opened_run want talk.0 m input c.run_session-end.result before after talk.1
-          (ended.told talk.0 input before (tells_needed _ _ input need q) talk.2));
+          (ended.told talk.0 input before (tells_needed _ _ input need q)
+          (subst (IsToldIf (any_loads_file input)) (sym opened.ensures.kept)
+          (session_told c.args.words.now input _ m session s)) talk.2));
       ends = λ stated.
           taken_may_end _ (loads_file (command_line_of c.args.words.now)) _ true c.status_of.result kind.0 kind.1
           (subst (MayEnd true _ true) is
           (session_may_end _ c.run_session-end.result (subst IsStated c.status_of.ensures stated)));
       heard = λ input q need done. ended.heard input q (done_end c.run_session-end.result (is ∙ done));
-      whole = λ m input s q column over. absurd (no_column c.args.words.now kind.1 column);
+      whole = λ input q column over. absurd (no_column c.args.words.now kind.1 column);
       read = read;
       write = write;
       too_long = λ so.
@@ -170,58 +161,25 @@ returns-in-Ok-Columns-clause-run g c =
     let ended = c.convert_column.ensures in
     record {
       leaves = λ m input s q.
-          let before : Outside = record {
-            left = g.S.Source.left c.args.src.now;
-            out = g.O.Sink.written c.args.out.now;
-            err = g.E.Sink.written c.args.err.now;
-            files = g.F.Files.files c.args.files.now;
-            fetch_faults = g.F.Files.faults c.args.files.now;
-            store_faults = g.F.Files.store_faults c.args.files.now;
-            steps = c.args.steps.now;
-          } in
-          let planned = c.in-Ok-Columns in
           let want = plan_of c.args.words.now c.args.vars.now m in
-          let kind = rw planned.field-0-is at planned.ensures.kind in
           let need : needs_input c.args.words.now ≡ true =
-          ap (λ (b : Bool). opens_session c.args.words.now || b) kind.1 ∙ or_true (opens_session c.args.words.now) in
-          let plan = rw planned.field-0-is at (planned.ensures.told m s) in
-          let column = planned_column want m planned.plan c.args.steps.now _ plan in
-          subst
-          (λ (f : Option FileMap). IsLeftOf want (plan_course want m input) (plan_end want m input)
-          c.convert_column.result
-          before
-          (record {
-            left = g.S.Source.left c.convert_column.new.src;
-            out = g.O.Sink.written c.convert_column.new.out;
-            err = g.E.Sink.written c.convert_column.new.err;
-            files = f;
-            fetch_faults = g.F.Files.faults c.make_plan.new.files;
-            store_faults = g.F.Files.store_faults c.make_plan.new.files;
-            steps = c.convert_column.new.steps;
-          }))
-          (sym planned.ensures.kept)
-          (subst
-          (λ (w : plans.Plan). IsLeftOf w (plan_course w m input) (plan_end w m input) c.convert_column.result before
-          (record {
-            left = g.S.Source.left c.convert_column.new.src;
-            out = g.O.Sink.written c.convert_column.new.out;
-            err = g.E.Sink.written c.convert_column.new.err;
-            files = g.F.Files.files c.args.files.now;
-            fetch_faults = g.F.Files.faults c.make_plan.new.files;
-            store_faults = g.F.Files.store_faults c.make_plan.new.files;
-            steps = c.convert_column.new.steps;
-          }))
-          (sym column.1)
+          ap (λ (b : Bool). opens_session c.args.words.now || b) is_for.1
+          ∙ or_true (opens_session c.args.words.now) in
+          let plan =
+          rw columns.field-0-is at (columns.ensures.told m (definitions_told c.args.words.now input _ m s)) in
+          let column = planned_column want m columns.plan c.args.steps.now _ plan in
+          column_left want column.0 m input c.convert_column.result _ _ _ _ _ (g.F.Files.files c.args.files.now) _ _ _
+          column.1 columns.ensures.kept
           (c.convert_column.ensures.told column.0 m input (g.F.Files.files c.args.files.now)
           (g.F.Files.faults c.args.files.now) (g.F.Files.faults c.make_plan.new.files)
           (g.F.Files.store_faults c.args.files.now) (g.F.Files.store_faults c.make_plan.new.files) c.args.steps.now
-          (tells_needed _ _ input need q) column.2 (tells_stay _ _ m s)));
+          (tells_needed _ _ input need q) column.2 (tells_stay _ _ m s));
       ends = λ stated.
           taken_may_end _ (loads_file (command_line_of c.args.words.now)) _ false c.convert_column.result is_for.0
           (false_by _ (λ opens. no_column c.args.words.now opens is_for.1))
           (worked_may_end _ c.convert_column.result (ended.ends stated));
       heard = λ input q opens done. absurd (no_column c.args.words.now opens is_for.1);
-      whole = λ m input s q column over. ended.whole input q over;
+      whole = λ input q column over. ended.whole input q over;
       read = λ so. inl (ended.read so);
       write = λ so. of_two (ended.write so);
       too_long = λ so.
@@ -281,7 +239,7 @@ returns-in-Err-ReadFault-clause-run g c =
           (plan_sees c.args.words.now c.args.vars.now m) refl refl (c.make_plan.ensures.kept ∙ tells_stay _ _ m s) rose;
       ends = λ stated. absurd stated;
       heard = λ input q opens done. cc;
-      whole = λ m input s q column over. absurd over;
+      whole = λ input q column over. absurd over;
       read = λ is. inr rose;
       write = λ is. absurd (no_write is);
       too_long = λ is. absurd (not_long is);
@@ -297,7 +255,7 @@ returns-clause-run g c = record {
       (plan_sees c.args.words.now c.args.vars.now m) refl refl (c.make_plan.ensures.kept ∙ tells_stay _ _ m s);
   ends = λ stated. absurd stated;
   heard = λ input q opens done. absurd (memory_done done);
-  whole = λ m input s q column over. absurd over;
+  whole = λ input q column over. absurd over;
   read = λ is. absurd (memory_read is);
   write = λ is. absurd (memory_write is);
   too_long = λ is. absurd (memory_long is);
@@ -311,11 +269,12 @@ returns-in-Ok-Whole-clause-run g c =
     let planned = c.in-Ok-Whole in record {
       leaves = λ m input s q.
           cut_run (plan_of c.args.words.now c.args.vars.now m) m input planned.said planned.status _ _
-          (rw planned.field-0-is at (planned.ensures.told m s)) c.write.ensures.out c.write.ensures.err
+          (rw planned.field-0-is at (planned.ensures.told m (definitions_told c.args.words.now input _ m s)))
+          c.write.ensures.out c.write.ensures.err
           (planned.ensures.kept ∙ tells_stay _ _ m s);
       ends = λ stated. absurd stated;
       heard = λ input q opens done. cc;
-      whole = λ m input s q column over. absurd over;
+      whole = λ input q column over. absurd over;
       read = λ is. cc;
       write = λ is. of_two c.in-Err.ensures.cause;
       too_long = λ is. cc;

@@ -8,7 +8,7 @@ use Rattle.units_run.specs.Planning.{IsPlan, IsPlanned}
 use Rattle.units_run.specs.Plans as plans
 use Rattle.units_run.specs.Plans.{complaint}
 use Rattle.units_run.specs.declared.status.Status.TheVariants.{Usage}
-use Rattle.units_run.proofs.Planned.{loads_named, loads_needed, no_lead, plan_taken, plan_untaken}
+use Rattle.units_run.proofs.Planned.{loads_named, no_lead, plan_taken, plan_untaken}
 use Rattle.units_run.proofs.Planned.{tells_less}
 use Rattle.units_run.proofs.words_plan.make_plan.Goals as goal
 
@@ -18,7 +18,7 @@ returns-in-Ok-clause-told g c = λ m s.
     let read = c.in-Ok.ensures in
     subst (λ (p : plans.Plan). IsPlanned p m c.line_plan.result c.args.steps.now c.line_plan.new.steps)
     (plan_taken words c.args.vars.now m c.in-Ok.line read.taken read.read)
-    (c.line_plan.ensures.told m (tells_less _ _ _ m (loads_needed words c.in-Ok.line read.taken read.read) s))
+    (c.line_plan.ensures.told m (tells_less _ _ _ m (loads_named words c.in-Ok.line read.taken read.read) s))
 
 pub returns-in_ok-complaint-in-Err-Usage-clause-told : goal.returns-in_ok-complaint-in-Err-Usage-clause-told
 returns-in_ok-complaint-in-Err-Usage-clause-told g c = λ m s.

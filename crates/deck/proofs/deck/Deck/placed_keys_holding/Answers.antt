@@ -1,4 +1,4 @@
-use Rattle.std.proofs.Common.{◌≡◌, ◌++◌, All, List, map, ap, subst, ◌∙◌}
+use Rattle.std.proofs.Common.{◌≡◌, ◌++◌, All, ℕ, List, map, ap, subst, ◌∙◌}
 use Rattle.std.proofs.lemmas.List.Sorted.{All-permutation, IsPermutation-map}
 use Rattle.def_entry.specs.declared.key.Key.{Key}
 use Rattle.def_entry.specs.declared.key.Kind.{Kind}
@@ -25,7 +25,7 @@ pub returns-clause-keys : goal.returns-clause-keys
 returns-clause-keys c =
     let s = c.self.inside in
     let names = s.store.names in
-    let of : Kind → List Key = λ k. keys_where (is_found names s.last c.args.text.now) k 0 (names_of names k) in
+    let of : Kind → List Key = λ k. keys_where (is_found names s.last c.new-finder.result) k 0 (names_of names k) in
     let found : map placed_key c.push_placed-4.new.keys.items ≡ ((of kind.Unit ++ of kind.Prefix) ++ of kind.Func) ++ of
     kind.List =
     c.in_ok-push_placed-4.ensures.keys
@@ -34,13 +34,14 @@ returns-clause-keys c =
     ∙ ap (λ ks. ks ++ of kind.Prefix)
     (c.in_ok-push_placed.ensures.keys ∙ ap (λ ks. map placed_key ks ++ of kind.Unit) c.new-keys.ensures.items))) in
     let are = keys_found s.store c.in_ok-push_placed.ensures.numbering (definitions s.settings s.store.lines)
-    (in_place s.settings s.store.lines) s.last c.self.invariant.places c.key_order_law.ensures c.args.text.now
+    (in_place s.settings s.store.lines) s.last c.self.invariant.places c.key_order_law.ensures c.new-finder.result
     (map placed_key c.push_placed-4.new.keys.items) (map placed_key c.in_order.result.items)
     (found ∙ four_lists (of kind.Unit) (of kind.Prefix) (of kind.Func) (of kind.List))
     (IsPermutation-map placed_key _ _ c.in_order.ensures.same)
     (sorted_map key_cmp placed_key c.in_order.result.items (c.in_order.ensures.sorted c.key_order_law.ensures)) in
-    holding_found c.args.text.now (table_of (definitions s.settings s.store.lines))
+    holding_found c.new-finder.result (table_of (definitions s.settings s.store.lines))
     (map placed_key c.in_order.result.items) are.0 are.1
+    ∙ ap (λ (t : List ℕ). keys_holding t (table_of (definitions s.settings s.store.lines))) c.new-finder.ensures
     ∙ ap (λ (d : Contents). keys_holding c.args.text.now (table d)) c.self.view_is
 
 pub returns-clause-in_place : goal.returns-clause-in_place

@@ -14,7 +14,7 @@ loop-number-preserved c =
     let within : c.loop-number.number < length (names_of names c.args.kind) =
     omega (arith, c.loop-number-test.true, c.name_count-number-end.ensures.count) in (
       c.in_ok-push_if_placed.ensures.in_place,
-      where_step (is_found names c.args.last.now c.args.text.now) names c.args.kind c.loop-number.number
+      where_step (is_found names c.args.last.now c.args.finder.now) names c.args.kind c.loop-number.number
           (map placed_key c.loop-number.keys.items) (map placed_key c.push_if_placed.new.keys.items) _ within
           c.loop-number.invariant.1 c.in_ok-push_if_placed.ensures.keys,
     )
@@ -22,7 +22,7 @@ loop-number-preserved c =
 pub returns-clause-keys : goal.returns-clause-keys
 returns-clause-keys c =
     let names = names_of c.args.store.now.names c.args.kind in
-    let test : KeyNumber → Bool = is_found c.args.store.now.names c.args.last.now c.args.text.now in
+    let test : KeyNumber → Bool = is_found c.args.store.now.names c.args.last.now c.args.finder.now in
     sym (append-nil (map placed_key c.loop-number.keys.items))
     ∙ ap (λ ns. map placed_key c.loop-number.keys.items ++ keys_where test c.args.kind c.loop-number.number ns)
     (sym (drop_all c.loop-number.number names

@@ -9,6 +9,7 @@ abbrev pub invariant-loop-number : goal.invariant-loop-number
 invariant-loop-number l =
     All (IsInPlace l.store.lines) l.keys.items
     × (map placed_key l.keys.items
-    ++ keys_where (is_found l.store.names l.last l.text) l.kind l.number (drop l.number (names_of l.store.names l.kind))
+    ++ keys_where (is_found l.store.names l.last l.finder) l.kind l.number
+    (drop l.number (names_of l.store.names l.kind))
     ≡ map placed_key l.initial.keys.items
-    ++ keys_where (is_found l.store.names l.last l.text) l.kind 0 (names_of l.store.names l.kind))
+    ++ keys_where (is_found l.store.names l.last l.finder) l.kind 0 (names_of l.store.names l.kind))

@@ -16,13 +16,14 @@ loop-place-preserved c = λ k at.
     let i = c.loop-place.place in
     let x : DeckLine = get_or lines i (plain_line 0 []) in
     let f : Bool = get_or c.args.flags.now i false in
-    let inside : i < length c.args.flags.now = omega (arith, c.loop-place-test.true) in
-    let within : i < length lines = omega (arith, c.loop-place-test.true, c.requires) in
+    let inside : i < length c.args.flags.now =
+    omega (arith, c.loop-place-test.true, c.requires.flags, c.requires.within) in
+    let within : i < length lines = omega (arith, c.loop-place-test.true, c.requires.within) in
     let before : Definitions = definitions_by (take i c.args.flags.now) (take i lines) in
     let there : definition_at lines i ≡ entry_in x =
     ap (option_and_then entry_in) (slice_get-get_or lines i (plain_line 0 []) within) in
     c.later_of-last.ensures k before at (c.loop-place.invariant k at)
     ∙ ap (λ (ds : Definitions). place_of ds k)
     (ap (λ o. definition_by i f o ++ before) there
-    ∙ sym (by_step c.args.flags.now lines i f x c.requires within (take_more c.args.flags.now i false inside)
+    ∙ sym (by_step c.args.flags.now lines i f x c.requires.flags within (take_more c.args.flags.now i false inside)
     (take_more lines i (plain_line 0 []) within)))

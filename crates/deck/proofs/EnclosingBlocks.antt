@@ -1,0 +1,197 @@
+-- The walk over the lines keeps the blocks that enclose the next line and the variables before it.
+use Rattle.std.proofs.Common.{◌≡◌, ◌&&◌, ℕ, zero, suc, List, [], ◌∷◌, ◌++◌, Bool, true, false, not, cond, Option, Some}
+use Rattle.std.proofs.Common.{None}
+use Rattle.std.proofs.Common.{drop, is_some, length, reverse, refl, sym, ◌∙◌, ap, subst, append_assoc, append-nil}
+use Rattle.std.specs.List.{list_all, slice_get}
+use Rattle.std.specs.Option.{option_or}
+use Rattle.std.specs.Str.{bytes_eq}
+use Rattle.std.proofs.lemmas.List.{reverse-append}
+use Rattle.std.proofs.lemmas.Slice.Eq.{bytes_eq-Decides}
+use Rattle.units_io.specs.Named.{Pairs, value_of}
+use Rattle.def_lines.specs.Kinds as line
+use Rattle.def_lines.specs.Kinds.{Kind, kind_of}
+use Rattle.deck_lines.specs.declared.line.DeckLine.{DeckLine}
+use Rattle.deck.specs.Active.{Surroundings, active_lines, activity, all_hold, behind_kind, behind_line, is_active}
+use Rattle.deck.specs.Active.{is_value_listed, outer_blocks, start, with_var}
+use Rattle.deck.specs.declared.settings.Settings.{Settings}
+use Rattle.deck.specs.Enclosing.{block_begun, enclosing_blocks, ends_block, is_active_after, is_active_in}
+use Rattle.deck.specs.Enclosing.{blocks_with, pair_set, vars_after}
+
+-- ---- values of variables
+or_cond : {A : Type 0} (b : Bool) (x : A) (o p : Option A)
+    → option_or (cond b (Some x) o) p ≡ cond b (Some x) (option_or o p)
+or_cond true x o p = refl
+or_cond false x o p = refl
+
+value_append : (xs ys : Pairs) (name : List ℕ) → value_of (xs ++ ys) name ≡ option_or (value_of xs name)
+    (value_of ys name)
+value_append [] ys name = refl
+value_append (x ∷ xs) ys name =
+    ap (λ o. cond (bytes_eq name x.0) (Some x.1) o) (value_append xs ys name)
+    ∙ sym (or_cond (bytes_eq name x.0) x.1 (value_of xs name) (value_of ys name))
+
+-- a pair behind others that have its name changes no value
+covered : (xs : Pairs) (name value other : List ℕ) → is_some (value_of xs name) ≡ true
+    → value_of (xs ++ (name, value) ∷ []) other ≡ value_of xs other
+covered xs name value other some =
+    value_append xs ((name, value) ∷ []) other ∙ by (bytes_eq other name) refl (value_of xs other) refl
+  where
+    by : (b : Bool) → bytes_eq other name ≡ b → (o : Option (List ℕ)) → value_of xs other ≡ o
+        → option_or o (cond b (Some value) None) ≡ o
+    by b e (Some x) q = refl
+    by false e None q = refl
+    by true e None q =
+        let is : other ≡ name = (bytes_eq-Decides other name).0 e in
+        let z : is_some (value_of xs other) ≡ true =
+        subst (λ (n : List ℕ). is_some (value_of xs n) ≡ true) (sym is) some in
+        let w : false ≡ true = ap is_some (sym q) ∙ z in cc
+
+-- ---- blocks
+drop_outer : (holds : List Bool) (k : ℕ) → drop (suc k) holds ≡ drop k (outer_blocks holds)
+drop_outer [] zero = refl
+drop_outer [] (suc k) = refl
+drop_outer (b ∷ holds) k = refl
+
+-- what is kept, and what stands around: the blocks that enclose, from the innermost, and the values of the variables
+record Fits (kept : Surroundings) (blocks : ℕ → List Bool) (vars : Pairs) : Type 0 where
+  holds : (k : ℕ) → blocks k ≡ drop k kept.holds
+  values : (name : List ℕ) → value_of vars name ≡ value_of kept.vars name
+
+module _ (locale : List ℕ) (kept : Surroundings) (blocks : ℕ → List Bool) (vars : Pairs) (h : Fits kept blocks vars)
+  where
+    -- a beginning
+    opened : (b c ends : Bool) → b ≡ c → (k : ℕ) → blocks_with (Some b) ends blocks k ≡ drop k (c ∷ kept.holds)
+    opened b c ends e zero = λ i. e i ∷ h.holds zero i
+    opened b c ends e (suc k) = h.holds k
+
+    -- no setting
+    as_before : (b : Bool) (name : List ℕ) → value_of (cond b (vars ++ []) vars) name ≡ value_of kept.vars name
+    as_before true name = ap (λ (x : Pairs). value_of x name) (append-nil vars) ∙ h.values name
+    as_before false name = h.values name
+
+    abbrev Behind : Kind → Type 0
+    Behind k = Fits (behind_kind locale kept k) (blocks_with (block_begun locale vars k) (ends_block k) blocks)
+        (cond (list_all (λ holds. holds) (blocks 0)) (vars ++ pair_set k) vars)
+
+    -- a setting
+    set_holds : (b : Bool) (more : Surroundings) → more.holds ≡ kept.holds → (cond b more kept).holds ≡ kept.holds
+    set_holds true more e = e
+    set_holds false more e = refl
+
+    put : (name value other : List ℕ) (b s : Bool) → is_some (value_of kept.vars name) ≡ s
+        → value_of (cond b (vars ++ (name, value) ∷ []) vars) other
+        ≡ value_of (cond (b && not s) (record kept { vars = kept.vars ++ (name, value) ∷ [] }) kept).vars other
+    put name value other false s e = h.values other
+    put name value other true false e =
+        value_append vars ((name, value) ∷ []) other
+        ∙ (ap (λ (o : Option (List ℕ)). option_or o (value_of ((name, value) ∷ []) other)) (h.values other)
+        ∙ sym (value_append kept.vars ((name, value) ∷ []) other))
+    put name value other true true e =
+        value_append vars ((name, value) ∷ []) other
+        ∙ (ap (λ (o : Option (List ℕ)). option_or o (value_of ((name, value) ∷ []) other)) (h.values other)
+        ∙ (sym (value_append kept.vars ((name, value) ∷ []) other) ∙ covered kept.vars name value other e))
+
+    set_values : (name value other : List ℕ)
+        → value_of (cond (list_all (λ holds. holds) (blocks 0)) (vars ++ (name, value) ∷ []) vars) other
+        ≡ value_of (with_var name value kept).vars other
+    set_values name value other =
+        ap (λ (hs : List Bool). value_of (cond (list_all (λ holds. holds) hs) (vars ++ (name, value) ∷ []) vars) other)
+        (h.holds 0)
+        ∙ put name value other (all_hold kept) (is_some (value_of kept.vars name)) refl
+
+    -- behind a line without a mark
+    behind : (k : Kind) → Behind k
+    behind (line.Locale l) = record {
+      holds = opened (bytes_eq l locale) (bytes_eq l locale) false refl;
+      values = as_before (list_all (λ holds. holds) (blocks 0));
+    }
+    behind (line.Var name these) = record {
+      holds = opened (is_value_listed these (value_of vars name)) (is_value_listed these (value_of kept.vars name)) false
+          (ap (is_value_listed these) (h.values name));
+      values = as_before (list_all (λ holds. holds) (blocks 0));
+    }
+    behind (line.VarNot name these) = record {
+      holds = opened (not (is_value_listed these (value_of vars name)))
+          (not (is_value_listed these (value_of kept.vars name))) false
+          (ap (λ o. not (is_value_listed these o)) (h.values name));
+      values = as_before (list_all (λ holds. holds) (blocks 0));
+    }
+    behind line.Utf8 = record {
+      holds = opened true true false refl;
+      values = as_before (list_all (λ holds. holds) (blocks 0));
+    }
+    behind line.EndLocale = record {
+      holds = λ k. h.holds (suc k) ∙ drop_outer kept.holds k;
+      values = as_before (list_all (λ holds. holds) (blocks 0));
+    }
+    behind line.EndVar = record {
+      holds = λ k. h.holds (suc k) ∙ drop_outer kept.holds k;
+      values = as_before (list_all (λ holds. holds) (blocks 0));
+    }
+    behind line.EndUtf8 = record {
+      holds = λ k. h.holds (suc k) ∙ drop_outer kept.holds k;
+      values = as_before (list_all (λ holds. holds) (blocks 0));
+    }
+    behind (line.Set name value) = record {
+      holds = λ k. h.holds k ∙ ap (drop k) (sym (set_holds (all_hold kept && not (is_some (value_of kept.vars name)))
+          (record kept { vars = kept.vars ++ (name, value) ∷ [] }) refl));
+      values = set_values name value;
+    }
+    behind line.Blank = record { holds = h.holds; values = as_before (list_all (λ holds. holds) (blocks 0)) }
+    behind line.Definition = record { holds = h.holds; values = as_before (list_all (λ holds. holds) (blocks 0)) }
+    behind (line.Include name) = record { holds = h.holds; values = as_before (list_all (λ holds. holds) (blocks 0)) }
+    behind (line.Message text) = record { holds = h.holds; values = as_before (list_all (λ holds. holds) (blocks 0)) }
+    behind line.Prompt = record { holds = h.holds; values = as_before (list_all (λ holds. holds) (blocks 0)) }
+    behind line.UnitList = record { holds = h.holds; values = as_before (list_all (λ holds. holds) (blocks 0)) }
+    behind line.UnknownDirective = record { holds = h.holds; values = as_before (list_all (λ holds. holds) (blocks 0)) }
+    behind line.BadDirective = record { holds = h.holds; values = as_before (list_all (λ holds. holds) (blocks 0)) }
+
+    -- behind a line, with a mark or without one
+    behind_marked : (mark : Bool) (k : Kind)
+        → Fits (cond mark kept (behind_kind locale kept k))
+        (λ passed. cond mark (blocks passed) (blocks_with (block_begun locale vars k) (ends_block k) blocks passed))
+        (cond (not mark && list_all (λ holds. holds) (blocks 0)) (vars ++ pair_set k) vars)
+    behind_marked true k = record { holds = h.holds; values = h.values }
+    behind_marked false k = record { holds = (behind k).holds; values = (behind k).values }
+
+-- ---- lines
+module _ (settings : Settings) where
+  -- what is kept behind lines, the last of them first
+  abbrev kept_behind : List DeckLine → Surroundings
+  kept_behind [] = start settings
+  kept_behind (x ∷ earlier) = behind_line settings.locale (kept_behind earlier) x
+
+  nothing_around : (k : ℕ) → enclosing_blocks settings [] k ≡ drop k (start settings).holds
+  nothing_around zero = refl
+  nothing_around (suc k) = refl
+
+  fits : (earlier : List DeckLine) → Fits (kept_behind earlier) (enclosing_blocks settings earlier)
+      (vars_after settings earlier)
+  unfolding behind_line
+  fits [] = record { holds = nothing_around; values = λ name. refl }
+  fits (x ∷ earlier) =
+      let r = behind_marked settings.locale (kept_behind earlier) (enclosing_blocks settings earlier)
+      (vars_after settings earlier) (fits earlier) x.mark (kind_of x.text) in
+      record { holds = r.holds; values = r.values }
+
+  same : (earlier : List DeckLine) (x : DeckLine) → is_active (kept_behind earlier) x ≡ is_active_after settings earlier
+      x
+  same earlier x = ap (λ (hs : List Bool). is_active_in hs x) (sym ((fits earlier).holds 0))
+
+  at : (earlier before : List DeckLine) (x : DeckLine) (later : List DeckLine)
+      → slice_get (activity settings.locale (kept_behind earlier) (before ++ x ∷ later)) (length before)
+      ≡ Some (is_active_after settings (reverse before ++ earlier) x)
+  at earlier [] x later = ap Some (same earlier x)
+  at earlier (b ∷ before) x later =
+      at (b ∷ earlier) before x later
+      ∙ ap (λ (ls : List DeckLine). Some (is_active_after settings ls x))
+      (sym (ap (λ (ls : List DeckLine). ls ++ earlier) (reverse-append (b ∷ []) before)
+      ∙ append_assoc (reverse before) (b ∷ []) earlier))
+
+-- a line of a deck, by the lines before it
+pub active_at : (settings : Settings) (before : List DeckLine) (x : DeckLine) (later : List DeckLine)
+    → slice_get (active_lines settings (before ++ x ∷ later)) (length before)
+    ≡ Some (is_active_after settings (reverse before) x)
+active_at settings before x later =
+    at settings [] before x later
+    ∙ ap (λ (ls : List DeckLine). Some (is_active_after settings ls x)) (append-nil (reverse before))

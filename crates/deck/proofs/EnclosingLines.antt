@@ -1,0 +1,155 @@
+-- The blocks that enclose a line are those of the lines that enclose it.
+use Rattle.std.proofs.Common.{◌≡◌, ◌&&◌, ℕ, zero, suc, List, [], ◌∷◌, ◌++◌, Bool, true, false, not, cond, Option, Some}
+use Rattle.std.proofs.Common.{None}
+use Rattle.std.proofs.Common.{is_some, refl, sym, ap, subst}
+use Rattle.std.specs.List.{list_all}
+use Rattle.units_io.specs.Named.{Pairs}
+use Rattle.def_lines.specs.Kinds as line
+use Rattle.def_lines.specs.Kinds.{Kind, kind_of}
+use Rattle.deck_lines.specs.declared.line.DeckLine.{DeckLine}
+use Rattle.deck.specs.declared.settings.Settings.{Settings}
+use Rattle.deck.specs.Enclosing.{EnclosingLaw, Encloses, block_begun, enclosing_blocks, ends_block, is_active_after}
+use Rattle.deck.specs.Enclosing.{blocks_with, begins_block, skip_before, skip_before_all, vars_after}
+use Rattle.deck.proofs.EnclosingBlocks.{active_at}
+
+-- ---- truths of pairs
+and_first : (a b : Bool) → (a && b) ≡ true → a ≡ true
+and_first true b e = refl
+and_first false b e = cc
+
+and_second : (a b : Bool) → (a && b) ≡ true → b ≡ true
+and_second true b e = e
+and_second false b e = cc
+
+and_both : (a b : Bool) → a ≡ true → b ≡ true → (a && b) ≡ true
+and_both true b e f = f
+and_both false b e f = cc
+
+not_is : (b : Bool) → not b ≡ true → b ≡ false
+not_is true e = cc
+not_is false e = refl
+
+is_not : (b : Bool) → b ≡ false → not b ≡ true
+is_not true e = cc
+is_not false e = refl
+
+abbrev AllHold : List Bool → Type 0
+AllHold blocks = list_all (λ holds. holds) blocks ≡ true
+
+-- ---- one line back
+module _ (blocks : ℕ → List Bool) where
+  -- what holds with it holds before it
+  hold_before : (mark : Bool) (o : Option Bool) (ends : Bool) (k : ℕ)
+      → AllHold (cond mark (blocks k) (blocks_with o ends blocks k))
+      → AllHold (blocks (cond mark k (skip_before (is_some o) ends k)))
+  hold_before true o ends k h = h
+  hold_before false (Some b) ends zero h = and_second b (list_all (λ holds. holds) (blocks 0)) h
+  hold_before false (Some b) ends (suc k) h = h
+  hold_before false None true k h = h
+  hold_before false None false k h = h
+
+  -- what holds before it holds with it, if its own block does
+  hold_with : (mark : Bool) (o : Option Bool) (ends : Bool) (k : ℕ)
+      → AllHold (blocks (cond mark k (skip_before (is_some o) ends k)))
+      → (mark ≡ false → (b : Bool) → o ≡ Some b → k ≡ 0 → b ≡ true)
+      → AllHold (cond mark (blocks k) (blocks_with o ends blocks k))
+  hold_with true o ends k h own = h
+  hold_with false (Some b) ends zero h own =
+      and_both b (list_all (λ holds. holds) (blocks 0)) (own refl b refl refl) h
+  hold_with false (Some b) ends (suc k) h own = h
+  hold_with false None true k h own = h
+  hold_with false None false k h own = h
+
+  -- its own block
+  own_holds : (o : Option Bool) (ends b mark : Bool) → mark ≡ false → o ≡ Some b
+      → AllHold (cond mark (blocks 0) (blocks_with o ends blocks 0)) → b ≡ true
+  own_holds (Some c) ends b false u e h =
+      let q : c ≡ b = some_same c b e in
+      subst (λ (x : Bool). x ≡ true) q (and_first c (list_all (λ holds. holds) (blocks 0)) h)
+    where
+      some_same : (x y : Bool) → Some x ≡ Some y → x ≡ y
+      some_same x y f = cc
+  own_holds (Some c) ends b true u e h = cc
+  own_holds None ends b mark u e h = cc
+
+-- a kind opens a block whatever the locale and the variables are
+begins_same : (locale : List ℕ) (vars : Pairs) (k : Kind) → is_some (block_begun locale vars k) ≡ begins_block k
+begins_same locale vars (line.Locale l) = refl
+begins_same locale vars (line.Var name values) = refl
+begins_same locale vars (line.VarNot name values) = refl
+begins_same locale vars line.Utf8 = refl
+begins_same locale vars line.EndLocale = refl
+begins_same locale vars line.EndVar = refl
+begins_same locale vars line.EndUtf8 = refl
+begins_same locale vars (line.Set name value) = refl
+begins_same locale vars line.Blank = refl
+begins_same locale vars line.Definition = refl
+begins_same locale vars (line.Include name) = refl
+begins_same locale vars (line.Message text) = refl
+begins_same locale vars line.Prompt = refl
+begins_same locale vars line.UnitList = refl
+begins_same locale vars line.UnknownDirective = refl
+begins_same locale vars line.BadDirective = refl
+
+module _ (settings : Settings) where
+  -- one line back, how many are to be passed over
+  abbrev next : DeckLine → ℕ → ℕ
+  next x k = cond x.mark k (skip_before (begins_block (kind_of x.text)) (ends_block (kind_of x.text)) k)
+
+  abbrev block : List DeckLine → DeckLine → Option Bool
+  block outer x = block_begun settings.locale (vars_after settings outer) (kind_of x.text)
+
+  same_next : (outer : List DeckLine) (x : DeckLine) (k : ℕ)
+      → cond x.mark k (skip_before (is_some (block outer x)) (ends_block (kind_of x.text)) k) ≡ next x k
+  same_next outer x k =
+      ap (λ (b : Bool). cond x.mark k (skip_before b (ends_block (kind_of x.text)) k))
+      (begins_same settings.locale (vars_after settings outer) (kind_of x.text))
+
+  encloser_holds : (inner : List DeckLine) (x : DeckLine) (outer : List DeckLine) (holds : Bool) (k : ℕ)
+      → x.mark ≡ false → block outer x ≡ Some holds → skip_before_all inner k ≡ 0
+      → AllHold (enclosing_blocks settings (inner ++ x ∷ outer) k) → holds ≡ true
+  encloser_holds [] x outer holds zero u b z h =
+      own_holds (enclosing_blocks settings outer) (block outer x) (ends_block (kind_of x.text)) holds x.mark u b h
+  encloser_holds [] x outer holds (suc k) u b z h = cc
+  encloser_holds (y ∷ inner) x outer holds k u b z h =
+      encloser_holds inner x outer holds (next y k) u b z
+      (subst (λ (j : ℕ). AllHold (enclosing_blocks settings (inner ++ x ∷ outer) j))
+      (same_next (inner ++ x ∷ outer) y k)
+      (hold_before (enclosing_blocks settings (inner ++ x ∷ outer)) y.mark (block (inner ++ x ∷ outer) y)
+      (ends_block (kind_of y.text)) k h))
+
+  all_hold : (earlier : List DeckLine) (k : ℕ)
+      → ((inner : List DeckLine) (x : DeckLine) (outer : List DeckLine) (holds : Bool) → earlier ≡ inner ++ x ∷ outer
+      → x.mark ≡ false → block outer x ≡ Some holds → skip_before_all inner k ≡ 0 → holds ≡ true)
+      → AllHold (enclosing_blocks settings earlier k)
+  all_hold [] k h = refl
+  all_hold (y ∷ earlier) k h =
+      hold_with (enclosing_blocks settings earlier) y.mark (block earlier y) (ends_block (kind_of y.text)) k
+      (subst (λ (j : ℕ). AllHold (enclosing_blocks settings earlier j)) (sym (same_next earlier y k))
+      (all_hold earlier (next y k) (λ inner x outer holds e u b z.
+      h (y ∷ inner) x outer holds (ap (λ (ls : List DeckLine). y ∷ ls) e) u b z)))
+      (λ u b e z. h [] y earlier b refl u e z)
+
+  enclosed : (earlier : List DeckLine) (x : DeckLine) → is_active_after settings earlier x ≡ true
+      → (x.mark ≡ false) × ((holds : Bool) → Encloses settings earlier holds → holds ≡ true)
+  enclosed earlier x e = (
+    not_is x.mark (and_first (not x.mark) (list_all (λ holds. holds) (enclosing_blocks settings earlier 0)) e),
+    λ holds q. encloser_holds q.inner q.line q.outer holds 0 q.unmarked q.begins q.closed
+        (subst (λ (ls : List DeckLine). AllHold (enclosing_blocks settings ls 0)) q.is
+        (and_second (not x.mark) (list_all (λ holds. holds) (enclosing_blocks settings earlier 0)) e)),
+  )
+
+  is_enclosed : (earlier : List DeckLine) (x : DeckLine)
+      → (x.mark ≡ false) × ((holds : Bool) → Encloses settings earlier holds → holds ≡ true)
+      → is_active_after settings earlier x ≡ true
+  is_enclosed earlier x h =
+      and_both (not x.mark) (list_all (λ holds. holds) (enclosing_blocks settings earlier 0)) (is_not x.mark h.0)
+      (all_hold earlier 0 (λ inner y outer holds e u b z.
+      h.1 holds (record { inner = inner; line = y; outer = outer; is = e; unmarked = u; begins = b; closed = z })))
+
+-- the law of what encloses lines
+pub enclosing_law : EnclosingLaw
+enclosing_law = record {
+  active = active_at;
+  enclosed = λ settings earlier x. (enclosed settings earlier x, is_enclosed settings earlier x);
+}

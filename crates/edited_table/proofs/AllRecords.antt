@@ -1,0 +1,59 @@
+-- The first records of a text, as many as it has bytes and one more, are all of them.
+use Rattle.std.proofs.Common.{◌≡◌, ◌≤◌, ◌+◌, ◌∷◌, ◌∙◌, [], ℕ, zero, suc, Bool, true, false, List, Option, Some, None}
+use Rattle.std.proofs.Common.{ap, length, arith}
+use Rattle.std.specs.Prelude.{if◌then◌else◌}
+use Rattle.std.proofs.lemmas.List.{take_all}
+use Rattle.csv.specs.Machine.{Read, next_record}
+use Rattle.csv.specs.Reading.{default_config, is_bom, records_from, records_next, strip_bom}
+use Rattle.csv.specs.declared.parser.Config.{Config}
+use Rattle.csv.specs.declared.parser.State.{State}
+use Rattle.csv.specs.declared.parser.State.TheVariants as parser
+use Rattle.column_convert.specs.Blocks.{first}
+use Rattle.column_convert.specs.Inputs.{Input, input_of}
+use Rattle.column_convert.specs.Records.{Fields}
+
+-- no more records than were asked for
+few_next : (n : ℕ) (more : State → List ℕ → List Fields) (read : Option Read)
+    → ((state : State) (text : List ℕ) → length (more state text) ≤ n) → length (records_next more read) ≤ suc n
+few_next n more None few = omega arith
+few_next n more (Some read) few = omega (arith, few read.1 read.2)
+
+few : (config : Config) (n : ℕ) (state : State) (text : List ℕ) → length (records_from config n state text) ≤ n
+unfolding records_from
+few config zero state text = omega arith
+few config (suc n) state text =
+    few_next n (records_from config n) (next_record config state [] [] text) (few config n)
+
+-- a byte order mark is a part of the text
+no_longer : (text : List ℕ) → length (strip_bom text) ≤ length text
+unfolding strip_bom
+no_longer [] = omega arith
+no_longer (a ∷ []) = omega arith
+no_longer (a ∷ b ∷ []) = omega arith
+no_longer (a ∷ b ∷ c ∷ rest) = go (is_bom a b c)
+  where
+    go : (is : Bool) → length (if is then rest else a ∷ b ∷ c ∷ rest) ≤ length (a ∷ b ∷ c ∷ rest)
+    go true = omega arith
+    go false = omega arith
+
+pub all_first : (text : List ℕ) (number : ℕ) (header : Bool) (most : ℕ) → most ≡ length text + 1
+    → first most (input_of text number header) ≡ input_of text number header
+all_first text number header most is =
+    let all : Input = input_of text number header in
+    ap (λ (left : List Fields). record { left = left; place = all.place; headed = all.headed })
+    (take_all most all.left
+    (omega (
+      arith,
+      is,
+      no_longer text,
+      few default_config (length (strip_bom text) + 1) parser.StartRecord (strip_bom text),
+    )))
+
+-- the same of a copy of the text
+pub copy_first : (text copy : List ℕ) (number : ℕ) (header : Bool) (most : ℕ) (columns : Input) → copy ≡ text
+    → columns ≡ input_of copy number header → most ≡ length text + 1
+    → first most columns ≡ input_of text number header
+copy_first text copy number header most columns same is enough =
+    ap (first most) is
+    ∙ ap (λ (t : List ℕ). first most (input_of t number header)) same
+    ∙ all_first text number header most enough

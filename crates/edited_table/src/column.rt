@@ -1,0 +1,87 @@
+//! Columns of texts of records.
+
+ghost use Rattle.std.specs.Prelude.{◌≡◌, ◌<◌, ◌≤◌, IfOk};
+ghost use Rattle.column_convert.specs.Blocks.{block_of};
+ghost use Rattle.column_convert.specs.Inputs.{input_of};
+ghost use Rattle.column_convert.specs.Rows as spec;
+ghost use Rattle.deck.specs.Tables as tables;
+ghost use Rattle.reply.specs.Options.{IsPrintable};
+
+use crate::edited_table::EditedTable;
+use column_convert::{Block, Columns};
+use live_table::LiveTable;
+use reply::Options;
+use std::alloc::{AllocError, Global};
+use std::marker::Brand;
+use std::sync::ledger::{Blank, Ledger};
+use units_io::{Steps, Text};
+
+/// A column of a text of records, and what its fields are converted from and to.
+#[derive(Clone, Copy)]
+pub struct Column<'a> {
+    pub from: &'a [u8],
+    pub to: &'a [u8],
+    /// The number of the column, from 1.
+    pub number: usize,
+    /// Whether the first record is a header, which stays as it is.
+    pub has_header: bool,
+}
+
+impl EditedTable {
+    /// The records of a text, each with its field of the column converted, or with an error there. The only error is
+    /// want of memory.
+    pub fn convert_column(
+        &mut self,
+        alloc: Global,
+        options: &Options,
+        column: &Column<'_>,
+        text: &[u8],
+    ) -> Result<Block, AllocError>
+        requires printable { IsPrintable options.now }
+        requires number { 1 ≤ column.now.number }
+        ensures block { IfOk result (λ block. block ≡ block_of
+            (spec.rows (tables.table self.old.table.deck) options.now column.now.from.now column.now.to.now
+            (input_of text.now column.now.number column.now.has_header))) }
+        ensures deck { self.new.table.deck ≡ self.old.table.deck }
+        ensures history { self.new.history ≡ self.old.history }
+    {
+        counted_column::<Brand>(alloc, &mut self.table, options, column, text, Blank::new(1))
+    }
+}
+
+// A column with a count of steps that nobody reads.
+fn counted_column<L: Ledger>(
+    alloc: Global,
+    table: &mut LiveTable,
+    options: &Options,
+    column: &Column<'_>,
+    text: &[u8],
+    blank: Blank,
+) -> Result<Block, AllocError>
+    requires name { blank.name ≡ L.name }
+    requires parts { blank.parts ≡ L.parts }
+    requires some { 0 < blank.parts }
+    requires printable { IsPrintable options.now }
+    requires number { 1 ≤ column.now.number }
+    ensures block { IfOk result (λ block. block ≡ block_of
+        (spec.rows (tables.table table.old.deck) options.now column.now.from.now column.now.to.now
+        (input_of text.now column.now.number column.now.has_header))) }
+    ensures deck { table.new.deck ≡ table.old.deck }
+{
+    // A text has no more records than bytes, but for an empty last one.
+    let Some(most) = text.len().checked_add(1) else {
+        return Err(AllocError);
+    };
+    let input = Text::from_bytes(alloc, text)?;
+    let mut columns = Columns::new(alloc, input, column.number, column.has_header)?;
+    let mut steps: Steps<L> = Steps::new(blank);
+    columns.next_rows(
+        alloc,
+        table,
+        options,
+        column.from,
+        column.to,
+        most,
+        &mut steps,
+    )
+}

@@ -1,0 +1,264 @@
+-- Numbers for the keys that the lookup of a word tried.
+use Rattle.std.proofs.Common.{◌≡◌, ◌⊎◌, ◌↔◌, ◌-◌, ◌+◌, ◌<◌, ◌≤◌, ◌++◌, ◌∷◌, [], ℕ, zero, suc, cond, false, List, length}
+use Rattle.std.proofs.Common.{map, take, drop, Contains, refl, sym, ◌∙◌, ap, subst, inl, inr, arith}
+use Rattle.std.proofs.lemmas.List.{drop_all, length-drop, map-append, take-append-drop}
+use Rattle.expr_tree.specs.declared.word_list.WordKind.{WordKind}
+use Rattle.expr_tree.specs.declared.word_list.WordUse.{WordUse}
+use Rattle.expr_tree.specs.Names.{is_refused}
+use Rattle.def_entry.specs.declared.key.Key.{Key}
+use Rattle.def_entry.specs.SameKeys.{is_among}
+use Rattle.def_entry.specs.Tables.{Table, keys_of}
+use Rattle.name_lookup.specs.declared.targets.Targets.{Targets}
+use Rattle.name_lookup.specs.Order.{plan}
+use Rattle.name_lookup.specs.Plans.{Found, run}
+use Rattle.name_lookup.specs.Targets.{AreFound, count, last_keys}
+use Rattle.name_walk.specs.Faults.{on}
+use Rattle.name_walk.specs.Lists.{In}
+use Rattle.name_walk.proofs.Lists.{In-left, In-right, take_at}
+use Rattle.table_names.specs.Leads.{LookupLaw, looked_keys, targets, word_lookup}
+use Rattle.name_numbers.proofs.NewKeys.{key_in, number_in}
+use Rattle.live_table.specs.declared.leading.Lead.{Lead}
+use Rattle.live_table.specs.declared.leading.Lead.TheVariants.{Refused, Nowhere, One, Two}
+use Rattle.live_table.specs.declared.dead_end.DeadEnd.{DeadEnd}
+use Rattle.live_table.specs.Exploring.{AreAdded, AreGrown, AreListed, IsMore}
+use Rattle.live_table.specs.Leading.{AreGathered, AreTargets, IsLead, IsQueryLead, LeadsTo}
+use Rattle.live_table.specs.Sound.{AreNodes}
+use Rattle.live_table.specs.Stored.{Listed, key_at}
+use Rattle.live_table.proofs.Gathering.{put_one}
+use Rattle.live_table.proofs.Growing.{added_both, added_none, key_read, key_same, more_length, none_listed}
+use Rattle.live_table.proofs.KeyNumbers.{numbered_push, within_push}
+use Rattle.live_table.proofs.Looking.{in_both}
+
+-- ---- keys that are no targets
+-- at the start no number is gathered
+pub gathered_start : (keys others : List Key) (old : List ℕ) → others ≡ [] → AreGathered keys others old old
+gathered_start keys others old e = record {
+  own = [];
+  numbered = e;
+  within = λ m i. absurd i;
+  put = λ m. (λ i. inl i, λ h. elim h [ inl i ↦ i | inr z ↦ absurd z ]);
+}
+
+-- keys that are gathered stay so where others are added
+gathered_more : (ks ls others : List Key) (old new : List ℕ) → IsMore ks ls → AreGathered ks others old new
+    → AreGathered ls others old new
+gathered_more ks ls others old new more g = record {
+  own = g.own;
+  numbered = g.numbered ∙ same g.own g.within;
+  within = λ m i. let h : m < length ks = g.within m i in let b = more_length ks ls more in omega arith;
+  put = g.put;
+}
+  where
+    same : (ns : List ℕ) → ((m : ℕ) → In m ns → m < length ks) → map (key_at ks) ns ≡ map (key_at ls) ns
+    same [] within = refl
+    same (n ∷ ns) within =
+        let rest : map (key_at ks) ns ≡ map (key_at ls) ns = same ns (λ m i. within m (inr i)) in
+        λ i. sym (key_same ks ls n more (within n (inl refl))) i ∷ rest i
+
+-- the next key has a number, and is gathered
+pub gathered_next : (ks ls tried : List Key) (old now next : List ℕ) (place n : ℕ) → IsMore ks ls
+    → place < length tried → AreGathered ks (take place tried) old now
+    → (n < length ls) × (key_at tried place ≡ key_at ls n)
+    → next ≡ cond (on now n) now (now ++ n ∷ []) → AreGathered ls (take (place + 1) tried) old next
+gathered_next ks ls tried old now next place n more h g p e = record {
+  own = g.own ++ n ∷ [];
+  numbered =
+      take_at tried place (key_at tried place) (key_read tried place h)
+      ∙ ((λ i. g.numbered i ++ key_at tried place ∷ [])
+      ∙ sym (numbered_push ks ls g.own n (key_at tried place) more g.within p.1));
+  within = within_push ks ls g.own n more g.within p.0;
+  put = λ m. (to m, from m);
+}
+  where
+    to : (m : ℕ) → In m next → In m old ⊎ In m (g.own ++ n ∷ [])
+    to m i = elim ((put_one now next n e m).0 i) [
+      | inl a ↦ elim ((g.put m).0 a) [ inl b ↦ inl b | inr b ↦ inr (In-left g.own (n ∷ []) m b) ]
+      | inr is ↦ inr (In-right g.own (n ∷ []) m (inl is))
+    ]
+
+    from : (m : ℕ) → In m old ⊎ In m (g.own ++ n ∷ []) → In m next
+    from m (inl a) = (put_one now next n e m).1 (inl ((g.put m).1 (inl a)))
+    from m (inr a) = elim (in_both g.own (n ∷ []) m a) [
+      | inl b ↦ (put_one now next n e m).1 (inl ((g.put m).1 (inr b)))
+      | inr (inl is) ↦ (put_one now next n e m).1 (inr is)
+      | inr (inr z) ↦ absurd z
+    ]
+
+-- ---- numbers for keys, one behind another
+-- nothing but names is added
+abbrev pub AddsNames : Table → Listed → Listed → Type 0
+AddsNames t l m = (before list : List ℕ) (ends : List DeadEnd) → AreListed t l before list
+    → AreAdded t l m before list list ends ends
+
+-- no name is
+adds_none : (t : Table) (l : Listed) → AreNodes t l → AddsNames t l l
+adds_none t l nodes before list ends right = added_none t l before list ends ends nodes right (λ i x e. e)
+
+-- names are added twice
+pub adds_both : (t : Table) (l m k : Listed) → AddsNames t l m → AddsNames t m k → AddsNames t l k
+adds_both t l m k a b before list ends right =
+    let first = a before list ends right in
+    added_both t l m k before list list list ends ends ends first (b before list ends first.grown.listed)
+
+-- what is grown with no listed number
+grown_names : (t : Table) (l m : Listed) → AddsNames t l m → AreGrown t l m [] [] [] [] []
+grown_names t l m a = (a [] [] [] (none_listed t l [] [] (λ n i. absurd i) refl)).grown
+
+-- then the nodes are right
+pub added_nodes : (t : Table) (l m : Listed) → AddsNames t l m → AreNodes t m
+added_nodes t l m a = (grown_names t l m a).nodes
+
+-- and each key keeps its number
+pub added_keys : (t : Table) (l m : Listed) → AddsNames t l m → IsMore l.keys m.keys
+added_keys t l m a = (grown_names t l m a).keys_more
+
+-- the first keys that were tried have numbers and are gathered
+pub record AreFirstGathered (t : Table) (l m : Listed) (tried : List Key) (old new : List ℕ) (place : ℕ) : Type 0
+  where
+    pub added : AddsNames t l m
+    pub gathered : AreGathered m.keys (take place tried) old new
+
+-- at the start none is
+pub first_start : (t : Table) (l : Listed) (tried : List Key) (old : List ℕ) → AreNodes t l
+    → AreFirstGathered t l l tried old old 0
+first_start t l tried old nodes = record {
+  added = adds_none t l nodes;
+  gathered = gathered_start l.keys [] old refl;
+}
+
+-- the next key is
+pub first_next : (t : Table) (l m k : Listed) (tried : List Key) (old now mid next : List ℕ) (place n : ℕ)
+    → AreFirstGathered t l m tried old now place → AddsNames t m k → place < length tried
+    → (n < length k.keys) × (key_at tried place ≡ key_at k.keys n) → mid ≡ now
+    → next ≡ cond (on mid n) mid (mid ++ n ∷ []) → AreFirstGathered t l k tried old next (place + 1)
+first_next t l m k tried old now mid next place n f a h p same e = record {
+  added = adds_both t l m k f.added a;
+  gathered =
+      gathered_next m.keys k.keys tried old mid next place n (added_keys t m k a) h
+      (subst (AreGathered m.keys (take place tried) old) (sym same) f.gathered) p e;
+}
+
+-- ---- targets
+at_place : (ks : List Key) (i : ℕ) → i < length ks → drop i ks ≡ key_at ks i ∷ drop (suc i) ks
+at_place [] i h = absurd (omega arith)
+at_place (k ∷ ks) zero h = refl
+at_place (k ∷ ks) (suc i) h = at_place ks i (omega arith)
+
+one_last : (ks : List Key) (i : ℕ) → suc i ≡ length ks → drop i ks ≡ key_at ks i ∷ []
+one_last ks i e =
+    at_place ks i (omega (arith, e)) ∙ ap (λ (xs : List Key). key_at ks i ∷ xs) (drop_all (suc i) ks (omega (arith, e)))
+
+two_last : (ks : List Key) (i j : ℕ) → suc i ≡ j → suc j ≡ length ks → drop i ks ≡ key_at ks i ∷ key_at ks j ∷ []
+two_last ks i j d e =
+    at_place ks i (omega (arith, d, e))
+    ∙ ap (λ (xs : List Key). key_at ks i ∷ xs) (ap (λ (x : ℕ). drop x ks) d ∙ one_last ks j e)
+
+-- the last two keys have numbers
+pub leads_to_two : (ks ls tried : List Key) (i j n m : ℕ) → 2 ≤ length tried → i ≡ length tried - 2
+    → j ≡ length tried - 1 → IsMore ks ls
+    → (n < length ks) × (key_at tried i ≡ key_at ks n) → (m < length ls) × (key_at tried j ≡ key_at ls m)
+    → LeadsTo ls (last_keys 2 tried) (Two n m)
+leads_to_two ks ls tried i j n m h e f more p q =
+    let first : key_at tried i ≡ key_at ls n = p.1 ∙ sym (key_same ks ls n more p.0) in
+    let below : n < length ls = let a = p.0 in let b = more_length ks ls more in omega arith in (
+      ap (λ (x : ℕ). drop x tried) (sym e)
+          ∙ (two_last tried i j (omega (arith, h, e, f)) (omega (arith, h, e, f))
+          ∙ (λ r. first r ∷ q.1 r ∷ [])),
+      inside below,
+    )
+  where
+    inside : n < length ls → (k : ℕ) → In k (n ∷ m ∷ []) → k < length ls
+    inside below k (inl s) = subst (λ (x : ℕ). x < length ls) (sym s) below
+    inside below k (inr (inl s)) = subst (λ (x : ℕ). x < length ls) (sym s) q.0
+    inside below k (inr (inr z)) = absurd z
+
+-- ---- what a search among the keys of a table found, where none was tried before
+pub found_by : (t : Table) (u : WordUse) (law : LookupLaw) (w : Targets) (before tried : List Key) (kind : WordKind)
+    (text : List ℕ)
+    → before ≡ [] → kind ≡ u.kind → text ≡ u.text
+    → AreFound w before tried (run (is_among (keys_of t)) (plan kind text)) → AreFound w [] tried (word_lookup t u)
+found_by t u law w before tried kind text b k x f =
+    let same : run (is_among (keys_of t)) (plan kind text) ≡ word_lookup t u =
+    (λ i. run (is_among (keys_of t)) (plan (k i) (x i))) ∙ law t u in
+    subst (λ (p : List Key × Found). AreFound w p.0 tried p.1) (λ i. (b i, same i)) f
+
+none_there : (ks : List Key) → length ks ≡ 0 → ks ≡ []
+none_there [] e = refl
+none_there (k ∷ ks) e = absurd (omega (arith, e))
+
+module _ (t : Table) (u : WordUse) (w : Targets) (tried : List Key) (found : AreFound w [] tried (word_lookup t u))
+  where
+    targets_are : targets t u ≡ last_keys (count w) tried
+    targets_are = found.targets ∙ ap (last_keys (count w)) (sym found.looked)
+
+    -- there are as many keys as targets
+    pub enough : count w ≤ length tried
+    enough =
+        let a : length (targets t u) ≡ count w = found.many in
+        let b : length (targets t u) ≡ length (last_keys (count w) tried) = ap length targets_are in
+        let c : length (last_keys (count w) tried) ≡ length tried - (length tried - count w) =
+        length-drop (length tried - count w) tried in
+        omega (arith, a, b, c)
+
+    -- a word without targets leads nowhere
+    pub none_found : count w ≡ 0 → targets t u ≡ []
+    none_found e = none_there (targets t u) (found.many ∙ e)
+
+    -- what a word of a query leads to
+    pub is_query_lead : (keys : List Key) (lead : Lead) → is_refused u.text ≡ false
+        → LeadsTo keys (last_keys (count w) tried) lead → IsQueryLead t keys u lead
+    is_query_lead keys Refused fine led = absurd led
+    is_query_lead keys Nowhere fine led = (fine, targets_are ∙ led.0, led.1)
+    is_query_lead keys (One n) fine led = (fine, targets_are ∙ led.0, led.1)
+    is_query_lead keys (Two n m) fine led = (fine, targets_are ∙ led.0, led.1)
+
+    -- ---- the targets, and the other keys
+    module _ (ks ls : List Key) (more : IsMore ks ls) (old mid new : List ℕ) (ns : List ℕ)
+        (led : last_keys (count w) tried ≡ map (key_at ls) ns) (inside : (m : ℕ) → In m ns → m < length ls)
+        (g : AreGathered ks (take (length tried - count w) tried) old mid) (same : new ≡ mid) where
+      now : AreGathered ls (take (length tried - count w) tried) old mid
+      now = gathered_more ks ls (take (length tried - count w) tried) old mid more g
+
+      all : map (key_at ls) (now.own ++ ns) ≡ looked_keys t u
+      all =
+          map-append (key_at ls) now.own ns
+          ∙ ((λ i. sym now.numbered i ++ sym led i)
+          ∙ (take-append-drop (length tried - count w) tried ∙ found.looked))
+
+      to : (k : Key) → Contains (looked_keys t u) k → (m : ℕ) × (In m ns ⊎ In m now.own) × (k ≡ key_at ls m)
+      to k i =
+          let r = number_in (key_at ls) (now.own ++ ns) k (subst (λ (xs : List Key). Contains xs k) (sym all) i) in
+          (r.0, elim (in_both now.own ns r.0 r.2) [ inl a ↦ inr a | inr b ↦ inl b ], r.1)
+
+      number_of : (m : ℕ) → In m ns ⊎ In m now.own → In m (now.own ++ ns)
+      number_of m (inl i) = In-right now.own ns m i
+      number_of m (inr i) = In-left now.own ns m i
+
+      from : (k : Key) → ((m : ℕ) × (In m ns ⊎ In m now.own) × (k ≡ key_at ls m)) → Contains (looked_keys t u) k
+      from k (m, i, e) =
+          subst (λ (xs : List Key). Contains xs k) all
+          (subst (λ (q : Key). Contains (map (key_at ls) (now.own ++ ns)) q) (sym e)
+          (key_in (key_at ls) (now.own ++ ns) m (number_of m i)))
+
+      are_targets : AreTargets t ls u ns old new
+      are_targets = record {
+        targets = targets_are ∙ led;
+        inside = inside;
+        own = now.own;
+        put = subst (λ (xs : List ℕ). (m : ℕ) → In m xs ↔ (In m old ⊎ In m now.own)) (sym same) now.put;
+        within = now.within;
+        exactly = λ k. (to k, from k);
+      }
+
+    -- what a word of an entry leads to
+    pub is_lead : (ks ls : List Key) (more : IsMore ks ls) (old mid new : List ℕ) (lead : Lead)
+        → is_refused u.text ≡ false
+        → LeadsTo ls (last_keys (count w) tried) lead
+        → AreGathered ks (take (length tried - count w) tried) old mid → new ≡ mid
+        → IsLead t ls u old new lead
+    is_lead ks ls more old mid new Refused fine led g same = absurd led
+    is_lead ks ls more old mid new Nowhere fine led g same = (fine, targets_are ∙ led.0)
+    is_lead ks ls more old mid new (One n) fine led g same =
+        (fine, are_targets ks ls more old mid new (n ∷ []) led.0 led.1 g same)
+    is_lead ks ls more old mid new (Two n m) fine led g same =
+        (fine, are_targets ks ls more old mid new (n ∷ m ∷ []) led.0 led.1 g same)

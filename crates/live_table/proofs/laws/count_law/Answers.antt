@@ -1,0 +1,5 @@
+use Rattle.live_table.proofs.Counting as laws
+use Rattle.live_table.proofs.laws.count_law.Goals as goal
+
+pub returns : goal.returns
+returns c = laws.count_law

@@ -1,0 +1,5 @@
+use Rattle.live_table.proofs.CallLists as laws
+use Rattle.live_table.proofs.laws.deck_kinds_law.Goals as goal
+
+pub returns : goal.returns
+returns c = laws.deck_kinds_law

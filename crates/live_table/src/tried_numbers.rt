@@ -1,0 +1,98 @@
+//! Numbers for the keys that the lookup of a word tried.
+
+ghost use Rattle.std.specs.Prelude.{◌≡◌, ◌<◌, ◌≤◌, ◌-◌, ℕ, List, IfOk, length, take};
+ghost use Rattle.deck.specs.Tables.{table};
+ghost use Rattle.name_lookup.specs.Targets.{count, last_keys};
+ghost use Rattle.live_table.specs.declared.dead_end.DeadEnd.{DeadEnd};
+ghost use Rattle.live_table.specs.Exploring.{AreAdded, AreListed};
+ghost use Rattle.live_table.specs.Leading.{AreGathered, LeadsTo};
+ghost use Rattle.live_table.specs.Sound.{AreNodes};
+ghost use Rattle.live_table.specs.Stored.{key_at, listed};
+
+use crate::deck_table::DeckTable;
+use crate::leading::Lead;
+use crate::nodes::Nodes;
+use crate::numbering::number;
+use crate::tried_keys::TriedKeys;
+use deck::Deck;
+use name_lookup::Targets;
+use std::alloc::{AllocError, Global};
+
+/// Gives numbers to the keys that were tried before the targets, and gathers them. The only error is want of memory.
+pub(crate) fn gather_others(
+    alloc: Global,
+    deck: &Deck,
+    nodes: &mut Nodes,
+    tried: &TriedKeys,
+    targets: Targets,
+) -> Result<(), AllocError>
+    requires { AreNodes (table deck.now) (listed nodes.old) }
+    ensures added { (before list : List ℕ) (ends : List DeadEnd)
+        → AreListed (table deck.now) (listed nodes.old) before list
+        → AreAdded (table deck.now) (listed nodes.old) (listed nodes.new) before list list ends ends }
+    ensures gathered { IfOk result (λ _. AreGathered nodes.new.keys (take (length tried.now - count targets) tried.now)
+        nodes.old.gathered nodes.new.gathered) }
+{
+    for place in 0..tried.len().saturating_sub(targets.count()) {
+        let n = number_at(alloc, deck, nodes, tried, place)?;
+        nodes.gathered.put(n, nodes.keys.len())?;
+    }
+    Ok(())
+}
+
+/// Gives numbers to the targets among the keys that were tried: what a word leads to by number. The only error is want
+/// of memory.
+pub(crate) fn number_targets(
+    alloc: Global,
+    deck: &Deck,
+    nodes: &mut Nodes,
+    tried: &TriedKeys,
+    targets: Targets,
+) -> Result<Lead, AllocError>
+    requires nodes { AreNodes (table deck.now) (listed nodes.old) }
+    requires enough { count targets ≤ length tried.now }
+    ensures added { (before list : List ℕ) (ends : List DeadEnd)
+        → AreListed (table deck.now) (listed nodes.old) before list
+        → AreAdded (table deck.now) (listed nodes.old) (listed nodes.new) before list list ends ends }
+    ensures gathered { nodes.new.gathered ≡ nodes.old.gathered }
+    ensures lead { IfOk result (LeadsTo nodes.new.keys (last_keys (count targets) tried.now)) }
+{
+    match targets {
+        Targets::Nowhere => Ok(Lead::Nowhere),
+        Targets::Last => {
+            let n = number_at(alloc, deck, nodes, tried, tried.len() - 1)?;
+            Ok(Lead::One(n))
+        }
+        Targets::LastTwo => {
+            let n = number_at(alloc, deck, nodes, tried, tried.len() - 2)?;
+            let m = number_at(alloc, deck, nodes, tried, tried.len() - 1)?;
+            Ok(Lead::Two(n, m))
+        }
+    }
+}
+
+// The number of the key that was tried at a place, a new one if it has none.
+fn number_at(
+    alloc: Global,
+    deck: &Deck,
+    nodes: &mut Nodes,
+    tried: &TriedKeys,
+    place: usize,
+) -> Result<usize, AllocError>
+    requires nodes { AreNodes (table deck.now) (listed nodes.old) }
+    requires within { place < length tried.now }
+    ensures added { (before list : List ℕ) (ends : List DeadEnd)
+        → AreListed (table deck.now) (listed nodes.old) before list
+        → AreAdded (table deck.now) (listed nodes.old) (listed nodes.new) before list list ends ends }
+    ensures gathered { nodes.new.gathered ≡ nodes.old.gathered }
+    ensures number { IfOk result (λ n. (n < length nodes.new.keys)
+        × (key_at tried.now place ≡ key_at nodes.new.keys n)) }
+{
+    number(
+        alloc,
+        &DeckTable(deck),
+        nodes,
+        tried.kind(place),
+        tried.name(place),
+    )
+}

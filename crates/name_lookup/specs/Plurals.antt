@@ -1,0 +1,21 @@
+-- The singulars of a word that looks like an English plural.
+use Rattle.std.specs.Prelude.{ℕ, ◌-◌, ◌&&◌, Bool, nat_lt, if◌then◌else◌}
+use Rattle.std.specs.Prelude.{List, [], ◌∷◌, ◌++◌, length, take, drop, codes}
+use Rattle.std.specs.Str.{bytes_eq}
+
+-- the word without its last k bytes
+abbrev pub without : ℕ → List ℕ → List ℕ
+without k word = take (length word - k) word
+
+-- the word has more than so many bytes, and ends in these
+abbrev pub has_ending : ℕ → List ℕ → List ℕ → Bool
+has_ending more ending word =
+    nat_lt more (length word) && bytes_eq (drop (length word - length ending) word) ending
+
+-- A word of at least three bytes may lose an `s`, one of at least four an `es`, and in one of at least five an `ies`
+-- may become a `y`. A word that has several of these endings has several singulars, in this order.
+abbrev pub singulars : List ℕ → List (List ℕ)
+singulars word =
+    (if has_ending 2 (codes "s") word then without 1 word ∷ [] else [])
+    ++ (if has_ending 3 (codes "es") word then without 2 word ∷ [] else [])
+    ++ (if has_ending 4 (codes "ies") word then (without 3 word ++ codes "y") ∷ [] else [])

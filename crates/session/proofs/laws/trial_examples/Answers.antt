@@ -1,0 +1,7 @@
+use Rattle.std.proofs.Common.{refl}
+use Rattle.std.specs.Fmt.{digits}
+use Rattle.session.proofs.laws.trial_examples.Goals as goal
+
+pub returns : goal.returns
+unfolding digits
+returns c = record { three = refl; second = refl }

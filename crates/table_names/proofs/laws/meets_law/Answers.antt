@@ -1,0 +1,5 @@
+use Rattle.table_names.proofs.Meeting as laws
+use Rattle.table_names.proofs.laws.meets_law.Goals as goal
+
+pub returns : goal.returns
+returns c = laws.meets_law

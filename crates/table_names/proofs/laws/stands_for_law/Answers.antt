@@ -1,0 +1,5 @@
+use Rattle.table_names.proofs.Standing as laws
+use Rattle.table_names.proofs.laws.stands_for_law.Goals as goal
+
+pub returns : goal.returns
+returns c = laws.stands_for_law

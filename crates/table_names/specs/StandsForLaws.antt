@@ -1,0 +1,34 @@
+-- What holds of what names stand for.
+use Rattle.std.specs.Prelude.{◌≡◌, ◌↔◌, true, false, List, ℕ, Contains}
+use Rattle.expr_tree.specs.declared.word_list.WordUse.{WordUse}
+use Rattle.def_entry.specs.declared.key.Key.{Key}
+use Rattle.def_entry.specs.declared.key.Kind.TheVariants as kind
+use Rattle.def_entry.specs.SameKeys.{is_same_kind}
+use Rattle.def_entry.specs.Tables.{Table, is_present}
+use Rattle.tree_eval.specs.Expanded.{Callable, Callee, Meaning}
+use Rattle.tree_eval.specs.Expansion.{inverted_word}
+use Rattle.table_names.specs.Closed.{AreClosed, IsClosed}
+use Rattle.table_names.specs.Kinds.{FitsKinds}
+use Rattle.table_names.specs.Meanings.{key_meaning, word_meaning}
+use Rattle.table_names.specs.StandsFor.{StandsFor, WordStandsFor}
+
+-- the key has an entry, and is a unit, a prefix or a function
+pub record IsName (table : Table) (n : Key) : Type 0 where
+  pub present : is_present table n ≡ true
+  pub no_list : is_same_kind n.kind kind.List ≡ false
+
+-- law: A key and a word stand for at most one meaning. A key that stands for one has no name fault. If the table fits
+-- kinds, then a name stands for a meaning exactly if it has no name fault, words have no name fault exactly if each
+-- stands for a meaning, and `key_meaning` and `word_meaning` compute these meanings; a word after a `~` stands for
+-- nothing but a function.
+pub record StandsForLaw : Type 0 where
+  pub one : (table : Table) (n : Key) (m k : Meaning) → StandsFor table n m → StandsFor table n k → m ≡ k
+  pub one_word : (table : Table) (u : WordUse) (m k : Meaning) → WordStandsFor table u m → WordStandsFor table u k
+      → m ≡ k
+  pub closed : (table : Table) (n : Key) (m : Meaning) → StandsFor table n m → IsClosed table n
+  pub exactly : (table : Table) → FitsKinds table → (n : Key) → IsName table n
+      → IsClosed table n ↔ StandsFor table n (key_meaning table n)
+  pub words : (table : Table) → FitsKinds table → (words : List WordUse)
+      → AreClosed table words ↔ ((u : WordUse) → Contains words u → WordStandsFor table u (word_meaning table u))
+  pub inverse : (table : Table) → FitsKinds table → (w : List ℕ) (m : Meaning)
+      → WordStandsFor table (inverted_word w) m → (f : Callable) × (m ≡ Callee f)

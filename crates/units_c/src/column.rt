@@ -1,0 +1,100 @@
+//! Columns of texts of records.
+
+ghost use Rattle.std.specs.Prelude.{◌≡◌, ◌≤◌, IfOk, IfSome, None, length};
+ghost use Rattle.reply.specs.Options.{IsPrintable};
+ghost use Rattle.units_c.specs.Columns as spec;
+ghost use Rattle.units_c.specs.Options.{options_of};
+ghost use Rattle.units_c.specs.Statuses.{code};
+ghost use Rattle.units_c.specs.Tables.{IsAnswered, IsUnedited, definitions_of, table_of};
+ghost use Rattle.units_c.specs.declared.status.Status.TheVariants as statuses;
+
+use crate::answer::{Answer, deliver};
+use crate::options::UnitsOptions;
+use crate::status::Status;
+use crate::unit_table::UnitsTable;
+use edited_table::{Column, EditedTable};
+use reply::Options;
+use std::alloc::{AllocError, Global};
+
+/// A column of a text of records, and what its fields are converted from and to.
+#[repr(C)]
+pub struct UnitsColumn<'a> {
+    pub from: &'a [u8],
+    pub to: &'a [u8],
+    /// The number of the column, from 1.
+    pub number: usize,
+    /// The first record is a header, which stays as it is.
+    pub header: u8,
+}
+
+/// Converts a column of a text of records, as `--column` does. The rows are put into the buffer, and their length into
+/// `written`.
+#[unsafe(no_mangle)]
+pub extern "C" fn units_convert_column(
+    alloc: Global,
+    table: &mut UnitsTable,
+    column: &UnitsColumn<'_>,
+    text: &[u8],
+    options: &UnitsOptions,
+    out: &mut [u8],
+    written: &mut usize,
+) -> u32
+    ensures answer { 1 ≤ column.now.number → IfSome (options_of options.now) (λ o.
+        IsAnswered table.old.handle.held (λ e. spec.column_answer (table_of e) o column.now text.now)
+        (length out.old) result written.new out.new) }
+    ensures options { options_of options.now ≡ None → result ≡ code statuses.BadOptions }
+    ensures number { column.now.number ≡ 0 → result ≡ code statuses.BadOptions }
+    ensures unedited { IsUnedited table.old.handle.held table.new.handle.held }
+{
+    *written = 0;
+    let Some(options) = options.read() else {
+        return Status::BadOptions.code();
+    };
+    if column.number == 0 {
+        return Status::BadOptions.code();
+    }
+    let Some(mut content) = table.take(alloc) else {
+        return Status::Closed.code();
+    };
+    let answered = answer_column(alloc, &mut content, &options, column, text);
+    table.put(content);
+    deliver(answered, out, written)
+}
+
+// The answer to a column.
+fn answer_column(
+    alloc: Global,
+    content: &mut EditedTable,
+    options: &Options,
+    column: &UnitsColumn<'_>,
+    text: &[u8],
+) -> Result<Answer, AllocError>
+    requires printable { IsPrintable options.now }
+    requires number { 1 ≤ column.now.number }
+    ensures answer { IfOk result (λ answer.
+        answer ≡ spec.column_answer (table_of content.old) options.now column.now text.now) }
+    ensures unedited { definitions_of content.new ≡ definitions_of content.old }
+{
+    let column = Column {
+        from: column.from,
+        to: column.to,
+        number: column.number,
+        has_header: column.header != 0,
+    };
+    let block = content.convert_column(alloc, options, &column, text)?;
+    Ok(Answer {
+        status: rows_status(block.refused),
+        text: block.text,
+    })
+}
+
+// The status of rows of which a cell is an error or not.
+fn rows_status(refused: bool) -> Status
+    ensures { result ≡ spec.rows_status refused }
+{
+    if refused {
+        Status::CellError
+    } else {
+        Status::Done
+    }
+}

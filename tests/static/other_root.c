@@ -1,0 +1,17 @@
+// other_root WORD..: runs the static program in the root folder ROOT, in the folder where this is called. Checks that
+// run outside of the root call this as the program.
+#include <limits.h>
+#include <stdio.h>
+#include <unistd.h>
+
+int main(int count, char **words) {
+    char folder[PATH_MAX];
+    (void)count;
+    if (getcwd(folder, sizeof folder) == NULL || chroot(ROOT) != 0 || chdir(folder) != 0) {
+        perror("other_root: " ROOT);
+        return 125;
+    }
+    execv("/bin/units", words);
+    perror("other_root: /bin/units");
+    return 125;
+}

@@ -1,0 +1,145 @@
+// What the static program calls and musl lacks, or has only in a slow form. Linked with --wrap=main.
+#define _GNU_SOURCE
+#include <signal.h>
+#include <stddef.h>
+#include <stdint.h>
+#include <sys/mman.h>
+#include <sys/syscall.h>
+#include <unistd.h>
+
+// The toolchain keeps the words in a constructor, to which glibc passes them. musl passes them to main alone.
+static size_t word_count;
+static char **words;
+int __real_main(void);
+
+// A run uses 112 KiB of the stack at least. One call maps these pages sooner than each is when it is first written. If
+// the kernel cannot, the pages are mapped as usual.
+static void map_stack(void) {
+    enum { PAGE = 4096, PAGES = 28, POPULATE_WRITE = 23 }; // an advice of Linux 5.14, which musl's headers lack
+    char here;
+    uintptr_t first = (uintptr_t)&here / PAGE * PAGE - (PAGES - 1) * PAGE;
+    madvise((void *)first, PAGES * PAGE, POPULATE_WRITE);
+}
+
+int __wrap_main(int count, char **given) {
+    word_count = (size_t)count;
+    words = given;
+    map_stack();
+    return __real_main();
+}
+
+size_t rattle_arg_count(void) { return word_count; }
+
+// Copies word i without its end and returns its length, -1 if there is no such word, -2 if there is no room for it.
+ssize_t rattle_arg(size_t i, char *to, size_t room) {
+    if (i >= word_count) return -1;
+    size_t length = 0;
+    for (; words[i][length] != 0; length++) {
+        if (length == room) return -2;
+        to[length] = words[i][length];
+    }
+    return (ssize_t)length;
+}
+
+// What the processor can do, as glibc reports it by leaves of cpuid. A program is built for x86-64-v2 and asks for its
+// features before anything else. Only these are reported as active; others would need the system's leave, too.
+struct features {
+    unsigned registers[4], active[4]; // eax, ebx, ecx, edx
+};
+
+enum { BASIC = 0, EXTENDED = 2 }; // leaves as glibc numbers them
+enum { BASIC_OF_V2 = 1 << 0 | 1 << 9 | 1 << 13 | 1 << 19 | 1 << 20 | 1 << 23 }; // SSE3 .. SSE4.2, CX16, POPCNT
+enum { EXTENDED_OF_V2 = 1 << 0 };                                               // LAHF
+
+const struct features *__x86_get_cpuid_feature_leaf(unsigned leaf) {
+    static struct features found[EXTENDED + 1];
+    static const struct features none;
+    if (leaf != BASIC && leaf != EXTENDED) return &none;
+    unsigned *r = found[leaf].registers;
+    __asm__("cpuid"
+            : "=a"(r[0]), "=b"(r[1]), "=c"(r[2]), "=d"(r[3])
+            : "a"(leaf == BASIC ? 1 : 0x80000001), "c"(0));
+    found[leaf].active[2] = r[2] & (leaf == BASIC ? BASIC_OF_V2 : EXTENDED_OF_V2);
+    return &found[leaf];
+}
+
+ssize_t __write(int file, const void *from, size_t count) { return write(file, from, count); }
+
+typedef void (*handler)(int);
+
+handler __sysv_signal(int number, handler to) {
+    struct sigaction action = {.sa_handler = to, .sa_flags = SA_RESETHAND | SA_NODEFER}, before;
+    return sigaction(number, &action, &before) == 0 ? before.sa_handler : SIG_ERR;
+}
+
+int statx(int folder, const char *name, int flags, unsigned wanted, void *to) {
+    return (int)syscall(SYS_statx, folder, name, flags, wanted, to);
+}
+
+// musl copies and fills by string instructions, which take long to begin. These take 16 bytes at a time, the first and
+// the last of which may overlap. Up to 64 bytes, all are read before the first is written.
+typedef long long wide __attribute__((vector_size(16), aligned(1), may_alias));
+typedef uint64_t eight __attribute__((aligned(1), may_alias));
+typedef uint32_t four __attribute__((aligned(1), may_alias));
+typedef uint16_t two __attribute__((aligned(1), may_alias));
+
+#define COPY_ENDS(type)                                                                                                \
+    do {                                                                                                               \
+        type first = *(const type *)from, last = *(const type *)(from + n - sizeof(type));                             \
+        *(type *)to = first;                                                                                           \
+        *(type *)(to + n - sizeof(type)) = last;                                                                       \
+    } while (0)
+
+static void copy_to_64(char *to, const char *from, size_t n) {
+    if (n > 32) {
+        wide first[2] = {((const wide *)from)[0], ((const wide *)from)[1]};
+        wide last[2] = {((const wide *)(from + n - 32))[0], ((const wide *)(from + n - 32))[1]};
+        ((wide *)to)[0] = first[0], ((wide *)to)[1] = first[1];
+        ((wide *)(to + n - 32))[0] = last[0], ((wide *)(to + n - 32))[1] = last[1];
+    } else if (n >= 16) {
+        COPY_ENDS(wide);
+    } else if (n >= 8) {
+        COPY_ENDS(eight);
+    } else if (n >= 4) {
+        COPY_ENDS(four);
+    } else if (n >= 2) {
+        COPY_ENDS(two);
+    } else if (n == 1) {
+        *to = *from;
+    }
+}
+
+void *memmove(void *target, const void *source, size_t n) {
+    char *to = target;
+    const char *from = source;
+    if (n <= 64) {
+        copy_to_64(to, from, n);
+    } else if ((uintptr_t)to - (uintptr_t)from >= n) { // no byte is read after it was written
+        wide last = *(const wide *)(from + n - 16);
+        for (size_t i = 0; i < n - 16; i += 16) *(wide *)(to + i) = *(const wide *)(from + i);
+        *(wide *)(to + n - 16) = last;
+    } else {
+        wide first = *(const wide *)from;
+        for (size_t i = n - 16; i > 0; i = i > 16 ? i - 16 : 0) *(wide *)(to + i) = *(const wide *)(from + i);
+        *(wide *)to = first;
+    }
+    return target;
+}
+
+void *memcpy(void *restrict target, const void *restrict source, size_t n) { return memmove(target, source, n); }
+
+void *memset(void *target, int value, size_t n) {
+    char *to = target;
+    uint64_t eights = 0x0101010101010101u * (unsigned char)value;
+    wide wides = {(long long)eights, (long long)eights};
+    if (n >= 16) {
+        for (size_t i = 0; i < n - 16; i += 16) *(wide *)(to + i) = wides;
+        *(wide *)(to + n - 16) = wides;
+    } else if (n >= 8) {
+        *(eight *)to = eights;
+        *(eight *)(to + n - 8) = eights;
+    } else {
+        for (size_t i = 0; i < n; i++) ((volatile char *)to)[i] = (char)value;
+    }
+    return target;
+}
