@@ -3,7 +3,8 @@
 
     tools/check_lsp.py [--program UNITS_WHY]
 
-An editor that is not installed is named and counted as skipped. The last line is `N passed, M failed, K skipped`.
+An editor that is not installed is named and counted as skipped, and so is everything if no program is given and none
+is built. The last line is `N passed, M failed, K skipped`.
 """
 
 from __future__ import annotations
@@ -17,6 +18,8 @@ import tempfile
 import time
 from dataclasses import dataclass
 from pathlib import Path
+
+from built import find_program
 
 ROOT = Path(__file__).resolve().parent.parent
 SERVER = ROOT / "tools/units_lsp.py"
@@ -187,28 +190,43 @@ def check_editor(command: list[str], name: str, results: Results) -> None:
     results.check(len(held) == 4, f"{name}: {len(held)} of 4 things hold:\n" + "\n".join(lines[-20:]))
 
 
+def has_eglot() -> bool:
+    """Whether Emacs is installed and finds eglot, which is a package of its own before Emacs 29."""
+    if not shutil.which("emacs"):
+        return False
+    command = ["emacs", "--batch", "--eval", '(kill-emacs (if (locate-library "eglot") 0 1))']
+    return subprocess.run(command, stdin=subprocess.DEVNULL, stderr=subprocess.DEVNULL, check=False).returncode == 0
+
+
+def check_editors(program: str, folder: Path, results: Results) -> None:
+    words = [sys.executable, str(SERVER), program, str(folder / "shop.units")]
+    environment = ["env", "UNITS_LSP=" + "|".join(words)]
+    if shutil.which("nvim"):
+        command = ["nvim", "--headless", "--clean", "-c", f"luafile {NEOVIM}", "-c", "qa!"]
+        check_editor([*environment, *command], "Neovim", results)
+    else:
+        results.skip("nvim is not installed (package neovim)")
+    if has_eglot():
+        check_editor([*environment, "emacs", "--batch", "-Q", "-l", str(EMACS)], "Emacs", results)
+    else:
+        results.skip("Emacs with eglot is not installed (packages emacs-nox and elpa-eglot)")
+
+
 def main() -> int:
     parser = argparse.ArgumentParser(description="Checks the language server.")
-    parser.add_argument("--program", default=str(ROOT / "bin/units-why"))
-    program = parser.parse_args().program
+    parser.add_argument("--program", help="the program units-why; otherwise the one that is built")
+    program = parser.parse_args().program or find_program("units_why")
     results = Results()
-    with tempfile.TemporaryDirectory() as name:
-        folder = Path(name).resolve()
-        for file, text in FILES.items():
-            (folder / file).write_text(text)
-        check_protocol(program, folder, results)
-        check_time(program, folder, results)
-        words = [sys.executable, str(SERVER), program, str(folder / "shop.units")]
-        if shutil.which("nvim"):
-            command = ["nvim", "--headless", "--clean", "-c", f"luafile {NEOVIM}", "-c", "qa!"]
-            check_editor(["env", "UNITS_LSP=" + "|".join(words), *command], "Neovim", results)
-        else:
-            results.skip("nvim is not installed (package neovim)")
-        if shutil.which("emacs"):
-            command = ["emacs", "--batch", "-Q", "-l", str(EMACS)]
-            check_editor(["env", "UNITS_LSP=" + "|".join(words), *command], "Emacs", results)
-        else:
-            results.skip("emacs is not installed (packages emacs-nox and elpa-eglot)")
+    if program:
+        with tempfile.TemporaryDirectory() as name:
+            folder = Path(name).resolve()
+            for file, text in FILES.items():
+                (folder / file).write_text(text)
+            check_protocol(program, folder, results)
+            check_time(program, folder, results)
+            check_editors(program, folder, results)
+    else:
+        results.skip("units-why is not built")
     print(f"{results.passed} passed, {results.failed} failed, {results.skipped} skipped")
     return 1 if results.failed else 0
 

@@ -11,7 +11,7 @@ compares three things with what Python finds by its own reading of the files:
   that it has a fault; a definition that calls a function is skipped;
 - the lines that the row says it replaces, which are the other active definitions of its key.
 
-The last line is `N passed, M failed, K skipped`.
+If no program is given and none is built, all of that is skipped. The last line is `N passed, M failed, K skipped`.
 """
 
 from __future__ import annotations
@@ -25,6 +25,7 @@ from collections import defaultdict
 from dataclasses import dataclass, field
 from pathlib import Path
 
+from built import find_program
 from plain_quantities import Fault, Quantity
 from plain_tables import Reader
 from unit_files import Kind, read_deck
@@ -184,12 +185,17 @@ def check_locale(program: str, library: Path, locale: str, results: Results) -> 
 
 def main() -> int:
     parser = argparse.ArgumentParser(description="Checks the trees of units-why for the standard library.")
-    parser.add_argument("--program", default=str(ROOT / "bin/units-why"))
+    parser.add_argument("--program", help="the program units-why; otherwise the one that is built")
     parser.add_argument("--library", type=Path, default=LIBRARY)
     arguments = parser.parse_args()
+    program = arguments.program or find_program("units_why")
+    if not program:
+        print("check_why: units-why is not built, so the trees are skipped")
+        print("0 passed, 0 failed, 1 skipped")
+        return 0
     results = Results()
     for locale in LOCALES:
-        check_locale(arguments.program, arguments.library, locale, results)
+        check_locale(program, arguments.library, locale, results)
     print(f"{results.passed} passed, {results.failed} failed, {results.skipped} skipped")
     return 1 if results.failed or not results.passed else 0
 

@@ -21,7 +21,7 @@ packages=(
     # the page in a browser
     chromium firefox-esr binaryen
     # editors
-    vim-nox neovim
+    vim-nox neovim emacs-nox elpa-eglot
 )
 
 case "${1-}" in

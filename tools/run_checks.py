@@ -79,6 +79,8 @@ AFTER_PROOFS = [
     Check("C library", ("tools/check_c_library.sh",)),
     Check("want of memory", ("tools/check_memory.sh",)),
     Check("want of memory in edits", ("tools/check_edits.py",)),
+    Check("trees of units-why", ("tools/check_why.py",)),
+    Check("language server", ("tools/check_lsp.py",)),
     Check("static program", ("tools/check_static.sh",)),
     Check("web page", ("tools/check_web.sh",)),
     Check("release", ("tools/release.sh", "--compare")),

@@ -35,7 +35,8 @@ MANUAL = ROOT / "share/man/man1"
 BUILT_IN = ROOT / "crates/units_run/src/built_in.rt"
 LIBRARY = ROOT / "share/units/standard.units"
 BUILT = ROOT / "tools/built.sh"
-COMMANDS = ["qunits", "units-lint"]
+# The commands of bin/ beside units, each with the program that it runs.
+COMMANDS = {"qunits": "units", "units-lint": "units", "units-why": "units_why"}
 SECONDS = 120  # for all commands of a file
 INDENT = b"  "
 UNPRINTABLE = re.compile(rb"[\x00-\x09\x0b-\x1f\x7f-\xff]")
@@ -163,11 +164,10 @@ def put_programs(folder):
 
 
 def absent_programs(cases, missing):
-    """The programs that the commands use and that are not built."""
+    """The programs that the commands use by their plain names and that are not built."""
     script = b"\n".join(line for case in cases for line in case.command).decode(errors="replace")
-    words = set(re.findall(r"[\w.-]+", script))
-    if words & set(COMMANDS):
-        words.add("units")
+    words = set(re.findall(r"(?<![\w./-])[\w.-]+", script))
+    words |= {COMMANDS[word] for word in words & set(COMMANDS)}
     return sorted(words & missing)
 
 
