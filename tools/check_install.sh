@@ -86,9 +86,24 @@ if [ -e "$HOME/.local/bin/units-lint" ]; then
 else
     skip tools/lint_units.py 'units-lint'
 fi
+if [ -e "$HOME/.local/bin/units-why" ]; then
+    expect 'units-why' 0 $'\tDefinition: 0.9144 m\nyard: *' '$HOME/.local/bin/units-why yards'
+    expect '.. in qunits' 0 $'*\nyard: *length.units*' '$HOME/.local/bin/qunits --why yards'
+    expect '.. for Vim' 0 '' 'grep -q units-why $HOME/.local/share/vim/vimfiles/compiler/units_why.vim'
+    expect '.. for editors' 0 "4" \
+        'grep -l "$HOME/.local/share/units/lsp/units_lsp.py" $HOME/.local/share/units/editors/* | wc -l'
+    expect 'the language server finds it' 0 '{*capabilities*' 'printf "Content-Length: 58\r\n\r\n%s" \
+        "{\"jsonrpc\":\"2.0\",\"id\":1,\"method\":\"initialize\",\"params\":{}}" |
+        python3 $HOME/.local/share/units/lsp/units_lsp.py | tail -n 1'
+    pages='units qunits units-lint units-why'
+else
+    skip 'the program units_why, which is not built,' 'units-why'
+    expect 'nothing of it is installed' 0 '' 'find $HOME/.local -name "*why*" -o -name lsp -o -name editors'
+    pages='units qunits units-lint'
+fi
 expect 'the modes' 0 '' 'find $HOME/.local -type d ! -perm 755
     find $HOME/.local -type f ! -perm 644 ! -path "*/bin/*" ! -name import_gnu.sh'
-for page in units qunits units-lint; do
+for page in $pages; do
     if command -v man > /dev/null; then
         expect "the page of $page" 0 "*$page - *" "man -M \$HOME/.local/share/man $page"
     else
@@ -174,6 +189,7 @@ expect '.. takes no name of GNU units' 0 '' 'find $stage -name units -o -name un
 expect '.. claims nothing in bash' 1 '' 'ls $stage/etc 2> /dev/null || exit 1'
 expect '.. in qunits' 0 '96.56064' '$stage/usr/bin/qunits -t 60 mph to km/h'
 expect '.. in the program' 0 '0.9144' '$stage/usr/bin/exact-units -t yd m'
+expect '.. not in units-why' 1 '' 'grep -r exact-units-why $stage'
 expect '.. in the page' 0 '.TH EXACT-UNITS 1 *' 'grep "^[.]TH" $stage/usr/share/man/man1/exact-units.1'
 if command -v lexgrog > /dev/null; then
     expect '.. in its heading' 0 '*exact-units - *' 'lexgrog $stage/usr/share/man/man1/exact-units.1'

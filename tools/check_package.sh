@@ -16,6 +16,8 @@ folder=$(mktemp -d) || exit
 trap 'rm -rf "$folder"' EXIT
 passed=0 failed=0 skipped=0
 base=${TMPDIR:-/tmp}/exact-units-chroot.tar
+units_why=$("$root/tools/built.sh" units_why 2> /dev/null) || units_why=
+why_reply=${units_why:+$'\tDefinition: 1000 m'}
 
 # expect NAME WANTED GOT
 expect() {
@@ -39,11 +41,15 @@ finish() {
     exit
 }
 
-# copy_to FOLDER: the repository without its history and without what was built.
+# copy_to FOLDER: the repository without its history and without what was built, units-why apart.
 copy_to() {
     mkdir -p "$1"
     tar --create --directory "$root" --exclude=./.git --exclude=./out --exclude='./crates/*/out' . \
         | tar --extract --directory "$1"
+    if [ "$units_why" ]; then
+        mkdir -p "$1/crates/units_why/out"
+        cp -p "$units_why" "$1/crates/units_why/out/units_why"
+    fi
 }
 
 # build_in FOLDER COPY: builds with the script of a copy of the repository; its output is shown if that fails.
@@ -79,7 +85,8 @@ check_contents() {
     local unpacked=$folder/unpacked released=$root/release/units-x86_64-linux
     dpkg-deb -R "$deb" "$unpacked"
     expect 'the program is the released one' 0 "$(cmp "$unpacked/usr/bin/exact-units" "$released" >&2; echo $?)"
-    expect 'the programs' 'exact-units qunits units-lint' "$(cd "$unpacked/usr/bin" && echo exact-units q* units-lint)"
+    expect 'the programs' "exact-units qunits units-lint${units_why:+ units-why}" \
+        "$(find "$unpacked/usr/bin" -type f -printf '%f\n' | sort | xargs)"
     expect 'all is below /usr' 'DEBIAN usr' "$(find "$unpacked" -mindepth 1 -maxdepth 1 -printf '%f\n' | sort | xargs)"
     expect 'all belongs to root' '' "$(dpkg-deb -c "$deb" | awk '$2 != "root/root"')"
     expect 'nobody else may write' '' "$(dpkg-deb -c "$deb" | grep '^.....w\|^........w')"
@@ -103,10 +110,15 @@ check_tarball() {
     export HOME=$home XDG_CONFIG_HOME=$home/config XDG_STATE_HOME=$home/state
     expect 'the program of the tarball' $'\t* 32.808399' "$("$top/bin/units" -1 '10 m' ft 2>&1)"
     expect 'qunits of the tarball' $'\t* 96.56064' "$("$top/bin/qunits" -1 60 mph to km/h 2>&1)"
+    expect 'units-why of the tarball, if it is built' "$why_reply" "$("$top/bin/units-why" km 2> /dev/null | head -n 1)"
     "$top/tools/install.sh" --prefix "$folder/prefix" > "$folder/log" 2>&1
     expect 'it installs' 0 $?
     expect 'the installed program' $'\t* 32.808399' "$("$folder/prefix/bin/units" -1 '10 m' ft 2>&1)"
     expect 'the installed qunits' $'\t* 96.56064' "$("$folder/prefix/bin/qunits" -1 60 mph to km/h 2>&1)"
+    expect 'the installed units-why' "$why_reply" "$("$folder/prefix/bin/units-why" km 2> /dev/null | head -n 1)"
+    expect 'its other files' "${units_why:+eglot.el units-why.1 units_lsp.py units_why.vim units_why.vim}" \
+        "$(cd "$folder/prefix" && find . -name 'units[-_]why.*' -printf '%f\n' -o -name units_lsp.py -printf '%f\n' \
+            -o -name eglot.el -printf '%f\n' | sort | xargs)"
     "$top/tools/install.sh" --prefix "$folder/prefix" --uninstall > "$folder/log" 2>&1
     expect 'it uninstalls' 0 $?
     expect 'and leaves nothing' '' "$(find "$folder/prefix" -type f 2> /dev/null)"
@@ -155,11 +167,11 @@ case ${1-} in
     *) sed -n '2,/^set/s/^# \{0,1\}//p' "$script" | sed '$d'; exit 2 ;;
 esac
 if ! command -v dpkg-deb > /dev/null || ! command -v rt > /dev/null; then
-    skip 22 'dpkg-deb or the kit (rt) is absent'
+    skip 25 'dpkg-deb or the kit (rt) is absent'
     finish
 fi
 if ! "$root/tools/release.sh" --check > /dev/null; then
-    skip 22 'the released program is not of the present sources, so no package can be built'
+    skip 25 'the released program is not of the present sources, so no package can be built'
     finish
 fi
 check_equal_builds

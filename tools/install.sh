@@ -4,7 +4,8 @@
 #        tools/install.sh --help
 #
 # Installs the program, qunits, units-lint, the library, manual pages, documents, examples, completions for bash, zsh
-# and fish, and files for Vim under PREFIX, which is ~/.local unless --prefix gives another one.
+# and fish, and files for Vim under PREFIX, which is ~/.local unless --prefix gives another one. If units-why is built,
+# it is installed too, with its manual page, the language server and the files for editors.
 #
 #   --name NAME   the name of the program, its manual page and its folders; otherwise units
 #   --setup       have your bash, zsh and Vim load the files too, if PREFIX is not a place where they look
@@ -43,7 +44,7 @@ while [ "$#" -gt 0 ]; do
     shift
 done
 [[ $name =~ ^[A-Za-z][A-Za-z0-9._+-]*$ ]] || refuse "not a name for a program: $name"
-[[ $name != qunits && $name != units-lint ]] || refuse "$name is the name of another command"
+[[ $name != qunits && $name != units-lint && $name != units-why ]] || refuse "$name is the name of another command"
 [[ $prefix ]] || refuse 'there is no HOME, so --prefix is needed'
 [[ $prefix = /* ]] || prefix=$PWD/$prefix
 while [[ $prefix = ?*/ ]]; do prefix=${prefix%/}; done

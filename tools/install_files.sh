@@ -57,6 +57,17 @@ add_programs() {
     fi
 }
 
+# add_units_why: units-why, the language server over it, and the files for editors, which name the server's place.
+add_units_why() {
+    local file server=$prefix/share/$name/lsp/units_lsp.py
+    add 755 "$units_why" "$prefix/bin/units-why"
+    add 644 "$root/tools/units_lsp.py" "$server"
+    for file in "$root"/share/editors/*; do
+        add_edited 644 "$file" "$prefix/share/$name/editors/${file##*/}" \
+            "s#(/usr/local/share/units/lsp|\btools)/units_lsp\.py#$(as_replacement "$server")#g"
+    done
+}
+
 add_library() {
     add_all 644 "$prefix/share/$name" "$root"/share/units/*.units "$root/release/MADE_FROM"
     if [ -e "$root/tools/import_gnu.sh" ]; then add_all 755 "$prefix/share/$name" "$root/tools/import_gnu.sh"; fi
@@ -64,7 +75,7 @@ add_library() {
 
 # add_pages: the manual pages, which name the program and its documents as they are installed.
 add_pages() {
-    local page place_edits edits
+    local page place_edits edits man=$root/share/man/man1
     place_edits="s#\\bdocs/([A-Z_]+\\.md)#$(as_roff "$prefix/share/doc/$name/docs")/\\1#g
         s#\\btools/import_gnu\\.sh#$(as_roff "$prefix/share/$name")/import_gnu.sh#g"
     edits=$place_edits
@@ -75,15 +86,19 @@ add_pages() {
             s#^(\\.[BI]R? )units( |\$)#\\1$(as_roff "$name")\\2#
             s#^(  \\\$ |.*\\| )units #\\1$name #"
     fi
-    add_edited 644 "$root/share/man/man1/units.1" "$prefix/share/man/man1/$name.1" "$edits"
-    add_edited 644 "$root/share/man/man1/qunits.1" "$prefix/share/man/man1/qunits.1" "$edits"
+    add_edited 644 "$man/units.1" "$prefix/share/man/man1/$name.1" "$edits"
+    add_edited 644 "$man/qunits.1" "$prefix/share/man/man1/qunits.1" "$edits"
     if [ -e "$root/tools/lint_units.py" ]; then
-        add_edited 644 "$root/share/man/man1/units-lint.1" "$prefix/share/man/man1/units-lint.1" "$place_edits
+        add_edited 644 "$man/units-lint.1" "$prefix/share/man/man1/units-lint.1" "$place_edits
             s#^\\.BR units \\(1\\)#.BR $(as_roff "$name") (1)#"
+    fi
+    if [ "$units_why" ]; then
+        add_edited 644 "$man/units-why.1" "$prefix/share/man/man1/units-why.1" "$place_edits
+            s#^(\\.BR? )units( \\(1\\)| \\\\)#\\1$(as_roff "$name")\\2#"
     fi
     while read -r page; do
         add 644 "$root/$page" "$prefix/share/doc/$name/$page"
-    done < <(grep -ohE '\bdocs/[A-Z_]+\.md' "$root"/share/man/man1/*.1 | sort -u)
+    done < <(grep -ohE '\bdocs/[A-Z_]+\.md' "$man"/*.1 | sort -u)
 }
 
 add_documents() {
@@ -109,16 +124,20 @@ add_completions() {
 
 # add_vim_files: Vim looks under /usr/share/vim/vimfiles, Neovim under share/nvim/site of each usual prefix.
 add_vim_files() {
-    local file place
+    local file place edits="s/makeprg=units(\\\\)/makeprg=$name\1/"
     for file in "$root"/share/vim/*/*.vim; do
         place=${file#"$root/share/vim/"}
-        add_edited 644 "$file" "$prefix/share/vim/vimfiles/$place" "s/makeprg=units\b/makeprg=$name/"
-        add_edited 644 "$file" "$prefix/share/nvim/site/$place" "s/makeprg=units\b/makeprg=$name/"
+        if [ "$place" = compiler/units_why.vim ] && [ -z "$units_why" ]; then continue; fi
+        add_edited 644 "$file" "$prefix/share/vim/vimfiles/$place" "$edits"
+        add_edited 644 "$file" "$prefix/share/nvim/site/$place" "$edits"
     done
 }
 
 collect_files() {
+    # The program units-why. If it is not built, nothing of it is installed.
+    units_why=$("$root/tools/built.sh" units_why 2> /dev/null) || units_why=
     add_programs
+    if [ "$units_why" ]; then add_units_why; fi
     add_library
     add_pages
     add_documents

@@ -7,10 +7,11 @@
 # `out` in the repository if it is not given. The version and the date are those of share/man/man1/units.1.
 #
 # The package is called exact-units, and so is its program: Debian's package `units` has /usr/bin/units, registers no
-# alternative for it, and stays installed beside this one. Two builds of the same sources are equal byte for byte,
-# whatever the folder, the time and the umask; SOURCE_DATE_EPOCH replaces the date.
+# alternative for it, and stays installed beside this one. If units-why is built here, it is included, with all that
+# tools/install.sh installs with it. Two builds of the same sources are equal byte for byte, whatever the folder, the
+# time and the umask; SOURCE_DATE_EPOCH replaces the date.
 #
-# The program contains code of crates of the Rattle kit. Their licences are read from the kit, so `rt` has to be on the
+# The programs contain code of crates of the Rattle kit. Their licences are read from the kit, so `rt` has to be on the
 # path. Exit status: 0 if all files were written, 1 if something is missing, 2 for wrong arguments.
 set -eu
 script=$(readlink -f "${BASH_SOURCE[0]}")
@@ -32,10 +33,10 @@ heading_field() { sed -n '/^\.TH /{s/^[^"]*//;p;q;}' "$root/share/man/man1/units
 # named WORD: what release/MADE_FROM has after this word.
 named() { sed -n "s/^$1 //p" "$root/release/MADE_FROM"; }
 
-# kit_crates: the crates of the kit that are linked into the program, directly or through another one, sorted.
+# kit_crates: the crates of the kit that are linked into the programs, directly or through another one, sorted.
 kit_crates() {
     local pending=() seen=' ' crate
-    mapfile -t pending < <(lines_of units | cut -d : -f 2 | tr ' ' '\n' | grep . | sort -u)
+    mapfile -t pending < <({ lines_of units && if [ "$units_why" ]; then lines_of units_why; fi; } | cut -d : -f 2 | tr ' ' '\n' | grep . | sort -u)
     pending+=(std)
     while [ "${#pending[@]}" -gt 0 ]; do
         crate=${pending[0]}
@@ -117,6 +118,9 @@ stage_files() {
 		# The program is the released one byte for byte, so that its checksum can be compared. Strip would change it.
 		$name: unstripped-binary-or-object [usr/bin/$name]
 	END
+    if [ "$units_why" ]; then
+        echo "$name: unstripped-binary-or-object [usr/bin/units-why]" >> "$share/lintian/overrides/$name"
+    fi
     find "$stage" -type d -exec chmod 755 {} +
 }
 
@@ -163,14 +167,21 @@ build_tarball() {
     done
     install -m 644 "$root/tools/install_files.sh" "$root"/tools/unit_*.py "$top/tools"
     cp -R "$root/share" "$root/docs" "$root/examples" "$root/README.md" "$root/CHANGELOG.md" "$root/COPYING.md" "$top"
+    if [ "$units_why" ]; then
+        install -m 755 "$units_why" "$top/bin/units-why"
+        install -m 755 "$root/tools/units_lsp.py" "$top/tools/units_lsp.py"
+    else
+        rm -rf "$top/share/editors" "$top/share/man/man1/units-why.1" "$top/share/vim/compiler/units_why.vim"
+    fi
     find "$top" -name __pycache__ -prune -exec rm -rf {} +
     write_copyright full > "$top/LICENCES"
     mkdir "$top/release"
     cp "$root/release/MADE_FROM" "$top/release"
     cat > "$top/tools/built.sh" <<- 'END'
 		#!/bin/sh
-		# Prints the path of the program: in this tarball it is built already.
-		cd "${0%/*}/.." && echo "$PWD/bin/units"
+		# Prints the path of a program of bin/: in this tarball they are built already.
+		case $1 in units_why) name=units-why ;; *) name=$1 ;; esac
+		cd "${0%/*}/.." && [ -x "bin/$name" ] && echo "$PWD/bin/$name"
 	END
     chmod 755 "$top/tools/built.sh"
     tar --create --sort=name --format=ustar --owner=0 --group=0 --numeric-owner --mode=u+rwX,go+rX,go-w \
@@ -194,6 +205,7 @@ version=${version#units }
 if ! [[ $version =~ ^[0-9]+\.[0-9]+\.[0-9]+$ ]]; then fail "the .TH line of units.1 has no version"; fi
 epoch=${SOURCE_DATE_EPOCH:-$(date -d "$(heading_field 1)" +%s)}
 program=$root/release/units-x86_64-linux
+units_why=$("$root/tools/built.sh" units_why 2> /dev/null) || units_why=
 "$root/tools/release.sh" --check >&2 || fail 'a package has the released program: make a release of these sources first'
 
 work=$(mktemp -d)

@@ -344,8 +344,9 @@ def fill(messages: queue.Queue, source) -> None:
 
 
 def default_program() -> str:
-    beside = Path(__file__).resolve().parent.parent / "bin/units-why"
-    return str(beside) if os.access(beside, os.X_OK) else "units-why"
+    """units-why in the folder bin/ of the repository or of the prefix that the server is in, or else on the PATH."""
+    programs = (folder / "bin/units-why" for folder in Path(__file__).resolve().parents)
+    return next((str(program) for program in programs if os.access(program, os.X_OK)), "units-why")
 
 
 def main() -> int:
