@@ -1,6 +1,7 @@
 -- The value of the expression of a key is the outcome of the key.
-use Rattle.std.proofs.Common.{◌≡◌, ◌∷◌, [], ℕ, List, Contains, cond, map, Option, Some, None, Ok, Err, refl}
-use Rattle.std.proofs.Common.{sym, ap, ◌∙◌, subst}
+use Rattle.std.proofs.Common.{◌≡◌, ◌∷◌, [], ℕ, List, Contains, map, Option, Some, None, Ok, Err, refl}
+use Rattle.std.proofs.Common.{sym, ap, ◌∙◌, subst, true}
+use Rattle.std.specs.Prelude.{◌&&◌, if◌then◌else◌}
 use Rattle.std.specs.Option.{is_some}
 use Rattle.std.proofs.lemmas.Option.{same_Some}
 use Rattle.expr_tree.specs.Syntax.{Syntax, Word}
@@ -12,8 +13,7 @@ use Rattle.def_entry.specs.Entries as what
 use Rattle.def_entry.specs.Entries.{Entry, What}
 use Rattle.def_entry.specs.Keys.{key}
 use Rattle.def_entry.specs.Tables.{Table, entry_at, is_present}
-use Rattle.name_lookup.specs.Order.{try_key, try_parts}
-use Rattle.name_lookup.specs.Plans.{Gives, after, run}
+use Rattle.name_lookup.specs.Candidates.{first_present, part_candidates}
 use Rattle.tree_eval.specs.Entries.{meaning_of}
 use Rattle.tree_eval.specs.Expanded.{Dimensionless, Expanded, Meaning, One, Primitive}
 use Rattle.tree_eval.specs.Expansion.{plain, plain_word}
@@ -63,8 +63,8 @@ module _ (t : Table) (n : Key) (e : Syntax) (d : Entry) (there : entry_at t n �
 unit_target : (t : Table) (w : List ℕ) (d : Entry) → entry_at t (key kind.Unit w) ≡ Some d
     → targets t (plain_word w) ≡ key kind.Unit w ∷ []
 unit_target t w d there =
-    ap (λ b. (after (key kind.Unit w) (cond b (run (is_present t) (Gives (key kind.Unit w ∷ [])))
-    (run (is_present t) (try_key (key kind.Func w) (try_parts w (Gives [])))))).targets) (ap is_some there)
+    ap (λ (o : Option Entry). if is_some o && true then key kind.Unit w ∷ []
+    else first_present (is_present t) ((key kind.Func w ∷ []) ∷ part_candidates w)) there
 
 module _ (t : Table) (w : List ℕ) (d : Entry) (there : entry_at t (key kind.Unit w) ≡ Some d)
     (closing : ClosedLaw) (meaning : ClosedMeaningLaw) (closed : AreClosed t (plain_word w ∷ [])) where
