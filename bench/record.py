@@ -6,8 +6,8 @@
     bench/record.py --write      writes the page from the outputs that are kept
     bench/record.py --check      compares the page with the outputs that are kept; the last line is `N passed, M failed`
 
-Run it with nothing else at work: each output names the processor and the load of the machine at its start. An output of
-a script that fails is not kept.
+Run it with nothing else at work: each output names the processor and the load of the machine at its start. The output
+of a script that fails is not kept; status 1 with an output says that a bound is missed, and is kept.
 """
 
 from __future__ import annotations
@@ -54,7 +54,7 @@ def record(name: str) -> bool:
     """Runs a script and keeps its output. False if it fails."""
     head = machine()
     run = subprocess.run([FOLDER / f"{name}.sh"], stdout=subprocess.PIPE, check=False)
-    if run.returncode != 0:
+    if run.returncode > 1 or run.returncode < 0 or not run.stdout:
         print(f"{name}.sh ended with status {run.returncode}; its last output stays", file=sys.stderr)
         return False
     RESULTS.mkdir(exist_ok=True)
