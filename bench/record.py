@@ -58,7 +58,8 @@ def record(name: str) -> bool:
         print(f"{name}.sh ended with status {run.returncode}; its last output stays", file=sys.stderr)
         return False
     RESULTS.mkdir(exist_ok=True)
-    (RESULTS / f"{name}.txt").write_text(f"{head}\n{run.stdout.decode()}")
+    output = run.stdout.decode().replace(f"{FOLDER.parent}/", "")
+    (RESULTS / f"{name}.txt").write_text(f"{head}\n{output}")
     print(f"{name}.sh: recorded")
     return True
 
