@@ -1,8 +1,8 @@
 #!/usr/bin/env bash
 # Times the program of crates/number_calls beside Python's fractions on the same 200,000 sums and as many products: of
 # small numbers, of numbers of one word, and of numbers of two words that share a factor. Both read a call a line and
-# write an answer a line. Prints the processor seconds, the lower of three runs, behind them in parentheses those that
-# the same numbers take to be read and compared alone, and whether the answers are equal, those aside that overflow.
+# write an answer a line. Prints the processor seconds, the lowest of three runs, with the seconds to read and compare
+# the same numbers in parentheses, and whether all answers that do not overflow are equal.
 set -u
 root=$(cd "$(dirname "${BASH_SOURCE[0]}")/.." && pwd)
 program=$("$root/tools/built.sh" number_calls) || exit

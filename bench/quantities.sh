@@ -1,8 +1,8 @@
 #!/usr/bin/env bash
 # Times the program of crates/amount_calls beside Python's fractions with a dict of exponents, on the same 100,000
 # calls of a kind: products and quotients of quantities of one, two and six names, sums, and powers. Both read a call
-# a line and write an answer a line. Prints the processor seconds, the lower of three runs, behind them in parentheses
-# those that the same quantities take to be read and compared alone, and whether the answers are equal.
+# a line and write an answer a line. Prints the processor seconds, the lowest of three runs, with the seconds to
+# read and compare the same quantities in parentheses, and whether the answers are equal.
 set -u
 root=$(cd "$(dirname "${BASH_SOURCE[0]}")/.." && pwd)
 program=$("$root/tools/built.sh" amount_calls) || exit
