@@ -1,5 +1,5 @@
--- Pairs of a name and a value: what a look-up finds, and pairs with one more value.
-use Rattle.std.proofs.Common.{◌≡◌, ◌≢◌, ℕ, List, [], ◌∷◌, ◌++◌, Option, Some, None, refl, sym, ap, subst, ◌∙◌, Bool}
+-- Pairs of a name and a value: the results of lookups, and pairs with one more value.
+use Rattle.std.proofs.Common.{◌≡◌, ◌≢◌, ℕ, List, [], ◌∷◌, ◌++◌, Option, Some, None, refl, sym, ap, subst, ◌∙◌, Bool, take, suc, zero}
 use Rattle.std.proofs.Common.{true, false, cond}
 use Rattle.std.proofs.Common.{Vec, Bor}
 use Rattle.std.specs.Prelude.{IfNone}
@@ -10,16 +10,16 @@ use Rattle.std.proofs.lemmas.Slice.Eq.{bytes_eq-Decides}
 use Rattle.indexmap.specs.IndexMap.{insert_entry}
 use Rattle.units_io.specs.Named.{Pairs, value_of, with_value, Sets, HasNoName, HasDistinctNames, pairs_of}
 
--- a test that is false tells two names apart
+-- names for which the test is false are different
 differ : (name other : List ℕ) → bytes_eq name other ≡ false → other ≢ name
 differ name other differs same = let both : true ≡ false = sym ((bytes_eq-Decides name other).1 (sym same))
     ∙ differs in cc
 
--- bytes that are found equal are one list
+-- bytes for which the test is true are the same list
 same : (name other : List ℕ) → bytes_eq name other ≡ true → name ≡ other
 same name other is = (bytes_eq-Decides name other).0 is
 
--- two names that differ fail the test
+-- the test is false for different names
 apart : (name other : List ℕ) → other ≢ name → bytes_eq name other ≡ false
 apart name other differs = by _ refl
   where
@@ -27,7 +27,7 @@ apart name other differs = by _ refl
     by true is = absurd (differs (sym (same name other is)))
     by false is = is
 
--- a name that is not found is in no pair
+-- if a name is not found, no pair has it
 HasNoName-from_value_of : (pairs : Pairs) (name : List ℕ) → value_of pairs name ≡ None → HasNoName pairs name
 HasNoName-from_value_of [] name none = tt
 HasNoName-from_value_of (pair ∷ pairs) name none = by _ refl (HasNoName-from_value_of pairs name)
@@ -39,14 +39,14 @@ HasNoName-from_value_of (pair ∷ pairs) name none = by _ refl (HasNoName-from_v
     by false is later =
         (differ name pair.0 is, later (sym (ap (λ b. cond b (Some pair.1) (value_of pairs name)) is) ∙ none))
 
--- a name that a look-up does not find is in no pair
+-- if a lookup does not find a name, no pair has it
 pub HasNoName-not_found : (pairs : Pairs) (name : List ℕ) (found : Option (Bor (List ℕ)))
     → option_copied found ≡ value_of pairs name
     → IfNone found (HasNoName pairs name)
 HasNoName-not_found pairs name None is = HasNoName-from_value_of pairs name (sym is)
 HasNoName-not_found pairs name (Some value) is = tt
 
--- a value for a name that no pair has is put at the end
+-- a value for a name that no pair has is appended
 pub with_value-new : (pairs : Pairs) (name value : List ℕ) → HasNoName pairs name
     → with_value pairs name value ≡ pairs ++ (name, value) ∷ []
 with_value-new [] name value none = refl
@@ -54,7 +54,7 @@ with_value-new (pair ∷ pairs) name value none =
     ap (λ b. cond b ((pair.0, value) ∷ pairs) (pair ∷ with_value pairs name value)) (apart name pair.0 none.0)
     ∙ ap (λ (ps : Pairs). pair ∷ ps) (with_value-new pairs name value none.1)
 
--- what a look-up finds after a value is set
+-- the results of lookups after a value is set
 pub with_value-Sets : (pairs : Pairs) (name value : List ℕ) → Sets pairs (with_value pairs name value) name value
 with_value-Sets [] name value other = refl
 with_value-Sets (pair ∷ pairs) name value other = by _ _ refl refl (with_value-Sets pairs name value other)
@@ -69,7 +69,7 @@ with_value-Sets (pair ∷ pairs) name value other = by _ _ refl refl (with_value
         rw (is, found, apart other name (λ e. differ name pair.0 is (sym (e ∙ same other pair.0 found)))) refl
     by false false is found later = rw (is, found) later
 
--- a pair of another name leaves a name absent
+-- setting the value of another name leaves a name absent
 HasNoName-with_value : (pairs : Pairs) (name value other : List ℕ) → HasNoName pairs other → name ≢ other
     → HasNoName (with_value pairs name value) other
 HasNoName-with_value [] name value other none differs = (differs, tt)
@@ -81,7 +81,7 @@ HasNoName-with_value (pair ∷ pairs) name value other none differs =
     by true is later = rw is (none.0, none.1)
     by false is later = rw is (none.0, later)
 
--- names stay distinct where a value is set
+-- names remain distinct after a value is set
 pub HasDistinctNames-with_value : (pairs : Pairs) (name value : List ℕ) → HasDistinctNames pairs
     → HasDistinctNames (with_value pairs name value)
 HasDistinctNames-with_value [] name value distinct = (tt, tt)
@@ -94,7 +94,20 @@ HasDistinctNames-with_value (pair ∷ pairs) name value distinct =
     by false is later =
         rw is (HasNoName-with_value pairs name value pair.0 distinct.0 (λ e. differ name pair.0 is (sym e)), later)
 
--- the name of a pair is not that of a pair before it
+-- if no pair has a name, none of the first n pairs has it
+HasNoName-take : (n : ℕ) (pairs : Pairs) (name : List ℕ) → HasNoName pairs name → HasNoName (take n pairs) name
+HasNoName-take zero pairs name none = tt
+HasNoName-take (suc n) [] name none = tt
+HasNoName-take (suc n) (pair ∷ pairs) name none = (none.0, HasNoName-take n pairs name none.1)
+
+-- if pairs have distinct names, so do the first n of them
+pub HasDistinctNames-take : (n : ℕ) (pairs : Pairs) → HasDistinctNames pairs → HasDistinctNames (take n pairs)
+HasDistinctNames-take zero pairs distinct = tt
+HasDistinctNames-take (suc n) [] distinct = tt
+HasDistinctNames-take (suc n) (pair ∷ pairs) distinct =
+    (HasNoName-take n pairs pair.0 distinct.0, HasDistinctNames-take n pairs distinct.1)
+
+-- if names are distinct, the name of a pair differs from those of the pairs before it
 pub HasNoName-before : (before : Pairs) (pair : List ℕ × List ℕ) (behind : Pairs)
     → HasDistinctNames (before ++ pair ∷ behind)
     → HasNoName before pair.0
@@ -107,7 +120,13 @@ HasNoName-before (p ∷ before) pair behind distinct =
     first (q ∷ before) none = first before none.1
 
 module _ {Y : Type 0} where
-  -- a look-up in an index map is one among its pairs
+  -- the first n pairs are those of the first n entries
+  pub pairs_of-take : (n : ℕ) (entries : List (Vec ℕ Y × List ℕ)) → pairs_of (take n entries) ≡ take n (pairs_of entries)
+  pairs_of-take zero entries = refl
+  pairs_of-take (suc n) [] = refl
+  pairs_of-take (suc n) (entry ∷ entries) = ap (λ (ps : Pairs). (entry.0.items, entry.1) ∷ ps) (pairs_of-take n entries)
+
+  -- a lookup in an index map is a lookup among its pairs
   pub value_of-pairs_of : (entries : List (Vec ℕ Y × List ℕ)) (name : List ℕ)
       → lookup (λ key. bytes_eq name key.items) entries ≡ value_of (pairs_of entries) name
   value_of-pairs_of [] name = refl
@@ -129,7 +148,7 @@ module _ {Y : Type 0} where
       by true is later = rw is refl
       by false is later = rw is (ap (λ (ps : Pairs). (entry.0.items, entry.1) ∷ ps) later)
 
-  -- the next name to copy is none of those that were copied
+  -- the next name to copy differs from those already copied
   pub HasNoName-next : (pairs copied : Pairs) (rest behind : List (Vec ℕ Y × List ℕ)) (key : Vec ℕ Y)
       (value name : List ℕ)
       → HasDistinctNames pairs

@@ -1,4 +1,4 @@
--- Files that are held as pairs of a name and its bytes.
+-- Files that are stored as pairs of a name and its bytes.
 use Rattle.std.proofs.Common.{◌≡◌, ◌∙◌, refl, sym, ap₂, ℕ, cond, List, [], ◌∷◌, Some}
 use Rattle.std.specs.Ordering.{nat_cmp}
 use Rattle.std.specs.Cmp.Lexicographic.{slice_cmp, texts_ties, nat_list_cmp_total}
@@ -7,17 +7,17 @@ use Rattle.std.specs.FinMap.{nat_cmp-IsAntisymmetric}
 use Rattle.units_io.specs.FileMap.{file_of, with_file, files_of}
 use Rattle.units_io.specs.Named.{Pairs, value_of, Sets}
 
--- what is found under a name, in the order of bytes, is the value of the first pair that has it
+-- a search by the byte order of names finds the value of the first pair with the name
 find-bytes : (pairs : Pairs) (name : List ℕ) → find (slice_cmp nat_cmp) name pairs ≡ value_of pairs name
 find-bytes [] name = refl
 find-bytes (pair ∷ pairs) name =
     ap₂ (λ b o. cond b (Some pair.1) o) (sym (texts_ties name pair.0)) (find-bytes pairs name)
 
--- the file of a name is its value
+-- the file with a name is the value of the name
 pub file_of-files_of : (pairs : Pairs) (name : List ℕ) → file_of (files_of pairs) name ≡ value_of pairs name
 file_of-files_of pairs name = get-from_entries nat_list_cmp_total _ name ∙ find-bytes pairs name
 
--- pairs of which one name got these bytes are the files with this file
+-- setting the bytes of a name among the pairs adds the file to the files
 pub files_of-Sets : (old new : Pairs) (name bytes : List ℕ) → Sets old new name bytes
     → files_of new ≡ with_file (files_of old) name bytes
 files_of-Sets old new name bytes sets =

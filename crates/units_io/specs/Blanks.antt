@@ -1,6 +1,6 @@
--- The bytes that part words.
+-- The bytes that separate words.
 use Rattle.std.specs.Prelude.{◌==◌, ◌||◌, ℕ, Bool}
 
--- a space or a tab
+-- the byte is a space or a tab
 abbrev pub is_blank : ℕ → Bool
 is_blank b = b == 32 || b == 9

@@ -1,12 +1,12 @@
--- What the system's streams and files tell: their counts alone.
+-- The facts known about the streams and files of the system: only their counts.
 use Rattle.std.specs.Prelude.{ℕ}
 
--- how many bytes a source gave, and how often it failed
+-- the number of bytes that a source gave, and the number of its failures
 pub record SourceCounts : Type 0 where
   pub taken : ℕ
   pub faults : ℕ
 
--- how many fetches failed, and how many stores
+-- the number of failed fetches, and of failed stores
 pub record FilesCounts : Type 0 where
   pub faults : ℕ
   pub store_faults : ℕ

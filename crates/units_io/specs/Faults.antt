@@ -1,15 +1,15 @@
--- A count of faults never falls, and has risen where a call answers that it failed.
+-- A count of failures never decreases, and it has increased if a call reports a failure.
 use Rattle.std.specs.Prelude.{◌≤◌, ◌+◌, ◌-◌, ◌^◌, ℕ, min, Result, OnErr}
 
--- one more, up to the end of the type
+-- the count plus one, up to the maximum of the type
 abbrev pub next : ℕ → ℕ
 next n = min (n + 1) (2 ^ 64 - 1)
 
--- the count is higher than before, or stands at the end of its type
+-- the count is higher than before, or at the maximum of its type
 abbrev pub Rose : ℕ → ℕ → Type 0
 Rose before now = next before ≤ now
 
--- the count has not fallen, and it rose where the call failed
+-- the count has not decreased, and it increased if the call failed
 pub record HasCause {T E : Type 0} (before now : ℕ) (result : Result T E) : Type 0 where
   pub later : before ≤ now
   pub failed : OnErr result (Rose before now)

@@ -1,4 +1,4 @@
--- Files by their names.
+-- Files addressed by name.
 use Rattle.std.specs.Prelude.{ℕ, List}
 use Rattle.std.specs.Ordering.{nat_cmp}
 use Rattle.std.specs.Cmp.Lexicographic.{slice_cmp}
@@ -10,7 +10,7 @@ use Rattle.std.specs.declared.option.Option.{Option}
 abbrev pub FileMap : Type 0
 FileMap = map.FinMap (slice_cmp nat_cmp) (List ℕ)
 
--- the longest file that is read
+-- the maximum length of a file that is read
 abbrev pub longest_file : ℕ
 longest_file = 16777216
 
@@ -18,18 +18,18 @@ longest_file = 16777216
 abbrev pub file_of : FileMap → List ℕ → Option (List ℕ)
 file_of files name = map.get files name
 
--- the files of a list, of which the first of a name stands
+-- the files of a list; of several files with one name, the first one counts
 abbrev pub files_of : List (List ℕ × List ℕ) → FileMap
 files_of entries = map.from_entries entries
 
--- the files with this one added, or put in the place of that of its name
+-- the files with this file added, or replacing the one with its name
 abbrev pub with_file : FileMap → List ℕ → List ℕ → FileMap
 with_file files name bytes = map.insert files name bytes
 
--- no file at all
+-- the map without files
 abbrev pub no_files : FileMap
 no_files = map.empty
 
--- a map of files is stored as its entries
+-- the encoding of a map of files as its entries
 abbrev pub file_map_code : Coded FileMap
 file_map_code = map.code (coded_list coded_ℕ) (coded_list coded_ℕ)

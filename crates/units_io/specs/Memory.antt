@@ -4,7 +4,7 @@ use Rattle.std.specs.Coded.{Coded, code_by, coded×, coded_list, coded_ℕ}
 use Rattle.units_io.specs.FileMap.{FileMap, file_map_code}
 pub use Rattle.units_io.specs.Faults.{next}
 
--- a source in memory: the bytes left, the most that a call gives, the calls that fail, and the counts
+-- a source in memory: the bytes left, the most bytes that a call gives, the calls that fail, and the counts
 pub record SourceState : Type 0 where
   pub left : List ℕ
   pub piece : ℕ
@@ -13,7 +13,8 @@ pub record SourceState : Type 0 where
   pub taken : ℕ
   pub faults : ℕ
 
--- a sink in memory: the bytes written, the room in all, the most that a call takes, the calls that fail, and the counts
+-- a sink in memory: the bytes written, its total room, the most bytes that a call takes, the calls that fail, and the
+-- counts
 pub record SinkState : Type 0 where
   pub written : List ℕ
   pub room : ℕ
@@ -32,7 +33,7 @@ pub record FilesState : Type 0 where
   pub store_calls : ℕ
   pub store_faults : ℕ
 
--- this state is stored as its fields
+-- the encoding of this state as its fields
 abbrev pub files_code : Coded FilesState
 files_code =
     code_by (FileMap × (List ℕ × (ℕ × (ℕ × (List ℕ × (ℕ × ℕ))))))
@@ -51,13 +52,13 @@ files_code =
     })
     (λ _. refl)
 
--- a fetch leaves what is said of stores, and the list of its own calls that fail
+-- a fetch preserves the facts about stores and the list of fetches that fail
 pub record KeepsStores (old new : FilesState) : Type 0 where
   pub fails : new.fails ≡ old.fails
   pub store_fails : new.store_fails ≡ old.store_fails
   pub store_calls : new.store_calls ≡ old.store_calls
 
--- a store leaves what is said of fetches, and the list of its own calls that fail
+-- a store preserves the facts about fetches and the list of stores that fail
 pub record KeepsFetches (old new : FilesState) : Type 0 where
   pub fails : new.fails ≡ old.fails
   pub store_fails : new.store_fails ≡ old.store_fails

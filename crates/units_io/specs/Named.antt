@@ -7,17 +7,17 @@ use Rattle.std.specs.Str.{bytes_eq}
 abbrev pub Pairs : Type 0
 Pairs = List (List ℕ × List ℕ)
 
--- the value of the first pair that has this name
+-- the value of the first pair with this name
 abbrev pub value_of : Pairs → List ℕ → Option (List ℕ)
 value_of pairs name = lookup (bytes_eq name) pairs
 
--- the pairs with this value at the first pair that has this name, or in a new pair at the end
+-- the pairs after the first pair with this name gets this value, or with a new pair at the end
 abbrev pub with_value : Pairs → List ℕ → List ℕ → Pairs
 with_value [] name value = (name, value) ∷ []
 with_value (pair ∷ pairs) name value =
     if bytes_eq name pair.0 then (pair.0, value) ∷ pairs else pair ∷ with_value pairs name value
 
--- one name has this value, and each other name what it had
+-- this name has this value, and each other name has the value that it had
 abbrev pub Sets : Pairs → Pairs → List ℕ → List ℕ → Type 0
 Sets old new name value =
     (other : List ℕ) → value_of new other ≡ (if bytes_eq other name then Some value else value_of old other)
@@ -27,7 +27,7 @@ abbrev pub HasNoName : Pairs → List ℕ → Type 0
 HasNoName [] name = ⊤
 HasNoName (pair ∷ pairs) name = (pair.0 ≢ name) × HasNoName pairs name
 
--- no two pairs have one name
+-- no two pairs have the same name
 abbrev pub HasDistinctNames : Pairs → Type 0
 HasDistinctNames [] = ⊤
 HasDistinctNames (pair ∷ pairs) = HasNoName pairs pair.0 × HasDistinctNames pairs

@@ -1,4 +1,4 @@
-//! The bytes that part words.
+//! The bytes that separate words.
 
 ghost use Rattle.std.specs.Prelude.{◌≡◌};
 ghost use Rattle.units_io.specs.Blanks as spec;

@@ -1,4 +1,4 @@
-//! Files by their names.
+//! Files addressed by name.
 ghost use Rattle.std.specs.Prelude.{◌≡◌, ◌≤◌, ℕ, length, IfOk, IfSome};
 ghost use Rattle.std.specs.declared.option.Option.{Option};
 
@@ -6,7 +6,7 @@ use crate::text::Text;
 use std::alloc::{AllocError, AllocFailed, Global};
 use thiserror::Error;
 
-/// The most bytes that a file has where it is fetched or stored.
+/// The maximum length in bytes of a file that can be fetched or stored.
 pub const LONGEST_FILE: usize = 16_777_216;
 
 /// Why a file was not fetched.
@@ -18,10 +18,10 @@ pub enum FetchFault {
     /// The file has more than `LONGEST_FILE` bytes.
     #[error("the file is longer than the limit")]
     TooLong,
-    /// It could not be read; the count of failures rose.
+    /// The file could not be read. The count of failed fetches increased.
     #[error("the file could not be read")]
     Failed,
-    /// Want of memory.
+    /// Out of memory.
     #[error("out of memory")]
     OutOfMemory,
 }
@@ -49,10 +49,10 @@ impl<T: Drop> From<AllocFailed<T>> for FetchFault {
 /// Why a file was not stored.
 #[derive(Clone, Copy, Debug, PartialEq, Eq, Error)]
 pub enum StoreFault {
-    /// It could not be written; the count of failures rose.
+    /// The file could not be written. The count of failed stores increased.
     #[error("the file could not be written")]
     Failed,
-    /// Want of memory.
+    /// Out of memory.
     #[error("out of memory")]
     OutOfMemory,
 }
@@ -77,23 +77,23 @@ impl<T: Drop> From<AllocFailed<T>> for StoreFault {
     }
 }
 
-/// Files to read and to write.
+/// Files that can be read and written.
 pub trait Files {
     ghost use Rattle.units_io.specs.Fetching.{FileMap, IsFetched, FailsWithCause, faults_after_fetch, longest_file};
     ghost use Rattle.units_io.specs.Storing.{IsStored, StoreHasCause, faults_after_store};
 
-    /// The bytes of each file, where they are told.
+    /// The bytes of each file, if the files are known.
     ghost files: { Self → Option FileMap };
 
-    /// How often a fetch has failed, up to `u64::MAX`.
+    /// The number of failed fetches, up to `u64::MAX`.
     ghost faults: { Self → ℕ };
 
-    /// How often a store has failed, up to `u64::MAX`.
+    /// The number of failed stores, up to `u64::MAX`.
     ghost store_faults: { Self → ℕ };
 
-    /// The bytes of the file of this name. `Absent` where there is none, `TooLong` where it has more than
-    /// `LONGEST_FILE` bytes, and `Failed` where it could not be read: then, and only then, the count of
-    /// failed fetches is one more.
+    /// Returns the bytes of the file with this name. Returns `Absent` if there is no such file, `TooLong` if it has
+    /// more than `LONGEST_FILE` bytes, and `Failed` if it could not be read. The count of failed fetches increases by
+    /// one on `Failed`, and only then.
     fn fetch(&mut self, alloc: Global, name: &[u8]) -> Result<Text, FetchFault>
         ensures told { IfSome (files self.old) (λ m. IsFetched m name.now result) }
         ensures within { IfOk result (λ text. length text ≤ longest_file) }
@@ -102,8 +102,9 @@ pub trait Files {
         ensures counted { faults self.new ≡ faults_after_fetch (faults self.old) result }
         ensures stores { store_faults self.new ≡ store_faults self.old };
 
-    /// Gives the file of this name these bytes. `Failed` may leave this file as anything, but no other; then,
-    /// and only then, the count of failed stores is one more. Where memory is wanting nothing changes.
+    /// Writes these bytes to the file with this name. On `Failed` this file may have any contents, but no other file
+    /// changes. The count of failed stores increases by one on `Failed`, and only then. On `OutOfMemory` nothing
+    /// changes.
     fn store(&mut self, alloc: Global, name: &[u8], bytes: &[u8]) -> Result<(), StoreFault>
         requires { length bytes.now ≤ longest_file }
         ensures told { IsStored (files self.old) (files self.new) name.now bytes.now result }

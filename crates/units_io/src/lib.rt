@@ -1,9 +1,10 @@
-//! Texts, lists of them and the bytes that part their words, and what a program reads from and
-//! writes to: sources, sinks and files, of the system and in memory.
+//! Texts, lists of texts and the bytes that separate words, and the things that a program reads from and writes to:
+//! sources, sinks and files, both of the system and in memory.
 #![tactic(auto)]
 
 mod blanks;
 mod files;
+mod hash_seed;
 mod list;
 mod memory;
 mod scan;
@@ -16,6 +17,7 @@ mod vars;
 
 pub use blanks::is_blank;
 pub use files::{FetchFault, Files, LONGEST_FILE, StoreFault};
+pub use hash_seed::HashSeed;
 pub use list::{List, Texts};
 pub use memory::{MemFiles, MemSink, MemSource};
 pub use scan::prefix_len;

@@ -1,4 +1,4 @@
-//! A list, which contracts see as the values of its items.
+//! A list that contracts see as the values of its items.
 ghost use Rattle.std.specs.Prelude.{◌≡◌, ◌++◌, ◌∷◌, [], length, OnOk, OnErr, slice_get};
 ghost use Rattle.std.specs.Option.{option_copied};
 ghost use Rattle.std.specs.Vec.Iter.{into_iter_items, into_iter_len};
@@ -8,13 +8,13 @@ use std::alloc::{AllocError, Global};
 use std::marker::Model;
 use std::vec::IntoIter;
 
-/// Items in order.
+/// An ordered list of items.
 #[derive(Debug, Drop)]
 pub struct List<T> {
     items: Vec<T>,
 }
 
-/// A list of texts, in order.
+/// An ordered list of texts.
 pub type Texts = List<Text>;
 
 impl<T> Model for List<T> {
@@ -26,7 +26,7 @@ impl<T> Model for List<T> {
 }
 
 impl<T> List<T> {
-    /// The empty list.
+    /// Creates an empty list.
     pub fn new(alloc: Global) -> List<T>
         ensures { result ≡ [] }
     {
@@ -35,28 +35,28 @@ impl<T> List<T> {
         }
     }
 
-    /// How many items there are.
+    /// Returns the number of items.
     pub fn len(&self) -> usize
         ensures { result ≡ length self.now }
     {
         self.items.len()
     }
 
-    /// The item at place `i`, from 0, or `None` from the length on.
+    /// Returns the item at index `i`, counted from 0, or `None` if `i` is out of bounds.
     pub fn get(&self, i: usize) -> Option<&T>
         ensures { option_copied result ≡ slice_get self.now i }
     {
         self.items.get(i)
     }
 
-    /// All items, in order.
+    /// Returns all items, in order.
     pub fn as_slice(&self) -> &[T]
         ensures { result.now ≡ self.now }
     {
         self.items.as_slice()
     }
 
-    /// The items as a vector, with no copy.
+    /// Converts the list into a vector without copying.
     pub fn into_vec(self) -> Vec<T>
         ensures { result.items ≡ self }
     {
@@ -65,7 +65,7 @@ impl<T> List<T> {
 }
 
 impl<T: Drop> List<T> {
-    /// Puts an item at the end. A refusal changes nothing.
+    /// Appends an item. On an error nothing changes.
     pub fn push(&mut self, _alloc: Global, item: T) -> Result<(), AllocError>
         ensures ok { OnOk result (self.new ≡ self.old ++ item ∷ []) }
         ensures err { OnErr result (self.new ≡ self.old) }
@@ -74,7 +74,7 @@ impl<T: Drop> List<T> {
         Ok(())
     }
 
-    /// Takes all items out, and keeps the memory for others.
+    /// Removes all items. The memory stays allocated for later items.
     pub fn clear(&mut self)
         ensures { self.new ≡ [] }
     {
@@ -82,7 +82,7 @@ impl<T: Drop> List<T> {
     }
 }
 
-/// Takes the items over, with no copy.
+/// Takes ownership of the items without copying.
 impl<T> From<Vec<T>> for List<T> {
     ghost from_gives = { λ items list. list ≡ items.items };
 
@@ -91,7 +91,7 @@ impl<T> From<Vec<T>> for List<T> {
     }
 }
 
-/// Gives the items, in order.
+/// Yields the items in order.
 impl<T: Drop> IntoIterator for List<T> {
     type Item = T;
 

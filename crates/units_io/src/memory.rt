@@ -1,4 +1,4 @@
-//! Sources, sinks and files in memory, with calls that fail.
+//! Sources, sinks and files in memory, with calls that can be made to fail.
 mod files;
 mod sink;
 mod source;

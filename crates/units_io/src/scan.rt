@@ -1,8 +1,8 @@
-//! How far a test holds from the front of a text.
+//! The length of the prefix of a text for which a test holds.
 ghost use Rattle.std.specs.Prelude.{◌≡◌, ◌≤◌, ◌<◌, ℕ, Bool, length};
 ghost use Rattle.std.specs.List as lists;
 
-/// How many bytes stand before the first one that fails the test, or all where none does.
+/// Returns the number of bytes before the first one that fails the test, or the length of `bytes` if none fails.
 pub fn prefix_len<F: Fn(u8) -> bool>(bytes: &[u8], test: F) -> usize
     requires { F.IsAlwaysCallable test }
     ensures is { (passes : ℕ → Bool)

@@ -1,4 +1,4 @@
-//! Where bytes go.
+//! Byte sinks.
 ghost use Rattle.std.specs.Prelude.{◌≡◌, ◌≤◌, ◌<◌, List, ℕ, length, take, IfOk, OnOk, OnErr};
 ghost use Rattle.std.specs.declared.option.Option.{Option};
 ghost use Rattle.units_io.specs.Faults.{HasCause};
@@ -6,15 +6,15 @@ ghost use Rattle.units_io.specs.Bytes.{grown, GrowsByFront};
 
 use crate::source::Failed;
 
-/// A place to write bytes to.
+/// A sink for bytes.
 pub trait Sink {
-    /// The bytes written, where they are told.
+    /// The bytes written so far, if they are known.
     ghost written: { Self → Option (List ℕ) };
 
-    /// How often a write has failed, up to `u64::MAX`.
+    /// The number of failed writes, up to `u64::MAX`.
     ghost faults: { Self → ℕ };
 
-    /// Appends one or more bytes from the front of `bytes`. A failure appends none.
+    /// Appends one or more bytes from the front of `bytes` and returns how many. A failure appends none.
     fn put(&mut self, bytes: &[u8]) -> Result<usize, Failed>
         requires { 0 < length bytes.now }
         ensures some { IfOk result (λ n. 0 < n) }
@@ -24,7 +24,7 @@ pub trait Sink {
         ensures cause { HasCause (faults self.old) (faults self.new) result };
 }
 
-/// Appends all the bytes. Where it fails, a front of them was appended.
+/// Appends all of `bytes`. If it fails, a prefix of `bytes` has been appended.
 pub fn put_all<O: Sink>(sink: &mut O, bytes: &[u8]) -> Result<(), Failed>
     ensures all { OnOk result (O.written sink.new ≡ grown (O.written sink.old) bytes.now) }
     ensures front { GrowsByFront (O.written sink.old) (O.written sink.new) bytes.now }

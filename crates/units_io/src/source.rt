@@ -1,4 +1,4 @@
-//! Where bytes come from.
+//! Byte sources.
 ghost use Rattle.std.specs.Prelude.{◌≡◌, ◌≤◌, ◌<◌, ◌+◌, ◌-◌, ◌^◌, List, ℕ, length, take, min, IfOk, OnErr, MatchResult};
 ghost use Rattle.std.specs.declared.option.Option.{Option};
 ghost use Rattle.units_io.specs.Faults.{HasCause};
@@ -6,23 +6,24 @@ ghost use Rattle.units_io.specs.Bytes.{Loses, IsNoneLeft};
 
 use thiserror::Error;
 
-/// A read or a write failed, and the end that failed has counted it.
+/// A read or a write failed, and the source or sink that failed has counted the failure.
 #[derive(Clone, Copy, Debug, PartialEq, Eq, Error)]
 #[error("a read or a write failed")]
 pub struct Failed;
 
-/// Bytes to read.
+/// A source of bytes.
 pub trait Source {
-    /// The bytes that are left, where they are told.
+    /// The bytes that are left, if they are known.
     ghost left: { Self → Option (List ℕ) };
 
-    /// How many bytes were taken, up to `u64::MAX`.
+    /// The number of bytes taken, up to `u64::MAX`.
     ghost taken: { Self → ℕ };
 
-    /// How often a read has failed, up to `u64::MAX`.
+    /// The number of failed reads, up to `u64::MAX`.
     ghost faults: { Self → ℕ };
 
-    /// Takes the next bytes to the front of `buf`, and none only where none is left. A failure takes none.
+    /// Moves the next bytes to the front of `buf` and returns how many. Returns 0 only if no byte is left. A failure
+    /// takes no byte.
     fn take(&mut self, buf: &mut [u8]) -> Result<usize, Failed>
         requires { 0 < length buf.old }
         ensures within { IfOk result (λ n. n ≤ length buf.new) }

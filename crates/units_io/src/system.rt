@@ -1,4 +1,4 @@
-//! The system's streams and files. They tell no content, and each counts its faults.
+//! The streams and files of the system. Nothing is known about their contents, and each of them counts its failures.
 mod files;
 mod reading;
 mod saving;

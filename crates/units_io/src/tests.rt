@@ -1,8 +1,12 @@
-//! A sink that fails in between, and what faults say.
-use crate::{Failed, FetchFault, MemSink, StoreFault, put_all};
+//! Tests of a sink that fails midway, of the messages of faults, and of seeds.
+use crate::{Failed, FetchFault, HashSeed, MemSink, StoreFault, put_all};
+use std::hash::BuildHasher;
+use std::io;
+use std::io::ErrorKind;
+use std::random::RandomSource;
 use std::test::Fail;
 
-// The call that fails, and what is written then of the bytes.
+// The number of the call that fails, and the bytes that are written in that case.
 const WRITTEN: &[(u64, &[u8])] = &[
     (0, b"one two three four"),
     (1, b""),
@@ -46,5 +50,23 @@ fn faults_are_told(rt: HostRuntime) -> Result<(), Fail> {
     }
     let told = Failed.to_string(rt.alloc())?;
     assert!(rt; told.as_str() == "a read or a write failed");
+    Ok(())
+}
+
+// A system without random bytes.
+struct NoRandom;
+
+impl RandomSource for NoRandom {
+    fn fill_bytes(&self, _buf: &mut [u8]) -> io::Result<()> {
+        Err(ErrorKind::Unsupported.into())
+    }
+}
+
+#[test]
+fn seeds_are_random_where_the_system_is(rt: HostRuntime) -> Result<(), Fail> {
+    let fixed = HashSeed::fixed().hash_one(7u8);
+    assert!(rt; HashSeed::fixed().hash_one(7u8) == fixed);
+    assert!(rt; HashSeed::random(&NoRandom).hash_one(7u8) == fixed);
+    assert!(rt; HashSeed::random(&rt).hash_one(7u8) != fixed);
     Ok(())
 }

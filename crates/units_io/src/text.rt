@@ -1,10 +1,10 @@
-//! A text is a list of bytes, which need not be UTF-8.
+//! A text: a list of bytes that need not be UTF-8.
 ghost use Rattle.std.specs.Prelude.{◌≡◌, List, ℕ, IfOk};
 
 use std::alloc::{AllocError, Global};
 use std::marker::Model;
 
-/// Bytes of its own, which need not be UTF-8.
+/// Owned bytes that need not be UTF-8.
 #[derive(Debug, Drop)]
 pub struct Text {
     bytes: Vec<u8>,
@@ -17,7 +17,7 @@ impl Model for Text {
 }
 
 impl Text {
-    /// A text of these bytes, which are copied.
+    /// Creates a text from a copy of these bytes.
     pub fn from_bytes(alloc: Global, bytes: &[u8]) -> Result<Text, AllocError>
         ensures { IfOk result (λ text. text ≡ bytes.now) }
     {
@@ -25,21 +25,21 @@ impl Text {
         Ok(Text { bytes })
     }
 
-    /// The bytes.
+    /// Returns the bytes.
     pub fn as_bytes(&self) -> &[u8]
         ensures { result.now ≡ self.now }
     {
         self.bytes.as_slice()
     }
 
-    /// The bytes as a vector, with no copy.
+    /// Converts the text into a vector of its bytes without copying.
     pub fn into_bytes(self) -> Vec<u8>
         ensures { result.items ≡ self }
     {
         self.bytes
     }
 
-    /// A second text of the same bytes.
+    /// Returns a copy of the text.
     pub fn copy(&self, alloc: Global) -> Result<Text, AllocError>
         ensures { IfOk result (λ text. text ≡ self.now) }
     {
@@ -47,7 +47,7 @@ impl Text {
     }
 }
 
-/// Takes the bytes over, with no copy.
+/// Takes ownership of the bytes without copying.
 impl From<Vec<u8>> for Text {
     ghost from_gives = { λ bytes text. text ≡ bytes.items };
 

@@ -1,18 +1,19 @@
 //! Names with their values.
-ghost use Rattle.std.specs.Prelude.{◌≡◌, ◌++◌, ◌∷◌, [], length, IfNone, IfOk, OnOk, OnErr, slice_get, option_map};
+ghost use Rattle.std.specs.Prelude.{◌≡◌, ◌++◌, ◌∷◌, [], length, IfNone, IfOk, OnOk, OnErr, slice_get, option_map, take};
 ghost use Rattle.std.specs.Option.{option_copied};
 ghost use Rattle.units_io.specs.Named.{value_of, with_value, Sets, HasNoName, HasDistinctNames};
 
+use crate::hash_seed::HashSeed;
 use crate::text::Text;
 use indexmap::IndexMap;
 use std::alloc::{AllocError, Global};
 use std::marker::Model;
 
-/// Pairs of a name and its value, in order, of which no two have one name. A look-up takes no memory, and the
-/// same time however many pairs there are.
+/// An ordered list of pairs of a name and its value, in which the names are distinct. A lookup uses no memory, and its
+/// time does not depend on the number of pairs.
 #[derive(Drop)]
 pub struct Vars {
-    map: IndexMap<Vec<u8>, Text>,
+    map: IndexMap<Vec<u8>, Text, HashSeed>,
 }
 
 impl Model for Vars {
@@ -26,16 +27,28 @@ impl Model for Vars {
 }
 
 impl Vars {
-    /// The empty list.
+    /// Creates an empty list whose table uses the fixed seed.
     pub fn new(alloc: Global) -> Vars
         ensures { result ≡ [] }
     {
+        Vars::with_seed(alloc, HashSeed::fixed())
+    }
+
+    /// Creates an empty list whose table uses this seed.
+    pub fn with_seed(alloc: Global, seed: HashSeed) -> Vars
+        ensures { result ≡ [] }
+    {
         Vars {
-            map: IndexMap::new(alloc),
+            map: IndexMap::with_hasher(alloc, seed),
         }
     }
 
-    /// Puts a pair at the end, whose name no pair has: `value` answers `None` for it. A refusal changes nothing.
+    /// Returns the seed of the table.
+    pub fn seed(&self) -> HashSeed {
+        *self.map.hasher()
+    }
+
+    /// Appends a pair whose name is new: `value` must return `None` for it. On an error nothing changes.
     pub fn push(&mut self, alloc: Global, item: (Text, Text)) -> Result<(), AllocError>
         requires { HasNoName self.old item.0 }
         ensures ok { OnOk result (self.new ≡ self.old ++ item ∷ []) }
@@ -45,8 +58,8 @@ impl Vars {
         self.set(alloc, name, value)
     }
 
-    /// Gives a name this value: in the place of the one that it has, or in a new pair at the end. A refusal
-    /// changes nothing.
+    /// Sets the value of a name: replaces the current value if the name has one, and appends a new pair otherwise. On
+    /// an error nothing changes.
     pub fn set(&mut self, _alloc: Global, name: Text, value: Text) -> Result<(), AllocError>
         ensures ok { OnOk result (self.new ≡ with_value self.old name value) }
         ensures values { OnOk result (Sets self.old self.new name value) }
@@ -57,7 +70,14 @@ impl Vars {
         Ok(())
     }
 
-    /// How many pairs there are.
+    /// Drops the pairs from index `len` on. This uses no memory, and no time for the pairs before that index.
+    pub fn truncate(&mut self, len: usize)
+        ensures { self.new ≡ take len self.old }
+    {
+        self.map.truncate(len);
+    }
+
+    /// Returns the number of pairs.
     pub fn len(&self) -> usize
         ensures len { result ≡ length self.now }
         ensures distinct { HasDistinctNames self.now }
@@ -65,7 +85,7 @@ impl Vars {
         self.map.len()
     }
 
-    /// The name and the value of the pair at place `i`, from 0, or `None` from the length on.
+    /// Returns the name and the value of the pair at index `i`, counted from 0, or `None` if `i` is out of bounds.
     pub fn get(&self, i: usize) -> Option<(&[u8], &Text)>
         ensures { option_map (λ pair. (pair.0.now, pair.1.now)) result ≡ slice_get self.now i }
     {
@@ -73,7 +93,7 @@ impl Vars {
         Some((name.as_slice(), value))
     }
 
-    /// The value of the pair that has this name, or `None` where no pair has it.
+    /// Returns the value of the pair with this name, or `None` if no pair has it.
     pub fn value(&self, name: &[u8]) -> Option<&Text>
         ensures value { option_copied result ≡ value_of self.now name.now }
         ensures absent { IfNone result (HasNoName self.now name.now) }
@@ -81,11 +101,11 @@ impl Vars {
         self.map.get(name)
     }
 
-    /// The same pairs in memory of their own.
+    /// Returns a copy of the list that owns its memory and whose table uses the same seed.
     pub fn copy(&self, alloc: Global) -> Result<Vars, AllocError>
         ensures { IfOk result (λ copy. copy ≡ self.now) }
     {
-        let mut copy = Vars::new(alloc);
+        let mut copy = Vars::with_seed(alloc, self.seed());
         for (name, value) in &self.map {
             let name = Text::from_bytes(alloc, name.as_slice())?;
             copy.push(alloc, (name, value.copy(alloc)?))?;

@@ -12,7 +12,7 @@ use crate::text::Text;
 use std::alloc::{AllocError, Global};
 use std::marker::Model;
 
-/// Files in memory, with fetches and stores that fail.
+/// Files in memory, with fetches and stores that can be made to fail.
 #[derive(Drop)]
 pub struct MemFiles {
     table: FileTable,
@@ -43,7 +43,8 @@ impl Model for MemFiles {
 }
 
 impl MemFiles {
-    /// No files. `fails` lists the fetches that fail, counted from 1, and no store fails.
+    /// Creates a collection without files. `fails` lists the numbers of the fetches that fail, counted from 1. No
+    /// store fails.
     pub fn new(alloc: Global, fails: &[u64]) -> Result<MemFiles, AllocError>
         ensures { IfOk result (λ s. s ≡ record {
           files = no_files;
@@ -67,7 +68,7 @@ impl MemFiles {
         })
     }
 
-    /// Gives the name this file, in the place of the one that it had. A refusal changes nothing.
+    /// Adds a file, replacing any file with this name. On an error nothing changes.
     pub fn add(&mut self, alloc: Global, name: &[u8], bytes: &[u8]) -> Result<(), AllocError>
         ensures ok { OnOk result (self.new
             ≡ record self.old { files = with_file self.old.files name.now bytes.now }) }
@@ -76,7 +77,8 @@ impl MemFiles {
         self.table.insert(alloc, name, bytes)
     }
 
-    /// Lists the stores that fail, counted from 1 apart from the fetches. A refusal changes nothing.
+    /// Sets the list of the stores that fail, counted from 1 and separately from the fetches. On an error nothing
+    /// changes.
     pub fn fail_stores(&mut self, alloc: Global, fails: &[u64]) -> Result<(), AllocError>
         ensures ok { OnOk result (self.new ≡ record self.old { store_fails = fails.now }) }
         ensures err { OnErr result (self.new ≡ self.old) }

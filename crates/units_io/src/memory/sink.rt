@@ -1,4 +1,4 @@
-//! Memory as a sink.
+//! A sink in memory.
 ghost use Rattle.std.specs.Prelude.{◌≡◌, ◌≤◌, ◌<◌, ◌-◌, ◌++◌, ◌↔◌, ◌⊎◌, [], length, take, min, IfOk, OnErr, IsErr};
 ghost use Rattle.std.specs.Prelude.{MatchResult, Some, Contains};
 ghost use Rattle.units_io.specs.Faults.{HasCause, next};
@@ -8,7 +8,8 @@ use crate::source::Failed;
 use std::alloc::{AllocError, Global};
 use std::marker::Model;
 
-/// Room in memory to write to, some bytes at a time, with calls that fail.
+/// Memory of a limited size as a sink that takes a limited number of bytes per call and has calls that can be made to
+/// fail.
 #[derive(Drop)]
 pub struct MemSink {
     bytes: Vec<u8>,
@@ -39,8 +40,8 @@ impl Model for MemSink {
 }
 
 impl MemSink {
-    /// Holds at most `room` bytes and takes at most `piece` of them a call. `fails` lists the calls that
-    /// fail, counted from 1.
+    /// Creates a sink that holds at most `room` bytes and takes at most `piece` of them per call. `fails` lists the
+    /// numbers of the calls that fail, counted from 1.
     pub fn new(
         alloc: Global,
         room: usize,
@@ -69,7 +70,7 @@ impl MemSink {
         })
     }
 
-    /// The bytes that were written.
+    /// Returns the bytes written so far.
     pub fn written(&self) -> &[u8]
         ensures { result.now ≡ self.now.written }
     {

@@ -1,4 +1,4 @@
-//! Bytes in memory as a source.
+//! A source in memory.
 ghost use Rattle.std.specs.Prelude.{◌≡◌, ◌≤◌, ◌<◌, ◌+◌, ◌-◌, ◌^◌, ◌++◌, ◌↔◌, [], length, take, min, IfOk, OnErr, IsErr};
 ghost use Rattle.std.specs.Prelude.{MatchResult, Some, Contains};
 ghost use Rattle.units_io.specs.Faults.{HasCause, next};
@@ -7,7 +7,7 @@ use crate::source::{Failed, Source};
 use std::alloc::{AllocError, Global};
 use std::marker::Model;
 
-/// Bytes in memory to read, some at a time, with calls that fail.
+/// Bytes in memory as a source that gives a limited number of bytes per call and has calls that can be made to fail.
 #[derive(Drop)]
 pub struct MemSource {
     bytes: Vec<u8>,
@@ -38,7 +38,8 @@ impl Model for MemSource {
 }
 
 impl MemSource {
-    /// Gives `content`, at most `piece` bytes a call. `fails` lists the calls that fail, counted from 1.
+    /// Creates a source that yields `content`, at most `piece` bytes per call. `fails` lists the numbers of the calls
+    /// that fail, counted from 1.
     pub fn new(
         alloc: Global,
         content: &[u8],

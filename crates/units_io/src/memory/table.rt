@@ -1,4 +1,4 @@
-//! The bytes of each file, found by the bytes of its name.
+//! The bytes of each file, looked up by the bytes of its name.
 ghost use Rattle.std.specs.Prelude.{◌≡◌, OnOk, OnErr};
 ghost use Rattle.std.specs.Option.{option_copied};
 ghost use Rattle.units_io.specs.FileMap.{no_files, file_of, with_file};
@@ -8,7 +8,7 @@ use crate::vars::Vars;
 use std::alloc::{AllocError, Global};
 use std::marker::Model;
 
-/// Texts under names, which contracts see as a map.
+/// Texts by name, which contracts see as a map.
 #[derive(Drop)]
 pub(super) struct FileTable {
     texts: Vars,
@@ -39,7 +39,7 @@ impl FileTable {
         self.texts.value(name)
     }
 
-    /// Gives the name these bytes, in the place of those that it had. A refusal changes nothing.
+    /// Sets the bytes of a name, replacing any that it had. On an error nothing changes.
     pub(super) fn insert(
         &mut self,
         alloc: Global,

@@ -13,7 +13,7 @@ use std::alloc::Global;
 use std::marker::Model;
 use std::str;
 
-/// The files of the system by their paths, which counts the fetches and the stores that failed.
+/// The files of the system, addressed by path, with counts of the failed fetches and stores.
 #[derive(Drop)]
 pub struct DirFiles<H> {
     rt: H,
@@ -30,7 +30,7 @@ impl<H> Model for DirFiles<H> {
 }
 
 impl<H: std::rt::Files + Clone + Drop> DirFiles<H> {
-    /// The files of this runtime, with no fault.
+    /// Creates access to the files of this runtime, with no failure counted.
     pub fn new(rt: H) -> DirFiles<H>
         ensures { result ≡ record { faults = 0; store_faults = 0 } }
     {

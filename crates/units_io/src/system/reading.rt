@@ -1,4 +1,4 @@
-//! How a file of the system is read.
+//! Reading a file of the system.
 ghost use Rattle.std.specs.Prelude.{◌≤◌, ◌+◌, length, vec_len, IfOk};
 ghost use Rattle.units_io.specs.FileMap.{longest_file};
 
@@ -10,10 +10,10 @@ use std::fs::{File, OpenFile};
 use std::io::{ErrorKind, Read};
 use std::rt::Files;
 
-// The least room that is there for each read.
+// The minimum free space in the buffer for each read.
 const BLOCK: usize = 65_536;
 
-// The bytes of the file at this path, of which one more than the limit is read.
+// Returns the bytes of the file at this path, or `TooLong` if there are more than the limit.
 pub(super) fn read_file<H: Files>(rt: &H, alloc: Global, path: &str) -> Result<Text, FetchFault>
     ensures { IfOk result (λ text. length text ≤ longest_file) }
 {
@@ -32,7 +32,7 @@ fn open<H: Files>(rt: &H, path: &str) -> Result<H::File, FetchFault> {
     }
 }
 
-// The length that the system tells, and a block, so that a file is mostly read at once.
+// Returns the length that the system reports plus one block, so that most files are read in one go.
 fn room_for<F: OpenFile>(file: &F) -> usize {
     match file.metadata() {
         Ok(metadata) => metadata.len().min(LONGEST_FILE as u64) as usize + BLOCK,
@@ -40,8 +40,7 @@ fn room_for<F: OpenFile>(file: &F) -> usize {
     }
 }
 
-// Reads up to the end of the file into this room, which grows where it does not last, and says how
-// many bytes they are.
+// Reads up to the end of the file into `bytes`, which grows as needed, and returns the number of bytes read.
 fn read_whole<F: Read>(file: &mut F, bytes: &mut Vec<u8>) -> Result<usize, FetchFault>
     ensures { IfOk result (λ len. len ≤ longest_file) }
 {
@@ -60,7 +59,7 @@ fn read_whole<F: Read>(file: &mut F, bytes: &mut Vec<u8>) -> Result<usize, Fetch
     Err(FetchFault::Failed)
 }
 
-// Reads once into the room behind the end, and says how many bytes.
+// Reads once into the space from `end` on, and returns the number of bytes read.
 fn read_behind<F: Read>(file: &mut F, bytes: &mut Vec<u8>, end: usize) -> Result<usize, FetchFault>
     requires { end ≤ vec_len bytes.old }
     ensures { IfOk result (λ read. end + read ≤ vec_len bytes.new) }
@@ -72,7 +71,8 @@ fn read_behind<F: Read>(file: &mut F, bytes: &mut Vec<u8>, end: usize) -> Result
     }
 }
 
-// Makes room for a block behind the end where there is less, and for as much again as was read where that is more.
+// Ensures that at least one block is free after `end`. The buffer grows by the amount read so far or by a block,
+// whichever is larger.
 fn keep_block(bytes: &mut Vec<u8>, end: usize) -> Result<(), AllocError>
     requires within { end ≤ vec_len bytes.old }
     requires limit { end ≤ longest_file }

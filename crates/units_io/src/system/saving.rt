@@ -1,6 +1,6 @@
-//! How a file of the system is written: as a new file beside it, which then takes its place. A fault leaves
-//! the file as it was, and the new one is removed, unless the system refuses that too. A link stays, and the
-//! file to which it leads is written.
+//! Writing a file of the system. The bytes go to a new file in the same folder, which then replaces the old file. On a
+//! failure the old file is unchanged and the new file is removed, unless the system refuses that too. A symbolic link
+//! is preserved, and the file to which it points is replaced.
 use crate::files::StoreFault;
 use std::alloc::{AllocError, Global};
 use std::fs::{File, Metadata, OpenFile, Permissions};
@@ -9,24 +9,28 @@ use std::os::unix::fs::{MetadataExt, PermissionsExt};
 use std::rt::Files;
 use std::{fs, io};
 
-// How many names of a new file are tried, each of which a run that was cut off may have left.
+// The number of names to try for a new file. Each of them may be taken by a file left by an interrupted run.
 const MOST_NAMES: u32 = 1000;
 
-// Who may read, write and run a file. To run it as another user or group is no leave that a new file takes over, since
-// it may be owned by another than the old one.
+// The permission bits to read, write and execute a file. The set-user-ID and set-group-ID bits are not copied to a new
+// file, since its owner may differ from that of the old file.
 const KEPT_PERMISSIONS: u32 = 0o777;
 
-// Where the system names what a run writes to.
+// The paths at which the system exposes the output streams of a run.
 const STREAMS: &[&str] = &["/dev/stdout", "/dev/stderr"];
 
-// A new file under a name that no other had.
+// The folder that these paths point into, with an entry for each open stream.
+const OPEN_STREAMS: &str = "/proc/self/fd";
+
+// A new file whose name was unused.
 #[derive(Drop)]
 struct NewFile<F> {
     name: String,
     file: F,
 }
 
-// Gives the file at this path, or behind the links there, these bytes, whole or not at all.
+// Replaces the contents of the file at this path, after following links, with these bytes, either completely or not at
+// all.
 pub(super) fn save_file<H: Files>(
     rt: &H,
     alloc: Global,
@@ -41,30 +45,31 @@ pub(super) fn save_file<H: Files>(
     replace(rt, alloc, target.as_str(), permissions, bytes)
 }
 
-// The permissions of the file that is to be replaced, if there is one. A file to which this run writes may not be:
-// what is said behind would go to one without a name.
+// Returns the permissions of the file to be replaced, or `None` if there is no such file. A file that this run writes
+// to cannot be replaced: later output would go to a file without a name.
 fn kept_permissions<H: Files>(rt: &H, path: &str) -> Result<Option<Permissions>, StoreFault> {
     match fs::metadata(rt, path) {
-        Ok(old) if old.is_file() && !is_stream(rt, &old) => Ok(Some(without_ids(&old))),
+        Ok(old) if old.is_file() && !may_be_stream(rt, &old) => Ok(Some(without_ids(&old))),
         Err(e) if e.kind() == ErrorKind::NotFound => Ok(None),
         _ => Err(StoreFault::Failed),
     }
 }
 
-// The permissions of what was found, without the bits that lend its owner's or its group's.
+// Returns the permissions of the file found, without its set-user-ID and set-group-ID bits.
 fn without_ids(found: &Metadata) -> Permissions {
     Permissions::from_mode(found.permissions().mode() & KEPT_PERMISSIONS)
 }
 
-// Whether what was found is the file to which standard output or standard error leads.
-fn is_stream<H: Files>(rt: &H, found: &Metadata) -> bool {
+// Reports whether this file may be standard output or standard error. A closed stream matches no file; but if the
+// system does not expose the streams at all (no /proc), any file may be one of them.
+fn may_be_stream<H: Files>(rt: &H, found: &Metadata) -> bool {
     STREAMS.iter().any(|name| match fs::metadata(rt, *name) {
         Ok(stream) => stream.dev() == found.dev() && stream.ino() == found.ino(),
-        Err(_) => false,
+        Err(_) => fs::metadata(rt, OPEN_STREAMS).is_err(),
     })
 }
 
-// Whether a link stands at this path, at which something stands.
+// Reports whether the file at this path, which exists, is a symbolic link.
 fn is_link<H: Files>(rt: &H, path: &str) -> Result<bool, StoreFault> {
     match fs::symlink_metadata(rt, path) {
         Ok(found) => Ok(found.is_symlink()),
@@ -72,7 +77,7 @@ fn is_link<H: Files>(rt: &H, path: &str) -> Result<bool, StoreFault> {
     }
 }
 
-// The path of the file to which the links at this path lead.
+// Returns the path of the file to which the links at this path lead.
 fn link_target<H: Files>(rt: &H, alloc: Global, path: &str) -> Result<String, StoreFault> {
     match rt.canonicalize(alloc, path) {
         Ok(target) => Ok(target.into_string()),
@@ -81,7 +86,7 @@ fn link_target<H: Files>(rt: &H, alloc: Global, path: &str) -> Result<String, St
     }
 }
 
-// Puts a new file with these bytes at this path, in the place of one that stands there.
+// Writes these bytes to a new file and moves it to this path, replacing any file there.
 fn replace<H: Files>(
     rt: &H,
     alloc: Global,
@@ -94,7 +99,7 @@ fn replace<H: Files>(
     put_in_place(rt, name.as_str(), path, written)
 }
 
-// A new file in the folder of this path.
+// Creates a new file in the folder of this path.
 fn new_file_beside<H: Files>(
     rt: &H,
     alloc: Global,
@@ -111,7 +116,7 @@ fn new_file_beside<H: Files>(
     Err(StoreFault::Failed)
 }
 
-// The name of a new file in the folder of this path.
+// Returns the name of a new file in the folder of this path.
 fn name_beside(alloc: Global, path: &str, number: u32) -> Result<String, AllocError> {
     match path.rsplit_once('/') {
         Some((folder, _)) => format!(in alloc; "{folder}/.units-save-{number}"),
@@ -119,7 +124,7 @@ fn name_beside(alloc: Global, path: &str, number: u32) -> Result<String, AllocEr
     }
 }
 
-// Writes the bytes to the disk, under the permissions of the file to be replaced, and closes the file.
+// Writes the bytes to the disk, with the permissions of the file to be replaced, and closes the file.
 fn write_whole<F: Write + OpenFile + Drop>(
     mut file: F,
     permissions: Option<Permissions>,
@@ -132,7 +137,7 @@ fn write_whole<F: Write + OpenFile + Drop>(
     file.sync_all()
 }
 
-// Renames a file that was written whole, and removes it where it was not or cannot be renamed.
+// Renames the file if it was written completely. Removes it if it was not, or if it cannot be renamed.
 fn put_in_place<H: Files>(
     rt: &H,
     beside: &str,

@@ -1,4 +1,4 @@
-//! A writer of std as a sink.
+//! A std writer as a sink.
 ghost use Rattle.std.specs.Prelude.{◌≡◌, ◌≤◌, ◌<◌, ℕ, length, IfOk, MatchResult, None};
 ghost use Rattle.units_io.specs.Faults.{HasCause, next};
 
@@ -8,7 +8,7 @@ use std::io;
 use std::io::{ErrorKind, Write};
 use std::marker::Model;
 
-/// A writer as a sink, which counts the writes that failed. One that accepts no byte has failed.
+/// A writer as a sink that counts failed writes. A write that accepts no byte is a failure.
 #[derive(Drop)]
 pub struct StdSink<W> {
     writer: W,
@@ -22,7 +22,7 @@ impl<W> Model for StdSink<W> {
 }
 
 impl<W: Write + Drop> StdSink<W> {
-    /// This writer, with no fault.
+    /// Wraps this writer, with no failure counted.
     pub fn new(writer: W) -> StdSink<W>
         ensures { result ≡ 0 }
     {
@@ -53,7 +53,7 @@ impl<W: Write + Drop> Sink for StdSink<W> {
     }
 }
 
-// Writes once, and again where a signal interrupted the write.
+// Writes once, and retries if a signal interrupted the write.
 fn write_some<W: Write>(writer: &mut W, bytes: &[u8]) -> io::Result<usize>
     ensures { IfOk result (λ n. n ≤ length bytes.now) }
 {

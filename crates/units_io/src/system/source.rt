@@ -1,4 +1,4 @@
-//! A reader of std as a source.
+//! A std reader as a source.
 ghost use Rattle.std.specs.Prelude.{◌≡◌, ◌≤◌, ◌<◌, ◌+◌, ◌-◌, ◌^◌, length, min, IfOk, MatchResult, None};
 ghost use Rattle.units_io.specs.Faults.{HasCause, next};
 
@@ -7,7 +7,7 @@ use std::io;
 use std::io::{ErrorKind, Read};
 use std::marker::Model;
 
-/// A reader as a source, which counts the bytes taken and the reads that failed.
+/// A reader as a source that counts the bytes taken and the failed reads.
 #[derive(Drop)]
 pub struct StdSource<R> {
     reader: R,
@@ -24,7 +24,7 @@ impl<R> Model for StdSource<R> {
 }
 
 impl<R: Read + Drop> StdSource<R> {
-    /// This reader, with nothing taken and no fault.
+    /// Wraps this reader, with no byte taken and no failure counted.
     pub fn new(reader: R) -> StdSource<R>
         ensures { result ≡ record { taken = 0; faults = 0 } }
     {
@@ -66,7 +66,7 @@ impl<R: Read + Drop> Source for StdSource<R> {
     }
 }
 
-// Reads once, and again where a signal interrupted the read.
+// Reads once, and retries if a signal interrupted the read.
 pub(super) fn read_some<R: Read>(reader: &mut R, buf: &mut [u8]) -> io::Result<usize>
     ensures { IfOk result (λ n. n ≤ length buf.new) }
 {

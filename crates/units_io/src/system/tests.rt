@@ -1,4 +1,4 @@
-//! Readers and writers that fail, and files of the folder that the test runs in.
+//! Tests with readers and writers that fail, and with files in the folder that the test runs in.
 ghost use Rattle.std.specs.Prelude.{◌≤◌, length};
 ghost use Rattle.units_io.specs.FileMap.{longest_file};
 
@@ -9,7 +9,7 @@ use std::io::{ErrorKind, Read, Write};
 use std::os::unix::fs::symlink;
 use std::{fs, io};
 
-// A reader and a writer of one byte a call, whose second call ends in this error.
+// A reader and a writer of one byte per call, whose second call returns this error.
 #[derive(Drop)]
 struct Hindered {
     calls: u64,
@@ -52,7 +52,7 @@ impl Write for Hindered {
     }
 }
 
-// Errors of the second call, and whether it is made again.
+// The error of the second call, and whether the call is retried.
 const HINDRANCES: &[(ErrorKind, bool)] = &[
     (ErrorKind::Interrupted, true),
     (ErrorKind::BrokenPipe, false),
@@ -76,10 +76,10 @@ fn only_an_interrupted_read_is_tried_again(rt: HostRuntime) {
     }
 }
 
-// How many bytes each call gives, and the first one in the buffer then.
+// The number of bytes that each call returns, and the first byte in the buffer afterwards.
 const GIVEN: &[(usize, u8)] = &[(4, b'a'), (1, b'e'), (0, b'e'), (0, b'e')];
 
-// What each call takes.
+// The result of each call.
 const TAKEN: &[Result<usize, Failed>] = &[Ok(2), Ok(1), Err(Failed), Err(Failed)];
 
 #[test]
@@ -96,7 +96,7 @@ fn no_byte_read_is_the_end_and_none_written_a_failure(rt: HostRuntime) {
     }
 }
 
-// An empty folder of a test's own. Each test removes its folder at its end.
+// Creates an empty folder for one test. Each test removes its folder at its end.
 fn empty_folder(rt: &HostRuntime, name: &str) -> io::Result<()> {
     let _ = fs::remove_dir_all(rt, name);
     fs::create_dir(rt, name)
@@ -106,7 +106,7 @@ fn fetched(rt: &HostRuntime, name: &[u8]) -> Result<Text, FetchFault> {
     DirFiles::new(rt).fetch(rt.alloc(), name)
 }
 
-// Whether the file of this name has these bytes.
+// Reports whether the file of this name has these bytes.
 fn holds(rt: &HostRuntime, name: &[u8], bytes: &[u8]) -> bool {
     match fetched(rt, name) {
         Ok(text) => text.as_bytes() == bytes,
@@ -124,7 +124,7 @@ fn file_count(rt: &HostRuntime, folder: &str) -> io::Result<usize> {
     Ok(fs::read_dir(rt, folder)?.count())
 }
 
-// Names of files that are not there, and of what cannot be read.
+// Names of missing files and of things that cannot be read.
 const UNREAD: &[(&[u8], FetchFault)] = &[
     (b"", FetchFault::Absent),
     (b"test-read/none", FetchFault::Absent),
@@ -158,7 +158,7 @@ fn the_longest_file_is_read(rt: HostRuntime) -> io::Result<()> {
     fs::remove_dir_all(&rt, "test-long")
 }
 
-// Files that are stored, one after another.
+// Files that are stored one after another.
 const STORED: &[(&[u8], &[u8])] = &[
     (b"test-saved-beside", b"no folder"),
     (b"test-saved/new", b"m !"),
