@@ -2,6 +2,7 @@ pub mod BinarySteps
 pub mod Comparisons
 pub mod ComputedRoots
 pub mod Coprime
+pub mod DigitFronts
 pub mod DigitRuns
 pub mod Euclid
 pub mod ExactSteps

@@ -18,16 +18,16 @@ use Rattle.frac128.proofs.StageRuns.{digit_no_mark, digit_no_point}
 use Rattle.frac128.proofs.TenPowers.{whole_ratio, zero_power}
 
 -- two tests that pass
-both : (x y : Bool) → (x && y) ≡ true → (x ≡ true) × (y ≡ true)
+pub both : (x y : Bool) → (x && y) ≡ true → (x ≡ true) × (y ≡ true)
 both true y h = (refl, h)
 both false y h = absurd (cc)
 
 -- nothing but digits
-abbrev all : List ℕ → Type 0
+abbrev pub all : List ℕ → Type 0
 all bs = list_all is_digit bs ≡ true
 
 -- no mark and no point stands among digits
-before_digits : (test : ℕ → Bool) (bs : List ℕ) → ((b : ℕ) → is_digit b ≡ true → test b ≡ false) → all bs
+pub before_digits : (test : ℕ → Bool) (bs : List ℕ) → ((b : ℕ) → is_digit b ≡ true → test b ≡ false) → all bs
     → before test bs ≡ bs
 before_digits test [] none h = refl
 before_digits test (b ∷ bs) none h =
@@ -35,7 +35,7 @@ before_digits test (b ∷ bs) none h =
     rw (none b parts.0) (ap (λ xs. b ∷ xs) (before_digits test bs none parts.1))
 
 -- nothing follows digits
-from_digits : (test : ℕ → Bool) (bs : List ℕ) → ((b : ℕ) → is_digit b ≡ true → test b ≡ false) → all bs
+pub from_digits : (test : ℕ → Bool) (bs : List ℕ) → ((b : ℕ) → is_digit b ≡ true → test b ≡ false) → all bs
     → from test bs ≡ []
 from_digits test [] none h = refl
 from_digits test (b ∷ bs) none h =
@@ -43,7 +43,7 @@ from_digits test (b ∷ bs) none h =
     rw (none b parts.0) (from_digits test bs none parts.1)
 
 -- digits are a numeral
-digits_numeral : (bs : List ℕ) → 0 < length bs → all bs → is_numeral bs ≡ true
+pub digits_numeral : (bs : List ℕ) → 0 < length bs → all bs → is_numeral bs ≡ true
 digits_numeral [] some h = absurd (omega arith)
 digits_numeral (b ∷ bs) some h =
     let ds = b ∷ bs in

@@ -1,4 +1,4 @@
--- The numbers that decimal numerals stand for.
+-- The numbers that decimal numerals denote.
 use Rattle.std.specs.Prelude.{◌≡◌, ◌<◌, ◌≤◌, ◌+◌, ◌-◌, ◌*◌, ◌^◌, ◌+ℤ◌, ◌-ℤ◌, ℕ, ℤ, pos, negsuc, suc, zero}
 use Rattle.std.specs.Prelude.{Bool, true, false, IsTrue, ◌&&◌, ◌==◌, nat_le, if◌then◌else◌}
 use Rattle.std.specs.Prelude.{List, [], ◌∷◌, length, fold, Option, Some, None, Result, Ok, Err}
@@ -39,15 +39,15 @@ abbrev pub without_end_zeros : List ℕ → List ℕ
 without_end_zeros [] = []
 without_end_zeros (d ∷ ds) = if list_all is_zero_digit (d ∷ ds) then [] else d ∷ without_end_zeros ds
 
--- what stands before the `e` or `E`
+-- the bytes before the `e` or `E`
 abbrev pub mantissa : List ℕ → List ℕ
 mantissa bytes = before is_mark_byte bytes
 
--- what stands from the `e` or `E` on
+-- the bytes from the `e` or `E` on
 abbrev pub exponent_text : List ℕ → List ℕ
 exponent_text bytes = from is_mark_byte bytes
 
--- how many digits of a mantissa stand after the point
+-- the number of digits of a mantissa after the point
 abbrev pub places : List ℕ → ℕ
 places bytes = length (from is_point_byte bytes) - 1
 
@@ -55,11 +55,11 @@ places bytes = length (from is_point_byte bytes) - 1
 abbrev pub coefficient_of : List ℕ → ℕ
 coefficient_of bytes = number (without_end_zeros (digits_of bytes))
 
--- how many zeros are at the end of the digits of a mantissa
+-- the number of zeros at the end of the digits of a mantissa
 abbrev pub end_zeros : List ℕ → ℕ
 end_zeros bytes = length (digits_of bytes) - length (without_end_zeros (digits_of bytes))
 
--- both, where the number is not too large
+-- the coefficient and the number of these zeros, or `None` if the coefficient is too large
 abbrev pub short_coefficient : List ℕ → Option (ℕ × ℕ)
 short_coefficient bytes =
     if nat_le (coefficient_of bytes) most then Some (coefficient_of bytes, end_zeros bytes) else None
@@ -68,7 +68,7 @@ short_coefficient bytes =
 abbrev pub exponent_size : List ℕ → ℕ
 exponent_size text = number (digits_of text)
 
--- the exponent, below 0 where a minus stands
+-- the exponent, which is below 0 if there is a minus
 abbrev pub exponent_of : List ℕ → ℤ
 exponent_of text = signed (list_any is_minus_byte text) (exponent_size text)
 
@@ -88,7 +88,7 @@ is_short bytes =
     nat_le (coefficient_of (mantissa bytes)) most
     && nat_le (exponent_size (exponent_text bytes)) most_exponent
 
--- the numeral that the bytes are
+-- the result of reading the bytes as a numeral
 abbrev pub read : List ℕ → Result Decimal NumeralFault
 read bytes =
     if is_numeral bytes

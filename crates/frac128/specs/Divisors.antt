@@ -12,11 +12,11 @@ gcd_within (suc steps) a (suc b) = gcd_within steps (suc b) (a % suc b)
 unfoldable pub gcd : ℕ → ℕ → ℕ
 gcd a b = gcd_within b a b
 
--- law: it divides both, and each number that divides both divides it
+-- law: the greatest common divisor divides both numbers, and every common divisor divides it
 abbrev pub GcdLaw : Type 0
 GcdLaw = (a b : ℕ) → IsGcd a b (gcd a b)
 
--- m is the least common multiple of a and b: both divide it, and it divides each other one
+-- m is the least common multiple of a and b: both divide it, and it divides every common multiple
 pub record IsLcm (a b m : ℕ) : Type 0 where
   pub first : a ∣ m
   pub second : b ∣ m
@@ -26,7 +26,7 @@ pub record IsLcm (a b m : ℕ) : Type 0 where
 unfoldable pub lcm : ℕ → ℕ → ℕ
 lcm a b = a / gcd a b * b
 
--- law: that is the least common multiple
+-- law: `lcm` gives the least common multiple
 abbrev pub LcmLaw : Type 0
 LcmLaw = (a b : ℕ) → 0 < b → IsLcm a b (lcm a b)
 

@@ -16,8 +16,8 @@ difference x y = record { num = (x.num *ℤ pos y.den) -ℤ (y.num *ℤ pos x.de
 abbrev pub product : Fraction → Fraction → Fraction
 product x y = record { num = x.num *ℤ y.num; den = x.den * y.den }
 
--- law: where a step on fractions that fit has an answer, it has the value of the exact one; the product of a
--- quotient and its divisor has that of what was divided
+-- law: if a step on fractions that fit has a result, its value is that of the exact step; the product of a quotient
+-- and its divisor has the value of the dividend
 abbrev pub StepsLaw : Type 0
 StepsLaw = (x y z : Fraction) → 0 < x.den → 0 < y.den
     → (plus x y ≡ Ok z → SameValue z (sum x y))

@@ -1,4 +1,4 @@
--- What is said of faults.
+-- The texts of faults.
 use Rattle.std.specs.Prelude.{ℕ, List, codes}
 use Rattle.frac128.specs.declared.fault.FracFault.{FracFault}
 use Rattle.frac128.specs.declared.fault.FracFault.TheVariants.{Overflow, DivisionByZero, NoExactRoot}

@@ -12,7 +12,7 @@ pub record IsReduced (x : Fraction) : Type 0 where
   pub positive : 0 < x.den
   pub lowest : IsGcd (unsigned_abs x.num) x.den 1
 
--- two fractions have one value: their cross products are equal
+-- two fractions have the same value: their cross products are equal
 abbrev pub SameValue : Fraction → Fraction → Type 0
 SameValue x y = x.num *ℤ pos y.den ≡ y.num *ℤ pos x.den
 
@@ -20,7 +20,7 @@ SameValue x y = x.num *ℤ pos y.den ≡ y.num *ℤ pos x.den
 abbrev pub whole : ℤ → Fraction
 whole n = record { num = n; den = 1 }
 
--- the fraction with the other sign
+-- the fraction with the opposite sign
 abbrev pub negated : Fraction → Fraction
 negated x = record { num = neg_ℤ x.num; den = x.den }
 
@@ -32,7 +32,7 @@ most = 2 ^ 127 - 1
 abbrev pub fits : Fraction → Bool
 fits x = nat_le (unsigned_abs x.num) most && nat_le x.den most
 
--- what is known of each fraction of the program
+-- the invariant of every fraction in the program
 pub record IsFrac (x : Fraction) : Type 0 where
   pub reduced : IsReduced x
   pub num_fits : unsigned_abs x.num ≤ most

@@ -9,12 +9,12 @@ use Rattle.std.specs.declared.cmp.Ordering.TheVariants.{Less, Equal, Greater}
 abbrev pub distance : ℕ → ℕ → ℕ → ℕ
 distance a b n = abs_diff a (n * b)
 
--- no whole number is nearer to a / b than n, and n is even where another one is as near
+-- no whole number is nearer to a / b than n, and n is even if another one is as near
 pub record IsNearestWhole (a b n : ℕ) : Type 0 where
   pub near : (m : ℕ) → distance a b n ≤ distance a b m
   pub tie : (m : ℕ) → distance a b m ≡ distance a b n → (m ≡ n) ⊎ (n % 2 ≡ 0)
 
--- a whole number or the next one, by how what follows the first stands to a half; at a half the even one
+-- a whole number or the next one, as the part after the first compares with a half; at a half the even one
 abbrev pub by_half : ℕ → Ordering → ℕ
 by_half n Less = n
 by_half n Equal = n + n % 2
@@ -24,7 +24,7 @@ by_half n Greater = n + 1
 abbrev pub nearest_whole : ℕ → ℕ → ℕ
 nearest_whole a b = by_half (a / b) (nat_cmp (2 * (a % b)) b)
 
--- law: it is the nearest one, and no other one is
+-- law: `nearest_whole` gives the nearest whole number, and no other number is the nearest one
 abbrev pub NearestWholeLaw : Type 0
 NearestWholeLaw = (a b : ℕ) → 0 < b
     → IsNearestWhole a b (nearest_whole a b) × ((n : ℕ) → IsNearestWhole a b n → n ≡ nearest_whole a b)

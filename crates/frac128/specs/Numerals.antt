@@ -1,14 +1,14 @@
--- How decimal numerals are written.
+-- The syntax of decimal numerals.
 use Rattle.std.specs.Prelude.{ℕ, suc, zero, Bool, true, ◌&&◌, ◌||◌, ◌==◌, nat_le, if◌then◌else◌}
 use Rattle.std.specs.Prelude.{List, [], ◌∷◌, take, drop, length}
 use Rattle.std.specs.List.{list_all, list_any}
 
--- the members before the first one that passes the test, or all where none does
+-- the members before the first one that passes the test, or all if none does
 abbrev pub before : {X : Type 0} → (X → Bool) → List X → List X
 before test [] = []
 before test (x ∷ xs) = if test x then [] else x ∷ before test xs
 
--- the members from the first one that passes the test on, or none where none does
+-- the members from the first one that passes the test on, or no members if none does
 abbrev pub from : {X : Type 0} → (X → Bool) → List X → List X
 from test [] = []
 from test (x ∷ xs) = if test x then x ∷ xs else from test xs
@@ -43,16 +43,16 @@ is_pointed bytes =
     list_all is_digit (before is_point_byte bytes)
     && list_all is_digit (drop 1 (from is_point_byte bytes))
 
--- the same with one digit or more
+-- one digit or more, with at most one point before, among or after them
 abbrev pub is_mantissa : List ℕ → Bool
 is_mantissa bytes = list_any is_digit bytes && is_pointed bytes
 
--- what stands behind a sign at the front, or all where none stands there
+-- the bytes after a sign at the front, or all bytes if there is no sign
 abbrev pub behind_sign : List ℕ → List ℕ
 behind_sign [] = []
 behind_sign (b ∷ bytes) = if is_sign_byte b then bytes else b ∷ bytes
 
--- nothing, or a mark, perhaps a sign, and one digit or more
+-- nothing, or a mark, an optional sign, and one digit or more
 abbrev pub is_exponent : List ℕ → Bool
 is_exponent [] = true
 is_exponent (mark ∷ bytes) = is_whole (behind_sign bytes)
@@ -61,11 +61,11 @@ is_exponent (mark ∷ bytes) = is_whole (behind_sign bytes)
 abbrev pub is_numeral : List ℕ → Bool
 is_numeral bytes = is_mantissa (before is_mark_byte bytes) && is_exponent (from is_mark_byte bytes)
 
--- the greatest number from 1 to n that passes the test, or 0 where none does
+-- the greatest number from 1 to n that passes the test, or 0 if none does
 unfoldable pub greatest : (ℕ → Bool) → ℕ → ℕ
 greatest test zero = 0
 greatest test (suc n) = if test (suc n) then suc n else greatest test n
 
--- the length of the longest numeral that is a prefix, or 0 where none is
+-- the length of the longest numeral that is a prefix, or 0 if there is none
 abbrev pub numeral_len_of : List ℕ → ℕ
 numeral_len_of bytes = greatest (λ n. is_numeral (take n bytes)) (length bytes)

@@ -5,7 +5,7 @@ use Rattle.std.specs.declared.cmp.Ordering.TheVariants.{Less, Equal}
 use Rattle.std.specs.Ordering.{int_cmp, is_le, ordering_reverse}
 use Rattle.frac128.specs.Fraction.{Fraction, IsReduced}
 
--- how the value of x stands to that of y: by the cross products
+-- compares the values of x and y by the cross products
 abbrev pub compared : Fraction → Fraction → Ordering
 compared x y = int_cmp (x.num *ℤ pos y.den) (y.num *ℤ pos x.den)
 
@@ -17,12 +17,12 @@ IsLess x y = (x.num *ℤ pos y.den) <ℤ (y.num *ℤ pos x.den)
 abbrev pub IsAtMost : Fraction → Fraction → Type 0
 IsAtMost x y = (x.num *ℤ pos y.den) ≤ℤ (y.num *ℤ pos x.den)
 
--- law: by how they are compared the one is less than the other, or at most the other
+-- law: the comparison decides whether one fraction is less than the other, and whether it is at most the other
 abbrev pub ComparedLaw : Type 0
 ComparedLaw = (x y : Fraction) → ((compared x y ≡ Less) ↔ IsLess x y) × (IsTrue (is_le (compared x y)) ↔ IsAtMost x y)
 
--- law: an exchange of two fractions turns the answer round, less is transitive, and reduced
--- fractions that stand equal are equal
+-- law: swapping two fractions reverses the comparison, "less" is transitive, and reduced fractions that compare
+-- as equal are equal
 abbrev pub OrderLaw : Type 0
 OrderLaw = ((x y : Fraction) → compared x y ≡ ordering_reverse (compared y x))
     × ((x y z : Fraction) → 0 < x.den → 0 < y.den → 0 < z.den

@@ -9,7 +9,7 @@ use Rattle.frac128.specs.Steps.{ratio}
 abbrev pub raised : Fraction → ℕ → Fraction
 raised x n = record { num = int_pow x.num n; den = x.den ^ n }
 
--- x to the power k: the quotient of the two powers, turned upside down where k is below 0
+-- x to the power k: the quotient of the two powers, inverted if k is below 0
 abbrev pub power : Fraction → ℤ → Result Fraction FracFault
 power x (pos n) = ratio (int_pow x.num n) (pos (x.den ^ n))
 power x (negsuc n) = ratio (pos (x.den ^ suc n)) (int_pow x.num (suc n))

@@ -8,13 +8,13 @@ use Rattle.frac128.specs.Fraction.{Fraction, IsReduced}
 use Rattle.frac128.specs.Powers.{raised}
 use Rattle.frac128.specs.Sign.{is_negative, signed}
 
--- r to the power q is x, and r is not below 0 where q is even
+-- r to the power q is x, and r is not below 0 if q is even
 pub record IsRoot (x : Fraction) (q : ℕ) (r : Fraction) : Type 0 where
   pub reduced : IsReduced r
   pub power : raised r q ≡ x
   pub plain : q % 2 ≡ 0 → IsFalse (int_lt r.num (pos 0))
 
--- the root, or the fault that says that no fraction is one
+-- the root, or the fault that no fraction is a root
 abbrev pub IsRootAnswer : Fraction → ℕ → Result Fraction FracFault → Type 0
 IsRootAnswer x q (Ok r) = IsRoot x q r
 IsRootAnswer x q (Err fault) = (fault ≡ NoExactRoot) × ((r : Fraction) → ¬ IsRoot x q r)
@@ -28,23 +28,23 @@ abbrev pub down_from : ℕ → List ℕ
 down_from zero = 0 ∷ []
 down_from (suc n) = suc n ∷ down_from n
 
--- the whole number whose power to q is n, if one is; it is no greater than n
+-- the whole number whose power to q is n, if there is one; it is no greater than n
 abbrev pub whole_root : ℕ → ℕ → Option ℕ
 whole_root n q = find (λ r. r ^ q == n) (down_from n)
 
--- the fraction of this sign and of two roots, where there are two
+-- the fraction with this sign and two roots as numerator and denominator, if there are two
 abbrev pub root_over : Bool → Option ℕ → Option ℕ → Result Fraction FracFault
 root_over negative (Some top) (Some bottom) = Ok (record { num = signed negative top; den = bottom })
 root_over negative _ _ = Err NoExactRoot
 
--- the root of a fraction: that of the numerator over that of the denominator, with the fraction's sign; a fraction
--- below 0 has none of even degree
+-- the root of a fraction: the root of the numerator over the root of the denominator, with the fraction's sign; a
+-- fraction below 0 has no root of even degree
 unfoldable pub root_of : Fraction → ℕ → Result Fraction FracFault
 root_of x q =
     if is_negative x && q % 2 == 0
     then Err NoExactRoot
     else root_over (is_negative x) (whole_root (unsigned_abs x.num) q) (whole_root x.den q)
 
--- law: that is the fraction whose power to q is x, or no fraction is
+-- law: `root_of` gives the fraction whose power to q is x, or no fraction is a root
 abbrev pub RootOfLaw : Type 0
 RootOfLaw = (x : Fraction) (q : ℕ) → IsReduced x → 0 < q → IsRootAnswer x q (root_of x q)

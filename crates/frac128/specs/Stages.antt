@@ -6,7 +6,7 @@ use Rattle.frac128.specs.declared.spelling.Stage.{Stage}
 use Rattle.frac128.specs.declared.spelling.Stage.TheVariants.{Start, Whole, Pointed, Fraction, Marked, Signed, Exponent}
 use Rattle.frac128.specs.Numerals.{is_digit, is_mark_byte, is_point_byte, is_sign_byte}
 
--- what a byte is in a numeral
+-- the kind of a byte in a numeral
 abbrev pub kind_of : ℕ → Kind
 kind_of b =
     if is_digit b then Digit
@@ -15,7 +15,7 @@ kind_of b =
     else (if is_sign_byte b then Sign
     else Other)))
 
--- the stage after one more byte, where a numeral can go on by it
+-- the stage after one more byte, or `None` if no numeral continues with it
 abbrev pub stage_after : Stage → Kind → Option Stage
 stage_after Start Digit = Some Whole
 stage_after Start Point = Some Pointed
@@ -31,7 +31,7 @@ stage_after Signed Digit = Some Exponent
 stage_after Exponent Digit = Some Exponent
 stage_after _ _ = None
 
--- a numeral may end there
+-- a numeral may end at the stage
 abbrev pub may_end : Stage → Bool
 may_end Whole = true
 may_end Fraction = true

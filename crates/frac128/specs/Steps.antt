@@ -16,7 +16,7 @@ reduced n d =
     let divisor = gcd (unsigned_abs n) d in
     record { num = int_div n (pos divisor); den = d / divisor }
 
--- law: it is reduced, and each reduced fraction of the value n over d is this one
+-- law: `reduced` gives a reduced fraction, and every reduced fraction with the value n over d is this one
 abbrev pub ReducedLaw : Type 0
 ReducedLaw = (n : ℤ) (d : ℕ) → 0 < d
     → IsReduced (reduced n d) × SameValue (reduced n d) (record { num = n; den = d })
@@ -37,7 +37,7 @@ times x y = ratio (x.num *ℤ y.num) (pos (x.den * y.den))
 abbrev pub over : Fraction → Fraction → Result Fraction FracFault
 over x y = ratio (x.num *ℤ pos y.den) (pos x.den *ℤ y.num)
 
--- a step, and then another on what it gives; a fault is the answer of both
+-- a step, and then another step on its result; a fault of the first is the result of both
 infixl 10 ◌>>=◌
 abbrev pub ◌>>=◌ : {A B : Type 0} → Result A FracFault → (A → Result B FracFault) → Result B FracFault
 Ok x >>= step = step x

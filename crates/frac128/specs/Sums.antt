@@ -11,7 +11,7 @@ use Rattle.frac128.specs.Steps.{reduced}
 abbrev pub in_range : ℤ → Bool
 in_range n = nat_le (unsigned_abs n) most
 
--- the number, or overflow where it is out of range
+-- the number, or `Overflow` if it is out of range
 abbrev pub within : ℤ → Result ℤ FracFault
 within n = if in_range n then Ok n else Err Overflow
 
@@ -19,12 +19,12 @@ within n = if in_range n then Ok n else Err Overflow
 abbrev pub numerator_over : Fraction → ℕ → ℤ
 numerator_over x multiple = x.num *ℤ pos (multiple / x.den)
 
--- a sum over a denominator, or overflow where it is out of range
+-- a sum over a denominator, or `Overflow` if it is out of range
 abbrev pub sum_over : ℕ → ℤ → Result Fraction FracFault
 sum_over multiple sum = if in_range sum then Ok (reduced sum multiple) else Err Overflow
 
 -- a step on the numerators of two fractions over a common multiple of their denominators:
--- the multiple, both numerators and what the step gives must be in range
+-- the multiple, both numerators and the result of the step must be in range
 abbrev pub step_over : (ℤ → ℤ → ℤ) → ℕ → ℤ → ℤ → Result Fraction FracFault
 step_over step multiple left right =
     if in_range (pos multiple) && in_range left && in_range right

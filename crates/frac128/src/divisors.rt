@@ -6,8 +6,8 @@ ghost use Rattle.frac128.specs.Divisors as spec;
 // The greatest number of one word.
 const NARROW: u128 = u64::MAX as u128;
 
-// The greatest common divisor. Where one number has one word, a division leaves two such; the rest
-// is done without division, which is slow.
+// Returns the greatest common divisor. If one number fits in one word, a division leaves two such
+// numbers; the rest needs no division, which is slow.
 pub(crate) fn gcd(a: u128, b: u128) -> u128
     ensures is { result ≡ spec.gcd a b }
     ensures some { 0 < b → 0 < result }
@@ -19,7 +19,7 @@ pub(crate) fn gcd(a: u128, b: u128) -> u128
     }
 }
 
-// The same, where the second number is often the less.
+// The greatest common divisor of two numbers, of which the second is usually the smaller.
 fn ordered_gcd(a: u128, b: u128) -> u128
     ensures { result ≡ spec.gcd a b }
 {
@@ -34,7 +34,7 @@ fn ordered_gcd(a: u128, b: u128) -> u128
     }
 }
 
-// What a division leaves, which is quick where the number has one word.
+// The remainder of a division, which is fast if the number fits in one word.
 fn rest(a: u128, b: u64) -> u64
     requires { 0 < b }
     ensures { result ≡ a % b }
@@ -47,7 +47,7 @@ fn rest(a: u128, b: u64) -> u64
 }
 
 // The greatest common divisor of two numbers, the second of which is above 0: that of their odd
-// parts, times the less power of two.
+// parts, times the smaller power of two.
 fn narrow_gcd(a: u64, b: u64) -> u64
     requires { 0 < b }
     ensures { result ≡ spec.gcd a b }
@@ -59,7 +59,7 @@ fn narrow_gcd(a: u64, b: u64) -> u64
     narrow_odd_gcd(a >> i, b >> j) << i.min(j)
 }
 
-// The same in two words.
+// The greatest common divisor in two words, with the second number above 0.
 fn wide_gcd(a: u128, b: u128) -> u128
     requires { 0 < b }
     ensures { result ≡ spec.gcd a b }
@@ -72,7 +72,7 @@ fn wide_gcd(a: u128, b: u128) -> u128
 }
 
 // The greatest common divisor of two odd numbers. Their difference is even, and its factors of two
-// do not count.
+// do not matter.
 fn narrow_odd_gcd(a: u64, b: u64) -> u64
     requires odd_a { a % 2 ≡ 1 }
     requires odd_b { b % 2 ≡ 1 }
@@ -88,7 +88,7 @@ fn narrow_odd_gcd(a: u64, b: u64) -> u64
     x
 }
 
-// The same in two words, as long as one of the numbers needs them.
+// The greatest common divisor of two odd numbers, in two words as long as one of them needs two.
 fn wide_odd_gcd(a: u128, b: u128) -> u128
     requires odd_a { a % 2 ≡ 1 }
     requires odd_b { b % 2 ≡ 1 }
@@ -107,7 +107,7 @@ fn wide_odd_gcd(a: u128, b: u128) -> u128
     u128::from(narrow_odd_gcd(x as u64, y as u64))
 }
 
-// The quotient. A division by 1 is spared.
+// The quotient, without a division if the divisor is 1.
 pub(crate) fn quotient(a: u128, divisor: u128) -> u128
     requires { 0 < divisor }
     ensures { result ≡ a / divisor }

@@ -8,14 +8,14 @@ ghost use Rattle.frac128.specs.Faults.{fault_text};
 pub enum FracFault {
     /// A numerator or a denominator has more than 127 bits.
     Overflow,
-    /// A divisor is 0, or the base of a negative power is.
+    /// A divisor is 0, or the base of a negative power is 0.
     DivisionByZero,
-    /// No fraction is the root.
+    /// The root is no fraction.
     NoExactRoot,
 }
 
 impl FracFault {
-    /// What is said of the fault: `overflow`, `division by zero` or `no exact root`.
+    /// Returns the text of the fault: `overflow`, `division by zero` or `no exact root`.
     pub fn text(self) -> &'static [u8]
         ensures { result.now ≡ fault_text self }
     {

@@ -7,7 +7,7 @@ use crate::fraction::Frac;
 use crate::laws::floor_law;
 
 impl Frac {
-    /// The greatest whole number that is at most the fraction.
+    /// Returns the greatest whole number that is at most the fraction.
     pub fn floor(&self) -> Frac
         ensures greatest { IsFloor self.now result.num }
         ensures computed { result ≡ floor_of self.now }

@@ -35,8 +35,8 @@ impl Model for Frac {
 }
 
 impl Frac {
-    /// n over d in lowest terms. `DivisionByZero` where d is 0, and else `Overflow` where
-    /// the reduced fraction does not fit.
+    /// Returns n over d in lowest terms: `DivisionByZero` if d is 0, and else `Overflow` if the
+    /// reduced fraction does not fit.
     pub fn new(n: i128, d: i128) -> Result<Frac, FracFault>
         ensures { result ≡ ratio n d }
     {
@@ -48,14 +48,14 @@ impl Frac {
         Frac::lowered(differ(n < 0, d < 0), top, bottom, gcd(top, bottom))
     }
 
-    /// The numerator, which has the fraction's sign.
+    /// Returns the numerator, which has the fraction's sign.
     pub fn num(&self) -> i128
         ensures { result ≡ self.now.num }
     {
         self.num
     }
 
-    /// The denominator, which is at least 1. The fraction is in lowest terms and fits.
+    /// Returns the denominator, which is at least 1. The fraction is in lowest terms and fits.
     pub fn den(&self) -> i128
         ensures value { result ≡ pos self.now.den }
         ensures kept { IsFrac self.now }
@@ -70,7 +70,7 @@ impl Frac {
         self.num == 0
     }
 
-    /// The fraction with the other sign.
+    /// Returns the fraction with the opposite sign.
     pub fn negate(&self) -> Frac
         ensures { result ≡ negated self.now }
     {
@@ -127,7 +127,7 @@ impl Frac {
         Ok(Frac { num, den: bottom })
     }
 
-    // The number of this sign and magnitude over another one, by their greatest common divisor.
+    // The number of this sign and magnitude over another one, reduced by their greatest common divisor.
     pub(crate) fn lowered(
         negative: bool,
         top: u128,

@@ -9,14 +9,13 @@ ghost use Rattle.frac128.specs.Order.{ComparedLaw, OrderLaw};
 ghost use Rattle.frac128.specs.Roots.{RootLaw, RootOfLaw};
 ghost use Rattle.frac128.specs.Steps.{ReducedLaw};
 
-/// The greatest common divisor divides both numbers, and each number that divides both
-/// divides it.
+/// The greatest common divisor divides both numbers, and every common divisor divides it.
 pub fn gcd_law()
     ensures { GcdLaw }
 {}
 
-/// The least common multiple is a multiple of both numbers, and each other one is a multiple
-/// of it.
+/// The least common multiple is a multiple of both numbers, and every other common multiple is a
+/// multiple of it.
 pub fn lcm_law()
     ensures { LcmLaw }
 {}
@@ -36,7 +35,7 @@ pub fn compared_law()
     ensures { ComparedLaw }
 {}
 
-/// The order is total, and reduced fractions that stand equal are equal.
+/// The order is total, and reduced fractions that compare as equal are equal.
 pub fn order_law()
     ensures { OrderLaw }
 {}
@@ -46,8 +45,8 @@ pub fn root_law()
     ensures { RootLaw }
 {}
 
-/// The root that is computed from those of the numerator and the denominator is the fraction
-/// whose power is the given one, and where there is none no fraction is.
+/// The root that is computed from the roots of the numerator and the denominator is the fraction
+/// whose power is the given one. If it computes none, no fraction is a root.
 pub fn root_of_law()
     ensures { RootOfLaw }
 {}
@@ -67,7 +66,7 @@ pub fn nearest_whole_law()
     ensures { NearestWholeLaw }
 {}
 
-/// The value of a numeral is that of all its digits, times ten to the exponent less the places.
+/// The value of a numeral is the number of all its digits, times ten to the exponent less the places.
 pub fn numeral_law()
     ensures { NumeralLaw }
 {}

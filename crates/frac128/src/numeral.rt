@@ -9,19 +9,19 @@ use crate::fault::FracFault;
 use crate::fraction::Frac;
 use std::marker::Model;
 
-/// Why some bytes are read as no numeral.
+/// Why bytes are not read as a numeral.
 #[derive(Clone, Copy, Debug, PartialEq, Eq)]
 pub enum NumeralFault {
     /// The bytes are no numeral.
     NotNumeral,
-    /// The digits without the zeros at both ends are above the largest numerator, or the
-    /// exponent is outside -9,999..9,999.
+    /// The digits without the zeros at both ends exceed the largest numerator, or the exponent is
+    /// outside -9,999..9,999.
     TooLong,
 }
 
-/// What a numeral says: a coefficient times ten to a power.
-// Three words, since expressions hold many: the two of the coefficient, and that of the scale,
-// which is below 0 where the first word is.
+/// A decimal number: a coefficient times ten to a power.
+// Three words, since expressions hold many: two for the coefficient and one for the scale, which
+// is below 0 if the first word is below 0.
 #[derive(Clone, Copy, Debug, PartialEq, Eq)]
 pub struct Numeral {
     high: i64,
@@ -82,7 +82,7 @@ impl Numeral {
         }
     }
 
-    /// The number that is multiplied.
+    /// Returns the coefficient, which is multiplied by the power of ten.
     pub fn coefficient(&self) -> u128
         ensures is { result ≡ self.now.coefficient }
         ensures fits { result ≤ most }
@@ -95,7 +95,7 @@ impl Numeral {
         (high as u128) * (1 << 64) + u128::from(self.low)
     }
 
-    /// The exponent of the power of ten that it is multiplied by.
+    /// Returns the exponent of the power of ten.
     pub fn scale(&self) -> i128
         ensures { result ≡ self.now.scale }
     {
@@ -106,7 +106,7 @@ impl Numeral {
         }
     }
 
-    /// The value. `Overflow` where it does not fit.
+    /// Returns the value, or `Overflow` if it does not fit.
     pub fn value(&self) -> Result<Frac, FracFault>
         ensures { result ≡ value_of self.now }
     {
@@ -152,8 +152,8 @@ fn scaled_down(n: u128, power: u128) -> Result<Frac, FracFault>
     }
 }
 
-// A number above 0 over the largest power of ten, and over one more: past these the denominator
-// is too large, whatever is divided out.
+// A number above 0 over the largest power of ten and over another one. If that is out of range
+// too, the denominator does not fit even in lowest terms.
 fn scaled_down_twice(n: u128, power: u128) -> Result<Frac, FracFault>
     requires some { 0 < n }
     requires fits { n ≤ most }
@@ -168,7 +168,7 @@ fn scaled_down_twice(n: u128, power: u128) -> Result<Frac, FracFault>
 // The largest power of ten that is in range.
 const LARGEST_POWER: i128 = 100_000_000_000_000_000_000_000_000_000_000_000_000;
 
-// Ten to a power, or none where it is out of range.
+// Ten to a power, or `None` if it is out of range.
 fn power_of_ten(power: u128) -> Option<i128>
     ensures { SomeIff result (power ≤ 38) (pos (10 ^ power)) }
 {

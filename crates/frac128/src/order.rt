@@ -9,7 +9,7 @@ use crate::fraction::Frac;
 use std::cmp::Ordering;
 
 impl Frac {
-    /// How the fraction's value stands to the other's. Both are in lowest terms.
+    /// Compares the values of two fractions in lowest terms.
     pub fn cmp(&self, other: &Frac) -> Ordering
         ensures order { result ≡ compared self.now other.now }
         ensures reduced { IsReduced self.now × IsReduced other.now }
@@ -25,7 +25,7 @@ impl Frac {
     }
 }
 
-// How a / b stands to c / d: by the cross products where both fit, which is quick.
+// Compares a / b with c / d, by the cross products if both fit, which is fast.
 fn compare_ratios(a: u128, b: u128, c: u128, d: u128) -> Ordering
     requires some_b { 0 < b }
     requires some_d { 0 < d }
@@ -37,8 +37,8 @@ fn compare_ratios(a: u128, b: u128, c: u128, d: u128) -> Ordering
     }
 }
 
-// How a / b stands to c / d: by the quotients, and where they are equal by what is left, turned
-// upside down.
+// Compares a / b with c / d by their whole parts, and if these are equal by their fractional parts,
+// inverted.
 fn compare_by_quotients(a: u128, b: u128, c: u128, d: u128) -> Ordering
     requires some_b { 0 < b }
     requires some_d { 0 < d }

@@ -10,9 +10,9 @@ use crate::fault::FracFault;
 use crate::fraction::Frac;
 
 impl Frac {
-    /// The power, which is 1 where k is 0. `DivisionByZero` where the fraction is 0 and k is
-    /// below 0, and else `Overflow` where the power does not fit. It multiplies one by one, and
-    /// stops at the first product of more than 128 bits: at most 128 times, whatever k is.
+    /// Returns the power, which is 1 if k is 0: `DivisionByZero` if the fraction is 0 and k is
+    /// below 0, and else `Overflow` if the power does not fit. It multiplies one by one and stops
+    /// at the first product of more than 128 bits, after at most 128 products whatever k is.
     pub fn pow(&self, k: i32) -> Result<Frac, FracFault>
         ensures { result ≡ power self.now k }
     {

@@ -1,4 +1,4 @@
-//! Products and quotients, reduced crosswise before they are made.
+//! Products and quotients, reduced crosswise before the multiplication.
 
 ghost use Rattle.std.specs.Prelude.{◌≡◌, ◌<◌, ◌*◌, ◌/◌, ◌^◌, IfSome, IfNone, SomeIff};
 ghost use Rattle.std.specs.Int.{IsGcd};
@@ -11,7 +11,7 @@ use crate::fraction::Frac;
 use crate::sign::differ;
 
 impl Frac {
-    /// The product. `Overflow` where it does not fit in lowest terms.
+    /// Returns the product, or `Overflow` if it does not fit in lowest terms.
     pub fn mul(&self, other: &Frac) -> Result<Frac, FracFault>
         ensures { result ≡ times self.now other.now }
     {
@@ -22,8 +22,8 @@ impl Frac {
         }
     }
 
-    /// The quotient. `DivisionByZero` where the other is 0, and else `Overflow` where the
-    /// quotient does not fit in lowest terms.
+    /// Returns the quotient: `DivisionByZero` if the other fraction is 0, and else `Overflow` if
+    /// the quotient does not fit in lowest terms.
     pub fn div(&self, other: &Frac) -> Result<Frac, FracFault>
         ensures { result ≡ over self.now other.now }
     {
@@ -38,8 +38,8 @@ impl Frac {
     }
 }
 
-// The numerator and the denominator of the product of a / b and c / d in lowest terms, or none
-// where one of them has more than 128 bits.
+// The numerator and the denominator of the product of a / b and c / d in lowest terms, or `None`
+// if one of them has more than 128 bits.
 fn lowest_product(a: u128, b: u128, c: u128, d: u128) -> Option<(u128, u128)>
     requires some_b { 0 < b }
     requires some_d { 0 < d }
@@ -58,7 +58,7 @@ fn lowest_product(a: u128, b: u128, c: u128, d: u128) -> Option<(u128, u128)>
     Some((top, bottom))
 }
 
-// The same of two whole numbers, where nothing is divided out.
+// The product of two whole numbers, which needs no reduction.
 fn whole_product(a: u128, c: u128) -> Option<(u128, u128)>
     ensures found { IfSome result (λ x. IsLowest (a * c) 1 x.0 x.1) }
     ensures wide { IfNone result (IsWide (a * c) 1) }
@@ -66,7 +66,7 @@ fn whole_product(a: u128, c: u128) -> Option<(u128, u128)>
     Some((a.checked_mul(c)?, 1))
 }
 
-// The product of two quotients, or none where it has more than 128 bits.
+// The product of two quotients, or `None` if it has more than 128 bits.
 fn reduced_product(a: u128, left: u128, c: u128, right: u128) -> Option<u128>
     requires left { 0 < left }
     requires right { 0 < right }

@@ -1,21 +1,24 @@
 //! Reading numerals.
 
 ghost use Rattle.std.specs.Prelude.{◌≡◌, ◌<◌, ◌≤◌, ◌+◌, ◌*◌, ◌^◌, true, length, take, SomeIff};
-ghost use Rattle.std.specs.List.{list_any};
+ghost use Rattle.std.specs.List.{list_all, list_any};
 ghost use Rattle.frac128.specs.Decimals as spec;
 ghost use Rattle.frac128.specs.Fraction.{most};
 ghost use Rattle.frac128.specs.Numerals as numerals;
 
 use crate::fraction::MOST;
 use crate::numeral::{Numeral, NumeralFault};
-use crate::spelling::numeral_len;
+use crate::spelling::{numeral_len, staged_len, whole_len};
 
 // The largest exponent.
 const MOST_EXPONENT: u32 = 9_999;
 
-/// The numeral that the bytes are. `NotNumeral` where they are none, and else `TooLong` where
-/// its digits without the zeros at both ends are above the largest numerator, or its exponent
-/// is outside -9,999..9,999.
+// A number below this can take another digit.
+const SMALL: u128 = 1 << 120;
+
+/// Reads a numeral: `NotNumeral` if the bytes are no numeral, and else `TooLong` if its digits
+/// without the zeros at both ends exceed the largest numerator, or if its exponent is outside
+/// -9,999..9,999.
 pub fn read_numeral(bytes: &[u8]) -> Result<Numeral, NumeralFault>
     ensures { result ≡ spec.read bytes.now }
 {
@@ -25,21 +28,40 @@ pub fn read_numeral(bytes: &[u8]) -> Result<Numeral, NumeralFault>
     read_spelled(bytes)
 }
 
-/// The longest numeral that is a prefix of the bytes: how many bytes it has, and what it says.
-/// Where none is, 0 and `NotNumeral`.
+/// Reads the longest numeral at the front of `bytes`. Returns its length in bytes and the numeral
+/// or `TooLong`, or 0 and `NotNumeral` if there is none.
 pub fn read_longest(bytes: &[u8]) -> (usize, Result<Numeral, NumeralFault>)
     ensures len { result.0 ≡ numerals.numeral_len_of bytes.now }
     ensures within { result.0 ≤ length bytes.now }
     ensures numeral { result.1 ≡ spec.read (take (numerals.numeral_len_of bytes.now) bytes.now) }
 {
-    let len = numeral_len(bytes);
+    let digits = whole_len(bytes);
+    if digits > 0 {
+        return (digits, read_digits(&bytes[..digits]));
+    }
+    let len = staged_len(bytes);
     if len == 0 {
         return (0, Err(NumeralFault::NotNumeral));
     }
     (len, read_spelled(&bytes[..len]))
 }
 
-// What a numeral says.
+// Reads a run of digits, which is a numeral without a point and an exponent.
+fn read_digits(bytes: &[u8]) -> Result<Numeral, NumeralFault>
+    requires some { 0 < length bytes.now }
+    requires digits { list_all numerals.is_digit bytes.now ≡ true }
+    ensures { result ≡ spec.read bytes.now }
+{
+    let Some((coefficient, zeros)) = significant(bytes) else {
+        return Err(NumeralFault::TooLong);
+    };
+    if coefficient == 0 {
+        return Ok(Numeral::new(0, 0));
+    }
+    Ok(Numeral::new(coefficient, zeros as i128))
+}
+
+// Reads bytes that are a numeral.
 fn read_spelled(bytes: &[u8]) -> Result<Numeral, NumeralFault>
     requires { numerals.is_numeral bytes.now ≡ true }
     ensures { result ≡ spec.read bytes.now }
@@ -65,7 +87,7 @@ fn is_numeral(bytes: &[u8]) -> bool
     !bytes.is_empty() && numeral_len(bytes) == bytes.len()
 }
 
-// The place of the first `e` or `E`, or the length where there is none.
+// The index of the first `e` or `E`, or the length if there is none.
 fn mark_place(bytes: &[u8]) -> usize
     ensures { result ≡ length (numerals.before numerals.is_mark_byte bytes.now) }
 {
@@ -77,7 +99,7 @@ fn mark_place(bytes: &[u8]) -> usize
     bytes.len()
 }
 
-// How many bytes stand after the point, or 0 where there is none.
+// The number of bytes after the point, or 0 if there is no point.
 fn places(bytes: &[u8]) -> usize
     ensures is { result ≡ spec.places bytes.now }
     ensures within { result ≤ length bytes.now }
@@ -92,8 +114,8 @@ fn places(bytes: &[u8]) -> usize
     0
 }
 
-// The number of all digits without the zeros at their end, and how many those are, or none where
-// the number is too large.
+// The number that all digits write without the zeros at their end, and the count of these zeros,
+// or `None` if the number is too large.
 fn significant(bytes: &[u8]) -> Option<(u128, usize)>
     ensures { result ≡ spec.short_coefficient bytes.now }
 {
@@ -110,7 +132,7 @@ fn significant(bytes: &[u8]) -> Option<(u128, usize)>
     Some((number, zeros))
 }
 
-// The number with some zeros and a digit after it, or none where that is too large.
+// The number with some zeros and a digit appended, or `None` if that is too large.
 fn extended(number: u128, zeros: usize, digit: u8) -> Option<u128>
     requires { digit < 10 }
     ensures { SomeIff result
@@ -120,6 +142,10 @@ fn extended(number: u128, zeros: usize, digit: u8) -> Option<u128>
     if number == 0 {
         return Some(u128::from(digit));
     }
+    // The usual case needs no power.
+    if zeros == 0 && number < SMALL {
+        return Some(number * 10 + u128::from(digit));
+    }
     if zeros > 37 {
         return None;
     }
@@ -128,7 +154,7 @@ fn extended(number: u128, zeros: usize, digit: u8) -> Option<u128>
     if more <= MOST { Some(more) } else { None }
 }
 
-// The exponent that the bytes from the mark on write, or none where it is too large.
+// The exponent that the bytes from the mark on write, or `None` if it is too large.
 fn exponent(text: &[u8]) -> Option<i128>
     ensures { SomeIff result (spec.exponent_size text.now ≤ spec.most_exponent) (spec.exponent_of text.now) }
 {
@@ -147,7 +173,7 @@ fn has_minus(bytes: &[u8]) -> bool
     bytes.iter().any(|byte| *byte == b'-')
 }
 
-// The number that the digits among the bytes write, or none where it is too large.
+// The number that the digits among the bytes write, or `None` if it is too large.
 fn exponent_size(bytes: &[u8]) -> Option<u32>
     ensures { SomeIff result
         (spec.exponent_size bytes.now ≤ spec.most_exponent)

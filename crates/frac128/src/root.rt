@@ -8,8 +8,8 @@ use crate::fault::FracFault;
 use crate::fraction::Frac;
 
 impl Frac {
-    /// The fraction whose power to q is this one, not below 0 where q is even. `NoExactRoot`
-    /// where no fraction is.
+    /// Returns the fraction whose power to q is this one, not below 0 if q is even, or
+    /// `NoExactRoot` if there is no such fraction.
     pub fn root(&self, q: u32) -> Result<Frac, FracFault>
         requires { 0 < q }
         ensures exact { IsRootAnswer self.now q result }
@@ -20,7 +20,7 @@ impl Frac {
         self.root_by_parts(q)
     }
 
-    // The root by those of the numerator and the denominator.
+    // The root, from the roots of the numerator and the denominator.
     fn root_by_parts(&self, q: u32) -> Result<Frac, FracFault>
         requires { 0 < q }
         ensures { IsRootAnswer self.now q result }
@@ -36,8 +36,8 @@ impl Frac {
     }
 }
 
-// The whole number whose power to q is n, or none: halving the numbers between one whose power
-// is below n and one whose power is above n.
+// The whole number whose power to q is n, or `None`. It bisects the numbers between one whose
+// power is below n and one whose power is above n.
 fn whole_root(n: u128, q: u32) -> Option<u128>
     requires some { 0 < q }
     requires fits { n ≤ most }

@@ -1,10 +1,11 @@
-//! How numerals are written.
+//! The syntax of numerals.
 
-ghost use Rattle.std.specs.Prelude.{◌≡◌};
-ghost use Rattle.frac128.specs.Numerals.{numeral_len_of};
+ghost use Rattle.std.specs.Prelude.{◌≡◌, ◌<◌, ◌≤◌, ◌||◌, true, length, take};
+ghost use Rattle.std.specs.List.{list_all};
+ghost use Rattle.frac128.specs.Numerals.{is_digit, is_mark_byte, is_point_byte, numeral_len_of};
 ghost use Rattle.frac128.specs.Stages.{kind_of, may_end, stage_after};
 
-// What a byte is in a numeral.
+// The kind of a byte in a numeral.
 #[derive(Clone, Copy)]
 enum Kind {
     Digit,
@@ -14,7 +15,7 @@ enum Kind {
     Other,
 }
 
-// What the bytes so far are of a numeral.
+// The part of a numeral that the bytes so far have reached.
 #[derive(Clone, Copy)]
 enum Stage {
     Start,
@@ -26,13 +27,51 @@ enum Stage {
     Exponent,
 }
 
-/// The length of the longest numeral that is a prefix of the bytes, or 0 where none is.
+/// Returns the length of the longest numeral at the front of `bytes`, or 0 if there is none.
 pub fn numeral_len(bytes: &[u8]) -> usize
+    ensures { result ≡ numeral_len_of bytes.now }
+{
+    let digits = whole_len(bytes);
+    if digits > 0 {
+        return digits;
+    }
+    staged_len(bytes)
+}
+
+// The length of the longest numeral at the front of `bytes` if it is digits alone. 0 if there is
+// none, or if a point or a mark follows the digits.
+pub(crate) fn whole_len(bytes: &[u8]) -> usize
+    ensures len { 0 < result → result ≡ numeral_len_of bytes.now }
+    ensures digits { list_all is_digit (take result bytes.now) ≡ true }
+    ensures within { result ≤ length bytes.now }
+{
+    for (i, &byte) in bytes.iter().enumerate() {
+        if !byte.is_ascii_digit() {
+            return if goes_on(byte) { 0 } else { i };
+        }
+    }
+    bytes.len()
+}
+
+// Whether a numeral may continue with this byte after a run of digits.
+fn goes_on(byte: u8) -> bool
+    ensures { result ≡ (is_point_byte byte || is_mark_byte byte) }
+{
+    byte == b'.' || byte == b'E' || byte == b'e'
+}
+
+// The length of the longest numeral at the front of `bytes`, or 0 if there is none, stage by stage.
+pub(crate) fn staged_len(bytes: &[u8]) -> usize
     ensures { result ≡ numeral_len_of bytes.now }
 {
     let mut stage = Stage::Start;
     let mut len = 0;
     for (i, &byte) in bytes.iter().enumerate() {
+        // A digit leaves a stage at which a numeral may end as it is.
+        if byte.is_ascii_digit() && stage.may_end() {
+            len = i + 1;
+            continue;
+        }
         match stage.after(Kind::of(byte)) {
             Some(next) => stage = next,
             None => return len,
@@ -45,7 +84,7 @@ pub fn numeral_len(bytes: &[u8]) -> usize
 }
 
 impl Kind {
-    // What the byte is.
+    // The kind of a byte.
     fn of(byte: u8) -> Kind
         ensures { result ≡ kind_of byte }
     {
@@ -60,7 +99,7 @@ impl Kind {
 }
 
 impl Stage {
-    // The stage after one more byte, or none where no numeral goes on by it.
+    // The stage after one more byte, or `None` if no numeral continues with it.
     fn after(self, kind: Kind) -> Option<Stage>
         ensures { result ≡ stage_after self kind }
     {
@@ -76,7 +115,7 @@ impl Stage {
         }
     }
 
-    // Whether a numeral may end there.
+    // Whether a numeral may end at the stage.
     fn may_end(self) -> bool
         ensures { result ≡ may_end self }
     {

@@ -12,8 +12,8 @@ use crate::fraction::{Frac, MOST};
 use crate::sign::signed;
 
 impl Frac {
-    /// The sum. `Overflow` where the least common multiple of the denominators, one of the
-    /// numerators over it or their sum is out of range, though the reduced sum may fit.
+    /// Returns the sum, or `Overflow` if the least common multiple of the denominators, one of the
+    /// numerators over it or their sum is out of range, even if the reduced sum would fit.
     pub fn add(&self, other: &Frac) -> Result<Frac, FracFault>
         ensures { result ≡ plus self.now other.now }
     {
@@ -27,16 +27,16 @@ impl Frac {
         Frac::sum_over(multiple, left, right, shared)
     }
 
-    /// The difference. `Overflow` where the least common multiple of the denominators, one of
-    /// the numerators over it or their difference is out of range.
+    /// Returns the difference, or `Overflow` if the least common multiple of the denominators, one
+    /// of the numerators over it or their difference is out of range.
     pub fn sub(&self, other: &Frac) -> Result<Frac, FracFault>
         ensures { result ≡ minus self.now other.now }
     {
         self.add(&other.negate())
     }
 
-    // The sum of two numerators over a denominator. What the sum shares with the denominator, it
-    // shares with the number `shared`, which is less.
+    // The sum of two numerators over a denominator. The factors that the sum shares with the
+    // denominator are shared with the smaller number `shared` too.
     fn sum_over(multiple: i128, left: i128, right: i128, shared: u128) -> Result<Frac, FracFault>
         requires some { pos 0 <ℤ multiple }
         requires multiple { unsigned_abs multiple ≤ most }
@@ -56,7 +56,7 @@ impl Frac {
     }
 }
 
-// The product with this sign, or overflow where it is out of range.
+// The product with this sign, or `Overflow` if it is out of range.
 fn product(negative: bool, a: u128, b: u128) -> Result<i128, FracFault>
     ensures { result ≡ within (sign.signed negative (a * b)) }
 {

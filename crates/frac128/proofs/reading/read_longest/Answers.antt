@@ -7,22 +7,22 @@ use Rattle.frac128.proofs.reading.read_longest.Goals as goal
 
 pub returns-then-len-eq0 : goal.returns-then-len-eq0
 returns-then-len-eq0 c =
-    let none : 0 ≡ numeral_len_of c.args.bytes.now = sym c.if-len-eq0.true ∙ c.numeral_len-len.ensures in
+    let none : 0 ≡ numeral_len_of c.args.bytes.now = sym c.if-len-eq0.true ∙ c.staged_len-len.ensures in
     record { len = none; within = omega arith; numeral = ap (λ n. read (take n c.args.bytes.now)) none }
 
 pub slice_bounds-read_spelled-end : goal.slice_bounds-read_spelled-end
 slice_bounds-read_spelled-end c =
-    let within : c.numeral_len-len.result ≤ length c.args.bytes.now = omega (arith, longest-within c.args.bytes.now) in
-    sym (length-take-le c.numeral_len-len.result c.args.bytes.now within)
+    let within : c.staged_len-len.result ≤ length c.args.bytes.now = omega (arith, longest-within c.args.bytes.now) in
+    sym (length-take-le c.staged_len-len.result c.args.bytes.now within)
 
 pub read_spelled-requires : goal.read_spelled-requires
 read_spelled-requires c =
     let some : 0 < numeral_len_of c.args.bytes.now = omega arith in
-    ap (λ n. is_numeral (take n c.args.bytes.now)) c.numeral_len-len.ensures ∙ longest-numeral c.args.bytes.now some
+    ap (λ n. is_numeral (take n c.args.bytes.now)) c.staged_len-len.ensures ∙ longest-numeral c.args.bytes.now some
 
 pub returns : goal.returns
 returns c = record {
-  len = c.numeral_len-len.ensures;
+  len = c.staged_len-len.ensures;
   within = omega (arith, longest-within c.args.bytes.now);
-  numeral = c.read_spelled.ensures ∙ ap (λ n. read (take n c.args.bytes.now)) c.numeral_len-len.ensures;
+  numeral = c.read_spelled.ensures ∙ ap (λ n. read (take n c.args.bytes.now)) c.staged_len-len.ensures;
 }

@@ -1,0 +1,117 @@
+-- Runs of digits at the front of a numeral.
+use Rattle.std.proofs.Common.{◌≡◌, ◌+◌, ◌-◌, ◌<◌, ◌+ℤ◌, ◌-ℤ◌, ℕ, suc, zero, pos, Bool, true, false, List, [], ◌∷◌}
+use Rattle.std.proofs.Common.{take, length, get_or, add-one, subst, Some, None, arith, refl, sym, ap, ◌∙◌}
+use Rattle.std.specs.Prelude.{◌||◌, if◌then◌else◌}
+use Rattle.std.specs.List.{list_all}
+use Rattle.std.proofs.lemmas.Int.{ints}
+use Rattle.frac128.specs.declared.spelling.Kind.TheVariants.{Digit, Point, Mark, Sign, Other}
+use Rattle.frac128.specs.declared.spelling.Stage.{Stage}
+use Rattle.frac128.specs.declared.spelling.Stage.TheVariants.{Start, Whole, Pointed, Fraction, Marked, Signed, Exponent}
+use Rattle.frac128.specs.Decimals.{places}
+use Rattle.frac128.specs.Numerals.{greatest, is_digit, is_mark_byte, is_numeral, is_point_byte, is_sign_byte}
+use Rattle.frac128.specs.Numerals.{numeral_len_of}
+use Rattle.frac128.specs.Stages.{kind_of, may_end, stage_after}
+use Rattle.frac128.proofs.Readings.{IsSplit}
+use Rattle.frac128.proofs.StageRuns.{IsReadTo, digit_no_mark, digit_no_point, read_end, read_more, read_start}
+use Rattle.frac128.proofs.WholeNumerals.{before_digits, both, digits_numeral, from_digits}
+
+-- the stage after so many digits
+abbrev pub digits_stage : ℕ → Stage
+digits_stage zero = Start
+digits_stage (suc n) = Whole
+
+-- the first i bytes are digits
+pub record IsDigitsTo (bytes : List ℕ) (i : ℕ) : Type 0 where
+  pub read : IsReadTo bytes i (digits_stage i) i
+  pub digits : list_all is_digit (take i bytes) ≡ true
+
+-- no byte has been read
+pub digits_start : (bytes : List ℕ) → IsDigitsTo bytes 0
+digits_start bytes = record { read = read_start bytes; digits = refl }
+
+-- one digit more among the first bytes
+all_more : (bytes : List ℕ) (i : ℕ) → list_all is_digit (take i bytes) ≡ true → i < length bytes
+    → is_digit (get_or bytes i 0) ≡ true → list_all is_digit (take (suc i) bytes) ≡ true
+all_more [] i h low digit = absurd (omega arith)
+all_more (b ∷ bs) zero h low digit = rw digit refl
+all_more (b ∷ bs) (suc i) h low digit =
+    let parts = both (is_digit b) (list_all is_digit (take i bs)) h in
+    rw parts.0 (all_more bs i parts.1 (omega arith) digit)
+
+-- one digit more
+pub digits_more : (bytes : List ℕ) (i : ℕ) → IsDigitsTo bytes i → i < length bytes
+    → is_digit (get_or bytes i 0) ≡ true → IsDigitsTo bytes (i + 1)
+digits_more bytes i is low digit = record {
+  read = subst (λ s. IsReadTo bytes (i + 1) s (i + 1)) (later i)
+      (read_more bytes i (digits_stage i) Whole Digit i (i + 1) is.read low (sym (kind digit)) (next i) refl);
+  digits = ap (λ n. list_all is_digit (take n bytes)) (add-one i) ∙ all_more bytes i is.digits low digit;
+}
+  where
+    kind : is_digit (get_or bytes i 0) ≡ true → kind_of (get_or bytes i 0) ≡ Digit
+    kind h = rw h refl
+
+    next : (i : ℕ) → Some Whole ≡ stage_after (digits_stage i) Digit
+    next zero = refl
+    next (suc i) = refl
+
+    later : (i : ℕ) → Whole ≡ digits_stage (i + 1)
+    later i = ap digits_stage (sym (add-one i))
+
+-- the digits end at a byte with which no numeral continues
+pub digits_end : (bytes : List ℕ) (i : ℕ) → IsDigitsTo bytes i → i < length bytes
+    → is_digit (get_or bytes i 0) ≡ false
+    → (is_point_byte (get_or bytes i 0) || is_mark_byte (get_or bytes i 0)) ≡ false
+    → 0 < i → i ≡ numeral_len_of bytes
+digits_end bytes zero is low other stops some = absurd (omega arith)
+digits_end bytes (suc i) is low other stops some =
+    read_end bytes (suc i) Whole (kind_of (get_or bytes (suc i) 0)) (suc i) is.read low refl
+    (none (is_digit (get_or bytes (suc i) 0)) (is_point_byte (get_or bytes (suc i) 0))
+    (is_mark_byte (get_or bytes (suc i) 0)) (is_sign_byte (get_or bytes (suc i) 0)) other stops)
+  where
+    none : (d p m s : Bool) → d ≡ false → (p || m) ≡ false
+        → None ≡ stage_after Whole (if d then Digit else (if p then Point else (if m then Mark else (if s then Sign
+        else Other))))
+    none true p m s d_is h = absurd (cc)
+    none false true m s d_is h = absurd (cc)
+    none false false true s d_is h = absurd (cc)
+    none false false false true d_is h = refl
+    none false false false false d_is h = refl
+
+-- all bytes are digits
+pub digits_all : (bytes : List ℕ) (i : ℕ) → IsDigitsTo bytes i → i ≡ length bytes → i ≡ numeral_len_of bytes
+digits_all bytes i is all =
+    is.read.longest ∙ ap (λ n. greatest (λ n. is_numeral (take n bytes)) n) all
+
+-- a digit more, at a stage at which a numeral may end
+pub ended_more : (bytes : List ℕ) (i : ℕ) (s : Stage) (len : ℕ) → IsReadTo bytes i s len → i < length bytes
+    → is_digit (get_or bytes i 0) ≡ true → may_end s ≡ true → IsReadTo bytes (i + 1) s (i + 1)
+ended_more bytes i s len is low digit ends =
+    read_more bytes i s s Digit len (i + 1) is low (sym (kind digit)) (stays s ends) (rw ends refl)
+  where
+    kind : is_digit (get_or bytes i 0) ≡ true → kind_of (get_or bytes i 0) ≡ Digit
+    kind h = rw h refl
+
+    stays : (s : Stage) → may_end s ≡ true → Some s ≡ stage_after s Digit
+    stays Start h = absurd (cc)
+    stays Whole h = refl
+    stays Pointed h = absurd (cc)
+    stays Fraction h = refl
+    stays Marked h = absurd (cc)
+    stays Signed h = absurd (cc)
+    stays Exponent h = refl
+
+-- digits alone have no exponent
+pub digits_split : (bytes : List ℕ) → 0 < length bytes → list_all is_digit bytes ≡ true → IsSplit bytes bytes []
+digits_split bytes some h = record {
+  numeral = digits_numeral bytes some h;
+  m_is = sym (before_digits is_mark_byte bytes digit_no_mark h);
+  t_is = sym (from_digits is_mark_byte bytes digit_no_mark h);
+}
+
+-- and no places
+pub digits_places : (bytes : List ℕ) → list_all is_digit bytes ≡ true → 0 ≡ places bytes
+digits_places bytes h = sym (ap (λ xs. length xs - 1) (from_digits is_point_byte bytes digit_no_point h))
+
+-- the scale of digits
+pub digits_scale : (z : ℕ) → pos z ≡ pos 0 -ℤ pos 0 +ℤ pos z
+digits_scale z = omega (arith, ints)
