@@ -1,4 +1,4 @@
--- Digits of std are digits of numerals.
+-- The digits of std are digits of numerals.
 use Rattle.std.proofs.Common.{◌≡◌, ◌<◌, ◌≤◌, ◌+◌, ◌-◌, ◌*◌, ◌^◌, ℕ, pos, List, [], ◌∷◌, true, arith, refl, ap, ◌∙◌}
 use Rattle.std.proofs.Common.{lit<}
 use Rattle.std.specs.Prelude.{fold, Ok}
@@ -13,16 +13,16 @@ use Rattle.frac128.specs.Fraction.{most, whole}
 use Rattle.frac128.specs.Numerals.{is_digit}
 use Rattle.digits_print.specs.Back.{BackLaw}
 
--- a digit of std is one
+-- a digit of std is a digit of numerals with the same value
 digit_is : (c : ℕ) → digit_value c < 10 → (is_digit c ≡ true) × (digit_value c ≡ c - 48)
 digit_is c h = (grind (arith, nat_tests), grind (arith, nat_tests))
 
--- and so are all
+-- all digits of std are digits of numerals
 all_is : (ds : List ℕ) → AllDigits 10 ds → list_all is_digit ds ≡ true
 all_is [] h = refl
 all_is (c ∷ cs) h = rw ((digit_is c h.0).0) (all_is cs h.1)
 
--- and they write the same number
+-- both kinds of digits denote the same number
 number_is : (n : ℕ) (ds : List ℕ) → AllDigits 10 ds
     → fold (λ n d. n * 10 + d) n (digits_of ds) ≡ digits_value_after 10 n ds
 number_is n [] h = refl
@@ -34,7 +34,7 @@ number_is n (c ∷ cs) h =
 wide : (n : ℕ) → n ≤ most → n < 10 ^ 64
 wide n h = let big : 2 ^ 127 < 10 ^ 64 = lit< tt in omega arith
 
--- the law that digits are read back
+-- the law that the digits of a number read as that number
 pub back_law : DigitsLaw → BackLaw
 back_law law n fits =
     let is = decimal_is_IsNumeral_wide n (wide n fits) in

@@ -1,4 +1,4 @@
--- What the two loops of rounding keep, and that they end with the rounded number.
+-- The invariants of the two rounding loops, and the proof that the loops end with the rounded number.
 use Rattle.std.proofs.Common.{◌≡◌, ◌<◌, ◌≤◌, ◌+◌, ◌-◌, ◌*◌, ◌/◌, ◌%◌, ◌^◌, ◌-ℤ◌, ℕ, ℤ, pos, neg_ℤ, suc, zero, arith}
 use Rattle.std.proofs.Common.{refl, sym, ap, subst}
 use Rattle.std.proofs.Common.{◌∙◌, lit<, inl, inr}
@@ -11,7 +11,8 @@ use Rattle.digits_print.specs.Nearest.{down, up}
 use Rattle.digits_print.specs.Rounding.{carried, first_power, rounded, rounded_at}
 use Rattle.digits_print.proofs.Scales.{IsScaled, scale_unique, scaled, ten_before, ten_some, ten_suc, ten_up}
 
--- at a scale where the ratio has n digits before the point, rounding is by the quotient and the remainder there
+-- at a scale at which the ratio has n digits before the point, rounding is determined by the quotient and the
+-- remainder
 rounded_by : (n a b q r : ℕ) (s : ℤ) → 0 < n → 0 < a → 0 < b → q * (b * up s) + r ≡ a * down s → r < b * up s
     → 10 ^ (n - 1) ≤ q
     → q < 10 ^ n
@@ -41,13 +42,13 @@ rounded_by n a b q r s some some_a some_b whole part low high =
       high = high_of (10 ^ n) q (b * up s) r (a * down s) whole part high;
     }
 
--- top over bottom, with so many places behind the point, is the number and a rest
+-- top over bottom, with this many places after the point, is the number and a remainder
 pub record IsLengthened (n top bottom number rest places : ℕ) : Type 0 where
   pub value : number * bottom + rest ≡ top * 10 ^ places
   pub part : rest < bottom
   pub below : number < 10 ^ n
 
--- the quotient and its rest are at the start of the digits of a ratio
+-- the quotient and its remainder start the digits of a ratio
 pub lengthened_start : (n top bottom : ℕ) → 0 < bottom → top / bottom < 10 ^ n
     → IsLengthened n top bottom (top / bottom) (top % bottom) 0
 lengthened_start n top bottom some low =
@@ -57,7 +58,7 @@ lengthened_start n top bottom some low =
     start : (b q r t : ℕ) → b * q + r ≡ t → q * b + r ≡ t * 10 ^ 0
     start b q r t e = omega arith
 
--- one more digit of the rest makes the number one place longer
+-- one more digit of the remainder makes the number one place longer
 pub lengthened_more : (n top bottom number rest places digit next : ℕ) → 0 < n
     → IsLengthened n top bottom number rest places
     → number < 10 ^ (n - 1)
@@ -79,7 +80,7 @@ lengthened_more n top bottom number rest places digit next some is few e part sm
         turn : (t p : ℕ) → 10 * (t * p) ≡ t * (10 * p)
         turn t p = omega arith
 
--- the number stays below its limit, so the places do
+-- top times this power of ten is below the limit, since the number is
 pub lengthened_low : (n top bottom number rest places : ℕ) → IsLengthened n top bottom number rest places
     → top * 10 ^ places < 10 ^ n * bottom
 lengthened_low n top bottom number rest places is =
@@ -90,7 +91,7 @@ lengthened_low n top bottom number rest places is =
         mul-le (q + 1) b l b (omega arith) (omega arith) in let one : (q + 1) * b ≡ q * b + b =
         omega arith in omega arith
 
--- at most 74 places are gone through
+-- the loop adds at most 74 places
 pub few_places : (n top bottom number rest places : ℕ) → 0 < top → bottom ≤ 2 ^ 127 → n ≤ 36
     → IsLengthened n top bottom number rest places → places < 75
 few_places n top bottom number rest places some fits most is = elim (cases_lt places 75) [
@@ -108,7 +109,7 @@ few_places n top bottom number rest places some fits most is = elim (cases_lt pl
         let big : 10 ^ 36 * 2 ^ 127 < 10 ^ 75 = lit< tt in
         omega arith
 
--- with each place less is left
+-- the measure decreases with each place
 pub lengthened_less : (n top bottom number rest places : ℕ) → 0 < top → IsLengthened n top bottom number rest places
     → 10 ^ n * bottom - top * 10 ^ (places + 1) < 10 ^ n * bottom - top * 10 ^ places
 lengthened_less n top bottom number rest places some is =
@@ -124,7 +125,7 @@ lengthened_less n top bottom number rest places some is =
     turn : (t p : ℕ) → t * (10 * p) ≡ 10 * (t * p)
     turn t p = omega arith
 
--- with n digits it is rounded by its rest
+-- a number with n digits is rounded by its remainder
 pub lengthened_end : (n top bottom number rest places : ℕ) → 0 < n → 0 < top
     → IsLengthened n top bottom number rest places
     → 10 ^ (n - 1) ≤ number
@@ -153,7 +154,7 @@ lengthened_end n top bottom number rest places some some_top is least =
         one : (b : ℕ) → b * 1 ≡ b
         one b = omega arith
 
--- so many digits are cut off from a whole number, and n or more are left
+-- this many digits are cut off from a whole number, and n or more digits are left
 pub record IsShortened (n whole unit places : ℕ) : Type 0 where
   pub power : unit ≡ 10 ^ places
   pub some : 0 < places
@@ -167,7 +168,7 @@ shortened_start n whole some high = record {
   least = le-div (10 ^ (n - 1)) whole 10 (lit< tt) (omega (arith, ten_before n some));
 }
 
--- the unit is at most a tenth of the whole number where more than n digits are left
+-- the unit is at most a tenth of the whole number if more than n digits are left
 pub shortened_wide : (n whole unit : ℕ) → 0 < n → 0 < unit → 10 ^ n ≤ whole / unit → 10 ^ (n - 1) * (unit * 10) ≤ whole
 shortened_wide n whole unit some some_unit high =
     let times : 10 ^ n * unit ≤ whole / unit * unit = mul-le (10 ^ n) unit (whole / unit) unit high (omega arith) in
@@ -184,7 +185,7 @@ shortened_wide n whole unit some some_unit high =
 pub unit_some : (n whole unit places : ℕ) → IsShortened n whole unit places → 0 < unit
 unit_some n whole unit places is = rw is.power (ten_some places)
 
--- where what is left is still too long, ten times the unit is within the number
+-- if the rest is still too long, ten times the unit is at most the whole number
 pub shortened_room : (n whole unit places : ℕ) → 0 < n → IsShortened n whole unit places → 10 ^ n ≤ whole / unit
     → unit * 10 ≤ whole
 shortened_room n whole unit places some is high =
@@ -193,7 +194,7 @@ shortened_room n whole unit places some is high =
     mul-le 1 (unit * 10) (10 ^ (n - 1)) (unit * 10) (ten_some (n - 1)) (omega arith) in
     omega arith
 
--- and cuts it by one more place
+-- if the rest is still too long, one more place is cut off
 pub shortened_more : (n whole unit places : ℕ) → 0 < n → IsShortened n whole unit places → 10 ^ n ≤ whole / unit
     → IsShortened n whole (unit * 10) (places + 1)
 shortened_more n whole unit places some is high =
@@ -208,7 +209,7 @@ shortened_more n whole unit places some is high =
     power p = let more : p + 1 ≡ suc p = omega arith in let ten = ten_suc p in let same =
         ap (λ v. 10 ^ v) more in omega arith
 
--- at most 38 places are cut
+-- at most 38 places are cut off
 pub few_cut : (n whole unit places : ℕ) → whole < 2 ^ 128 → IsShortened n whole unit places → places < 39
 few_cut n whole unit places fits is = elim (cases_lt places 39) [
   | inl h ↦ h
@@ -226,11 +227,11 @@ few_cut n whole unit places fits is = elim (cases_lt places 39) [
         let swap : whole / unit * unit ≡ unit * (whole / unit) = omega arith in
         omega (arith, is.power)
 
--- half of a unit is a whole number
+-- half of the unit is a whole number
 pub unit_even : (n whole unit places : ℕ) → IsShortened n whole unit places → 2 * (unit / 2) ≡ unit
 unit_even n whole unit places is = let ten = ten_before places is.some in let power = is.power in omega arith
 
--- with n digits it is rounded by what is cut off
+-- a number with n digits is rounded by the part that is cut off
 pub shortened_end : (n top bottom unit places : ℕ) → 0 < n → 0 < bottom → IsShortened n (top / bottom) unit places
     → top / bottom / unit < 10 ^ n
     → carried n (by_half (top / bottom / unit)

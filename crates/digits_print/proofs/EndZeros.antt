@@ -13,7 +13,7 @@ use Rattle.digits_print.specs.Layout.{without_end_zeros}
 abbrev is_zero : ℕ → Bool
 is_zero b = b == 48
 
--- one zero more at the end
+-- removing trailing zeros also removes one more zero at the end
 cut_zero : (ds : List ℕ) → without_end_zeros (ds ++ 48 ∷ []) ≡ without_end_zeros ds
 cut_zero [] = refl
 cut_zero (d ∷ ds) =
@@ -25,7 +25,7 @@ cut_zero (d ∷ ds) =
     and_true true = refl
     and_true false = refl
 
--- a last digit that is no zero
+-- removing trailing zeros keeps a last digit other than 0
 keep_last : (ds : List ℕ) (x : ℕ) → (x == 48) ≡ false → without_end_zeros (ds ++ x ∷ []) ≡ ds ++ x ∷ []
 keep_last [] x other = rw other refl
 keep_last (d ∷ ds) x other =
@@ -38,12 +38,12 @@ keep_last (d ∷ ds) x other =
     and_false true = refl
     and_false false = refl
 
--- behind this place there are only zeros
+-- all digits from this index on are zeros
 pub record IsCutTo (ds : List ℕ) (end : ℕ) : Type 0 where
   pub within : end ≤ length ds
   pub same : without_end_zeros (take end ds) ≡ without_end_zeros ds
 
--- where a 0 stands before the end, the end may go before it
+-- if the digit before the end is 0, the end can move before it
 pub cut_more : (ds : List ℕ) (end : ℕ) → 0 < end → IsCutTo ds end → get_or ds (end - 1) 0 ≡ 48 → IsCutTo ds (end - 1)
 cut_more ds zero some is last = absurd (omega arith)
 cut_more ds (suc j) some is last = let less : j ≡ suc j - 1 =
@@ -56,7 +56,7 @@ cut_more ds (suc j) some is last = let less : j ≡ suc j - 1 =
           ∙ cut_zero (take j ds)) ∙ is.same;
     }
 
--- with no zero at the end the digits are left as they are
+-- the digits up to an end that does not follow a 0 are those without trailing zeros
 pub cut_end : (ds : List ℕ) (end : ℕ) → IsCutTo ds end → (0 < end → get_or ds (end - 1) 0 ≡ 48 → ⊥)
     → take end ds ≡ without_end_zeros ds
 cut_end ds zero is other = is.same

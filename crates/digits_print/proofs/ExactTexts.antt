@@ -13,7 +13,7 @@ use Rattle.frac128.specs.Steps.{ReducedLaw, fitting, ratio}
 use Rattle.digits_print.specs.Back.{BackLaw, IsReadAs}
 use Rattle.digits_print.specs.Exact.{ExactLaw, ReadsAsQuotient, ReadsAsWhole, exact_text, sign_text}
 
--- a fraction that fits
+-- a fraction of the program fits
 fitting_kept : (x : Fraction) → IsFrac x → fitting x ≡ Ok x
 fitting_kept x kept = rw (tests (unsigned_abs x.num) x.den kept.num_fits kept.den_fits) refl
   where
@@ -29,7 +29,7 @@ ratio_kept law n (suc d) kept =
     let same : x ≡ _ = (law n (suc d) kept.reduced.positive).2 x kept.reduced refl in
     ap fitting (sym same) ∙ fitting_kept x kept
 
--- a number as an optional minus and a numeral
+-- a number is an optional minus and a numeral
 record IsSpelled (z : ℤ) : Type 0 where
   negative : Bool
   digits : List ℕ
@@ -42,11 +42,11 @@ record IsSpelled (z : ℤ) : Type 0 where
 wide : (n : ℕ) → n ≤ most → n < 10 ^ 64
 wide n h = let big : 2 ^ 127 < 10 ^ 64 = lit< tt in omega arith
 
--- a number in decimal digits, read back
+-- the decimal digits of a number read as that number
 read_back : BackLaw → (n : ℕ) → n ≤ most → IsReadAs (decimal n) (digits_value 10 (decimal n))
 read_back back n h = subst (IsReadAs (decimal n)) (sym (decimal_is_IsNumeral_wide n (wide n h)).1) (back n h)
 
--- a whole number that fits is spelled by its sign and digits
+-- a whole number that fits is spelled by its sign and its digits
 spelled : BackLaw → (z : ℤ) → unsigned_abs z ≤ most → IsSpelled z
 spelled back (pos n) h =
     let is = decimal_is_IsNumeral_wide n (wide n h) in
@@ -70,7 +70,7 @@ spelled back (negsuc n) h =
       value = ap (signed true) is.1;
     }
 
--- the text of a whole number is read as it
+-- the text of a whole number reads as that number
 reads_as_whole : ReducedLaw → BackLaw → (n : ℤ) → IsFrac (record { num = n; den = 1 })
     → ReadsAsWhole (signed_decimal n) (record { num = n; den = 1 })
 reads_as_whole law back n kept =
@@ -84,7 +84,7 @@ reads_as_whole law back n kept =
       value = ap (λ z. ratio z (pos 1)) top.value ∙ ratio_kept law n 1 kept;
     }
 
--- the text of a fraction is read as the quotient of its parts
+-- the text of a fraction reads as the quotient of its parts
 reads_as_quotient : ReducedLaw → BackLaw → (n : ℤ) (d : ℕ) → IsFrac (record { num = n; den = d })
     → ReadsAsQuotient (signed_decimal n ++ codes "|" ++ decimal d) (record { num = n; den = d })
 reads_as_quotient law back n d kept =
@@ -103,7 +103,7 @@ reads_as_quotient law back n d kept =
           ∙ ratio_kept law n d kept;
     }
 
--- an exact text is read in one of these two ways
+-- an exact text reads in one of these two ways
 reads : ReducedLaw → BackLaw → (n : ℤ) (d : ℕ) → IsFrac (record { num = n; den = d })
     → ReadsAsWhole (exact_text (record { num = n; den = d })) (record { num = n; den = d })
     ⊎ ReadsAsQuotient (exact_text (record { num = n; den = d })) (record { num = n; den = d })

@@ -1,4 +1,4 @@
--- How a whole number and a part compare with half of a unit.
+-- Comparing a whole number plus a fraction with half of a unit.
 use Rattle.std.proofs.Common.{◌≡◌, ◌<◌, ◌≤◌, ◌+◌, ◌*◌, ℕ, arith, sym, ap, ◌∙◌}
 use Rattle.std.specs.Ordering.{MatchOrdering, nat_cmp, ordering_then}
 use Rattle.std.specs.declared.cmp.Ordering.{Ordering}
@@ -7,32 +7,32 @@ use Rattle.std.specs.Cmp.{nat_cmp_is}
 use Rattle.std.proofs.lemmas.Cmp.{ranked}
 use Rattle.std.proofs.lemmas.Nat.{mul-le}
 
--- twice a number and a part below the bottom, and the bottom times a unit of two halves
+-- doubling distributes over the sum of the whole number and the part
 twice : (w b p : ℕ) → 2 * (w * b + p) ≡ 2 * (w * b) + 2 * p
 twice w b p = omega arith
 
--- half of a product is that of its factor
+-- the product of b and a unit is twice the product of b and half of the unit
 halves : (b h u : ℕ) → 2 * h ≡ u → b * u ≡ 2 * (h * b)
 halves b h u e = ap (λ v. b * v) (sym e) ∙ turn b h
   where
     turn : (b h : ℕ) → b * (2 * h) ≡ 2 * (h * b)
     turn b h = omega arith
 
--- what is left below half of a unit is less than half of the whole
+-- if the whole number is below half of the unit, the value is less than half of the product
 below_half : (w p b h u : ℕ) → 2 * h ≡ u → p < b → w < h → 2 * (w * b + p) < b * u
 below_half w p b h u e part less =
     let times : (w + 1) * b ≤ h * b = mul-le (w + 1) b h b (omega arith) (omega arith) in
     let one : (w + 1) * b ≡ w * b + b = omega arith in
     omega (arith, twice w b p, halves b h u e)
 
--- and above half of it is more
+-- if the whole number is above half of the unit, the value is more than half of the product
 above_half : (w p b h u : ℕ) → 2 * h ≡ u → 0 < b → h < w → b * u < 2 * (w * b + p)
 above_half w p b h u e some more =
     let times : (h + 1) * b ≤ w * b = mul-le (h + 1) b w b (omega arith) (omega arith) in
     let one : (h + 1) * b ≡ h * b + b = omega arith in
     omega (arith, twice w b p, halves b h u e)
 
--- the whole number decides, and at half a unit the part
+-- the comparison is decided by the whole number and, at exactly half of the unit, by the part
 pub by_parts : (w p b h u : ℕ) (order part : Ordering) → 2 * h ≡ u → p < b → order ≡ nat_cmp w h → part ≡ nat_cmp p 0
     → ordering_then order part ≡ nat_cmp (2 * (w * b + p)) (b * u)
 by_parts w p b h u order part e low order_is part_is = nat_cmp_is _ _ _ (by_order order (ranked w h order order_is))

@@ -1,4 +1,4 @@
--- Which layout a decimal has, by the power of ten of its first digit.
+-- The layout of a decimal, determined by the power of ten of its first digit.
 use Rattle.std.proofs.Common.{◌≡◌, ◌<◌, ◌≤◌, ◌+◌, ◌-◌, ◌^◌, ℕ, ℤ, pos, negsuc, List, true, false, length, unsigned_abs}
 use Rattle.std.proofs.Common.{nat_lt, arith}
 use Rattle.std.proofs.Common.{lit<, refl, sym, ap, subst, inl, inr}
@@ -13,15 +13,15 @@ use Rattle.digits_print.specs.Layout.{below_one, layout, plain, scientific}
 use Rattle.digits_print.specs.Nearest.{HasDigits}
 use Rattle.digits_print.proofs.Scales.{ten_up}
 
--- a number is not found to be less than one that is no greater
+-- the test for less is false for a number that is not less
 at_least : (k n : ℕ) → n ≤ k → nat_lt k n ≡ false
 at_least k n h = grind (arith, nat_tests)
 
--- and is found to be less than a greater one
+-- the test for less is true for a smaller number
 less : (k n : ℕ) → k < n → nat_lt k n ≡ true
 less k n h = grind (arith, nat_tests)
 
--- below the power -4 the layout is scientific
+-- if the power is below -4, the layout is scientific
 pub layout_tiny : (n : ℕ) (ds : List ℕ) (power : ℤ) → lt_z power (negsuc 3) ≡ true
     → layout n ds power ≡ scientific ds power
 layout_tiny n ds (pos k) low = absurd (cc)
@@ -30,7 +30,7 @@ layout_tiny n ds (negsuc k) low = rw (at_least k 4 (high k low)) refl
     high : (k : ℕ) → lt_z (negsuc k) (negsuc 3) ≡ true → 4 ≤ k
     high k h = grind (arith, ints)
 
--- from there on below 0 it has zeros behind the point
+-- if the power is below 0 but not below -4, the layout has zeros after the point
 pub layout_small : (n : ℕ) (ds : List ℕ) (power : ℤ) (size : ℕ) → size ≡ unsigned_abs power
     → lt_z power (negsuc 3) ≡ false
     → lt_z power (pos 0) ≡ true → layout n ds power ≡ below_one ds (size - 1)
@@ -44,21 +44,21 @@ layout_small n ds (negsuc k) size is high low = let zeros : k ≡ size - 1 =
     small : (k : ℕ) → lt_z (negsuc k) (negsuc 3) ≡ false → k < 4
     small k h = grind (arith, ints)
 
--- from 0 on, below the number of digits, it is plain
+-- if the power is at least 0 and below the number of digits, the layout is plain
 pub layout_plain : (n : ℕ) (ds : List ℕ) (power : ℤ) (size : ℕ) → size ≡ unsigned_abs power → lt_z power (pos 0) ≡ false
     → size < n
     → layout n ds power ≡ plain ds (size + 1)
 layout_plain n ds (pos k) size is low high = rw (less k n (omega arith)) (ap (λ v. plain ds (v + 1)) (sym is))
 layout_plain n ds (negsuc k) size is low high = absurd (cc)
 
--- and from there on scientific
+-- if the power is at least the number of digits, the layout is scientific
 pub layout_large : (n : ℕ) (ds : List ℕ) (power : ℤ) (size : ℕ) → size ≡ unsigned_abs power → lt_z power (pos 0) ≡ false
     → n ≤ size
     → layout n ds power ≡ scientific ds power
 layout_large n ds (pos k) size is low high = rw (at_least k n (omega arith)) refl
 layout_large n ds (negsuc k) size is low high = absurd (cc)
 
--- a number of n digits is written by as many
+-- a number with n digits is written with at least n digits
 pub enough_digits : (n m : ℕ) → 0 < n → n ≤ 36 → HasDigits n m → n ≤ length (decimal m)
 enough_digits n m some most digits = elim (cases_lt (length (decimal m)) n) [
   | inl h ↦ absurd (fewer h)

@@ -1,4 +1,4 @@
--- Rounding to n digits gives the nearest decimal, and no other one is nearest.
+-- Rounding to n digits gives the nearest decimal, and it is the only one.
 use Rattle.std.proofs.Common.{◌≡◌, ◌<◌, ◌≤◌, ◌+◌, ◌-◌, ◌*◌, ◌/◌, ◌%◌, ◌^◌, ◌+ℤ◌, ℕ, ℤ, pos, suc, zero, true, false}
 use Rattle.std.proofs.Common.{arith, refl, sym, ap}
 use Rattle.std.proofs.Common.{subst, ◌∙◌, inl, inr}
@@ -29,7 +29,7 @@ pub record IsOnGrid (d : Decimal) (s : ℤ) (m : ℕ) : Type 0 where
 on_own_grid : (d : Decimal) → IsOnGrid d d.scale d.coefficient
 on_own_grid d = record { steps = refl }
 
--- a finer grid
+-- a multiple of a power of ten is a multiple of each smaller one
 on_finer_grid : (d : Decimal) (s t : ℤ) (m k : ℕ) → s ≡ t +ℤ pos k → IsOnGrid d s m → IsOnGrid d t (m * 10 ^ k)
 on_finer_grid d s t m k e on =
     record {
@@ -46,11 +46,11 @@ on_finer_grid d s t m k e on =
         let middle : m * us * dx * dt ≡ m * dx * (us * dt) = omega arith in
         cancelled (x * ux * dt) (m * p * ut * dx) ds some (left ∙ middle ∙ ap (λ n. m * dx * n) step ∙ sym right)
 
--- and of each smaller one
+-- a decimal is a multiple of each smaller power of ten
 on_grid_below : (d : Decimal) (s : ℤ) (k : ℕ) → d.scale ≡ s +ℤ pos k → IsOnGrid d s (d.coefficient * 10 ^ k)
 on_grid_below d s k e = on_finer_grid d d.scale s d.coefficient k e (on_own_grid d)
 
--- a decimal's distance, by its steps
+-- the distance of a decimal in terms of its steps
 gap_on : (a b : ℕ) (d : Decimal) (s : ℤ) (m : ℕ) → IsOnGrid d s m
     → gap a b d * down s ≡ abs_diff (a * down s) (m * (b * up s)) * down d.scale
 unfolding gap
@@ -68,7 +68,7 @@ gap_on a b d s m on =
     gathered : (m u d b : ℕ) → m * u * d * b ≡ m * (b * u) * d
     gathered m u d b = omega arith
 
--- two decimals on one grid are compared by their steps
+-- two decimals on the same grid are compared by their steps
 no_farther_on : (a b : ℕ) (d e : Decimal) (s : ℤ) (m k : ℕ) → IsOnGrid d s m → IsOnGrid e s k
     → abs_diff (a * down s) (m * (b * up s)) ≤ abs_diff (a * down s) (k * (b * up s)) → NoFarther a b d e
 no_farther_on a b d e s m k on_d on_e h =
@@ -83,7 +83,7 @@ no_farther_on a b d e s m k on_d on_e h =
         let right : f * dd * ds ≡ y * (dd * de) = turned f dd ds ∙ ap (λ n. n * dd) other ∙ omega arith in
         cancelled_le (g * de) (f * dd) ds some (omega arith)
 
--- of two multiples the decimal that is no farther is no farther in steps of that power
+-- if one decimal is no farther than another on the same grid, its steps are no farther either
 steps_closer : (a b : ℕ) (d e : Decimal) (s : ℤ) (m k : ℕ) → IsOnGrid d s m → IsOnGrid e s k → NoFarther a b d e
     → abs_diff (a * down s) (m * (b * up s)) ≤ abs_diff (a * down s) (k * (b * up s))
 steps_closer a b d e s m k on_d on_e h =
@@ -98,7 +98,7 @@ steps_closer a b d e s m k on_d on_e h =
         let right : f * dd * ds ≡ y * de * dd = turned f dd ds ∙ ap (λ n. n * dd) other in
         cancelled_le x y de some_e (cancelled_le (x * de) (y * de) dd some_d (omega arith))
 
--- d is the decimal with n digits of the m steps at s, where m is at most ten to the n
+-- d is the decimal with n digits that equals m steps at s, for m of at most ten to the power n
 record IsCarried (n m : ℕ) (s : ℤ) (d : Decimal) : Type 0 where
   digits : HasDigits n d.coefficient
   on : IsOnGrid d s m
@@ -141,7 +141,7 @@ decimal_is : (d e : Decimal) → d.coefficient ≡ e.coefficient → d.scale ≡
 decimal_is d e digits scale = ap (λ v. let x : Decimal = record { coefficient = v; scale = d.scale } in x) digits ∙ ap
     (λ v. let x : Decimal = record { coefficient = e.coefficient; scale = v } in x) scale
 
--- a decimal of n digits and of as many steps is the same
+-- a decimal with n digits and the same number of steps is the same decimal
 same_decimal : (n m : ℕ) (s : ℤ) (d e : Decimal) (k : ℕ) → 0 < n → IsCarried n m s d → HasDigits n e.coefficient
     → e.scale ≡ s +ℤ pos k
     → e.coefficient * 10 ^ k ≡ m → d ≡ e
@@ -191,7 +191,7 @@ same_decimal n m s d e k some own digits is same = by_case own.is
             (ten_suc (suc k) ∙ ap (λ v. 10 * v) (ten_suc k)) in let high =
             next_scale.0 in omega (arith, ten, ten_some (n - 1)))
 
--- of two equally near decimals the one of an even number of steps is taken
+-- of two equally near decimals, the one with an even number of steps is preferred
 preferred : (n m : ℕ) (s : ℤ) (d e : Decimal) → 0 < n → IsCarried n m s d → HasDigits n e.coefficient
     → e.scale ≡ s +ℤ pos 0 → m % 2 ≡ 0
     → e.coefficient % 2 ≡ 1 → IsPreferred d e
@@ -230,7 +230,7 @@ preferred n m s d e some own digits is even odd = by_case own.is
             ∙ ap (λ v. 10 ^ v) none in inr (ap (λ v. v % 2) one, odd, less one none)
         at_count (suc j) more = inl (even_power j d.coefficient (next_scale.1 ∙ ap (λ v. 10 ^ v) more), odd)
 
--- the decimal at a scale with n digits before the point is nearest
+-- at a scale with n digits before the point, the nearest multiple is the nearest decimal
 at_scale : NearestWholeLaw → (n a b : ℕ) (s : ℤ) (m : ℕ) (d : Decimal) → 0 < n → 0 < b → IsScaled n a b s
     → IsNearestWhole (a * down s) (b * up s) m → IsCarried n m s d → IsNearest n a b d
 at_scale law n a b s m d some some_b at near own = record {
@@ -239,7 +239,7 @@ at_scale law n a b s m d some some_b at near own = record {
   tie = λ e digits h. tie e digits h (ordered s e.scale);
 }
   where
-    -- on a finer grid each decimal with n digits is farther
+    -- on a finer grid, each decimal with n digits is farther
     finer : (e : Decimal) (k : ℕ) → HasDigits n e.coefficient → s ≡ e.scale +ℤ pos (suc k)
         → abs_diff (a * down e.scale) (m * 10 ^ suc k * (b * up e.scale))
         < abs_diff (a * down e.scale) (e.coefficient * (b * up e.scale))
@@ -324,7 +324,7 @@ at_scale law n a b s m d some some_b at near own = record {
         (on_finer_grid d s e.scale m (suc below.0) below.1 own.on) h in
         absurd (omega arith)
 
--- two nearest decimals are one
+-- the nearest decimal is unique
 unique : (n a b : ℕ) (d e : Decimal) → IsNearest n a b d → IsNearest n a b e → d ≡ e
 unique n a b d e own other = elim (own.tie e other.digits (other.nearest d own.digits)) [
   | inl same ↦ same
@@ -340,7 +340,7 @@ unique n a b d e own other = elim (own.tie e other.digits (other.nearest d own.d
     both (inr p) (inl q) = omega (arith, p.1, q.0)
     both (inr p) (inr q) = omega (arith, p.2, q.2)
 
--- rounding keeps the number of digits, or gives the next power of ten
+-- rounding preserves the number of digits, or gives the next power of ten
 rounds : (n a b : ℕ) → 0 < b → 10 ^ (n - 1) * b ≤ a → a < 10 ^ n * b → (10 ^ (n - 1) ≤ nearest_whole a b)
     × (nearest_whole a b ≤ 10 ^ n)
 rounds n a b some low high =
@@ -364,13 +364,13 @@ rounded_at_is_nearest law n a b s some some_b at =
     at_scale law n a b s _ _ some some_b at (law (a * down s) (b * up s) some_step).0
     (carried_is n _ s some bounds.0 bounds.1)
 
--- so the decimal that is computed is nearest
+-- the computed decimal is the nearest one
 rounded_is_nearest : NearestWholeLaw → (n a b : ℕ) → 0 < n → 0 < a → 0 < b → IsNearest n a b (rounded n a b)
 unfolding rounded
 rounded_is_nearest law n a b some some_a some_b =
     rounded_at_is_nearest law n a b _ some some_b (scaled n a b some some_a some_b)
 
--- rounding to n digits gives the nearest decimal, and no other one is nearest
+-- rounding to n digits gives the nearest decimal, and it is the only one
 pub nearest_law : NearestWholeLaw → NearestLaw
 nearest_law law n a b some some_a some_b =
     let is = rounded_is_nearest law n a b some some_a some_b in

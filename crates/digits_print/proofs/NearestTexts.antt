@@ -1,4 +1,4 @@
--- The text by rounding is that of the nearest decimal.
+-- The text computed by rounding is that of the nearest decimal.
 use Rattle.std.proofs.Common.{◌≡◌, ◌≤◌, ℕ, ℤ, pos, negsuc, suc, zero, false, List, unsigned_abs, arith, refl, ap, ◌∙◌}
 use Rattle.std.proofs.Common.{inl, inr}
 use Rattle.std.specs.Prelude.{◌==◌}
@@ -7,7 +7,7 @@ use Rattle.frac128.specs.Fraction.{Fraction, IsFrac}
 use Rattle.digits_print.specs.Digits.{IsDigitsText, IsNearestText, digits_text}
 use Rattle.digits_print.specs.Rounding.{NearestLaw, rounded}
 
--- the text that is computed is that of the nearest decimal
+-- the computed text is that of the nearest decimal
 pub nearest_text : NearestLaw → (x : Fraction) (n : ℕ) (text : List ℕ) → IsFrac x → 1 ≤ n → text ≡ digits_text x n
     → IsDigitsText x n text
 nearest_text law x n text kept some is = by_num x.num refl is

@@ -1,9 +1,9 @@
--- Whole numbers that are as near to a ratio as the nearest one.
+-- Whole numbers that are as near to a ratio as the nearest whole number.
 use Rattle.std.proofs.Common.{◌≡◌, ◌<◌, ◌≤◌, ◌%◌, ℕ, suc, zero, arith, refl, sym, subst, ◌∙◌, inl, inr}
 use Rattle.std.specs.Prelude.{◌⊎◌}
 use Rattle.frac128.specs.Nearest.{IsNearestWhole, NearestWholeLaw, distance}
 
--- another one is odd, and the nearest one even
+-- a whole number that is as near as the nearest one is equal to it, or is odd while the nearest one is even
 pub other_odd : NearestWholeLaw → (a b m e : ℕ) → 0 < b → IsNearestWhole a b m → distance a b e ≤ distance a b m
     → (e ≡ m) ⊎ ((m % 2 ≡ 0) × (e % 2 ≡ 1))
 other_odd law a b m e some is h = elim (is.tie e same) [

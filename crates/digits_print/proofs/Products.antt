@@ -3,39 +3,39 @@ use Rattle.std.proofs.Common.{◌≡◌, ◌<◌, ◌≤◌, ◌+◌, ◌-◌, �
 use Rattle.std.specs.Int.{abs_diff}
 use Rattle.std.proofs.lemmas.Bool.{cases_lt}
 
--- less stays less by a factor above 0
+-- multiplying by a factor above 0 preserves strict order
 pub scaled_lt : (m n d : ℕ) → m < n → 0 < d → m * d < n * d
 scaled_lt m n d h some = grind arith
 
--- at most stays so without one
+-- cancelling a factor above 0 preserves order
 pub cancelled_le : (m n d : ℕ) → 0 < d → m * d ≤ n * d → m ≤ n
 cancelled_le m n d some h = grind arith
 
--- less stays so without a factor
+-- cancelling a factor preserves strict order
 pub cancelled_lt : (m n d : ℕ) → m * d < n * d → m < n
 cancelled_lt m n d h = grind arith
 
--- products by one factor above 0 are equal only where the others are
+-- products with the same factor above 0 are equal only if the other factors are
 pub cancelled : (m n d : ℕ) → 0 < d → m * d ≡ n * d → m ≡ n
 cancelled m n d some h = grind arith
 
--- the second factor first
+-- the last two factors of a product can be exchanged
 pub turned : (m n d : ℕ) → m * n * d ≡ m * d * n
 turned m n d = omega arith
 
--- a product of three may be grouped otherwise
+-- a product of three factors is associative
 pub grouped : (m n d : ℕ) → m * n * d ≡ m * (n * d)
 grouped m n d = omega arith
 
--- the distance to a number with z more is z
+-- the distance from x to x + z is z
 abs_diff_up : (x z : ℕ) → abs_diff x (x + z) ≡ z
 abs_diff_up x z = omega arith
 
--- and so it is the other way round
+-- the distance from x + z to x is z
 abs_diff_down : (x z : ℕ) → abs_diff (x + z) x ≡ z
 abs_diff_down x z = omega arith
 
--- a distance times a number
+-- multiplying a distance multiplies both numbers
 pub abs_diff-mul : (x y k : ℕ) → abs_diff x y * k ≡ abs_diff (x * k) (y * k)
 abs_diff-mul x y k = elim (cases_lt x y) [
   | inl h ↦ upper (y - x) (omega arith)

@@ -1,4 +1,4 @@
--- Powers of ten, and the scale at which a ratio has so many digits before the point.
+-- Powers of ten, and the scale at which a ratio has n digits before the point.
 use Rattle.std.proofs.Common.{◌≡◌, ◌<◌, ◌≤◌, ◌+◌, ◌-◌, ◌*◌, ◌/◌, ◌%◌, ◌^◌, ◌+ℤ◌, ◌-ℤ◌, ℕ, ℤ, pos, negsuc, neg_ℤ, suc}
 use Rattle.std.proofs.Common.{zero, true, false}
 use Rattle.std.proofs.Common.{length, arith, refl, sym, ap, subst, ◌∙◌, lit<, inl, inr}
@@ -18,30 +18,30 @@ use Rattle.digits_print.proofs.Products.{cancelled_le, cancelled_lt, scaled_lt}
 pub ten_some : (k : ℕ) → 0 < 10 ^ k
 ten_some k = one-le-pow k 10 (lit< tt)
 
--- the next one is ten times as great
+-- the next power of ten is ten times as great
 pub ten_suc : (k : ℕ) → 10 ^ suc k ≡ 10 * 10 ^ k
 ten_suc k = pow-suc 10 k ∙ omega arith
 
--- so it is by the one before
+-- a power of ten above the first is ten times the one before it
 pub ten_before : (n : ℕ) → 0 < n → 10 ^ n ≡ 10 * 10 ^ (n - 1)
 ten_before zero h = absurd (omega arith)
 ten_before (suc m) h = let less : suc m - 1 ≡ m = omega arith in ten_suc m ∙ ap (λ v. 10 * 10 ^ v) (sym less)
 
--- a higher power is no less
+-- a higher power of ten is not smaller
 pub ten_up : (i k : ℕ) → i ≤ k → 10 ^ i ≤ 10 ^ k
 ten_up i k h = pow-le-pow_right {n = 10} (lit< tt) h
 
--- what a scale puts above the bar is above 0
+-- the numerator of a scale is above 0
 pub up_some : (s : ℤ) → 0 < up s
 up_some (pos k) = ten_some k
 up_some (negsuc k) = lit< tt
 
--- and what it puts below
+-- the denominator of a scale is above 0
 pub down_some : (s : ℤ) → 0 < down s
 down_some (pos k) = lit< tt
 down_some (negsuc k) = ten_some (suc k)
 
--- a scale k above another one
+-- a scale that is k above another is 10 ^ k times as great
 pub shifted : (s t : ℤ) (k : ℕ) → t ≡ s +ℤ pos k → up t * down s ≡ 10 ^ k * (up s * down t)
 shifted (pos i) (pos j) k e = powers (10 ^ j) (10 ^ i) (10 ^ k) (ap (λ m. 10 ^ m) (sum i j k e) ∙ pow-add 10 i k)
   where
@@ -71,7 +71,7 @@ shifted (negsuc i) (negsuc j) k e =
     powers : (x y z : ℕ) → y ≡ z * x → 1 * y ≡ z * (1 * x)
     powers x y z e = omega arith
 
--- of two scales one is some places above the other
+-- of two scales, one is some number of places above the other
 pub ordered : (s t : ℤ) → ((k : ℕ) × (t ≡ s +ℤ pos k)) ⊎ ((k : ℕ) × (s ≡ t +ℤ pos (suc k)))
 ordered (pos i) (pos j) = elim (cases_lt j i) [
   | inl h ↦ inr (i - j - 1, above i j h)
@@ -107,7 +107,7 @@ pub record IsScaled (n a b : ℕ) (s : ℤ) : Type 0 where
   pub low : 10 ^ (n - 1) * (b * up s) ≤ a * down s
   pub high : a * down s < 10 ^ n * (b * up s)
 
--- at a scale above there are fewer digits
+-- the ratio does not have n digits before the point at two different scales
 apart : (n a b : ℕ) (s t : ℤ) (k : ℕ) → 0 < b → t ≡ s +ℤ pos (suc k) → IsScaled n a b s → IsScaled n a b t → ⊥
 apart n a b s t k some e at_s at_t =
     products (10 ^ (n - 1)) (10 ^ n) (10 ^ suc k) a b (up s) (down s) (up t) (down t)
@@ -137,7 +137,7 @@ apart n a b s t k some e at_s at_t =
         let sixth : a * ds * dt ≡ a * dt * ds = omega arith in
         omega arith
 
--- there is one such scale
+-- the scale at which the ratio has n digits before the point is unique
 pub scale_unique : (n a b : ℕ) (s t : ℤ) → 0 < b → IsScaled n a b s → IsScaled n a b t → s ≡ t
 scale_unique n a b s t some at_s at_t = elim (ordered s t) [
   | inl above ↦ level above.0 above.1
@@ -148,13 +148,13 @@ scale_unique n a b s t some at_s at_t = elim (ordered s t) [
     level zero e = omega (arith, ints)
     level (suc k) e = absurd (apart n a b s t k some e at_s at_t)
 
--- a number is below ten to the number of its digits, and has a digit where it is not 0
+-- a number is below ten to the power of its number of digits
 pub count_below : (m : ℕ) → m < 10 ^ digit_count m
 unfolding digit_count
 count_below m = subst (λ v. v < 10 ^ length (digits_of 10 m)) (number_digits_of 10 m (omega arith))
     (number_lt 10 (digits_of 10 m) (all_below_base_digits_of 10 m (omega arith)))
 
--- a number above 0 has digits, and is at least the power of ten that has as many
+-- a number above 0 has digits, and is at least the least number with as many
 pub count_least : (m : ℕ) → 0 < m → (0 < digit_count m) × (10 ^ (digit_count m - 1) ≤ m)
 unfolding digit_count
 count_least m some =
@@ -173,7 +173,7 @@ count_least m some =
     fewer : m < 10 ^ (digit_count m - 1) → 0 < digit_count m → ⊥
     fewer h counted = let short = length-digits_of-le 10 (digit_count m - 1) m (omega arith) h in omega arith
 
--- the first digit of a / b stands for ten to that power
+-- at the scale of its first digit, a / b has one digit before the point
 first_scaled : (a b : ℕ) → 0 < a → 0 < b → IsScaled 1 a b (first_power a b)
 unfolding first_power
 first_scaled a b some_a some_b = elim (cases_lt a b) [
@@ -231,7 +231,7 @@ first_scaled a b some_a some_b = elim (cases_lt a b) [
         at_count (digit_count ((b - 1) / a)) ((b - 1) / a) ((b - 1) % a) whole part counted.0 counted.1
         (count_below ((b - 1) / a))
 
--- n - 1 places below the first digit there are n digits before the point
+-- at n - 1 places below the first digit, there are n digits before the point
 lowered : (n a b : ℕ) (x s : ℤ) → 0 < n → x ≡ s +ℤ pos (n - 1) → IsScaled 1 a b x → IsScaled n a b s
 lowered n a b x s some e first =
     let step = shifted s x (n - 1) e in
@@ -263,7 +263,7 @@ lowered n a b x s some e first =
         let whole : q * (b * us) * dx ≡ 10 * (p * (b * us) * dx) = ap (λ m. m * (b * us) * dx) e ∙ omega arith in
         cancelled_lt (a * ds) (q * (b * us)) dx (omega arith)
 
--- the scale that rounding takes
+-- rounding uses the scale at which the ratio has n digits before the point
 pub scaled : (n a b : ℕ) → 0 < n → 0 < a → 0 < b → IsScaled n a b (first_power a b -ℤ pos (n - 1))
 scaled n a b some some_a some_b =
     lowered n a b (first_power a b) (first_power a b -ℤ pos (n - 1)) some (back (first_power a b) (n - 1))

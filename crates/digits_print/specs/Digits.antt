@@ -1,4 +1,4 @@
--- The text of a fraction with so many significant digits.
+-- The text of a fraction with a given number of significant digits.
 use Rattle.std.specs.Prelude.{◌≡◌, ◌++◌, ◌⊎◌, ℕ, List, pos, unsigned_abs, if◌then◌else◌, codes}
 use Rattle.frac128.specs.Decimals.{Decimal}
 use Rattle.frac128.specs.Fraction.{Fraction}
@@ -8,17 +8,17 @@ use Rattle.digits_print.specs.Layout.{decimal_text}
 use Rattle.digits_print.specs.Nearest.{IsNearest}
 use Rattle.digits_print.specs.Rounding.{rounded}
 
--- the text is a minus where x is below 0, and the decimal with n digits that is nearest to its magnitude
+-- the text is a minus if x is below 0, followed by the decimal with n digits that is nearest to its magnitude
 pub record IsNearestText (x : Fraction) (n : ℕ) (text : List ℕ) : Type 0 where
   pub decimal : Decimal
   pub nearest : IsNearest n (unsigned_abs x.num) x.den decimal
   pub text_is : text ≡ sign_text (is_negative x) ++ decimal_text n decimal
 
--- the text of 0, or of the nearest decimal
+-- the text is that of 0 or of the nearest decimal
 abbrev pub IsDigitsText : Fraction → ℕ → List ℕ → Type 0
 IsDigitsText x n text = ((x.num ≡ pos 0) × (text ≡ codes "0")) ⊎ IsNearestText x n text
 
--- the same by rounding
+-- the text of a fraction with n digits, computed by rounding
 abbrev pub digits_text : Fraction → ℕ → List ℕ
 digits_text x n =
     if is_zero x

@@ -7,16 +7,16 @@ use Rattle.frac128.specs.Sign.{signed}
 use Rattle.frac128.specs.Steps.{ratio}
 use Rattle.digits_print.specs.Back.{IsReadAs}
 
--- a fraction as `n`, or as `n|d` where the denominator is above 1
+-- a fraction as `n`, or as `n|d` if the denominator is above 1
 abbrev pub exact_text : Fraction → List ℕ
 exact_text x = if x.den == 1 then signed_decimal x.num else signed_decimal x.num ++ codes "|" ++ decimal x.den
 
--- the sign before a number
+-- the sign in front of a number
 abbrev pub sign_text : Bool → List ℕ
 sign_text true = codes "-"
 sign_text false = []
 
--- the text is an optional minus and a decimal numeral, also of the product, whose value is x
+-- the text is an optional minus and a decimal numeral, which is also one of the product, and has the value x
 pub record ReadsAsWhole (text : List ℕ) (x : Fraction) : Type 0 where
   pub negative : Bool
   pub top : List ℕ
@@ -25,7 +25,8 @@ pub record ReadsAsWhole (text : List ℕ) (x : Fraction) : Type 0 where
   pub spelled : text ≡ sign_text negative ++ top
   pub value : ratio (signed negative (digits_value 10 top)) (pos 1) ≡ Ok x
 
--- the text is an optional minus and two decimal numerals, also of the product, with a bar between, whose quotient is x
+-- the text is an optional minus and two decimal numerals, which are also numerals of the product, separated by a bar,
+-- and their quotient is x
 pub record ReadsAsQuotient (text : List ℕ) (x : Fraction) : Type 0 where
   pub negative : Bool
   pub top : List ℕ

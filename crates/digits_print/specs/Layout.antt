@@ -1,25 +1,25 @@
--- How digits are laid out, in plain or in scientific notation.
+-- The layout of digits in plain and in scientific notation.
 use Rattle.std.specs.Prelude.{◌+◌, ◌-◌, ◌==◌, ◌+ℤ◌, ℕ, ℤ, pos, negsuc, suc, nat_lt, if◌then◌else◌}
 use Rattle.std.specs.Prelude.{List, [], ◌∷◌, ◌++◌, take, drop, replicate, codes}
 use Rattle.std.specs.Fmt.{decimal}
 use Rattle.std.specs.List.{list_all}
 use Rattle.frac128.specs.Decimals.{Decimal}
 
--- digits up to the last that is not `0`
+-- the digits up to the last one that is not `0`
 abbrev pub without_end_zeros : List ℕ → List ℕ
 without_end_zeros [] = []
 without_end_zeros (b ∷ bs) = if list_all (λ c. c == 48) (b ∷ bs) then [] else b ∷ without_end_zeros bs
 
--- a point before digits, where there are any
+-- the digits after a point, or nothing if there are none
 abbrev pub pointed : List ℕ → List ℕ
 pointed [] = []
 pointed (b ∷ bs) = codes "." ++ (b ∷ bs)
 
--- the digits after the first ones, behind a point
+-- a point and the digits after it, without trailing zeros
 abbrev pub fraction_part : List ℕ → List ℕ
 fraction_part ds = pointed (without_end_zeros ds)
 
--- a number in at least two digits
+-- a number with at least two digits
 abbrev pub two_digits : ℕ → List ℕ
 two_digits k = if nat_lt k 10 then codes "0" ++ decimal k else decimal k
 
@@ -28,23 +28,23 @@ abbrev pub exponent_text : ℤ → List ℕ
 exponent_text (pos k) = codes "e+" ++ two_digits k
 exponent_text (negsuc k) = codes "e-" ++ two_digits (suc k)
 
--- the first digit, a point and the others, and the power of ten of the first
+-- the first digit, a point and the other digits, and the power of ten of the first digit
 abbrev pub scientific : List ℕ → ℤ → List ℕ
 scientific ds power = take 1 ds ++ fraction_part (drop 1 ds) ++ exponent_text power
 
--- k digits before the point
+-- plain notation with k digits before the point
 abbrev pub plain : List ℕ → ℕ → List ℕ
 plain ds k = take k ds ++ fraction_part (drop k ds)
 
--- k zeros between the point and the first digit
+-- plain notation with k zeros between the point and the first digit
 abbrev pub below_one : List ℕ → ℕ → List ℕ
 below_one ds k = codes "0." ++ replicate k 48 ++ without_end_zeros ds
 
--- n digits, the first of which has this power of ten: in plain notation where it is from -4 to n - 1
+-- n digits, the first of which has this power of ten, in plain notation if the power is from -4 to n - 1
 abbrev pub layout : ℕ → List ℕ → ℤ → List ℕ
 layout n ds (pos k) = if nat_lt k n then plain ds (k + 1) else scientific ds (pos k)
 layout n ds (negsuc k) = if nat_lt k 4 then below_one ds k else scientific ds (negsuc k)
 
--- a decimal with n digits
+-- the text of a decimal with n digits
 abbrev pub decimal_text : ℕ → Decimal → List ℕ
 decimal_text n d = layout n (decimal d.coefficient) (d.scale +ℤ pos (n - 1))

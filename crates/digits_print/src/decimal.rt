@@ -1,4 +1,4 @@
-//! Decimals with so many digits.
+//! Decimals with a given number of digits.
 
 ghost use Rattle.std.specs.Prelude.{◌≡◌, ◌<◌, ◌≤◌, ◌^◌, pos, negsuc, ◌<ℤ◌, ◌≤ℤ◌};
 ghost use Rattle.frac128.specs.Nearest as nearest_spec;
@@ -8,10 +8,10 @@ ghost use Rattle.digits_print.specs.Rounding as spec;
 use std::cmp::Ordering;
 use std::marker::Model;
 
-// The most significant digits of a printed number.
+// The maximum number of significant digits of a printed number.
 pub(crate) const MOST_DIGITS: u32 = 36;
 
-// A coefficient times ten to the scale.
+// A coefficient times ten to the power of the scale.
 #[derive(Clone, Copy)]
 pub(crate) struct Decimal {
     pub(crate) coefficient: u128,
@@ -29,7 +29,7 @@ impl Model for Decimal {
 }
 
 impl Decimal {
-    // The number at this scale, rounded by how what was cut off behind it compares with a half.
+    // Returns the number at this scale, rounded by the comparison of the part cut off with one half.
     pub(crate) fn rounded(number: u128, cut: Ordering, scale: i32, digits: u32) -> Decimal
         requires some { 0 < digits }
         requires most { digits ≤ MOST_DIGITS }
@@ -57,7 +57,7 @@ impl Decimal {
     }
 }
 
-// The number, or the next one. A half goes to the even number.
+// Returns the number or its successor. A half rounds to the even number.
 fn by_half(number: u128, cut: Ordering) -> u128
     requires { number < 10 ^ MOST_DIGITS }
     ensures { result ≡ nearest_spec.by_half number cut }
@@ -69,7 +69,7 @@ fn by_half(number: u128, cut: Ordering) -> u128
     }
 }
 
-// Ten to a power, which 128 bits hold.
+// Returns ten to this power, which fits in 128 bits.
 pub(crate) fn power_of_ten(power: u32) -> u128
     requires { power ≤ MOST_DIGITS }
     ensures value { result ≡ 10 ^ power }

@@ -1,4 +1,4 @@
-//! The text of a fraction with so many significant digits.
+//! The text of a fraction with a given number of significant digits.
 
 ghost use Rattle.std.specs.Prelude.{◌≡◌, ◌≤◌, IfOk};
 ghost use Rattle.digits_print.specs.Digits.{IsDigitsText, digits_text};
@@ -11,23 +11,23 @@ use frac128::Frac;
 use std::alloc::{AllocError, Global};
 use units_io::Text;
 
-/// The number nearest to the fraction with so many significant digits, without the zeros at its
-/// end. Of two equally near ones it is the one whose last digit is even and, where neither's is
-/// (9 and 10), the greater. Where the power of ten of the first digit is below -4 or at least
-/// `digits`, the notation is scientific, as `1e+02`. Zero is `0`. The only error is want of memory.
+/// Returns the number with this many significant digits that is nearest to the fraction, without trailing zeros. Of
+/// two equally near numbers it is the one whose last digit is even or, if both last digits are odd (9 and 10), the
+/// greater one. If the power of ten of the first digit is below -4 or at least `digits`, the notation is scientific,
+/// such as `1e+02`. Zero is `0`. Fails only if memory runs out.
 pub fn print_digits(alloc: Global, x: &Frac, digits: u8) -> Result<Text, AllocError>
     requires some { 1 ≤ digits }
     requires most { digits ≤ 36 }
     ensures nearest { IfOk result (λ text. IsDigitsText x.now digits text) }
     ensures computed { IfOk result (λ text. text ≡ digits_text x.now digits) }
 {
-    // What is rounded is the nearest decimal, where the denominator is above 0.
+    // The rounded number is the nearest decimal, since the denominator is above 0.
     nearest_law();
     x.den();
     rounded_text(alloc, x, digits)
 }
 
-// The text of the rounded number.
+// Returns the text of the rounded number.
 fn rounded_text(alloc: Global, x: &Frac, digits: u8) -> Result<Text, AllocError>
     requires some { 1 ≤ digits }
     requires most { digits ≤ 36 }

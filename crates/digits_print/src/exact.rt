@@ -10,8 +10,7 @@ use frac128::Frac;
 use std::alloc::{AllocError, Global};
 use units_io::Text;
 
-/// The fraction in decimal digits: `n`, or `n|d` where the denominator is above 1. The only
-/// error is want of memory.
+/// Returns the fraction in decimal digits: `n`, or `n|d` if the denominator is above 1. Fails only if memory runs out.
 pub fn print_exact(alloc: Global, x: &Frac) -> Result<Text, AllocError>
     ensures reads { IfOk result (λ text. ReadsAsWhole text x.now ⊎ ReadsAsQuotient text x.now) }
     ensures computed { IfOk result (λ text. text ≡ exact_text x.now) }
@@ -20,7 +19,7 @@ pub fn print_exact(alloc: Global, x: &Frac) -> Result<Text, AllocError>
     lowest_text(alloc, x)
 }
 
-// The text of a fraction, which is in lowest terms.
+// Returns the text of a fraction, which is in lowest terms.
 fn lowest_text(alloc: Global, x: &Frac) -> Result<Text, AllocError>
     ensures lowest { IsFrac x.now }
     ensures computed { IfOk result (λ text. text ≡ exact_text x.now) }
@@ -33,7 +32,7 @@ fn lowest_text(alloc: Global, x: &Frac) -> Result<Text, AllocError>
     Ok(Text::from(text.into_bytes()))
 }
 
-// Two numbers with a bar between them.
+// Returns the texts of two numbers with a bar between them.
 fn quotient_text(alloc: Global, num: i128, den: i128) -> Result<String, AllocError>
     ensures { IfOk result (λ text.
         string_bytes text ≡ signed_decimal num ++ (codes "|" ++ signed_decimal den)) }

@@ -6,8 +6,7 @@ ghost use Rattle.digits_print.specs.Rounding.{NearestLaw};
 
 use frac128::{digits_law, nearest_whole_law, reduced_law};
 
-/// The exact text of a fraction reads as that fraction, by the numerals of `read_numeral` and
-/// their values.
+/// The exact text of a fraction reads as that fraction, by the numerals of `read_numeral` and their values.
 pub fn exact_law()
     ensures { ExactLaw }
 {
@@ -15,14 +14,14 @@ pub fn exact_law()
     back_law();
 }
 
-/// A rounded number is the nearest one with so many significant digits, and the only one.
+/// A rounded number is the nearest number with this many significant digits, and the only such number.
 pub fn nearest_law()
     ensures { NearestLaw }
 {
     nearest_whole_law();
 }
 
-/// The digits of a whole number are read as that number.
+/// The digits of a whole number read as that number.
 pub fn back_law()
     ensures { BackLaw }
 {

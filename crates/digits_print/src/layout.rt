@@ -7,10 +7,10 @@ ghost use Rattle.digits_print.specs.Layout as spec;
 use crate::decimal::{Decimal, MOST_DIGITS};
 use std::alloc::{AllocError, Global};
 
-// The least power of ten of a first digit in plain notation.
+// The minimum power of ten of the first digit in plain notation.
 const LEAST_PLAIN_POWER: i32 = -4;
 
-// Puts a decimal of so many digits after the text.
+// Appends a decimal with this many digits to the text.
 pub(crate) fn put_decimal(
     alloc: Global,
     text: &mut Vec<u8>,
@@ -29,8 +29,8 @@ pub(crate) fn put_decimal(
     put_layout(alloc, text, numeral.as_bytes(), power, digits)
 }
 
-// Puts so many digits, the first of which has this power of ten: in plain notation where it is
-// from -4 to below their number.
+// Appends the digits, the first of which has this power of ten. The notation is plain if the power is at least -4 and
+// below the number of digits.
 fn put_layout(
     alloc: Global,
     text: &mut Vec<u8>,
@@ -54,7 +54,7 @@ fn put_layout(
     }
 }
 
-// Plain notation with so many digits before the point.
+// Appends the digits in plain notation, with `before` digits before the point.
 fn put_plain(text: &mut Vec<u8>, digits: &[u8], before: usize) -> Result<(), AllocError>
     requires { before ≤ length digits.now }
     ensures { OnOk result (text.new.items ≡ text.old.items ++ spec.plain digits.now before) }
@@ -64,7 +64,7 @@ fn put_plain(text: &mut Vec<u8>, digits: &[u8], before: usize) -> Result<(), All
     put_fraction(text, rest)
 }
 
-// Plain notation of a number below 1, with so many zeros between the point and the first digit.
+// Appends a number below 1 in plain notation, with `zeros` zeros between the point and the first digit.
 fn put_below_one(text: &mut Vec<u8>, digits: &[u8], zeros: usize) -> Result<(), AllocError>
     requires { zeros < 4 }
     ensures { OnOk result (text.new.items ≡ text.old.items ++ spec.below_one digits.now zeros) }
@@ -74,7 +74,7 @@ fn put_below_one(text: &mut Vec<u8>, digits: &[u8], zeros: usize) -> Result<(), 
     text.extend_from_slice(without_end_zeros(digits))
 }
 
-// Scientific notation, with the power of ten of the first digit.
+// Appends the digits in scientific notation, with the power of ten of the first digit.
 fn put_scientific(
     alloc: Global,
     text: &mut Vec<u8>,
@@ -88,7 +88,7 @@ fn put_scientific(
     put_exponent(alloc, text, power)
 }
 
-// The digits behind the point with the point, or nothing where all are zeros.
+// Appends a point and the digits after it, or nothing if all of them are zeros.
 fn put_fraction(text: &mut Vec<u8>, digits: &[u8]) -> Result<(), AllocError>
     ensures { OnOk result (text.new.items ≡ text.old.items ++ spec.fraction_part digits.now) }
 {
@@ -100,7 +100,7 @@ fn put_fraction(text: &mut Vec<u8>, digits: &[u8]) -> Result<(), AllocError>
     text.extend_from_slice(kept)
 }
 
-// The exponent with its mark and sign.
+// Appends the exponent with its mark and sign.
 fn put_exponent(alloc: Global, text: &mut Vec<u8>, power: i32) -> Result<(), AllocError>
     ensures { OnOk result (text.new.items ≡ text.old.items ++ spec.exponent_text power) }
 {
@@ -112,7 +112,7 @@ fn put_exponent(alloc: Global, text: &mut Vec<u8>, power: i32) -> Result<(), All
     put_two_digits(alloc, text, power.unsigned_abs())
 }
 
-// A number in at least two digits.
+// Appends a number with at least two digits.
 fn put_two_digits(alloc: Global, text: &mut Vec<u8>, n: u32) -> Result<(), AllocError>
     ensures { OnOk result (text.new.items ≡ text.old.items ++ spec.two_digits n) }
 {
@@ -123,7 +123,7 @@ fn put_two_digits(alloc: Global, text: &mut Vec<u8>, n: u32) -> Result<(), Alloc
     text.extend_from_slice(numeral.as_bytes())
 }
 
-// The digits without the zeros at their end.
+// Returns the digits without trailing zeros.
 fn without_end_zeros(digits: &[u8]) -> &[u8]
     ensures { result.now ≡ spec.without_end_zeros digits.now }
 {

@@ -1,4 +1,4 @@
-//! Numbers as texts: a fraction exactly, or rounded to so many significant digits.
+//! Numbers as texts: a fraction exactly, or rounded to a given number of significant digits.
 #![tactic(auto)]
 
 mod decimal;

@@ -1,4 +1,4 @@
-//! Rounding a ratio to so many significant digits.
+//! Rounding a ratio to a given number of significant digits.
 
 ghost use Rattle.std.specs.Prelude.{◌≡◌, ◌<◌, ◌≤◌, ◌+◌, ◌*◌, ◌/◌, ◌^◌, pos, negsuc, ◌<ℤ◌, ◌≤ℤ◌};
 ghost use Rattle.std.specs.Ordering.{nat_cmp};
@@ -9,7 +9,7 @@ use crate::decimal::{Decimal, MOST_DIGITS, power_of_ten};
 use crate::tenfold::ten_times;
 use std::cmp::Ordering;
 
-// A ratio above 0 rounded to so many significant digits.
+// Returns a ratio above 0, rounded to this many significant digits.
 pub(crate) fn rounded(top: u128, bottom: u128, digits: u32) -> Decimal
     requires some { 0 < digits }
     requires most { digits ≤ MOST_DIGITS }
@@ -28,7 +28,7 @@ pub(crate) fn rounded(top: u128, bottom: u128, digits: u32) -> Decimal
     }
 }
 
-// The same where the whole part has at most so many digits: digits are added behind the point.
+// Rounds a ratio whose whole part has at most this many digits, by adding digits after the point.
 fn lengthened(top: u128, bottom: u128, digits: u32) -> Decimal
     requires some { 0 < digits }
     requires most { digits ≤ MOST_DIGITS }
@@ -54,7 +54,7 @@ fn lengthened(top: u128, bottom: u128, digits: u32) -> Decimal
     Decimal::rounded(number, (rest * 2).cmp(&bottom), -(places as i32), digits)
 }
 
-// The same where the whole part has more digits: those past the first ones are cut off.
+// Rounds a ratio whose whole part has more digits, by cutting off the digits after the first ones.
 fn shortened(top: u128, bottom: u128, digits: u32) -> Decimal
     requires some { 0 < digits }
     requires most { digits ≤ MOST_DIGITS }
@@ -77,7 +77,7 @@ fn shortened(top: u128, bottom: u128, digits: u32) -> Decimal
     Decimal::rounded(whole / unit, cut, places as i32, digits)
 }
 
-// How a whole number and a part of the bottom compare with half of the unit.
+// Compares a whole number plus a fraction over `bottom` with half of the unit.
 fn compared_with_half(whole: u128, part: u128, bottom: u128, unit: u128) -> Ordering
     requires part { part < bottom }
     requires even { 2 * (unit / 2) ≡ unit }

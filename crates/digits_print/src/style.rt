@@ -1,4 +1,4 @@
-//! Numbers in a style.
+//! Numbers in a given style.
 
 ghost use Rattle.std.specs.Prelude.{◌≡◌, IfOk};
 ghost use Rattle.digits_print.specs.Styles.{IsStyle, number_text};
@@ -9,16 +9,16 @@ use frac128::Frac;
 use std::alloc::{AllocError, Global};
 use units_io::Text;
 
-/// How a number is written.
+/// The style in which a number is written.
 #[derive(Clone, Copy)]
 pub enum Style {
-    /// With so many significant digits, as `print_digits` writes it.
+    /// With this many significant digits, as in `print_digits`.
     Digits(u8),
     /// Exactly, as `n` or `n|d`.
     Exact,
 }
 
-/// The number in a style, whose digits are from 1 to 36. The only error is want of memory.
+/// Returns the number in a style with 1 to 36 digits, or in the exact style. Fails only if memory runs out.
 pub fn print_number(alloc: Global, x: &Frac, style: Style) -> Result<Text, AllocError>
     requires { IsStyle style }
     ensures { IfOk result (λ text. text ≡ number_text style x.now) }

@@ -2,15 +2,15 @@
 
 ghost use Rattle.std.specs.Prelude.{◌≡◌, ◌<◌, ◌≤◌, ◌+◌, ◌*◌, ◌^◌};
 
-// A whole number, and a rest over the bottom.
+// A whole number and a remainder over the bottom.
 #[derive(Clone, Copy)]
 pub(crate) struct Mixed {
     pub(crate) whole: u128,
     pub(crate) rest: u128,
 }
 
-// Ten times the rest over the bottom. Since ten times the rest may be wider than 128 bits, the
-// bottom is taken off after each doubling.
+// Returns ten times `rest` over `bottom`. Since ten times `rest` may not fit in 128 bits, `bottom` is subtracted after
+// each doubling.
 pub(crate) fn ten_times(rest: u128, bottom: u128) -> Mixed
     requires rest { rest < bottom }
     requires bottom { bottom ≤ 2 ^ 127 }
@@ -24,7 +24,8 @@ pub(crate) fn ten_times(rest: u128, bottom: u128) -> Mixed
     normalized(five.whole * 2, five.rest * 2, bottom)
 }
 
-// The whole number and the part over the bottom, with the bottom taken off the part.
+// Returns the whole number and the part over `bottom`, with `bottom` carried from the part if it is not below
+// `bottom`.
 fn normalized(whole: u128, part: u128, bottom: u128) -> Mixed
     requires few { whole < 100 }
     requires part { part < 2 * bottom }

@@ -1,4 +1,4 @@
--- The first segment that holds a number.
+-- The first segment that contains a number.
 use Rattle.std.proofs.Common.{◌≡◌, ◌+◌, ◌-◌, ◌<◌, ◌≤◌, ℕ, suc, zero, List, [], ◌∷◌, length, get_or, drop, take, arith}
 use Rattle.std.proofs.Common.{refl, sym, ap, ◌∙◌}
 use Rattle.std.specs.Prelude.{◌&&◌, Bool, true, false, not, cond, max, IsTrue, Some, None, Err, find, All}
@@ -16,14 +16,14 @@ use Rattle.piecewise.specs.declared.fault.TableFault.TheVariants.{OutsideTable}
 use Rattle.std.proofs.lemmas.List.{get_or_default, get_or_read}
 use Rattle.piecewise.proofs.Neighbours.{AreNeighbours, both, between-around, compared-reverse, drop-left, drop-right}
 
--- the first segment from the left one on is theirs
+-- the segments from the left neighbour on start with the segment of the neighbours
 pub segments-left : (points : List Point) (i : ℕ) (p q : Point) → AreNeighbours points i p q
     → segments (drop (i - 1) points) ≡ record { left = p; right = q } ∷ segments (drop i points)
 segments-left points i p q are =
     ap segments (drop-left points i p q are)
     ∙ sym (ap (λ xs. record { left = p; right = q } ∷ segments xs) (drop-right points i p q are))
 
--- one point has no segment
+-- a single point has no segment
 pub segments-last : (points : List Point) (i : ℕ) → length points ≡ i + 1 → segments (drop i points) ≡ []
 segments-last [] i h = absurd (omega arith)
 segments-last (p ∷ []) zero h = refl
@@ -31,7 +31,7 @@ segments-last (p ∷ []) (suc i) h = absurd (omega arith)
 segments-last (p ∷ q ∷ points) zero h = absurd (omega arith)
 segments-last (p ∷ q ∷ points) (suc i) h = segments-last (q ∷ points) i (omega arith)
 
--- the search for y goes on behind neighbours that are not around it
+-- the search for y continues after neighbours that are not around it
 pub find-y_more : (points : List Point) (i : ℕ) (p q : Point) (y : Fraction) → AreNeighbours points i p q
     → are_around (compared p.1 y) (compared q.1 y) ≡ false
     → find (holds_y y) (segments (drop (i - 1) points)) ≡ find (holds_y y) (segments (drop i points))
@@ -40,7 +40,7 @@ find-y_more points i p q y are other =
     ∙ ap (λ b. cond b (Some (record { left = p; right = q })) (find (holds_y y) (segments (drop i points))))
     (between-around p.1 q.1 y ∙ other)
 
--- and ends at neighbours that are
+-- the search for y ends at neighbours that are around it
 pub find-y_here : (points : List Point) (i : ℕ) (p q : Point) (y : Fraction) → AreNeighbours points i p q
     → are_around (compared p.1 y) (compared q.1 y) ≡ true
     → find (holds_y y) (segments (drop (i - 1) points)) ≡ Some (record { left = p; right = q })
@@ -49,18 +49,18 @@ find-y_here points i p q y are around =
     ∙ ap (λ b. cond b (Some (record { left = p; right = q })) (find (holds_y y) (segments (drop i points))))
     (between-around p.1 q.1 y ∙ around)
 
--- the second test fails
+-- if the second test fails, so does the conjunction
 and-false : (a b : Bool) → b ≡ false → (a && b) ≡ false
 and-false true b h = h
 and-false false b h = refl
 
--- what tests say of the order
+-- an order that passes the test for less is `Less`
 less_is : (o : Ordering) → is_lt o ≡ true → o ≡ Less
 less_is Less h = refl
 less_is Equal h = absurd (cc)
 less_is Greater h = absurd (cc)
 
--- the test of the exchanged numbers
+-- the test for at most is the negation of the test for less with the numbers exchanged
 le-less : (a b : Fraction) (t : Bool) → is_lt (compared b a) ≡ not t → is_le (compared a b) ≡ t
 le-less a b t h = ap is_le (compared-reverse a b) ∙ by_order (compared b a) t h
   where
@@ -76,7 +76,7 @@ le-less a b t h = ap is_le (compared-reverse a b) ∙ by_order (compared b a) t 
 abbrev pub IsKnown : Point → Type 0
 IsKnown p = 0 < p.0.den
 
--- so it is of the points up to the right one of two neighbours, where it is of those before
+-- the denominators up to the right neighbour are above 0 if those before it are
 pub known_more : (points : List Point) (i : ℕ) (p q : Point) → AreNeighbours points i p q
     → (1 < i → All IsKnown (take i points))
     → IsKnown (get_or points (i - 1) p) × IsKnown (get_or points i q) → All IsKnown (take (i + 1) points)
@@ -87,28 +87,28 @@ known_more points (suc zero) p q are before known =
 known_more points (suc (suc i)) p q are before known =
     All-more IsKnown points (suc (suc i)) q are.within (before (omega arith)) known.1
 
--- the points rise, and their denominators are above 0
+-- the points are increasing, and their denominators are above 0
 pub record AreRising (points : List Point) : Type 0 where
   pub rise : IsTrue (rises points)
   pub denominators : All IsKnown points
 
--- so do those of a table
+-- the points of a table are increasing, with denominators above 0
 pub kept_rising : (points : List Point) → ArePoints points → AreRising points
 kept_rising points are = record { rise = (both _ (rises points) are.table).1; denominators = are.denominators }
 
--- and those behind the first one
+-- if points are increasing, so are those after the first one
 rising-tail : (p : Point) (points : List Point) → AreRising (p ∷ points) → AreRising points
 unfolding rises
 rising-tail p [] are = record { rise = refl; denominators = All-tail IsKnown p [] are.denominators }
 rising-tail p (q ∷ points) are =
     record { rise = (both _ _ are.rise).1; denominators = All-tail IsKnown p (q ∷ points) are.denominators }
 
--- and the first is less than the second
+-- if points are increasing, the first is less than the second
 rising-next : (p q : Point) (points : List Point) → AreRising (p ∷ q ∷ points) → compared p.0 q.0 ≡ Less
 unfolding rises
 rising-next p q points are = less_is _ (both _ _ are.rise).0
 
--- and than each other one
+-- if points are increasing, the first is less than each other one
 rising-first : OrderLaw → (p : Point) (points : List Point) → AreRising (p ∷ points) → (j : ℕ) (d : Point)
     → j < length points
     → compared p.0 (get_or points j d).0 ≡ Less
@@ -123,11 +123,11 @@ rising-first law p (q ∷ points) are (suc j) d h =
     (All-get_or IsKnown points j d inside (All-tail IsKnown q points rest.denominators))
     (rising-next p q points are) (rising-first law q points rest j d inside)
 
--- a test that says whether the x of a point is less than x
+-- the x of a point is less than x
 abbrev pub is_left : Fraction → Point → Bool
 is_left x p = is_lt (compared p.0 x)
 
--- the points whose x is less stand before the others
+-- the points with a lesser x precede all others
 pub rising-partitioned : OrderLaw → (x : Fraction) → 0 < x.den → (points : List Point) → AreRising points
     → IsPartitionedBy (is_left x) points
 rising-partitioned law x some [] are i j d low within left = absurd (omega arith)
@@ -142,7 +142,7 @@ rising-partitioned law x some (p ∷ points) are (suc i) zero d low within left 
 rising-partitioned law x some (p ∷ points) are (suc i) (suc j) d low within left =
     rising-partitioned law x some points (rising-tail p points are) i j d (omega arith) (omega arith) left
 
--- no segment holds a number below the first x
+-- no segment contains a number below the first x
 find-x_before : OrderLaw → (x : Fraction) → 0 < x.den → (p : Point) (points : List Point) → AreRising (p ∷ points)
     → compared x p.0 ≡ Less → find (holds_x x) (segments (p ∷ points)) ≡ None
 find-x_before law x some p [] are h = refl
@@ -156,14 +156,14 @@ find-x_before law x some p (q ∷ points) are h =
     (find (holds_x x) (segments (q ∷ points)))) low
     ∙ find-x_before law x some q points rest next
 
--- a segment whose right end is less does not hold the number
+-- a segment whose right end is less does not contain the number
 find-x_more : (x : Fraction) (p q : Point) (points : List Point) → is_left x q ≡ true
     → find (holds_x x) (segments (p ∷ q ∷ points)) ≡ find (holds_x x) (segments (q ∷ points))
 find-x_more x p q points left =
     ap (λ b. cond b (Some (record { left = p; right = q })) (find (holds_x x) (segments (q ∷ points))))
     (and-false (is_le (compared p.0 x)) (is_le (compared x q.0)) (le-less x q.0 false left))
 
--- no segment holds a number above all x but the first
+-- if all x but the first are less than a number, no segment contains it
 find-x_past : (x : Fraction) (d : Point) (points : List Point)
     → ((k : ℕ) → 0 < k → k < length points → is_left x (get_or points k d) ≡ true)
     → find (holds_x x) (segments points) ≡ None
@@ -173,14 +173,14 @@ find-x_past x d (p ∷ q ∷ points) left =
     find-x_more x p q points (left 1 (omega arith) (omega arith))
     ∙ find-x_past x d (q ∷ points) (λ k some within. left (suc k) (omega arith) (omega arith))
 
--- the places r and the next one are those of the first segment that holds x
+-- r and the next index are those of the first segment that contains x
 record IsFirst (x : Fraction) (d : Point) (points : List Point) (r : ℕ) : Type 0 where
   within : suc r < length points
   left : (k : ℕ) → 0 < k → k < suc r → is_left x (get_or points k d) ≡ true
   low : is_lt (compared x (get_or points r d).0) ≡ false
   high : is_left x (get_or points (suc r) d) ≡ false
 
--- where r is the first place from which on a segment holds x, the segment that is found has the points r and r + 1
+-- the search finds the segment of the points at r and r + 1 if it is the first that contains x
 find-x_here : (x : Fraction) (d : Point) (points : List Point) (r : ℕ) → IsFirst x d points r
     → find (holds_x x) (segments points) ≡ Some (record { left = get_or points r d; right = get_or points (suc r) d })
 find-x_here x d [] r is = let h = is.within in absurd (omega arith)
@@ -200,13 +200,13 @@ find-x_here x d (p ∷ q ∷ points) (suc r) is =
       high = is.high;
     })
 
--- what a search by halves found
+-- the result of a binary search
 pub record IsPlace (x : Fraction) (points : List Point) (count place : ℕ) : Type 0 where
   pub many : 2 ≤ length points
   pub parted : IsPartitionPoint (λ p. is_left x p ≡ true) (λ p. is_left x p ≡ false) points count
   pub place_is : place ≡ max count 1
 
--- no point stands behind those that are less
+-- if all points are less, the number is outside the table
 pub y_at-past : (x : Fraction) (points : List Point) (count place : ℕ) → IsPlace x points count place
     → place ≡ length points
     → Err OutsideTable ≡ y_at points x
@@ -216,7 +216,7 @@ y_at-past x (p ∷ points) count place is last =
     sym (ap (given_by (y_on x))
     (find-x_past x p (p ∷ points) (λ k some within. is.parted.0 k p (omega arith) (omega arith))))
 
--- the number is less than the x of the left point
+-- if the number is less than the x of the left point, it is outside the table
 pub y_at-before : OrderLaw → (x : Fraction) → 0 < x.den → (points : List Point) (count place : ℕ) (left : Point)
     → AreRising points → IsPlace x points count place
     → left ≡ get_or points (place - 1) left → is_lt (compared x left.0) ≡ true → place ≤ length points
@@ -238,7 +238,7 @@ y_at-before law x some (p ∷ points) (suc count) place left are is left_is h wi
     clash : (o : Ordering) → o ≡ Less → o ≡ Greater → ⊥
     clash o a b = cc
 
--- the segment at the place holds the number
+-- the segment at the index found contains the number
 pub y_at-here : (x : Fraction) (points : List Point) (count place : ℕ) (left right : Point)
     → IsPlace x points count place
     → AreNeighbours points place left right
@@ -267,12 +267,12 @@ y_at-here x points count place left right is are low =
     before : (place n : ℕ) → place < n → place - 1 < n
     before place n h = omega arith
 
--- the search for y has come to the place i, behind which the answer is that of all points
+-- the search for y has reached the index i, and its result from there on is that of all points
 pub record IsSearched (points : List Point) (y : Fraction) (i : ℕ) (before : Ordering) : Type 0 where
   pub before_is : (p : Point) → before ≡ compared (get_or points (i - 1) p).1 y
   pub rest : find (holds_y y) (segments (drop (i - 1) points)) ≡ find (holds_y y) (segments points)
 
--- and goes on
+-- the search continues after neighbours that are not around y
 pub x_at-more : (points : List Point) (y : Fraction) (i : ℕ) (before after : Ordering) (right : Point)
     → IsSearched points y i before → 0 < i → i < length points
     → right ≡ get_or points i right → after ≡ compared right.1 y → are_around before after ≡ false
@@ -300,7 +300,7 @@ x_at-more points y i before after right is some within right_is after_is other =
     back : (i : ℕ) → i + 1 - 1 ≡ i
     back i = omega arith
 
--- it ends at neighbours that are around y
+-- the search ends at neighbours that are around y
 pub x_at-here : (points : List Point) (y : Fraction) (i : ℕ) (before after : Ordering) (left right : Point)
     → IsSearched points y i before → AreNeighbours points i left right
     → after ≡ compared right.1 y → are_around before after ≡ true
@@ -312,7 +312,7 @@ x_at-here points y i before after left right is are after_is around =
     ∙ ap (are_around (compared left.1 y)) after_is in
     ap (given_by (x_on y)) (sym is.rest ∙ find-y_here points i left right y are (sym same ∙ around))
 
--- or behind the last point
+-- the search ends after the last point
 pub x_at-past : (points : List Point) (y : Fraction) (i : ℕ) (before : Ordering) → IsSearched points y i before
     → length points ≡ i - 1 + 1 → Err OutsideTable ≡ x_at points y
 unfolding x_at

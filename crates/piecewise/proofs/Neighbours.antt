@@ -14,24 +14,24 @@ use Rattle.piecewise.specs.Lines.{Point}
 use Rattle.piecewise.specs.Points.{is_table, rises}
 use Rattle.piecewise.specs.Tables.{are_around, is_from_to}
 
--- both of two tests
+-- if a conjunction holds, so do both of its tests
 pub both : (a b : Bool) → IsTrue (a && b) → IsTrue a × IsTrue b
 both true b h = (refl, h)
 both false b h = absurd (cc)
 
--- p and q stand at the places i - 1 and i
+-- p and q are the points at the indices i - 1 and i
 pub record AreNeighbours (points : List Point) (i : ℕ) (p q : Point) : Type 0 where
   pub some : 0 < i
   pub within : i < length points
   pub left : p ≡ get_or points (i - 1) p
   pub right : q ≡ get_or points i q
 
--- the points from the right one on
+-- the points from the right neighbour on
 pub drop-right : (points : List Point) (i : ℕ) (p q : Point) → AreNeighbours points i p q
     → drop i points ≡ q ∷ drop (i + 1) points
 drop-right points i p q are = drop_more points i q are.within ∙ ap (λ x. x ∷ drop (i + 1) points) (sym are.right)
 
--- the points from the left one on
+-- the points from the left neighbour on
 pub drop-left : (points : List Point) (i : ℕ) (p q : Point) → AreNeighbours points i p q
     → drop (i - 1) points ≡ p ∷ q ∷ drop (i + 1) points
 drop-left points i p q are =
@@ -46,7 +46,7 @@ drop-left points i p q are =
     next_is : (i : ℕ) → 0 < i → i - 1 + 1 ≡ i
     next_is i h = omega arith
 
--- the points rise from one on where it is less than the next, from which they rise
+-- the points are increasing from a point on if it is less than the next and they are increasing from there on
 pub rises-left : (points : List Point) (i : ℕ) (p q : Point) → AreNeighbours points i p q
     → rises (drop (i - 1) points) ≡ (is_lt (compared p.0 q.0) && rises (drop i points))
 unfolding rises
@@ -54,13 +54,13 @@ rises-left points i p q are =
     ap rises (drop-left points i p q are)
     ∙ sym (ap (λ xs. is_lt (compared p.0 q.0) && rises xs) (drop-right points i p q are))
 
--- how they stand to each other
+-- the order of the neighbours is that of the points at their indices
 same_order : {points : List Point} {i : ℕ} {p q : Point} → AreNeighbours points i p q
     → compared p.0 q.0 ≡ compared (get_or points (i - 1) p).0 (get_or points i q).0
 same_order {points} {i} {p} {q} are = ap (λ r. compared r.0 q.0) are.left
     ∙ ap (λ r. compared (get_or points (i - 1) p).0 r.0) are.right
 
--- a point that is not less than the next one
+-- if a point is not less than the next one, the points are not increasing
 pub rises-stop : (points : List Point) (i : ℕ) (p q : Point) (less : Bool) → AreNeighbours points i p q
     → less ≡ is_lt (compared (get_or points (i - 1) p).0 (get_or points i q).0)
     → less ≡ false → rises (drop (i - 1) points) ≡ rises points → false ≡ rises points
@@ -68,7 +68,7 @@ rises-stop points i p q less are less_is none rest =
     ap (λ b. b && rises (drop i points)) (sym none ∙ less_is ∙ sym (ap is_lt (same_order are)))
     ∙ sym (rises-left points i p q are) ∙ rest
 
--- a point that is less
+-- if a point is less than the next one, the points are increasing if they are from the next one on
 pub rises-on : (points : List Point) (i : ℕ) (p q : Point) (less : Bool) → AreNeighbours points i p q
     → less ≡ is_lt (compared (get_or points (i - 1) p).0 (get_or points i q).0)
     → less ≡ true → rises (drop (i - 1) points) ≡ rises points → rises (drop (i + 1 - 1) points) ≡ rises points
@@ -80,7 +80,7 @@ rises-on points i p q less are less_is some rest =
     back : (i : ℕ) → i + 1 - 1 ≡ i
     back i = omega arith
 
--- one point rises
+-- a single point is increasing
 pub rises-last : (points : List Point) (i : ℕ) → length points ≡ i + 1 → rises (drop i points) ≡ true
 unfolding rises
 rises-last [] i h = absurd (omega arith)
@@ -89,11 +89,11 @@ rises-last (p ∷ []) (suc i) h = absurd (omega arith)
 rises-last (p ∷ q ∷ points) zero h = absurd (omega arith)
 rises-last (p ∷ q ∷ points) (suc i) h = rises-last (q ∷ points) i (omega arith)
 
--- an exchange turns the order round
+-- exchanging two numbers reverses their order
 pub compared-reverse : (a b : Fraction) → compared a b ≡ ordering_reverse (compared b a)
 compared-reverse a b = int_cmp_total.antisymm (a.num *ℤ pos b.den) (b.num *ℤ pos a.den)
 
--- a number is between two others where they are around it
+-- a number is between two others if and only if they are around it
 pub between-around : (a b y : Fraction)
     → (is_from_to a b y || is_from_to b a y) ≡ are_around (compared a y) (compared b y)
 between-around a b y = rw (compared-reverse y b, compared-reverse y a) (by_order (compared a y) (compared b y))

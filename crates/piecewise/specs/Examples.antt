@@ -1,4 +1,4 @@
--- Some tables, and what they give.
+-- Some tables and their values.
 use Rattle.std.specs.Prelude.{◌≡◌, ◌∷◌, ◌^◌, [], ℕ, List, pos, true, false, Ok, Err}
 use Rattle.frac128.specs.Fraction.{Fraction, negated, whole}
 use Rattle.frac128.specs.declared.fault.FracFault.TheVariants.{Overflow}
@@ -7,11 +7,11 @@ use Rattle.piecewise.specs.Points.{is_table}
 use Rattle.piecewise.specs.Tables.{x_at, y_at}
 use Rattle.piecewise.specs.declared.fault.TableFault.TheVariants.{OutsideTable, Number}
 
--- a quotient of two whole numbers that is in lowest terms
+-- a quotient of two whole numbers in lowest terms
 abbrev pub quotient : ℕ → ℕ → Fraction
 quotient n d = record { num = pos n; den = d }
 
--- the thicknesses of some gauges of sheets
+-- the thicknesses of some sheet gauges
 abbrev pub gauge : List Point
 gauge =
     (whole (pos 1), quotient 1 500)
@@ -21,7 +21,7 @@ gauge =
     ∷ (whole (pos 23), quotient 1 10)
     ∷ []
 
--- a flat segment and two that fall
+-- a table with a flat segment and two that fall
 abbrev pub falling : List Point
 falling =
     (whole (pos 1), whole (pos 5))
@@ -30,7 +30,7 @@ falling =
     ∷ (whole (pos 5), negated (whole (pos 4)))
     ∷ []
 
--- what the tables give
+-- the values of the tables
 pub record TableExamples : Type 0 where
   pub gauge_rises : is_table gauge ≡ true
   pub one_point : is_table ((whole (pos 1), whole (pos 1)) ∷ []) ≡ false

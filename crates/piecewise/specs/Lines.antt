@@ -1,4 +1,4 @@
--- Straight lines through two points, computed by fraction steps.
+-- Straight lines through two points, computed by operations on fractions.
 use Rattle.std.specs.Prelude.{Result}
 use Rattle.frac128.specs.declared.fault.FracFault.{FracFault}
 use Rattle.frac128.specs.Fraction.{Fraction}

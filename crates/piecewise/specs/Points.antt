@@ -1,4 +1,4 @@
--- Lists of points that are a table.
+-- Lists of points that form a table.
 use Rattle.std.specs.Prelude.{◌≡◌, ◌<◌, ◌&&◌, Bool, true, IsTrue, IsFalse, nat_le, List, ◌∷◌, length, All}
 use Rattle.std.specs.Prelude.{Result, Ok, Err}
 use Rattle.std.specs.Ordering.{is_lt}
@@ -12,16 +12,16 @@ unfoldable pub rises : List Point → Bool
 rises (p ∷ q ∷ points) = is_lt (compared p.0 q.0) && rises (q ∷ points)
 rises _ = true
 
--- from 2 to 1,000 points, whose x rise strictly
+-- from 2 to 1,000 points with strictly increasing x
 abbrev pub is_table : List Point → Bool
 is_table points = nat_le 2 (length points) && nat_le (length points) 1000 && rises points
 
--- what is known of the points of each table of the program
+-- the facts known about the points of each table of the program
 pub record ArePoints (points : List Point) : Type 0 where
   pub table : IsTrue (is_table points)
   pub denominators : All (λ p. 0 < p.0.den) points
 
--- what becomes of a list of points that is to be a table
+-- the result of making a table from a list of points
 abbrev pub IsMade : List Point → Result (List Point) PointsFault → Type 0
 IsMade points (Ok made) = IsTrue (is_table points) × (made ≡ points)
 IsMade points (Err BadPoints) = IsFalse (is_table points)

@@ -1,4 +1,4 @@
--- Reading a table of points both ways.
+-- Reading a table of points in both directions.
 use Rattle.std.specs.Prelude.{◌&&◌, ◌||◌, Bool, true, false, List, [], ◌∷◌, Option, Some, None, Result, Ok, Err, find}
 use Rattle.std.specs.Prelude.{if◌then◌else◌}
 use Rattle.std.specs.declared.cmp.Ordering.{Ordering}
@@ -16,24 +16,24 @@ pub record Segment : Type 0 where
   pub left : Point
   pub right : Point
 
--- the segments of a table, from the left
+-- the segments of a table, from left to right
 abbrev pub segments : List Point → List Segment
 segments (p ∷ q ∷ points) = record { left = p; right = q } ∷ segments (q ∷ points)
 segments _ = []
 
--- a is from low to high, both included
+-- a is between low and high, inclusive
 abbrev pub is_from_to : Fraction → Fraction → Fraction → Bool
 is_from_to low high a = is_le (compared low a) && is_le (compared a high)
 
--- x is between the two x of the segment, both included
+-- x is between the two x of the segment, inclusive
 abbrev pub holds_x : Fraction → Segment → Bool
 holds_x x s = is_from_to s.left.0 s.right.0 x
 
--- y is between the two y of the segment, both included, whichever is the greater
+-- y is between the two y of the segment, inclusive, whichever of them is greater
 abbrev pub holds_y : Fraction → Segment → Bool
 holds_y y s = is_from_to s.left.1 s.right.1 y || is_from_to s.right.1 s.left.1 y
 
--- two numbers are on both sides of a third one, or one of them is that one, by how they stand to it
+-- two numbers are on opposite sides of a third, or one of them equals it, given how they compare with it
 abbrev pub are_around : Ordering → Ordering → Bool
 are_around Less Less = false
 are_around Greater Greater = false
@@ -43,28 +43,28 @@ are_around _ _ = true
 abbrev pub y_on : Fraction → Segment → Result Fraction FracFault
 y_on x s = on_line s.left s.right x
 
--- the x at y on the segment: that of its left end where the segment is flat
+-- the x at y on the segment, or the x of its left end if the segment is flat
 abbrev pub x_on : Fraction → Segment → Result Fraction FracFault
 x_on y s =
     if is_eq (compared s.left.1 s.right.1)
     then Ok s.left.0
     else on_line (exchanged s.left) (exchanged s.right) y
 
--- the number, or the fault of the step that has none
+-- the number, or the fault of the operation that failed
 abbrev pub numbered : Result Fraction FracFault → Result Fraction TableFault
 numbered (Ok x) = Ok x
 numbered (Err fault) = Err (Number fault)
 
--- what the segment gives, or outside where there is no segment
+-- the value on the segment, or `OutsideTable` if there is no segment
 abbrev pub given_by : (Segment → Result Fraction FracFault) → Option Segment
     → Result Fraction TableFault
 given_by value None = Err OutsideTable
 given_by value (Some s) = numbered (value s)
 
--- the y at x: on the first segment that holds x
+-- the y at x, on the first segment that contains x
 unfoldable pub y_at : List Point → Fraction → Result Fraction TableFault
 y_at points x = given_by (y_on x) (find (holds_x x) (segments points))
 
--- the x at y: on the first segment that holds y
+-- the x at y, on the first segment that contains y
 unfoldable pub x_at : List Point → Fraction → Result Fraction TableFault
 x_at points y = given_by (x_on y) (find (holds_y y) (segments points))

@@ -1,7 +1,7 @@
-//! Some tables, and what they give. The function here does nothing: its contract is the examples.
+//! Some tables and their values. The function here does nothing: its contract states the examples.
 ghost use Rattle.piecewise.specs.Examples.{TableExamples};
 
-/// Tables, and what they give both ways.
+/// Tables, and their values in both directions.
 pub fn table_examples()
     ensures { TableExamples }
 {}

@@ -1,14 +1,14 @@
-//! Why points are no table, and why a table has no number.
+//! The faults of making and reading tables.
 
 use frac128::FracFault;
 use std::alloc::AllocError;
 
-/// Why points are no table.
+/// The reason why points do not form a table.
 #[derive(Clone, Copy)]
 pub enum PointsFault {
-    /// There are fewer than 2 points or more than 1,000, or their x do not rise strictly.
+    /// There are fewer than 2 points or more than 1,000, or their x are not strictly increasing.
     BadPoints,
-    /// There was no memory.
+    /// Out of memory.
     OutOfMemory,
 }
 
@@ -23,11 +23,11 @@ impl From<AllocError> for PointsFault {
     }
 }
 
-/// Why a table has no number.
+/// The reason why a table has no result.
 #[derive(Clone, Copy)]
 pub enum TableFault {
-    /// No segment holds the number.
+    /// No segment contains the number.
     OutsideTable,
-    /// A step on fractions has this fault.
+    /// An operation on fractions failed with this fault.
     Number(FracFault),
 }

@@ -1,4 +1,4 @@
-//! Tables of points, read both ways along the straight lines between neighbours.
+//! Tables of points, read in both directions by linear interpolation between neighbours.
 #![tactic(auto)]
 
 mod examples;

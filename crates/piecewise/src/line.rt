@@ -5,7 +5,7 @@ ghost use Rattle.piecewise.specs.Lines as spec;
 
 use frac128::{Frac, FracFault};
 
-// A line through two points, each an x and its y.
+// A line through two points, each given by its x and its y.
 #[derive(Clone, Copy)]
 pub(crate) struct Line<'a> {
     pub(crate) x0: &'a Frac,
@@ -15,7 +15,7 @@ pub(crate) struct Line<'a> {
 }
 
 impl Line<'_> {
-    // The y at x: y0 + (y1 - y0) * (x - x0) / (x1 - x0).
+    // Returns the y at x: y0 + (y1 - y0) * (x - x0) / (x1 - x0).
     #[tactic(auto, unfolding(crate::specs::Lines::on_line))]
     pub(crate) fn at(&self, x: &Frac) -> Result<Frac, FracFault>
         ensures { result ≡ spec.on_line (self.now.x0.now, self.now.y0.now) (self.now.x1.now, self.now.y1.now) x.now }

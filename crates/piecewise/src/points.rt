@@ -14,7 +14,7 @@ use std::alloc::{AllocError, Global};
 use std::cmp::Ordering;
 use std::marker::Model;
 
-// The fewest and the most points of a table.
+// The minimum and the maximum number of points of a table.
 const FEWEST: usize = 2;
 
 const MOST: usize = 1_000;
@@ -22,7 +22,7 @@ const MOST: usize = 1_000;
 // An x and its y.
 type Point = (Frac, Frac);
 
-/// From 2 to 1,000 points, each an x and its y, whose x rise strictly.
+/// From 2 to 1,000 points, each an x and its y, with strictly increasing x.
 #[derive(Drop)]
 pub struct Points {
     points: Vec<Point>,
@@ -42,8 +42,8 @@ impl Model for Points {
 }
 
 impl Points {
-    /// The table of these points, each an x and its y. `BadPoints` where there are fewer than 2
-    /// or more than 1,000, or where the x do not rise strictly.
+    /// Creates a table of these points, each an x and its y. The error is `BadPoints` if there are fewer than 2 points
+    /// or more than 1,000, or if the x are not strictly increasing.
     pub fn new(alloc: Global, pairs: &[(Frac, Frac)]) -> Result<Points, PointsFault>
         ensures { point_spec.IsMade pairs.now result }
     {
@@ -55,8 +55,8 @@ impl Points {
         })
     }
 
-    /// The y at x, on the line of the first segment between neighbours that holds x. `OutsideTable`
-    /// where none does, and `Number` with the fault of the first step that has one.
+    /// Returns the y at x, on the first segment between neighbours that contains x. The error is `OutsideTable` if no
+    /// segment does, and `Number` with the fault of the first operation that fails.
     pub fn at(&self, x: &Frac) -> Result<Frac, TableFault>
         ensures { result ≡ spec.y_at self.now x.now }
     {
@@ -72,9 +72,9 @@ impl Points {
         y_on(left, &self.points[place], x)
     }
 
-    /// The x at y, on the line of the first segment between neighbours that holds y, rising or
-    /// falling, or the x of its left end where it is flat. `OutsideTable` where none does, and
-    /// `Number` with the fault of the first step that has one.
+    /// Returns the x at y, on the first segment between neighbours that contains y. The segment may rise or fall; if
+    /// it is flat, the result is the x of its left end. The error is `OutsideTable` if no segment contains y, and
+    /// `Number` with the fault of the first operation that fails.
     pub fn back(&self, y: &Frac) -> Result<Frac, TableFault>
         ensures { result ≡ spec.x_at self.now y.now }
     {
@@ -90,7 +90,7 @@ impl Points {
         Err(TableFault::OutsideTable)
     }
 
-    /// An equal table.
+    /// Returns a copy of the table.
     pub fn copy(&self, alloc: Global) -> Result<Points, AllocError>
         ensures { IfOk result (λ points. points ≡ self.now) }
     {
@@ -100,7 +100,7 @@ impl Points {
     }
 }
 
-// Whether each x is less than the next one. The denominators are those of fractions.
+// Reports whether each x is less than the next one. The denominators are those of fractions.
 fn rises(points: &[Point]) -> bool
     requires { 1 < length points.now }
     ensures value { result ≡ point_spec.rises points.now }
@@ -114,7 +114,7 @@ fn rises(points: &[Point]) -> bool
     true
 }
 
-// Whether a number is less than another. The denominators are those of fractions.
+// Reports whether one number is less than another. The denominators are those of fractions.
 fn is_less(left: &Frac, right: &Frac) -> bool
     ensures order { result ≡ is_lt (compared left.now right.now) }
     ensures denominators { (0 < left.now.den) × (0 < right.now.den) }
@@ -122,7 +122,7 @@ fn is_less(left: &Frac, right: &Frac) -> bool
     left.cmp(right).is_lt()
 }
 
-// Whether a number is between two others, both included, by how they stand to it.
+// Reports whether a number lies between two others, inclusive, given how they compare with it.
 fn encloses(left: Ordering, right: Ordering) -> bool
     ensures { result ≡ spec.are_around left right }
 {
@@ -132,7 +132,7 @@ fn encloses(left: Ordering, right: Ordering) -> bool
     )
 }
 
-// The y at x on the segment.
+// Returns the y at x on the segment.
 fn y_on(left: &Point, right: &Point, x: &Frac) -> Result<Frac, TableFault>
     ensures { result ≡ spec.numbered (spec.y_on x.now (record { left = left.now; right = right.now })) }
 {
@@ -145,7 +145,7 @@ fn y_on(left: &Point, right: &Point, x: &Frac) -> Result<Frac, TableFault>
     line.at(x).map_err(TableFault::Number)
 }
 
-// The x at y on the segment, or that of its left end where it is flat.
+// Returns the x at y on the segment, or the x of its left end if it is flat.
 fn x_on(left: &Point, right: &Point, y: &Frac) -> Result<Frac, TableFault>
     ensures { result ≡ spec.numbered (spec.x_on y.now (record { left = left.now; right = right.now })) }
 {

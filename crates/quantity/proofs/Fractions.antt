@@ -15,34 +15,34 @@ use Rattle.quantity.specs.Exponents.{exponent_product, exponent_sum}
 abbrev pub nothing : Fraction
 nothing = whole (pos 0)
 
--- the exponent, where it is not 0
+-- the exponent, or `None` if it is 0
 abbrev pub kept : Fraction → Option Fraction
 kept e = cond (is_zero e) None (Some e)
 
--- it is in lowest terms
+-- the exponent of an absent name is in lowest terms
 pub nothing_reduced : IsReduced nothing
 nothing_reduced = record { positive = omega arith; lowest = (dvd-zero 1, dvd_refl 1, λ d p q. q) }
 
--- so is each whole number
+-- each whole number is in lowest terms
 pub whole_reduced : (n : ℤ) → IsReduced (whole n)
 whole_reduced n = record { positive = omega arith; lowest = (one-dvd (unsigned_abs n), dvd_refl 1, λ d p q. q) }
 
--- the magnitude of a number with the other sign
+-- negating a number preserves its magnitude
 pub abs-neg : (n : ℤ) → unsigned_abs (neg_ℤ n) ≡ unsigned_abs n
 abs-neg (pos zero) = refl
 abs-neg (pos (suc n)) = refl
 abs-neg (negsuc n) = refl
 
--- the other sign leaves lowest terms
+-- negating a fraction preserves lowest terms
 pub negated_reduced : (e : Fraction) → IsReduced e → IsReduced (negated e)
 negated_reduced e is =
     record { positive = is.positive; lowest = subst (λ n. IsGcd n e.den 1) (sym (abs-neg e.num)) is.lowest }
 
--- and whether the exponent is 0
+-- negating an exponent preserves whether it is 0
 pub negated_zero : (e : Fraction) → is_zero (negated e) ≡ is_zero e
 negated_zero e = ap (λ n. n == 0) (abs-neg e.num)
 
--- a reduced fraction that is 0
+-- a reduced fraction that is 0 is the exponent of an absent name
 pub zero_is : (e : Fraction) → IsReduced e → is_zero e ≡ true → e ≡ nothing
 zero_is e is none = go e.num e.den is.lowest none
   where
@@ -58,7 +58,7 @@ zero_is e is none = go e.num e.den is.lowest none
     go (pos (suc n)) d h e = absurd (not_zero n e)
     go (negsuc n) d h e = absurd (not_zero n e)
 
--- the exponent that is looked up is the one that is there
+-- the exponent that a lookup finds, or 0 if it finds none, is the exponent
 pub unwrap_kept : (e : Fraction) → IsReduced e → unwrap_or (kept e) nothing ≡ e
 unwrap_kept e is = go (is_zero e) refl
   where
@@ -66,7 +66,7 @@ unwrap_kept e is = go (is_zero e) refl
     go true none = sym (zero_is e is none)
     go false some = refl
 
--- an exponent that is not 0 is kept
+-- a nonzero exponent is found
 pub some_kept : (e : Fraction) → IsFalse (is_zero e) → kept e ≡ Some e
 some_kept e some = ap (λ z. cond z None (Some e)) some
 
@@ -77,7 +77,7 @@ module _ (law : ReducedLaw) where
   pub product_reduced : (a b : Fraction) → 0 < a.den → 0 < b.den → IsReduced (exponent_product a b)
   product_reduced a b p q = (law _ (a.den * b.den) (grind (arith))).0
 
-  -- the sum with an exponent that is absent
+  -- the sum with the exponent of an absent name is the other exponent
   pub sum_left : (a : Fraction) → IsReduced a → exponent_sum a nothing ≡ a
   unfolding one
   sum_left a is =
@@ -94,11 +94,11 @@ module _ (law : ReducedLaw) where
       let den : 1 * b.den ≡ b.den = omega arith in
       ap (λ z. reduced z (1 * b.den)) num ∙ ap (reduced b.num) den ∙ sym ((law b.num b.den is.positive).2 b is refl)
 
-  -- a whole number over 1
+  -- a whole number over 1 reduces to that whole number
   pub whole_is : (n : ℤ) → reduced n 1 ≡ whole n
   whole_is n = sym ((law n 1 (omega arith)).2 (whole n) (whole_reduced n) refl)
 
-  -- nothing times a fraction
+  -- the product of 0 and a fraction is 0
   pub product_zero : (by : Fraction) → 0 < by.den → exponent_product nothing by ≡ nothing
   product_zero by some =
       let num : pos 0 *ℤ by.num ≡ pos 0 = zero-*ℤ by.num in

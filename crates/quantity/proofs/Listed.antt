@@ -1,4 +1,4 @@
--- Lists in order as the exponents that a function gives names.
+-- Lists in order as the exponents that a function gives to names.
 use Rattle.std.proofs.Common.{◌≡◌, refl, sym, ap, subst, ◌∙◌, Bool, true, false, cond, not, ◌&&◌, ◌||◌, T, ℕ, List, []}
 use Rattle.std.proofs.Common.{◌∷◌, map, inl, inr, Option, None, Some, filter, ◌≤◌, unsigned_abs, nat_le, arith}
 use Rattle.std.specs.Prelude.{unwrap_or}
@@ -15,29 +15,29 @@ use Rattle.quantity.specs.Merges.{Powers, are_exponents, exponents_in}
 use Rattle.quantity.proofs.Fractions.{kept, nothing, some_kept, unwrap_kept, zero_is}
 use Rattle.quantity.proofs.Names.{Name, by_bytes, find_below, first, is_itself, is_name, one_or_two, same_name, second}
 
--- the exponent at a name in a list, or 0
+-- the exponent of a name in a list, or 0
 abbrev pub at : Powers → Name → Fraction
 at powers q = unwrap_or (find by_bytes q powers) nothing
 
--- the powers that f gives names, but for those that are 0
+-- the powers that f gives to names, without those whose exponent is 0
 abbrev given : (Name → Fraction) → List Name → Powers
 given f names = filter (λ e. not (is_zero e.1)) (map (λ n. (n, f n)) names)
 
--- a look-up passes over another name, and ends at its own
+-- a lookup skips a power with another name
 pub past : (q n : Name) (v : Fraction) (es : Powers) → is_name q n ≡ false
     → find by_bytes q ((n, v) ∷ es) ≡ find by_bytes q es
 past q n v es other = ap (λ b. cond b (Some v) (find by_bytes q es)) other
 
--- a name is found where it stands first
+-- a lookup finds the name of the first power
 pub here : (q : Name) (v : Fraction) (es : Powers) → find by_bytes q ((q, v) ∷ es) ≡ Some v
 here q v es = ap (λ b. cond b (Some v) (find by_bytes q es)) (is_itself q)
 
--- a choice between nothing and nothing is nothing
+-- a choice between `None` and `None` is `None`
 none_at : (b : Bool) (v : Option Fraction) → v ≡ None → cond b v None ≡ None
 none_at true v e = e
 none_at false v e = refl
 
--- what a function gives a name that is among those given
+-- the result of a lookup among the powers that a function gives
 find-given : (f : Name → Fraction) (names : List Name) (q : Name)
     → find by_bytes q (given f names) ≡ cond (list_any (is_name q) names) (kept (f q)) None
 find-given f [] q = refl
@@ -70,12 +70,12 @@ find-given f (n ∷ ns) q =
     another true other = refl
     another false other = past q n (f n) (given f ns) other
 
--- what is known of a function that gives names exponents
+-- the properties of a function that gives exponents to names
 pub record GivesNames (f : Name → Fraction) (names : List Name) : Type 0 where
   pub reduced : (q : Name) → IsReduced (f q)
   pub others : (q : Name) → list_any (is_name q) names ≡ false → f q ≡ nothing
 
--- the exponent of a name in the map of a function
+-- the result of a lookup in the map of a function
 pub get-exponents_by : (f : Name → Fraction) (names : List Name) (q : Name) → GivesNames f names
     → map_of.get (exponents_by f names) q ≡ kept (f q)
 unfolding exponents_by
@@ -87,43 +87,43 @@ get-exponents_by f names q is =
     go true e = refl
     go false e = sym (ap kept (is.others q e))
 
--- the exponent of a name in the map of a function is the function's
+-- the exponent of a name in the map of a function is the one that the function gives
 pub exponent_of-exponents_by : (f : Name → Fraction) (names : List Name) (q : Name) → GivesNames f names
     → exponent_of (exponents_by f names) q ≡ f q
 exponent_of-exponents_by f names q is = ap (λ o. unwrap_or o nothing) (get-exponents_by f names q is)
     ∙ unwrap_kept (f q) (is.reduced q)
 
--- a list in order has what a function gives
+-- a list in order has the exponents that a function gives
 pub record Lists (f : Name → Fraction) (es : Powers) : Type 0 where
   pub sorted : T (is_sorted by_bytes es)
   pub found : (q : Name) → find by_bytes q es ≡ kept (f q)
 
--- then it is the map of that function
+-- a list with the exponents that a function gives is the map of that function
 pub listed_map : (f : Name → Fraction) (names : List Name) (es : Powers) → GivesNames f names → Lists f es
     → exponents_in es ≡ exponents_by f names
 listed_map f names es is lists = map_of.same_map nat_list_cmp_total same_name _ _ (λ q.
     map_of.get-from_sorted by_bytes es q lists.sorted ∙ lists.found q ∙ sym (get-exponents_by f names q is))
 
--- ---- and one has an exponent out of range where the other has
+-- ---- exponents out of range in the list and in the map
 
--- what is there twice is one
-some_same : (x v : Fraction) → Some x ≡ Some v → x ≡ v
+-- two values of the same option are equal
+pub some_same : (x v : Fraction) → Some x ≡ Some v → x ≡ v
 some_same x v e = cc
 
--- what is kept of an exponent is the exponent
-kept_value : (e v : Fraction) → kept e ≡ Some v → e ≡ v
+-- a nonzero exponent that is found is the exponent
+pub kept_value : (e v : Fraction) → kept e ≡ Some v → e ≡ v
 kept_value e v = go (is_zero e)
   where
     go : (z : Bool) → cond z None (Some e) ≡ Some v → e ≡ v
     go true h = absurd (cc)
     go false h = some_same e v h
 
--- a test that each name passes all pass
+-- if each name passes a test, all names of a list pass it
 all_pass : (g : Name → Bool) (names : List Name) → ((q : Name) → g q ≡ true) → list_all g names ≡ true
 all_pass g [] h = refl
 all_pass g (n ∷ ns) h = ap (λ b. b && list_all g ns) (h n) ∙ all_pass g ns h
 
--- where one of them fails it, not all do
+-- if a name of a list fails a test, not all names pass it
 one_fails : (g : Name → Bool) (names : List Name) (q : Name) → list_any (is_name q) names ≡ true → g q ≡ false
     → list_all g names ≡ false
 one_fails g [] q there fails = absurd (cc)
@@ -136,8 +136,8 @@ one_fails g (n ∷ ns) q there fails = elim (one_or_two q n) [
     none_left true h = h
     none_left false h = refl
 
--- what is found in a list of exponents is one
-found_exponent : (es : Powers) (q : Name) (v : Fraction) → are_exponents es ≡ true → find by_bytes q es ≡ Some v
+-- the exponent that a lookup finds is one if all exponents of the list are in range
+pub found_exponent : (es : Powers) (q : Name) (v : Fraction) → are_exponents es ≡ true → find by_bytes q es ≡ Some v
     → is_exponent v ≡ true
 found_exponent [] q v all is = absurd (cc)
 found_exponent (e ∷ es) q v all is =
@@ -149,7 +149,7 @@ found_exponent (e ∷ es) q v all is =
     go true is rest = subst (λ x. is_exponent x ≡ true) (some_same e.1 v is) (first_so _ _ all)
     go false is rest = rest is
 
--- what is found in the rest of a list in order is found in the list
+-- a power that a lookup finds in the rest of an ordered list is also found in the list
 found_behind : (e : Name × Fraction) (es : Powers) → T (is_sorted by_bytes (e ∷ es)) → (q : Name) (v : Fraction)
     → find by_bytes q es ≡ Some v → find by_bytes q (e ∷ es) ≡ Some v
 found_behind e es sorted q v found = elim (one_or_two q e.0) [
@@ -158,8 +158,8 @@ found_behind e es sorted q v found = elim (one_or_two q e.0) [
   | inr other ↦ past q e.0 e.1 es other ∙ found
 ]
 
--- a power of a list in order that has no exponent is found
-found_fault : (es : Powers) → T (is_sorted by_bytes es) → are_exponents es ≡ false
+-- if a power of an ordered list is out of range, a lookup finds it
+pub found_fault : (es : Powers) → T (is_sorted by_bytes es) → are_exponents es ≡ false
     → (q : Name) × (v : Fraction) × (find by_bytes q es ≡ Some v) × (is_exponent v ≡ false)
 found_fault [] sorted some = absurd (cc)
 found_fault (e ∷ es) sorted some = go (is_exponent e.1) refl some (λ rest. found_fault es (second _ _ sorted) rest)
@@ -173,7 +173,7 @@ found_fault (e ∷ es) sorted some = go (is_exponent e.1) refl some (λ rest. fo
         (fault.0, fault.1, found_behind e es sorted fault.0 fault.1 fault.2, fault.3)
     go false is some rest = (e.0, e.1, here e.0 e.1 es, is)
 
--- the two tests agree
+-- the range tests of the list and of the names agree
 pub listed_range : (f : Name → Fraction) (names : List Name) (es : Powers) → GivesNames f names → Lists f es
     → are_exponents es ≡ list_all (λ q. is_exponent (f q)) names
 listed_range f names es is lists = go (are_exponents es) refl
@@ -202,14 +202,14 @@ listed_range f names es is lists = go (are_exponents es) refl
         let fault = found_fault es lists.sorted some in
         some ∙ sym (outside fault.0 fault.1 fault.2 fault.3)
 
--- ---- each of its powers is one of the program
+-- ---- each power of the list is one of the program
 
--- what follows from a property of each holds of each
+-- a property implied by another holds for each power if the other does
 weaker : (P Q : Name × Fraction → Type 0) (es : Powers) → ((e : Name × Fraction) → P e → Q e) → Each P es → Each Q es
 weaker P Q [] h all = tt
 weaker P Q (e ∷ es) h all = (h e all.0, weaker P Q es h all.1)
 
--- each power of a list in order is found under its name
+-- a lookup finds each power of an ordered list by its name
 all_found : (es : Powers) → T (is_sorted by_bytes es) → Each (λ e. find by_bytes e.0 es ≡ Some e.1) es
 all_found [] sorted = tt
 all_found (e ∷ es) sorted = (
@@ -217,11 +217,11 @@ all_found (e ∷ es) sorted = (
   weaker _ _ es (λ d found. found_behind e es sorted d.0 d.1 found) (all_found es (second _ _ sorted)),
 )
 
--- a number that is found to be at most another is
+-- the test for at most is true only for a number that is at most the other
 within : (m n : ℕ) → nat_le m n ≡ true → m ≤ n
 within m n h = grind (arith, nat_tests)
 
--- a fraction in lowest terms that is found to be in range is an exponent
+-- a fraction in lowest terms that passes the range test is an exponent
 exponent_fits : (e : Fraction) → IsReduced e → is_exponent e ≡ true → IsExponent e
 exponent_fits e is h = record {
   reduced = is;
@@ -229,7 +229,7 @@ exponent_fits e is h = record {
   den_fits = within _ _ (second_so (nat_le (unsigned_abs e.num) 32767) (nat_le e.den 60) h);
 }
 
--- powers that list the exponents of names are powers of the program where they are in range
+-- powers with the exponents that a function gives are powers of the program if they are in range
 pub all_kept : (f : Name → Fraction) (names : List Name) (es : Powers) → GivesNames f names → Lists f es
     → are_exponents es ≡ true
     → Each IsPower es

@@ -19,26 +19,26 @@ use Rattle.quantity.proofs.Listed.{at}
 use Rattle.quantity.proofs.Merged.{find-at, sorted-map}
 use Rattle.quantity.proofs.Names.{Name, by_bytes, is_name, same_name}
 
--- a number is found to be itself
+-- the equality test is true for a number and itself
 num_self : (n : ℕ) → (n == n) ≡ true
 num_self n = grind (arith, nat_tests)
 
--- numbers that are found equal are one
+-- numbers for which the equality test is true are equal
 num_is : (m n : ℕ) → (m == n) ≡ true → m ≡ n
 num_is m n h = grind (arith, nat_tests)
 
--- so are fractions
+-- fractions for which the equality test is true are equal
 same_is : (x y : Fraction) → same x y ≡ true → x ≡ y
 same_is x y h =
     let num : x.num ≡ y.num = (Decides-int_eq x.num y.num).0 (first_so _ _ h) in
     let den : x.den ≡ y.den = num_is x.den y.den (second_so (int_eq x.num y.num) _ h) in
     ap (λ n. record { num = n; den = x.den }) num ∙ ap (λ d. record { num = y.num; den = d }) den
 
--- a fraction is found to be itself
+-- the equality test is true for a fraction and itself
 same_self : (x : Fraction) → same x x ≡ true
 same_self x = ap (λ b. b && (x.den == x.den)) ((Decides-int_eq x.num x.num).1 refl) ∙ num_self x.den
 
--- so is a name
+-- the equality test is true for a name and itself
 name_self : (n : Name) → pointwise nat_eq n n ≡ true
 name_self n = (bytes_decides n n).1 refl
 
@@ -62,7 +62,7 @@ matches_is (e ∷ es) (f ∷ fs) h =
     let rest : es ≡ fs = matches_is es fs (second_so (pointwise nat_eq e.0 f.0 && same e.1 f.1) _ h) in
     ap₂ (λ n v. (n, v) ∷ es) name value ∙ ap (λ ds. f ∷ ds) rest
 
--- the test of two lists is that of their maps
+-- the lists of two maps match if and only if the maps are equal
 pub conform_is : (p o : Exponents) → (matches (λ e. e) (map_of.entries p) (map_of.entries o) ≡ true) ↔ (p ≡ o)
 conform_is p o = (
   λ h. map_of.same_entries_map p o (matches_is _ _ h),
@@ -71,7 +71,7 @@ conform_is p o = (
 
 -- ---- opposite lists
 
--- where powers match with the other sign, each exponent has it
+-- if powers match with opposite signs, the exponents of each name are opposite
 opposite_at : (ps os : Powers) (q : Name) → matches negated ps os ≡ true → at ps q ≡ negated (at os q)
 opposite_at [] [] q h = refl
 opposite_at [] (o ∷ os) q h = absurd (cc)
@@ -90,7 +90,7 @@ opposite_at (p ∷ ps) (o ∷ os) q h =
     go true value rest = value
     go false value rest = rest
 
--- what is found among powers with the other sign
+-- the result of a lookup among negated powers
 find-negated : (os : Powers) (q : Name) → Each IsPower os
     → find by_bytes q (map (power_by negated) os) ≡ kept (negated (at os q))
 find-negated [] q all = refl
@@ -102,14 +102,14 @@ find-negated (o ∷ os) q all = go (is_name q o.0) (find-negated os q all.1)
     go true rest = sym (some_kept (negated o.1) (negated_zero o.1 ∙ all.0.some))
     go false rest = rest
 
--- powers with the other sign match so
+-- negated powers match with opposite signs
 matches_negated : (os : Powers) → matches negated (map (power_by negated) os) os ≡ true
 matches_negated [] = refl
 matches_negated (o ∷ os) =
     ap₂ (λ a b. (a && b) && matches negated (map (power_by negated) os) os) (name_self o.0) (same_self (negated o.1))
     ∙ matches_negated os
 
--- lists in order match by the negative of each exponent where the maps give them so
+-- ordered lists match with opposite signs if the exponents of each name are opposite
 pub opposite_is : (ps os : Powers) → T (is_sorted by_bytes ps) → T (is_sorted by_bytes os) → Each IsPower ps
     → Each IsPower os
     → (matches negated ps os ≡ true) ↔ ((q : Name) → at ps q ≡ negated (at os q))
@@ -124,22 +124,22 @@ opposite_is ps os sorted sorted_os all all_os = (
 
 -- ---- maps with the same exponents
 
--- the exponent of a name is the one at it in the entries
+-- the exponent of a name in a map is that in the entries of the map
 pub exponent_at : (m : Exponents) (q : Name) → exponent_of m q ≡ at (map_of.entries m) q
 exponent_at m q = ap (λ o. unwrap_or o nothing) (map_of.get-entries m q)
 
--- what a map has for a name is its exponent where that is not 0
+-- a lookup in a map finds the exponent of a name unless it is 0
 get_kept : (m : Exponents) (q : Name) → Each IsPower (map_of.entries m) → map_of.get m q ≡ kept (exponent_of m q)
 get_kept m q all = map_of.get-entries m q ∙ find-at (map_of.entries m) q all ∙ ap kept (sym (exponent_at m q))
 
--- the law of equal exponents
+-- the law that maps with the same exponents are equal
 pub same_exponents_law : SameExponentsLaw
 same_exponents_law p o all all_o same =
     map_of.same_map nat_list_cmp_total same_name p o (λ q.
     get_kept p q (recursion_from_All IsPower _ all) ∙ ap kept (same q)
     ∙ sym (get_kept o q (recursion_from_All IsPower _ all_o)))
 
--- each exponent of a map is the negative of the other's where the lists match so
+-- the exponents of two maps are opposite if and only if their lists match with opposite signs
 pub reciprocal_is : (p o : Exponents) → AreExponents p → AreExponents o
     → (matches negated (map_of.entries p) (map_of.entries o) ≡ true)
     ↔ ((q : Name) → exponent_of p q ≡ negated (exponent_of o q))
@@ -151,7 +151,7 @@ reciprocal_is p o all all_o =
       λ h. both.1 (λ q. sym (exponent_at p q) ∙ h q ∙ ap negated (exponent_at o q)),
     )
 
--- maps conform where each name has one exponent in both
+-- maps conform if and only if each name has the same exponent in both
 pub conform_names : (p o : Exponents) → AreExponents p → AreExponents o
     → (conform p o ≡ true) ↔ ((q : Name) → exponent_of p q ≡ exponent_of o q)
 conform_names p o all all_o = (
@@ -159,7 +159,7 @@ conform_names p o all all_o = (
   λ h. (conform_is p o).1 (same_exponents_law p o all all_o h),
 )
 
--- the law of what conforms
+-- the law of conforming and reciprocal maps
 pub conform_law : ConformLaw
 conform_law p o all all_o =
     record { conforming = conform_names p o all all_o; reciprocal = reciprocal_is p o all all_o }

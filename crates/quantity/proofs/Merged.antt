@@ -16,22 +16,22 @@ use Rattle.quantity.proofs.Listed.{at, here, past}
 use Rattle.quantity.proofs.Names.{Name, below_less, both, by_bytes, find_below, first, is_less, is_name, one_or_two}
 use Rattle.quantity.proofs.Names.{same_name, second, turned}
 
--- what is known of the step that takes the exponents of the second list
+-- the properties of a step that takes the exponents of the second list
 pub record IsStep (step : Fraction → Fraction) : Type 0 where
   pub reduced : (e : Fraction) → IsReduced e → IsReduced (step e)
   pub zero : (e : Fraction) → is_zero (step e) ≡ is_zero e
   pub nothing : step nothing ≡ nothing
   pub fits : (e : Fraction) → is_exponent (step e) ≡ is_exponent e
 
--- ---- the names still rise
+-- ---- the names increase
 
--- a name below all powers is below them as a step takes them
+-- a name below all powers is also below the powers that a step takes
 below-map : (step : Fraction → Fraction) (x : Name) (os : Powers) → T (below_all by_bytes x os)
     → T (below_all by_bytes x (map (power_by step) os))
 below-map step x [] h = tt
 below-map step x (o ∷ os) h = both _ _ (first _ _ h) (below-map step x os (second _ _ h))
 
--- and below one more that it is below
+-- a name below a power and below all others is below the list with that power in front
 pub below-put : (x : Name) (p : Name × Fraction) (es : Powers) → T (is_lt (by_bytes x p.0))
     → T (below_all by_bytes x es)
     → T (below_all by_bytes x (put_some p es))
@@ -41,7 +41,7 @@ below-put x p es h g = go (is_zero p.1)
     go true = g
     go false = both _ _ h g
 
--- so it is below what one power makes of the others
+-- a name below all powers is below the merge with one power in front
 below-into : (step : Fraction → Fraction) (x : Name) (p : Name × Fraction) (rest : Powers → Powers) (os : Powers)
     → ((os : Powers) → T (below_all by_bytes x os) → T (below_all by_bytes x (rest os)))
     → T (is_lt (by_bytes x p.0)) → T (below_all by_bytes x os) → T (below_all by_bytes x (merged_into step p rest os))
@@ -57,20 +57,20 @@ below-into step x p rest (o ∷ os) below h g =
       | Greater ↦ both _ _ (first _ _ g) more
     ]
 
--- so it is below what two lists merge to
+-- a name below all powers of two lists is below their merge
 below-merged : (step : Fraction → Fraction) (x : Name) (ps os : Powers) → T (below_all by_bytes x ps)
     → T (below_all by_bytes x os) → T (below_all by_bytes x (merged step ps os))
 below-merged step x [] os h g = below-map step x os g
 below-merged step x (p ∷ ps) os h g =
     below-into step x p (merged step ps) os (λ os g. below-merged step x ps os (second _ _ h) g) (first _ _ h) g
 
--- sorted powers are so as a step takes them
+-- a step preserves the order of sorted powers
 pub sorted-map : (step : Fraction → Fraction) (os : Powers) → T (is_sorted by_bytes os)
     → T (is_sorted by_bytes (map (power_by step) os))
 sorted-map step [] h = tt
 sorted-map step (o ∷ os) h = both _ _ (below-map step o.0 os (first _ _ h)) (sorted-map step os (second _ _ h))
 
--- and behind one more that is below them
+-- putting a lower power in front preserves the order of sorted powers
 pub sorted-put : (p : Name × Fraction) (es : Powers) → T (below_all by_bytes p.0 es) → T (is_sorted by_bytes es)
     → T (is_sorted by_bytes (put_some p es))
 sorted-put p es h g = go (is_zero p.1)
@@ -79,7 +79,7 @@ sorted-put p es h g = go (is_zero p.1)
     go true = g
     go false = both _ _ h g
 
--- so is what one power makes of the others
+-- merging sorted powers with a lower one in front gives sorted powers
 sorted-into : (step : Fraction → Fraction) (p : Name × Fraction) (ps os : Powers)
     → ((os : Powers) → T (is_sorted by_bytes os) → T (is_sorted by_bytes (merged step ps os)))
     → T (below_all by_bytes p.0 ps) → T (is_sorted by_bytes os) → T (is_sorted by_bytes (merged step (p ∷ ps) os))
@@ -104,7 +104,7 @@ sorted-into step p ps (o ∷ os) rest h g =
           more
     ] refl
 
--- so is what two lists merge to
+-- merging sorted lists gives a sorted list
 pub sorted-merged : (step : Fraction → Fraction) (ps os : Powers) → T (is_sorted by_bytes ps)
     → T (is_sorted by_bytes os)
     → T (is_sorted by_bytes (merged step ps os))
@@ -114,15 +114,15 @@ sorted-merged step (p ∷ ps) os h g =
 
 -- ---- each name has the sum of its exponents
 
--- another name's exponent is passed over
+-- a power with another name does not change the exponent of a name
 pub at-past : (q n : Name) (v : Fraction) (es : Powers) → is_name q n ≡ false → at ((n, v) ∷ es) q ≡ at es q
 at-past q n v es other = ap (λ o. unwrap_or o nothing) (past q n v es other)
 
--- a name below all has the exponent 0
+-- a name below all powers has the exponent 0
 pub at-below : (q : Name) (es : Powers) → T (below_all by_bytes q es) → at es q ≡ nothing
 at-below q es h = ap (λ o. unwrap_or o nothing) (find_below q es h)
 
--- the exponent at a name of a list of the program
+-- the exponent of a name in a list of the program is in lowest terms
 pub at_reduced : (es : Powers) (q : Name) → Each IsPower es → IsReduced (at es q)
 at_reduced [] q all = nothing_reduced
 at_reduced (e ∷ es) q all =
@@ -131,7 +131,7 @@ at_reduced (e ∷ es) q all =
       | false ↦ at_reduced es q all.1
     ]
 
--- what is found for a name is its exponent where that is not 0
+-- a lookup finds the exponent of a name unless it is 0
 pub find-at : (es : Powers) (q : Name) → Each IsPower es → find by_bytes q es ≡ kept (at es q)
 find-at [] q all = refl
 find-at (e ∷ es) q all =
@@ -141,20 +141,20 @@ find-at (e ∷ es) q all =
       | false ↦ find-at es q all.1
     ]
 
--- a name is found where it stands first
+-- a lookup finds the name of the first power
 pub here_own : (q n : Name) (v : Fraction) (es : Powers) → q ≡ n → find by_bytes q ((n, v) ∷ es) ≡ Some v
 here_own q n v es same = subst (λ m. find by_bytes q ((m, v) ∷ es) ≡ Some v) same (here q v es)
 
--- and has the exponent there
+-- the exponent of the name of the first power is that of the power
 pub at_own : (q n : Name) (v : Fraction) (es : Powers) → q ≡ n → at ((n, v) ∷ es) q ≡ v
 at_own q n v es same = ap (λ o. unwrap_or o nothing) (here_own q n v es same)
 
 module _ (law : ReducedLaw) (step : Fraction → Fraction) (is : IsStep step) where
-  -- the exponent that a merge gives a name
+  -- the exponent of a name in a merge
   abbrev total : Powers → Powers → Name → Fraction
   total ps os q = exponent_sum (at ps q) (step (at os q))
 
-  -- of a name that one list alone has
+  -- the exponent of a name that is in only one of the lists
   left_alone : (ps os : Powers) (q : Name) (v : Fraction) → IsReduced v → IsFalse (is_zero v) → at ps q ≡ v
       → at os q ≡ nothing
       → Some v ≡ kept (total ps os q)
@@ -190,7 +190,7 @@ module _ (law : ReducedLaw) (step : Fraction → Fraction) (is : IsStep step) wh
             ∙ same_total [] (o ∷ os) [] os q refl (at-past q o.0 o.1 os other)
       ]
 
-  -- a name at the front of the first list alone
+  -- a lookup in a merge if the first name is only in the first list
   find-left : (p : Name × Fraction) (ps os : Powers) (q : Name) → IsPower p → T (below_all by_bytes p.0 os)
       → find by_bytes q (merged step ps os) ≡ kept (total ps os q)
       → find by_bytes q (p ∷ merged step ps os) ≡ kept (total (p ∷ ps) os q)
@@ -202,7 +202,7 @@ module _ (law : ReducedLaw) (step : Fraction → Fraction) (is : IsStep step) wh
         ∙ same_total (p ∷ ps) os ps os q (at-past q p.0 p.1 ps other) refl
   ]
 
-  -- of the second list alone
+  -- a lookup in a merge if the first name is only in the second list
   find-right : (o : Name × Fraction) (ps os : Powers) (q : Name) → IsPower o → T (below_all by_bytes o.0 ps)
       → find by_bytes q (merged step ps os) ≡ kept (total ps os q)
       → find by_bytes q (power_by step o ∷ merged step ps os) ≡ kept (total ps (o ∷ os) q)
@@ -214,7 +214,7 @@ module _ (law : ReducedLaw) (step : Fraction → Fraction) (is : IsStep step) wh
         ∙ same_total ps (o ∷ os) ps os q refl (at-past q o.0 o.1 os other)
   ]
 
-  -- at the front of both lists
+  -- a lookup in a merge if the first name is in both lists
   find-both : (p o : Name × Fraction) (ps os : Powers) (q : Name) → p.0 ≡ o.0 → T (below_all by_bytes p.0 ps)
       → T (below_all by_bytes o.0 os)
       → find by_bytes q (merged step ps os) ≡ kept (total ps os q)

@@ -10,7 +10,7 @@ use Rattle.std.specs.declared.cmp.Ordering.{Ordering}
 use Rattle.std.specs.declared.cmp.Ordering.TheVariants.{Less, Equal, Greater}
 use Rattle.quantity.specs.Merges.{Powers}
 
--- a name, as its bytes
+-- a name, given by its bytes
 abbrev pub Name : Type 0
 Name = List ℕ
 
@@ -18,11 +18,11 @@ Name = List ℕ
 abbrev pub by_bytes : Name → Name → Ordering
 by_bytes = slice_cmp nat_cmp
 
--- names that are equal by that order
+-- the test whether names are equal in that order
 abbrev pub is_name : Name → Name → Bool
 is_name = eq_by_cmp by_bytes
 
--- they are one
+-- names that are equal in that order are equal
 pub same_name : (x y : Name) → by_bytes x y ≡ Equal → x ≡ y
 same_name = slice_cmp-IsAntisymmetric nat_cmp-IsAntisymmetric
 
@@ -30,7 +30,7 @@ same_name = slice_cmp-IsAntisymmetric nat_cmp-IsAntisymmetric
 pub is_itself : (x : Name) → is_name x x ≡ true
 is_itself x = ap is_eq (tied_itself nat_list_cmp_total x)
 
--- two names are one, or the test tells them apart
+-- two names are equal, or the test tells them apart
 pub one_or_two : (x y : Name) → (x ≡ y) ⊎ (is_name x y ≡ false)
 one_or_two x y = elim (by_bytes x y) as (λ r. by_bytes x y ≡ r → (x ≡ y) ⊎ (is_name x y ≡ false)) [
   | Less ↦ λ e. inr (ap is_eq e)
@@ -38,36 +38,36 @@ one_or_two x y = elim (by_bytes x y) as (λ r. by_bytes x y ≡ r → (x ≡ y) 
   | Greater ↦ λ e. inr (ap is_eq e)
 ] refl
 
--- two tests that hold hold together
+-- if two tests hold, their conjunction holds
 pub both : (a b : Bool) → T a → T b → T (a && b)
 both true b p q = q
 both false b p q = p
 
--- and then the first does
+-- if a conjunction holds, so does its first test
 pub first : (a b : Bool) → T (a && b) → T a
 first true b p = tt
 first false b p = p
 
--- and the second
+-- if a conjunction holds, so does its second test
 pub second : (a b : Bool) → T (a && b) → T b
 second true b p = p
 second false b p = absurd p
 
--- an order that is found to be less is
+-- an order that passes the test for less is `Less`
 pub less : (r : Ordering) → T (is_lt r) → r ≡ Less
 less Less p = refl
 less Equal p = absurd p
 less Greater p = absurd p
 
--- and the other way round
+-- a lower name passes the test for less
 pub is_less : (x y : Name) → by_bytes x y ≡ Less → T (is_lt (by_bytes x y))
 is_less x y e = subst (λ r. T (is_lt r)) (sym e) tt
 
--- the order turned round
+-- if a name is above another, the other is below it
 pub turned : (x y : Name) → by_bytes x y ≡ Greater → by_bytes y x ≡ Less
 turned x y e = nat_list_cmp_total.antisymm y x ∙ ap ordering_reverse e
 
--- a name below a name that is below all of a list
+-- a name below a name that is below all powers is below all powers
 pub below_less : (x y : Name) (es : Powers) → by_bytes x y ≡ Less → T (below_all by_bytes y es)
     → T (below_all by_bytes x es)
 below_less x y [] p h = tt
@@ -75,7 +75,7 @@ below_less x y (e ∷ es) p h =
     both _ _ (is_less x e.0 (nat_list_cmp_total.trans x y e.0 p (less _ (first _ _ h))))
     (below_less x y es p (second _ _ h))
 
--- no name of a list is one below them all
+-- a lookup does not find a name that is below all powers
 pub find_below : (q : Name) (es : Powers) → T (below_all by_bytes q es) → find by_bytes q es ≡ None
 find_below q [] h = refl
 find_below q (e ∷ es) h = ap (λ r. cond (is_eq r) (Some e.1) (find by_bytes q es)) (less _ (first _ _ h))

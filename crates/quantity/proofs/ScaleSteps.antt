@@ -1,27 +1,36 @@
--- The products of a list power by power.
+-- The products of a list, power by power.
 use Rattle.std.proofs.Common.{◌≡◌, sym, ap, subst, ◌∙◌, append_assoc, [], ◌∷◌, ◌++◌, ◌<◌, All, IsTrue, IsFalse}
+use Rattle.std.proofs.lemmas.List.{append-nil}
 use Rattle.std.proofs.lemmas.List.Elements.{All-head, All-tail}
 use Rattle.frac128.specs.Fraction.{Fraction}
 use Rattle.frac128.specs.Steps.{ReducedLaw}
 use Rattle.quantity.specs.Exponents.{IsPower, exponent_product, is_exponent}
 use Rattle.quantity.specs.Merges.{Powers, are_exponents, put_some, scaled}
 use Rattle.quantity.proofs.Fractions.{product_reduced}
-use Rattle.quantity.proofs.MergeSteps.{all_put, fault_stays, put_then}
+use Rattle.quantity.proofs.Ranges.{all_put, fault_stays, put_then}
 use Rattle.quantity.proofs.Names.{Name}
 
--- what is done and the products of the rest are the products of the list
+-- the products so far and the products of the rest are the products of the list
 pub record IsScaling (by : Fraction) (all out rest : Powers) : Type 0 where
   pub done : out ++ scaled by rest ≡ scaled by all
   pub fits : IsTrue (are_exponents out)
   pub kept : All IsPower rest
 
--- the products of a power and of those behind it
+-- before the first power, there are no products
+pub scaling_start : (by : Fraction) (all out : Powers) → out ≡ [] → All IsPower all → IsScaling by all out all
+scaling_start by all out none kept = record {
+  done = ap (λ es. es ++ scaled by all) none;
+  fits = ap are_exponents none;
+  kept = kept;
+}
+
+-- the products of a power and of the powers after it
 scaling_next : (by : Fraction) (all out rest more : Powers) (p : Name × Fraction) → IsScaling by all out rest
     → rest ≡ p ∷ more
     → out ++ put_some (p.0, exponent_product p.1 by) (scaled by more) ≡ scaled by all
 scaling_next by all out rest more p is parts = ap (λ es. out ++ scaled by es) (sym parts) ∙ is.done
 
--- one more power goes behind what is scaled, unless its exponent becomes 0
+-- one more power is appended to the products, unless its exponent becomes 0
 pub scaling_more : (by : Fraction) (all out rest new more : Powers) (p : Name × Fraction) → IsScaling by all out rest
     → rest ≡ p ∷ more
     → (new ≡ out ++ put_some (p.0, exponent_product p.1 by) []) × IsTrue (is_exponent (exponent_product p.1 by))
@@ -35,7 +44,7 @@ scaling_more by all out rest new more p is parts put = record {
   kept = All-tail IsPower p more (subst (All IsPower) parts is.kept);
 }
 
--- a product out of range is one of all
+-- a product out of range is a fault of the list
 pub scaling_fault : ReducedLaw → (by : Fraction) (all out rest more : Powers) (p : Name × Fraction) → 0 < by.den
     → IsScaling by all out rest → rest ≡ p ∷ more
     → IsFalse (is_exponent (exponent_product p.1 by)) → IsFalse (are_exponents (scaled by all))
@@ -44,3 +53,11 @@ scaling_fault law by all out rest more p some is parts fails =
     ap are_exponents (sym (scaling_next by all out rest more p is parts))
     ∙ fault_stays out (p.0, exponent_product p.1 by) (scaled by more)
     (product_reduced law p.1 by kept.exponent.reduced.positive some) fails
+
+-- if no power is left, all powers are scaled
+pub scaling_end : (by : Fraction) (all out rest items : Powers) → IsScaling by all out rest → rest ≡ [] → all ≡ items
+    → (out ≡ scaled by items) × IsTrue (are_exponents (scaled by items))
+scaling_end by all out rest items is none same =
+    let end : out ≡ scaled by items =
+    sym (append-nil out) ∙ ap (λ es. out ++ scaled by es) (sym none) ∙ is.done ∙ ap (scaled by) same in
+    (end, sym (ap are_exponents end) ∙ is.fits)

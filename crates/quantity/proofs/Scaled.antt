@@ -12,21 +12,21 @@ use Rattle.quantity.proofs.Listed.{at, past}
 use Rattle.quantity.proofs.Merged.{at-below, at-past, at_own, below-put, here_own, sorted-put}
 use Rattle.quantity.proofs.Names.{Name, by_bytes, first, is_name, one_or_two, second}
 
--- a name below all powers is below them scaled
+-- a name below all powers is below the scaled powers
 below-scaled : (by : Fraction) (x : Name) (ps : Powers) → T (below_all by_bytes x ps)
     → T (below_all by_bytes x (scaled by ps))
 below-scaled by x [] h = tt
 below-scaled by x (p ∷ ps) h =
     below-put x (p.0, exponent_product p.1 by) (scaled by ps) (first _ _ h) (below-scaled by x ps (second _ _ h))
 
--- sorted powers are so scaled
+-- scaling preserves the order of sorted powers
 pub sorted-scaled : (by : Fraction) (ps : Powers) → T (is_sorted by_bytes ps) → T (is_sorted by_bytes (scaled by ps))
 sorted-scaled by [] h = tt
 sorted-scaled by (p ∷ ps) h =
     sorted-put (p.0, exponent_product p.1 by) (scaled by ps) (below-scaled by p.0 ps (first _ _ h))
     (sorted-scaled by ps (second _ _ h))
 
--- each name has the product
+-- the exponent of each name is the product
 pub find-scaled : ReducedLaw → (by : Fraction) (ps : Powers) (q : Name) → 0 < by.den → T (is_sorted by_bytes ps)
     → find by_bytes q (scaled by ps) ≡ kept (exponent_product (at ps q) by)
 find-scaled law by [] q some sorted = sym (ap kept (product_zero law by some))

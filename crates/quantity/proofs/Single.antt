@@ -1,4 +1,4 @@
--- Maps of one name, or of none.
+-- Maps of one name or of none.
 use Rattle.std.proofs.Common.{◌≡◌, refl, sym, ◌∙◌, arith, pos, [], ◌∷◌, ap, length, subst, All}
 use Rattle.std.specs.Cmp.Lexicographic.{nat_list_cmp_total}
 use Rattle.std.specs.FinMap as map_of
@@ -12,17 +12,17 @@ use Rattle.quantity.proofs.Listed.{at}
 use Rattle.quantity.proofs.Matched.{exponent_at}
 use Rattle.quantity.proofs.Names.{Name, by_bytes, same_name}
 
--- no powers are the empty map
+-- the map of no powers is empty
 pub no_power : exponents_in [] ≡ map_of.empty
 no_power =
     map_of.same_map nat_list_cmp_total same_name _ _
     (λ q. map_of.get-from_sorted by_bytes [] q tt ∙ sym (map_of.get-empty by_bytes q))
 
--- the exponent of a name alone
+-- the exponent of a name on its own
 abbrev one : Fraction
 one = whole (pos 1)
 
--- it is an exponent
+-- the number 1 is an exponent
 one_exponent : IsExponent one
 one_exponent = record {
   reduced = record { positive = omega arith; lowest = (dvd_refl 1, dvd_refl 1, λ d p q. p) };
@@ -30,7 +30,7 @@ one_exponent = record {
   den_fits = omega arith;
 }
 
--- one power is in order
+-- a single power is in order
 pub one_in_order : (name : Name) → AreInOrder ((name, one) ∷ [])
 one_in_order name = record {
   sorted = tt;
@@ -45,7 +45,7 @@ no_entries = nothing_in _ (sym (map_of.len-entries map_of.empty) ∙ map_of.len-
     nothing_in [] h = refl
     nothing_in (e ∷ es) h = absurd (omega arith)
 
--- one power is the map of one name
+-- the map of a single power is that of one name
 pub one_power : (name : Name) → exponents_in ((name, one) ∷ []) ≡ map_of.insert map_of.empty name one
 one_power name = map_of.same_entries_map _ _ (
     map_of.entries-from_sorted by_bytes ((name, one) ∷ []) tt
@@ -57,16 +57,16 @@ one_power name = map_of.same_entries_map _ _ (
 pub entries_in : (items : Powers) (m : Exponents) → AreInOrder items → exponents_in items ≡ m → map_of.entries m ≡ items
 entries_in items m order is = ap map_of.entries (sym is) ∙ map_of.entries-from_sorted by_bytes items order.sorted
 
--- and as many
+-- a list in order has as many powers as its map has entries
 pub len_in : (items : Powers) (m : Exponents) → AreInOrder items → exponents_in items ≡ m → length items ≡ map_of.len m
 len_in items m order is = ap length (sym (entries_in items m order is)) ∙ sym (map_of.len-entries m)
 
--- a list in order is that of a map of the program
+-- the list is in order, and is that of a map of the program
 pub record IsListOf (m : Exponents) (powers : Powers) : Type 0 where
   pub same : powers ≡ map_of.entries m
   pub kept : AreExponents m
 
--- also behind a slice of it
+-- a list that equals the powers in order is that of their map
 pub list_of : (items powers : Powers) (m : Exponents) → AreInOrder items → exponents_in items ≡ m → powers ≡ items
     → IsListOf m powers
 list_of items powers m order is slice = record {
@@ -74,6 +74,6 @@ list_of items powers m order is slice = record {
   kept = subst (All IsPower) (sym (entries_in items m order is)) order.kept;
 }
 
--- it gives each name its exponent
+-- the exponent of a name in the list is its exponent in the map
 pub exponent_in_list : (powers : Powers) (m : Exponents) (q : Name) → IsListOf m powers → at powers q ≡ exponent_of m q
 exponent_in_list powers m q is = ap (λ es. at es q) is.same ∙ sym (exponent_at m q)

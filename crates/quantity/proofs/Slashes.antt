@@ -1,4 +1,4 @@
--- The names behind the slash.
+-- The names after the slash.
 use Rattle.std.proofs.Common.{◌≡◌, refl, sym, ap, ◌∙◌, Bool, true, false, cond, ◌||◌, ◌++◌, ℕ, List, [], ◌∷◌, filter}
 use Rattle.std.proofs.Common.{flat_map, codes, append_assoc}
 use Rattle.std.specs.List.{list_any}
@@ -6,7 +6,7 @@ use Rattle.std.proofs.lemmas.List.{append-nil}
 use Rattle.quantity.specs.Merges.{Powers}
 use Rattle.quantity.specs.Text.{divisor_text, is_negative, is_positive, listed_text, power_text}
 
--- where no exponent is negative, none is left
+-- if no exponent is negative, filtering the negative ones gives an empty list
 filter_none : (es : Powers) → list_any is_negative es ≡ false → filter is_negative es ≡ []
 filter_none [] h = refl
 filter_none (e ∷ es) h = go (is_negative e) h (λ rest. filter_none es rest)
@@ -17,7 +17,7 @@ filter_none (e ∷ es) h = go (is_negative e) h (λ rest. filter_none es rest)
     go true h rest = cc
     go false h rest = rest h
 
--- where one is, the names with such ones stand behind a slash
+-- if an exponent is negative, the names with negative exponents follow a slash
 filter_some : (es : Powers) → list_any is_negative es ≡ true
     → divisor_text (filter is_negative es) ≡ codes " /" ++ flat_map power_text (filter is_negative es)
 filter_some [] h = cc
@@ -31,7 +31,7 @@ filter_some (e ∷ es) h = go (is_negative e) h (λ rest. filter_some es rest)
     go true h rest = refl
     go false h rest = rest h
 
--- no name stands behind a slash
+-- if no exponent is negative, the text has no slash
 pub listed_above : (text : List ℕ) (es : Powers) → list_any is_negative es ≡ false
     → text ++ flat_map power_text (filter is_positive es) ≡ text ++ listed_text es
 listed_above text es none =
@@ -39,7 +39,7 @@ listed_above text es none =
     (sym (ap (λ ds. flat_map power_text (filter is_positive es) ++ divisor_text ds) (filter_none es none)
     ∙ append-nil _))
 
--- some do
+-- if an exponent is negative, the text has a slash and the names with negative exponents
 pub listed_below : (text : List ℕ) (es : Powers) → list_any is_negative es ≡ true
     → ((text ++ flat_map power_text (filter is_positive es)) ++ codes " /")
     ++ flat_map power_text (filter is_negative es) ≡ text ++ listed_text es

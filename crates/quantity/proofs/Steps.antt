@@ -11,7 +11,7 @@ use Rattle.quantity.specs.Answers.{AreThose, ranged}
 use Rattle.quantity.specs.Exponents.{AreExponents, Exponents, IsPower, exponent_of, exponent_product, exponent_sum}
 use Rattle.quantity.specs.Exponents.{exponents_by, is_exponent, names_of}
 use Rattle.quantity.specs.Factors.{exponent_in, exponents_with}
-use Rattle.quantity.specs.Merges.{AreInOrder, IsListed, Powers, are_exponents, exponents_in, merged, scaled}
+use Rattle.quantity.specs.Merges.{AreInOrder, ArePowers, IsFaultOf, Powers, are_exponents, exponents_in, merged, scaled}
 use Rattle.quantity.specs.Powers.{power_exponents}
 use Rattle.quantity.specs.Products.{ProductLaw, product_exponents, quotient_exponents}
 use Rattle.quantity.specs.declared.factor.Factor.{Factor}
@@ -27,15 +27,15 @@ use Rattle.quantity.proofs.Names.{Name, is_name}
 use Rattle.quantity.proofs.Single.{IsListOf}
 use Rattle.quantity.proofs.Scaled.{find-scaled, sorted-scaled}
 
--- ---- what `ranged` answers
+-- ---- the result of `ranged`
 
--- exponents of which each is in range are a map
+-- if each exponent is in range, the result is a map
 ranged_ok : (f : Name → Fraction) (names : List Name) → list_all (λ q. is_exponent (f q)) names ≡ true
     → ranged f names ≡ Some (exponents_by f names)
 unfolding ranged
 ranged_ok f names h = ap (λ b. cond b (Some (exponents_by f names)) None) h
 
--- where one is not, there is none
+-- if an exponent is out of range, the result is `None`
 ranged_none : (f : Name → Fraction) (names : List Name) → list_all (λ q. is_exponent (f q)) names ≡ false
     → ranged f names ≡ None
 unfolding ranged
@@ -50,12 +50,12 @@ some_is f names r h = go (list_all (λ q. is_exponent (f q)) names) h
     go true h = cc
     go false h = absurd (cc)
 
--- a list in order is what `ranged` gives, or shows its fault
+-- the list is in order, and its exponents are those that f gives
 pub record IsRanged (f : Name → Fraction) (names : List Name) (es : Powers) : Type 0 where
   pub gives : GivesNames f names
   pub lists : Lists f es
 
--- powers that list a function's exponents, all in range, are in order
+-- a list with the exponents that a function gives is in order if all of them are in range
 pub listed_order : (f : Name → Fraction) (names : List Name) (es : Powers) → IsRanged f names es
     → IsTrue (are_exponents es) → AreInOrder es
 listed_order f names es is all =
@@ -65,7 +65,7 @@ listed_order f names es is all =
           All-from_recursion IsPower es (all_kept f names es is.gives is.lists all);
     }
 
--- and are its map
+-- if all exponents of the list are in range, `ranged` gives the map of the list
 pub listed_ok : (f : Name → Fraction) (names : List Name) (es : Powers) → IsRanged f names es
     → IsTrue (are_exponents es)
     → Some (exponents_in es) ≡ ranged f names
@@ -73,7 +73,7 @@ listed_ok f names es is all =
     ap Some (listed_map f names es is.gives is.lists)
     ∙ sym (ranged_ok f names (sym (listed_range f names es is.gives is.lists) ∙ all))
 
--- where not all are in range there is none
+-- if an exponent of the list is out of range, `ranged` gives `None`
 pub listed_none : (f : Name → Fraction) (names : List Name) (es : Powers) → IsRanged f names es
     → IsFalse (are_exponents es)
     → None ≡ ranged f names
@@ -81,7 +81,7 @@ listed_none f names es is some = sym (ranged_none f names (sym (listed_range f n
 
 -- a fault of the list is that of the map
 pub listed_fault : (f : Name → Fraction) (names : List Name) (es : Powers) (fault : ExponentFault) → IsRanged f names es
-    → IsListed (Err fault) es → AreThose (Err fault) (ranged f names)
+    → IsFaultOf fault es → AreThose (Err fault) (ranged f names)
 listed_fault f names es Range is listed = listed_none f names es is listed
 listed_fault f names es OutOfMemory is listed = tt
 
@@ -95,7 +95,7 @@ absent m q none = go (map_of.get m q) (map_of.contains_key-keys m q ∙ none)
     go None h = refl
     go (Some v) h = absurd (cc)
 
--- one of two lists passes where one of either does
+-- a test holds for some name of two lists if and only if it does for some name of one of them
 any-append : (test : Name → Bool) (xs ys : List Name)
     → list_any test (xs ++ ys) ≡ (list_any test xs || list_any test ys)
 any-append test [] ys = refl
@@ -106,12 +106,12 @@ any-append test (x ∷ xs) ys = go (test x) (any-append test xs ys)
     go true h = refl
     go false h = h
 
--- where neither holds, the first does not
+-- if a disjunction is false, its first part is false
 or_first : (a b : Bool) → (a || b) ≡ false → a ≡ false
 or_first true b h = absurd (cc)
 or_first false b h = refl
 
--- nor does the second
+-- if a disjunction is false, its second part is false
 or_second : (a b : Bool) → (a || b) ≡ false → b ≡ false
 or_second true b h = absurd (cc)
 or_second false b h = h
@@ -123,11 +123,11 @@ exponent_reduced m q all =
 
 -- ---- products and quotients
 
--- an exponent as it is
+-- taking an exponent as it is is a step
 pub plain_step : IsStep (λ e. e)
 plain_step = record { reduced = λ e is. is; zero = λ e. refl; nothing = refl; fits = λ e. refl }
 
--- an exponent with the other sign
+-- negating an exponent is a step
 pub inverse_step : IsStep negated
 inverse_step = record {
   reduced = negated_reduced;
@@ -137,7 +137,7 @@ inverse_step = record {
       λ e. ap (λ n. nat_le n 32767 && nat_le e.den 60) (abs-neg e.num);
 }
 
--- either factor
+-- each factor gives a step
 pub factor_step : (factor : Factor) → IsStep (exponent_in factor)
 factor_step Plain = plain_step
 factor_step Inverse = inverse_step
@@ -146,7 +146,7 @@ factor_step Inverse = inverse_step
 abbrev total : (Fraction → Fraction) → Exponents → Exponents → Name → Fraction
 total step p o q = exponent_sum (exponent_of p q) (step (exponent_of o q))
 
--- only names of the two have one that is not 0
+-- only names in one of the two maps have a nonzero exponent
 total_gives : ReducedLaw → (step : Fraction → Fraction) (p o : Exponents) → IsStep step → AreExponents p
     → AreExponents o
     → GivesNames (total step p o) (names_of p o)
@@ -163,7 +163,7 @@ total_gives law step p o is all all_o = record {
         (absent o q (or_second (list_any (is_name q) (map_of.keys p)) _ none))
         ∙ ap (exponent_sum nothing) is.nothing ∙ sum_left law nothing nothing_reduced
 
--- merged powers list these exponents
+-- merged powers have these exponents
 pub merged_ranged : ReducedLaw → (step : Fraction → Fraction) (p o : Exponents) → IsStep step → AreExponents p
     → AreExponents o
     → IsRanged (total step p o) (names_of p o) (merged step (map_of.entries p) (map_of.entries o))
@@ -178,7 +178,7 @@ merged_ranged law step p o is all all_o = record {
   };
 }
 
--- so do those of a factor
+-- the powers merged with those of a factor have these exponents
 factor_ranged : ReducedLaw → (factor : Factor) (p o : Exponents) (ps os : Powers) → IsListOf p ps → IsListOf o os
     → IsRanged (total (exponent_in factor) p o) (names_of p o) (merged (exponent_in factor) ps os)
 factor_ranged law factor p o ps os left right =
@@ -186,32 +186,32 @@ factor_ranged law factor p o ps os left right =
     (ap₂ (merged (exponent_in factor)) (sym left.same) (sym right.same))
     (merged_ranged law (exponent_in factor) p o (factor_step factor) left.kept right.kept)
 
--- in range they are the exponents of the product or the quotient
+-- exponents in range are those of the product or the quotient
 with_is : (factor : Factor) (p o : Exponents)
     → ranged (total (exponent_in factor) p o) (names_of p o) ≡ exponents_with factor p o
 unfolding product_exponents quotient_exponents
 with_is Plain p o = refl
 with_is Inverse p o = refl
 
--- what a merge gives
+-- a merge without a fault is in order
 pub product_order : ReducedLaw → (factor : Factor) (p o : Exponents) (ps os es : Powers) → IsListOf p ps → IsListOf o os
-    → IsListed (Ok (record { items = es; capacity = 0 })) (merged (exponent_in factor) ps os) → AreInOrder es
+    → ArePowers (λ (ds : Powers). ds) (Ok es) (merged (exponent_in factor) ps os) → AreInOrder es
 product_order law factor p o ps os es left right listed =
     subst AreInOrder (sym listed.0) (listed_order _ _ _ (factor_ranged law factor p o ps os left right) listed.1)
 
--- a merge that answers gives the map of the product
+-- a merge without a fault gives the map of the product
 pub product_ok : ReducedLaw → (factor : Factor) (p o : Exponents) (ps os es : Powers) → IsListOf p ps → IsListOf o os
-    → IsListed (Ok (record { items = es; capacity = 0 })) (merged (exponent_in factor) ps os)
+    → ArePowers (λ (ds : Powers). ds) (Ok es) (merged (exponent_in factor) ps os)
     → Some (exponents_in es) ≡ exponents_with factor p o
 product_ok law factor p o ps os es left right listed =
     ap (λ ds. Some (exponents_in ds)) listed.0
     ∙ listed_ok _ _ _ (factor_ranged law factor p o ps os left right) listed.1 ∙ with_is factor p o
 
--- and a fault of it is that of the product
+-- a fault of a merge is a fault of the product
 pub product_fault : ReducedLaw → (factor : Factor) (p o : Exponents) (ps os : Powers) (fault : ExponentFault)
     → IsListOf p ps
     → IsListOf o os
-    → IsListed (Err fault) (merged (exponent_in factor) ps os) → AreThose (Err fault) (exponents_with factor p o)
+    → IsFaultOf fault (merged (exponent_in factor) ps os) → AreThose (Err fault) (exponents_with factor p o)
 product_fault law factor p o ps os fault left right listed =
     subst (AreThose (Err fault)) (with_is factor p o)
     (listed_fault _ _ _ fault (factor_ranged law factor p o ps os left right) listed)
@@ -228,7 +228,7 @@ product_law law p o r all all_o = (
 
 -- ---- powers
 
--- scaled powers list the exponents times a fraction
+-- scaled powers have the exponents times a fraction
 pub scaled_ranged : ReducedLaw → (p : Exponents) (by : Fraction) → 0 < by.den → AreExponents p
     → IsRanged (λ q. exponent_product (exponent_of p q) by) (map_of.keys p) (scaled by (map_of.entries p))
 scaled_ranged law p by some all = record {
@@ -243,29 +243,29 @@ scaled_ranged law p by some all = record {
   };
 }
 
--- so do those of a list of powers
+-- the scaled powers of a list have the exponents times a fraction
 power_ranged : ReducedLaw → (p : Exponents) (by : Fraction) (ps : Powers) → 0 < by.den → IsListOf p ps
     → IsRanged (λ q. exponent_product (exponent_of p q) by) (map_of.keys p) (scaled by ps)
 power_ranged law p by ps some list =
     subst (IsRanged (λ q. exponent_product (exponent_of p q) by) (map_of.keys p)) (ap (scaled by) (sym list.same))
     (scaled_ranged law p by some list.kept)
 
--- a list that answers is in order
+-- a scaled list without a fault is in order
 pub power_order : ReducedLaw → (p : Exponents) (by : Fraction) (ps es : Powers) → 0 < by.den → IsListOf p ps
-    → IsListed (Ok (record { items = es; capacity = 0 })) (scaled by ps) → AreInOrder es
+    → ArePowers (λ (ds : Powers). ds) (Ok es) (scaled by ps) → AreInOrder es
 power_order law p by ps es some list listed =
     subst AreInOrder (sym listed.0) (listed_order _ _ _ (power_ranged law p by ps some list) listed.1)
 
--- and gives the map of the power
+-- a scaled list without a fault gives the map of the power
 pub power_ok : ReducedLaw → (p : Exponents) (by : Fraction) (ps es : Powers) → 0 < by.den → IsListOf p ps
-    → IsListed (Ok (record { items = es; capacity = 0 })) (scaled by ps) → Some (exponents_in es) ≡ power_exponents p by
+    → ArePowers (λ (ds : Powers). ds) (Ok es) (scaled by ps) → Some (exponents_in es) ≡ power_exponents p by
 unfolding power_exponents
 power_ok law p by ps es some list listed =
     ap (λ ds. Some (exponents_in ds)) listed.0 ∙ listed_ok _ _ _ (power_ranged law p by ps some list) listed.1
 
--- and a fault of it is that of the power
+-- a fault of a scaled list is a fault of the power
 pub power_fault : ReducedLaw → (p : Exponents) (by : Fraction) (ps : Powers) (fault : ExponentFault) → 0 < by.den
     → IsListOf p ps
-    → IsListed (Err fault) (scaled by ps) → AreThose (Err fault) (power_exponents p by)
+    → IsFaultOf fault (scaled by ps) → AreThose (Err fault) (power_exponents p by)
 unfolding power_exponents
 power_fault law p by ps fault some list listed = listed_fault _ _ _ fault (power_ranged law p by ps some list) listed

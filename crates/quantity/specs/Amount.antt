@@ -1,4 +1,4 @@
--- A quantity: a number, and the exponents of the names that it is measured in.
+-- A quantity: a number, and the exponents of the names in which it is measured.
 use Rattle.std.specs.Prelude.{◌≡◌, ◌==◌, ◌&&◌, ◌↔◌, ℕ, List, Bool, IsTrue, refl, nat_eq}
 use Rattle.std.specs.Cmp.Lexicographic.{pointwise}
 use Rattle.std.specs.Coded.{Coded, code_by, coded×, coded_list, coded_ℕ, coded_ℤ}
@@ -34,7 +34,7 @@ is_number x = map_of.len x.exponents == 0
 abbrev pub same : Fraction → Fraction → Bool
 same x y = int_eq x.num y.num && x.den == y.den
 
--- two lists have the same names, in order, and each exponent is what the step makes of the other
+-- two lists have the same names in the same order, and each exponent is the result of the step on the other one
 abbrev pub matches : (Fraction → Fraction) → List (List ℕ × Fraction) → List (List ℕ × Fraction) → Bool
 matches step = pointwise (λ e d. pointwise nat_eq e.0 d.0 && same e.1 (step d.1))
 
@@ -42,12 +42,12 @@ matches step = pointwise (λ e d. pointwise nat_eq e.0 d.0 && same e.1 (step d.1
 abbrev pub conform : Exponents → Exponents → Bool
 conform p o = matches (λ e. e) (map_of.entries p) (map_of.entries o)
 
--- each exponent of one map is the negative of the other's
+-- each exponent of one map is the negative of the exponent in the other
 abbrev pub are_reciprocal : Exponents → Exponents → Bool
 are_reciprocal p o = matches negated (map_of.entries p) (map_of.entries o)
 
--- law: two maps of the program conform exactly where each name has the same exponent in both, and
--- are reciprocal exactly where each name has in one the exponent of the other with the other sign
+-- law: two maps of the program conform if and only if each name has the same exponent in both, and they are reciprocal
+-- if and only if the exponents of each name differ exactly in sign
 pub record AreCompared (p o : Exponents) : Type 0 where
   pub conforming : IsTrue (conform p o) ↔ ((name : List ℕ) → exponent_of p name ≡ exponent_of o name)
   pub reciprocal : IsTrue (are_reciprocal p o) ↔ ((name : List ℕ) → exponent_of p name ≡ negated (exponent_of o name))

@@ -1,4 +1,4 @@
--- What the steps answer.
+-- The results of operations.
 use Rattle.std.specs.Prelude.{◌≡◌, ℕ, List, Option, Some, None, Result, Ok, Err, ⊤, if◌then◌else◌}
 use Rattle.std.specs.List.{list_all}
 use Rattle.units_io.specs.Outcomes.{Gives}
@@ -11,35 +11,34 @@ use Rattle.quantity.specs.declared.fault.ExponentFault.TheVariants as exponent
 use Rattle.quantity.specs.declared.fault.QuantityFault.{QuantityFault}
 use Rattle.quantity.specs.declared.fault.QuantityFault.TheVariants.{Number, ExponentRange, OutOfMemory}
 
--- the answer is the expected one, or want of memory
+-- the answer is the expected result, or an out-of-memory fault
 abbrev pub IsAnswer : Result Amount QuantityFault → Result Amount QuantityFault → Type 0
 IsAnswer answer expected = Gives OutOfMemory (λ x. x) answer expected
 
--- the answer is the expected one; it has no fault but those of numbers
+-- the answer is the expected result, and its only faults are those of numbers
 abbrev pub IsStepOnNumbers : Result Amount FracFault → Result Amount QuantityFault → Type 0
 IsStepOnNumbers (Ok x) expected = expected ≡ Ok x
 IsStepOnNumbers (Err fault) expected = expected ≡ Err (Number fault)
 
--- the exponents are the expected ones, or out of range where none are expected, or there is want of
--- memory
+-- the exponents are the expected ones, or out of range if none are expected, or memory ran out
 abbrev pub AreThose : Result Exponents ExponentFault → Option Exponents → Type 0
 AreThose (Ok exponents) expected = Some exponents ≡ expected
 AreThose (Err exponent.Range) expected = None ≡ expected
 AreThose (Err exponent.OutOfMemory) expected = ⊤
 
--- the fault of a step on exponents as one of a step on quantities
+-- the fault of an operation on exponents as one of an operation on quantities
 abbrev pub fault_of : ExponentFault → QuantityFault
 fault_of exponent.Range = ExponentRange
 fault_of exponent.OutOfMemory = OutOfMemory
 
--- the exponents that f gives these names, or none where one of them is out of range
+-- the exponents that f gives to these names, or `None` if one of them is out of range
 unfoldable pub ranged : (List ℕ → Fraction) → List (List ℕ) → Option Exponents
 ranged f names =
     if list_all (λ name. is_exponent (f name)) names
     then Some (exponents_by f names)
     else None
 
--- a number and exponents together: the number's fault comes before exponents out of range
+-- a number and exponents combined: the fault of the number takes precedence over exponents out of range
 abbrev pub amount_from : Result Fraction FracFault → Option Exponents → Result Amount QuantityFault
 amount_from (Err fault) exponents = Err (Number fault)
 amount_from (Ok value) None = Err ExponentRange

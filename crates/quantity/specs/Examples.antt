@@ -6,7 +6,7 @@ use Rattle.quantity.specs.Degrees.{is_degree}
 use Rattle.quantity.specs.Powers.{powered}
 use Rattle.quantity.specs.Text.{listed_text}
 
--- a quotient that is in lowest terms
+-- a quotient in lowest terms
 abbrev pub quotient : ℤ → ℕ → Fraction
 quotient n d = record { num = n; den = d }
 
@@ -14,7 +14,7 @@ quotient n d = record { num = n; den = d }
 abbrev pub power : List ℕ → Fraction → List ℕ × Fraction
 power name e = (name, e)
 
--- what numbers to the power of a fraction are: a root and its power, or no fraction
+-- some numbers raised to fractions: the power of a root, or no result
 pub record PowersLaw : Type 0 where
   pub root : powered (quotient (pos 4) 9) (quotient (pos 1) 2) ≡ Ok (quotient (pos 2) 3)
   pub turned_round : powered (quotient (pos 8) 27) (quotient (negsuc 1) 3) ≡ Ok (quotient (pos 9) 4)
@@ -25,7 +25,7 @@ pub record PowersLaw : Type 0 where
   pub by_zero : powered (whole (pos 0)) (whole (negsuc 0)) ≡ Err DivisionByZero
   pub out_of_range : is_degree (whole (pos 32768)) ≡ false
 
--- how names with exponents are written
+-- the texts of some names with exponents
 pub record TextsLaw : Type 0 where
   pub none : listed_text [] ≡ []
   pub plain : listed_text (power (codes "kg") (whole (pos 1)) ∷ power (codes "m") (whole (pos 2)) ∷ [])
@@ -35,7 +35,7 @@ pub record TextsLaw : Type 0 where
   pub only_under : listed_text (power (codes "s") (whole (negsuc 0)) ∷ []) ≡ codes " / s"
   pub root : listed_text (power (codes "V") (quotient (pos 3) 2) ∷ []) ≡ codes " V^3|2"
 
--- law: they are so
+-- law: the powers and the texts are those found by hand
 pub record ExamplesLaw : Type 0 where
   pub powers : PowersLaw
   pub texts : TextsLaw

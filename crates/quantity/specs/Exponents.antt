@@ -10,7 +10,7 @@ use Rattle.frac128.specs.Fraction.{Fraction, IsReduced, negated, whole}
 use Rattle.frac128.specs.Sign.{is_zero}
 use Rattle.frac128.specs.Steps.{reduced}
 
--- a reduced fraction, its numerator in -32,767..32,767 and its denominator at most 60
+-- a reduced fraction with a numerator in -32,767..32,767 and a denominator of at most 60
 pub record IsExponent (e : Fraction) : Type 0 where
   pub reduced : IsReduced e
   pub num_fits : unsigned_abs e.num ≤ 32767
@@ -24,24 +24,24 @@ is_exponent e = nat_le (unsigned_abs e.num) 32767 && nat_le e.den 60
 abbrev pub Exponents : Type 0
 Exponents = map_of.FinMap (slice_cmp nat_cmp) Fraction
 
--- what is known of a name with its exponent in the program
+-- the facts known about a name with its exponent in the program
 pub record IsPower (power : List ℕ × Fraction) : Type 0 where
   pub exponent : IsExponent power.1
   pub some : IsFalse (is_zero power.1)
 
--- what is known of all exponents in the program
+-- the facts known about all exponents in the program
 abbrev pub AreExponents : Exponents → Type 0
 AreExponents exponents = All IsPower (map_of.entries exponents)
 
--- the exponent of a name, 0 where it is absent
+-- the exponent of a name, or 0 if it is absent
 abbrev pub exponent_of : Exponents → List ℕ → Fraction
 exponent_of exponents name = unwrap_or (map_of.get exponents name) (whole (pos 0))
 
--- the names that one of two maps has
+-- the names in either of two maps
 abbrev pub names_of : Exponents → Exponents → List (List ℕ)
 names_of p o = map_of.keys p ++ map_of.keys o
 
--- the exponents that f gives these names, but for those that are 0
+-- the exponents that f gives to these names, without those that are 0
 unfoldable pub exponents_by : (List ℕ → Fraction) → List (List ℕ) → Exponents
 exponents_by f names =
     map_of.from_entries (filter (λ power. not (is_zero power.1)) (map (λ name. (name, f name)) names))
@@ -62,7 +62,7 @@ exponent_difference a b = exponent_sum a (negated b)
 abbrev pub exponent_product : Fraction → Fraction → Fraction
 exponent_product e by = lowest (product e by)
 
--- law: maps of the program that give each name one exponent are equal
+-- law: maps of the program that give the same exponent to each name are equal
 abbrev pub SameExponentsLaw : Type 0
 SameExponentsLaw = (p o : Exponents) → AreExponents p → AreExponents o
     → ((name : List ℕ) → exponent_of p name ≡ exponent_of o name) → p ≡ o

@@ -1,4 +1,4 @@
--- How the second of two factors is taken.
+-- The way in which the second of two factors is used.
 use Rattle.std.specs.Prelude.{Option}
 use Rattle.frac128.specs.Fraction.{Fraction, negated}
 use Rattle.quantity.specs.Exponents.{Exponents}

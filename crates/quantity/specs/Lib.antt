@@ -5,8 +5,10 @@ pub mod Examples
 pub mod Exponents
 pub mod Factors
 pub mod Merges
+pub mod Places
 pub mod Powers
 pub mod Products
+pub mod Stores
 pub mod Sums
 pub mod Text
 pub mod Told

@@ -5,36 +5,33 @@ use Rattle.std.specs.Cmp.Lexicographic.{slice_cmp}
 use Rattle.std.specs.FinMap as map_of
 use Rattle.std.specs.List.{list_all}
 use Rattle.std.specs.Ordering.{match_ordering, nat_cmp}
-use Rattle.smallvec.specs.SmallVec.{SmallVec}
 use Rattle.frac128.specs.Fraction.{Fraction}
 use Rattle.frac128.specs.Sign.{is_zero}
 use Rattle.quantity.specs.Exponents.{Exponents, IsPower, exponent_product, exponent_sum, is_exponent}
 use Rattle.quantity.specs.declared.fault.ExponentFault.{ExponentFault}
 use Rattle.quantity.specs.declared.fault.ExponentFault.TheVariants.{Range, OutOfMemory}
-use Rattle.quantity.specs.declared.merging.First.{First}
-use Rattle.quantity.specs.declared.merging.First.TheVariants.{Neither, Left, Right, Both}
 
 abbrev pub Powers : Type 0
 Powers = List (List ℕ × Fraction)
 
--- the names strictly rise, and each has an exponent
+-- the names strictly increase, and each has an exponent
 pub record AreInOrder (powers : Powers) : Type 0 where
   pub sorted : T (map_of.is_sorted (slice_cmp nat_cmp) powers)
   pub kept : All IsPower powers
 
--- the map of a list in order
+-- the map of an ordered list
 abbrev pub exponents_in : Powers → Exponents
 exponents_in powers = map_of.from_sorted powers
 
--- the powers of the second list as the step takes them
+-- a power of the second list, with its exponent changed by the step
 abbrev pub power_by : (Fraction → Fraction) → List ℕ × Fraction → List ℕ × Fraction
 power_by step power = (power.0, step power.1)
 
--- a power in front of a list, where it is not 0
+-- a list with a power in front, unless its exponent is 0
 abbrev pub put_some : List ℕ × Fraction → Powers → Powers
 put_some power powers = if is_zero power.1 then powers else power ∷ powers
 
--- a power of the first list and the rest of that list, merged with the second
+-- a power of the first list and the rest of that list, merged with the second list
 abbrev pub merged_into : (Fraction → Fraction) → List ℕ × Fraction → (Powers → Powers) → Powers → Powers
 merged_into step p rest [] = p ∷ rest []
 merged_into step p rest (o ∷ os) =
@@ -43,39 +40,36 @@ merged_into step p rest (o ∷ os) =
     (put_some (p.0, exponent_sum p.1 (step o.1)) (rest os))
     (power_by step o ∷ merged_into step p rest os)
 
--- two lists in order as one: the exponents of a name that both have are added, and those that
--- cancel are left out
+-- two ordered lists as one: the exponents of a name in both lists are added, and names whose exponents cancel are
+-- dropped
 abbrev pub merged : (Fraction → Fraction) → Powers → Powers → Powers
 merged step [] os = map (power_by step) os
 merged step (p ∷ ps) os = merged_into step p (merged step ps) os
 
--- a reduced fraction as an exponent, where it is one
+-- a reduced fraction as an exponent, if it is one
 abbrev pub as_exponent : Fraction → Option Fraction
 as_exponent e = if is_exponent e then Some e else None
 
--- the powers with each exponent multiplied, without those that are 0 then
+-- the powers with each exponent multiplied, without those that become 0
 abbrev pub scaled : Fraction → Powers → Powers
 scaled by [] = []
 scaled by (p ∷ ps) = put_some (p.0, exponent_product p.1 by) (scaled by ps)
 
--- where the first name of two lists in order stands
-abbrev pub first_of : Powers → Powers → First
-first_of [] [] = Neither
-first_of (p ∷ ps) [] = Left
-first_of [] (o ∷ os) = Right
-first_of (p ∷ ps) (o ∷ os) = match_ordering (slice_cmp nat_cmp p.0 o.0) Left Both Right
-
--- each power has an exponent
+-- the exponent of each power is in range
 abbrev pub are_exponents : Powers → Bool
 are_exponents = list_all (λ power. is_exponent power.1)
 
--- the list, or the fault that one of its powers has no exponent, or want of memory
-abbrev pub IsListed : Result (SmallVec (List ℕ × Fraction)) ExponentFault → Powers → Type 0
-IsListed (Ok powers) expected = (powers.items ≡ expected) × IsTrue (are_exponents expected)
-IsListed (Err OutOfMemory) expected = ⊤
-IsListed (Err Range) expected = IsFalse (are_exponents expected)
+-- the reason why there are no such powers: an exponent is out of range, or memory ran out
+abbrev pub IsFaultOf : ExponentFault → Powers → Type 0
+IsFaultOf OutOfMemory expected = ⊤
+IsFaultOf Range expected = IsFalse (are_exponents expected)
 
--- the power at the end where it is not 0, or the fault that it has no exponent, or want of memory
+-- the answer has these powers, all with exponents in range, or a fault says why not
+abbrev pub ArePowers : {A : Type 0} → (A → Powers) → Result A ExponentFault → Powers → Type 0
+ArePowers powers_of (Ok answer) expected = (powers_of answer ≡ expected) × IsTrue (are_exponents expected)
+ArePowers powers_of (Err fault) expected = IsFaultOf fault expected
+
+-- the power is appended unless its exponent is 0; otherwise its exponent is out of range, or memory ran out
 abbrev pub IsPut : Result (Unit {0}) ExponentFault → Powers → Powers → List ℕ × Fraction → Type 0
 IsPut (Ok _) old new power = (new ≡ old ++ put_some power []) × IsTrue (is_exponent power.1)
 IsPut (Err OutOfMemory) old new power = ⊤

@@ -12,7 +12,7 @@ use Rattle.quantity.specs.Exponents.{Exponents, exponent_of, exponent_product}
 use Rattle.quantity.specs.declared.fault.QuantityFault.{QuantityFault}
 use Rattle.quantity.specs.declared.fault.QuantityFault.TheVariants.{ExponentNotNumber, ExponentRange}
 
--- the power of a root that there is
+-- the power of a root, if the root exists
 abbrev pub power_of_root : Result Fraction FracFault → ℤ → Result Fraction FracFault
 power_of_root (Ok root) k = power root k
 power_of_root (Err fault) k = Err fault
@@ -21,7 +21,7 @@ power_of_root (Err fault) k = Err fault
 abbrev pub powered : Fraction → Fraction → Result Fraction FracFault
 powered x by = power_of_root (root_of x by.den) by.num
 
--- the product of each exponent and a fraction
+-- each exponent multiplied by a fraction
 unfoldable pub power_exponents : Exponents → Fraction → Option Exponents
 power_exponents p by = ranged (λ name. exponent_product (exponent_of p name) by) (map_of.keys p)
 

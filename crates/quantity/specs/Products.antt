@@ -26,8 +26,8 @@ product_of x y = amount_from (times x.value y.value) (product_exponents x.expone
 abbrev pub quotient_of : Amount → Amount → Result Amount QuantityFault
 quotient_of x y = amount_from (over x.value y.value) (quotient_exponents x.exponents y.exponents)
 
--- law: each exponent of a product is the sum of the two, and of a quotient the difference, also
--- where it is 0
+-- law: each exponent of a product is the sum of the two exponents, and that of a quotient their difference, even if it
+-- is 0
 abbrev pub ProductLaw : Type 0
 ProductLaw = (p o r : Exponents) → AreExponents p → AreExponents o
     → (product_exponents p o ≡ Some r → (name : List ℕ)

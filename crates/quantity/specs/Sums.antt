@@ -8,7 +8,7 @@ use Rattle.quantity.specs.Answers.{amount_from}
 use Rattle.quantity.specs.declared.fault.QuantityFault.{QuantityFault}
 use Rattle.quantity.specs.declared.fault.QuantityFault.TheVariants.{NotConformable}
 
--- the number that a step gives of two quantities, which have to conform
+-- the result of an operation on the numbers of two quantities, which must conform
 abbrev pub of_conforming : Result Fraction FracFault → Amount → Amount → Result Amount QuantityFault
 of_conforming number x y =
     if conform x.exponents y.exponents

@@ -12,7 +12,7 @@ use Rattle.quantity.specs.Exponents.{Exponents}
 use Rattle.quantity.specs.declared.text.Side.{Side}
 use Rattle.quantity.specs.declared.text.Side.TheVariants.{Above, Below}
 
--- the exponent n/d behind its name: none for 1, else `^n`, or `^n|d` where d is above 1
+-- the exponent n/d after its name: nothing for 1, otherwise `^n`, or `^n|d` if d is above 1
 abbrev pub exponent_text : ℕ → ℕ → List ℕ
 exponent_text n d =
     if d == 1
@@ -23,11 +23,11 @@ exponent_text n d =
 abbrev pub power_text : List ℕ × Fraction → List ℕ
 power_text e = codes " " ++ e.0 ++ exponent_text (unsigned_abs e.1.num) e.1.den
 
--- the power stands above the slash
+-- the power is written before the slash
 abbrev pub is_positive : List ℕ × Fraction → Bool
 is_positive e = sign.is_positive e.1
 
--- the power stands below it
+-- the power is written after the slash
 abbrev pub is_negative : List ℕ × Fraction → Bool
 is_negative e = sign.is_negative e.1
 
@@ -36,18 +36,18 @@ abbrev pub sided : Side → List ℕ × Fraction → Bool
 sided Above e = is_positive e
 sided Below e = is_negative e
 
--- the names behind the slash, where there are any
+-- the names after the slash, with the slash, or nothing if there are none
 abbrev pub divisor_text : List (List ℕ × Fraction) → List ℕ
 divisor_text [] = []
 divisor_text (e ∷ es) = codes " /" ++ flat_map power_text (e ∷ es)
 
--- the names with positive exponents in order and, behind a slash, those with negative ones
+-- the names with positive exponents in order and, after a slash, those with negative ones
 abbrev pub listed_text : List (List ℕ × Fraction) → List ℕ
 listed_text powers = flat_map power_text (filter is_positive powers) ++ divisor_text (filter is_negative powers)
 
 abbrev pub powers_text : Exponents → List ℕ
 powers_text exponents = listed_text (map_of.entries exponents)
 
--- the number and its names, in byte order
+-- the number and the names, in byte order
 abbrev pub amount_text : Style → Amount → List ℕ
 amount_text style x = number_text style x.value ++ powers_text x.exponents

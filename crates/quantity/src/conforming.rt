@@ -1,4 +1,4 @@
-//! Whether two quantities conform.
+//! Checks whether two quantities conform.
 
 ghost use Rattle.std.specs.Prelude.{◌≡◌, ◌↔◌, List, ℕ, IsTrue};
 ghost use Rattle.frac128.specs.Fraction.{negated};
@@ -8,7 +8,7 @@ ghost use Rattle.quantity.specs.Exponents.{exponent_of};
 use crate::quantity::Quantity;
 
 impl Quantity {
-    /// Whether the exponents are equal: each name has the same exponent in both.
+    /// Reports whether the exponents are equal, that is, whether each name has the same exponent in both quantities.
     pub fn conforms(&self, other: &Quantity) -> bool
         ensures value { result ≡ conform self.now.exponents other.now.exponents }
         ensures equal { IsTrue result ↔ (self.now.exponents ≡ other.now.exponents) }
@@ -18,7 +18,7 @@ impl Quantity {
         self.powers.conform(&other.powers)
     }
 
-    /// Whether each exponent is the negative of the other's.
+    /// Reports whether each exponent is the negative of the exponent that its name has in the other quantity.
     pub fn is_reciprocal(&self, other: &Quantity) -> bool
         ensures value { result ≡ are_reciprocal self.now.exponents other.now.exponents }
         ensures opposite { IsTrue result ↔ ((name : List ℕ)

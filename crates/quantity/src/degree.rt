@@ -6,11 +6,10 @@ ghost use Rattle.quantity.specs.Degrees.{as_degree};
 use frac128::Frac;
 use std::marker::Model;
 
-// The largest numerator and denominator.
+// The maximum magnitude of the numerator and of the denominator.
 const MOST: u128 = 32_767;
 
-/// The exponent of a power: a fraction whose numerator and denominator have magnitudes of at most
-/// 32,767.
+/// The exponent of a power: a fraction whose numerator and denominator have magnitudes of at most 32,767.
 #[derive(Clone, Copy)]
 pub(crate) struct Degree {
     num: i32,
@@ -31,7 +30,7 @@ impl Model for Degree {
 }
 
 impl Degree {
-    // The fraction as such an exponent, or none where it is out of range.
+    // Returns the fraction as the exponent of a power, or `None` if it is out of range.
     pub(crate) fn of(x: &Frac) -> Option<Degree>
         ensures { result ≡ as_degree x.now }
     {
@@ -46,7 +45,7 @@ impl Degree {
         }
     }
 
-    // The numerator.
+    // Returns the numerator.
     pub(crate) fn num(&self) -> i32
         ensures value { result ≡ self.now.num }
         ensures bound { unsigned_abs result ≤ 32767 }
@@ -61,7 +60,7 @@ impl Degree {
         let _ = &self.den;
     }
 
-    // The denominator.
+    // Returns the denominator.
     pub(crate) fn den(&self) -> u32
         ensures value { result ≡ self.now.den }
         ensures some { 0 < result }

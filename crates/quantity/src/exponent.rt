@@ -11,17 +11,17 @@ use crate::degree::Degree;
 use frac128::{Frac, reduced_law};
 use std::marker::Model;
 
-// The largest numerator of an exponent.
+// The maximum magnitude of the numerator of an exponent.
 const MOST_NUM: u128 = 32_767;
 
-// The largest denominator of an exponent.
+// The maximum denominator of an exponent.
 const MOST_DEN: u128 = 60;
 
-/// The exponent of a name: a fraction in lowest terms, its numerator from -32,767 to 32,767 and
-/// its denominator from 1 to 60.
+/// The exponent of a name: a fraction in lowest terms with a numerator from -32,767 to 32,767 and a denominator from 1
+/// to 60.
 #[derive(Clone, Copy, PartialEq, Eq)]
 pub struct Exponent {
-    /// The numerator, which has the exponent's sign.
+    /// The numerator, which has the sign of the exponent.
     pub num: i32,
     /// The denominator.
     pub den: u32,
@@ -41,14 +41,14 @@ impl Model for Exponent {
 }
 
 impl Exponent {
-    // The exponent of a name that is absent.
+    // Returns the exponent of a name that is absent.
     pub(crate) fn zero() -> Exponent
         ensures { result ≡ fraction_spec.whole (pos 0) }
     {
         Exponent { num: 0, den: 1 }
     }
 
-    // The exponent of a name alone.
+    // Returns the exponent of a name on its own.
     pub(crate) fn one() -> Exponent
         ensures { result ≡ fraction_spec.whole (pos 1) }
     {
@@ -71,7 +71,7 @@ impl Exponent {
         }
     }
 
-    // The sum, or none where it is no exponent.
+    // Returns the sum, or `None` if it is out of range.
     pub(crate) fn add(&self, other: &Exponent) -> Option<Exponent>
         ensures { result ≡ as_exponent (exponent_sum self.now other.now) }
     {
@@ -80,7 +80,7 @@ impl Exponent {
         lowest(left + right, self.den * other.den)
     }
 
-    // The product with the exponent of a power, or none where it is no exponent.
+    // Returns the product with the exponent of a power, or `None` if it is out of range.
     pub(crate) fn times(&self, degree: &Degree) -> Option<Exponent>
         ensures { result ≡ as_exponent (exponent_product self.now degree.now) }
     {
@@ -88,7 +88,7 @@ impl Exponent {
     }
 }
 
-// The numerator of an exponent over a denominator that is so many times as large.
+// Returns the numerator of an exponent for a denominator that is `times` times as large.
 fn widened(num: i32, times: u32) -> i32
     requires num { unsigned_abs num ≤ 32767 }
     requires times { times ≤ 60 }
@@ -98,7 +98,7 @@ fn widened(num: i32, times: u32) -> i32
     num * times as i32
 }
 
-// num / den in lowest terms, or none where that is no exponent.
+// Returns num / den in lowest terms, or `None` if it is out of range.
 fn lowest(num: i32, den: u32) -> Option<Exponent>
     requires { 0 < den }
     ensures { result ≡ as_exponent (reduced num den) }
@@ -113,7 +113,7 @@ fn lowest(num: i32, den: u32) -> Option<Exponent>
     }
 }
 
-// The whole number as an exponent, or none where it is out of range.
+// Returns the whole number as an exponent, or `None` if it is out of range.
 fn whole(num: i32) -> Option<Exponent>
     ensures { result ≡ as_exponent (fraction_spec.whole num) }
 {
@@ -124,7 +124,7 @@ fn whole(num: i32) -> Option<Exponent>
     }
 }
 
-// The fraction as an exponent, or none where it is out of range.
+// Returns the fraction as an exponent, or `None` if it is out of range.
 fn fitting(fraction: &Frac) -> Option<Exponent>
     ensures { result ≡ as_exponent fraction.now }
 {

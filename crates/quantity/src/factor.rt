@@ -1,11 +1,11 @@
-//! How the second of two factors is taken.
+//! The way in which the second of two factors is used.
 
 ghost use Rattle.std.specs.Prelude.{◌≡◌};
 ghost use Rattle.quantity.specs.Factors.{exponent_in};
 
 use crate::exponent::Exponent;
 
-/// How the second of two factors is taken: as it is, or its inverse.
+/// The way in which the second of two factors is used: as it is, or inverted.
 #[derive(Clone, Copy)]
 pub(crate) enum Factor {
     Plain,
@@ -13,7 +13,7 @@ pub(crate) enum Factor {
 }
 
 impl Factor {
-    // An exponent of the factor.
+    // Returns an exponent of the factor, negated if the factor is inverted.
     pub(crate) fn exponent(self, exponent: Exponent) -> Exponent
         ensures { result ≡ exponent_in self exponent }
     {

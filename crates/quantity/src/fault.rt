@@ -1,21 +1,21 @@
-//! Why a step on quantities has no answer.
+//! The faults of operations on quantities.
 
 use crate::quantity::Quantity;
 use frac128::FracFault;
 use std::alloc::{AllocError, AllocFailed};
 
-/// Why a step on quantities has no answer.
+/// The reason why an operation on quantities has no result.
 #[derive(Drop)]
 pub enum QuantityFault {
-    /// The step on the numbers has no answer.
+    /// The operation on the numbers has no result.
     Number(FracFault),
-    /// A sum or difference of two quantities with different exponents: both of them.
+    /// The operands of a sum or difference have different exponents. Both operands are included.
     NotConformable(Quantity, Quantity),
     /// The exponent of a power has exponents of its own.
     ExponentNotNumber,
     /// An exponent is out of range.
     ExponentRange,
-    /// Want of memory.
+    /// Out of memory.
     OutOfMemory,
 }
 
@@ -55,7 +55,7 @@ impl From<AllocError> for QuantityFault {
     }
 }
 
-/// Why a step on exponents has no answer. It is small, where the public fault has two quantities.
+/// The reason why an operation on exponents has no result. It is small, while the public fault holds two quantities.
 #[derive(Clone, Copy)]
 pub(crate) enum ExponentFault {
     Range,

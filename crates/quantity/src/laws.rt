@@ -8,30 +8,30 @@ ghost use Rattle.quantity.specs.Told.{ToldLaw};
 
 use frac128::reduced_law;
 
-/// Quantities whose exponents are the same for each name have equal maps.
+/// If two quantities have the same exponent for each name, their maps are equal.
 pub fn same_exponents_law()
     ensures { SameExponentsLaw }
 {}
 
-/// Quantities conform exactly where each name has the same exponent in both, and are reciprocal
-/// exactly where each has the other's with the other sign.
+/// Quantities conform if and only if each name has the same exponent in both, and they are reciprocal if and only if
+/// the exponents of each name differ exactly in sign.
 pub fn conform_law()
     ensures { ConformLaw }
 {}
 
-/// The exponents of a product are the sums of both, and those of a quotient the differences.
+/// The exponents of a product are the sums of the exponents of its factors, and those of a quotient the differences.
 pub fn product_law()
     ensures { ProductLaw }
 {
     reduced_law();
 }
 
-/// No step has want of memory as its fault.
+/// No operation results in an out-of-memory fault.
 pub fn told_law()
     ensures { ToldLaw }
 {}
 
-/// Some powers and some texts are those that were found by hand.
+/// Some powers and some texts equal those that were found by hand.
 pub fn examples_law()
     ensures { ExamplesLaw }
 {}

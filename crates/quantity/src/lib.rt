@@ -1,4 +1,4 @@
-//! Quantities: a fraction with the exponents of the primitive names that it is measured in.
+//! Quantities: a fraction with the exponents of the primitive names in which it is measured.
 #![tactic(auto)]
 
 mod conforming;
@@ -6,9 +6,11 @@ mod degree;
 mod exponent;
 mod factor;
 mod fault;
+mod joining;
 mod laws;
 mod matching;
 mod merging;
+mod name;
 mod power;
 mod powers;
 mod product;
@@ -16,8 +18,10 @@ mod quantity;
 mod raising;
 mod scaling;
 mod show;
+mod store;
 mod sum;
 mod text;
+mod walk;
 
 pub use digits_print::Style;
 pub use exponent::Exponent;

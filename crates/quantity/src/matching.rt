@@ -1,4 +1,4 @@
-//! Look-ups and comparisons in lists of powers.
+//! Lookups and comparisons in lists of powers.
 
 ghost use Rattle.std.specs.Prelude.{◌≡◌, ◌&&◌, pos, nat_eq, unwrap_or};
 ghost use Rattle.std.specs.Cmp.Lexicographic.{pointwise, slice_cmp};
@@ -7,26 +7,29 @@ ghost use Rattle.std.specs.Ordering.{nat_cmp};
 ghost use Rattle.frac128.specs.Fraction.{whole};
 ghost use Rattle.quantity.specs.Amount.{matches, same};
 ghost use Rattle.quantity.specs.Factors as spec;
+ghost use Rattle.quantity.specs.Stores.{rest_of};
 
 use crate::exponent::Exponent;
 use crate::factor::Factor;
 use crate::power::Power;
+use crate::walk::{Entry, Walk};
 
-// The exponent of a name, 0 where it is absent.
-pub(crate) fn exponent_in(powers: &[Power], name: &[u8]) -> Exponent
-    ensures { result ≡ unwrap_or (map.find (slice_cmp nat_cmp) name.now powers.now) (whole (pos 0)) }
+// Returns the exponent of a name, or 0 if the name is absent.
+pub(crate) fn exponent_in(powers: Walk<'_>, name: &[u8]) -> Exponent
+    ensures { result ≡ unwrap_or (map.find (slice_cmp nat_cmp) name.now (rest_of powers.entry)) (whole (pos 0)) }
 {
-    for power in powers {
-        if name == power.name() {
-            return power.exponent();
+    let mut powers = powers;
+    while let Some(power) = powers.next() {
+        if name == power.name.as_bytes() {
+            return power.exponent;
         }
     }
     Exponent::zero()
 }
 
-// Whether two lists have the same names in order, and each exponent is the one that the factor
-// takes from the other list.
-pub(crate) fn same_powers(left: &[Power], right: &[Power], factor: Factor) -> bool
+// Reports whether two lists have the same names in the same order, and each exponent on the left is the exponent on
+// the right as the factor uses it.
+pub(crate) fn same_lists(left: &[Power], right: &[Power], factor: Factor) -> bool
     ensures { result ≡ matches (spec.exponent_in factor) left.now right.now }
 {
     let (mut left, mut right) = (left, right);
@@ -34,7 +37,7 @@ pub(crate) fn same_powers(left: &[Power], right: &[Power], factor: Factor) -> bo
         match (left.split_first(), right.split_first()) {
             (None, None) => return true,
             (Some((l, ls)), Some((r, rs))) => {
-                if !same_power(l, r, factor) {
+                if l.name() != r.name() || l.exponent() != factor.exponent(r.exponent()) {
                     return false;
                 }
                 left = ls;
@@ -45,11 +48,29 @@ pub(crate) fn same_powers(left: &[Power], right: &[Power], factor: Factor) -> bo
     }
 }
 
-// Whether two powers have one name, and the first has the exponent that the factor takes from the
-// second.
-fn same_power(left: &Power, right: &Power, factor: Factor) -> bool
-    ensures { result ≡ (pointwise nat_eq left.now.0 right.now.0
-        && same left.now.1 (spec.exponent_in factor right.now.1)) }
+// Reports the same as `same_lists`, for two walks.
+pub(crate) fn same_powers(left: Walk<'_>, right: Walk<'_>, factor: Factor) -> bool
+    ensures { result ≡ matches (spec.exponent_in factor) (rest_of left.entry) (rest_of right.entry) }
 {
-    left.name() == right.name() && left.exponent() == factor.exponent(right.exponent())
+    let (mut left, mut right) = (left, right);
+    loop {
+        match (left.next(), right.next()) {
+            (None, None) => return true,
+            (Some(power), Some(other)) => {
+                if !same_power(&power, &other, factor) {
+                    return false;
+                }
+            }
+            _ => return false,
+        }
+    }
+}
+
+// Reports whether two powers have the same name, and the left exponent is the right one as the factor uses it.
+fn same_power(left: &Entry<'_>, right: &Entry<'_>, factor: Factor) -> bool
+    ensures { result ≡ (pointwise nat_eq left.now.name.now right.now.name.now
+        && same left.now.exponent (spec.exponent_in factor right.now.exponent)) }
+{
+    left.name.as_bytes() == right.name.as_bytes()
+        && left.exponent == factor.exponent(right.exponent)
 }

@@ -1,144 +1,103 @@
-//! The merge of two lists of powers.
+//! Merging two lists of powers.
 
-ghost use Rattle.std.specs.Prelude.{◌≡◌, ◌<◌, ◌∷◌, All, IfOk, length, map};
+ghost use Rattle.std.specs.Prelude.{◌≡◌, ◌∷◌, [], All, IfOk, map};
+ghost use Rattle.quantity.specs.Exponents.{IsPower};
 ghost use Rattle.quantity.specs.Factors.{exponent_in};
-ghost use Rattle.quantity.specs.Merges as spec;
-ghost use Rattle.quantity.specs.Exponents.{IsPower, exponent_sum};
+ghost use Rattle.quantity.specs.Merges.{AreInOrder, ArePowers, merged, power_by};
+ghost use Rattle.quantity.specs.Places.{place_in};
 
-use crate::exponent::Exponent;
 use crate::factor::Factor;
 use crate::fault::ExponentFault;
+use crate::name::Name;
 use crate::power::Power;
 use frac128::reduced_law;
-use smallvec::{IntoIter, SmallVec};
 use std::alloc::{AllocError, Global};
 use std::cmp::Ordering;
 
-// Where the first name of two lists in order stands.
+// The position of a name in an ordered list: at an index that holds it, or before an index.
 #[derive(Clone, Copy)]
-enum First {
-    Neither,
-    Left,
-    Right,
-    Both,
+enum Place {
+    At(usize),
+    Before(usize),
 }
 
-// The powers of two lists in order as one list in order, where the exponents of a name that both
-// have are added, and those that cancel are left out. The powers of the first list are moved; where
-// there are no others, nothing is done.
+// Merges two ordered lists of powers into one. The exponents of a name that is in both lists are added, and a name
+// whose exponents cancel is dropped. Each power of the second list is inserted at its place in the first.
 pub(crate) fn merge(
     alloc: Global,
-    left: SmallVec<Power, 1>,
+    left: Vec<Power>,
     right: &[Power],
     factor: Factor,
-) -> Result<SmallVec<Power, 1>, ExponentFault>
-    requires left { All IsPower left.items }
-    requires right { All IsPower right.now }
-    ensures { spec.IsListed result (spec.merged (exponent_in factor) left.items right.now) }
+) -> Result<Vec<Power>, ExponentFault>
+    requires left { AreInOrder left.items }
+    requires right { AreInOrder right.now }
+    ensures { ArePowers (λ list. list.items) result (merged (exponent_in factor) left.items right.now) }
 {
-    if right.is_empty() {
-        return Ok(left);
+    reduced_law();
+    let (mut powers, mut right) = (left, right);
+    while let Some((power, rest)) = right.split_first() {
+        join(alloc, &mut powers, power, factor)?;
+        right = rest;
     }
-    if left.is_empty() {
-        return Ok(copies(alloc, right, factor)?);
-    }
-    merge_both(alloc, left, right, factor)
+    Ok(powers)
 }
 
-// Copies of the powers of a factor.
+// Merges one power of a factor into an ordered list.
+fn join(
+    alloc: Global,
+    powers: &mut Vec<Power>,
+    power: &Power,
+    factor: Factor,
+) -> Result<(), ExponentFault>
+    requires list { All IsPower powers.old.items }
+    requires power { IsPower power.now }
+    ensures { ArePowers (λ _. powers.new.items) result
+        (merged (exponent_in factor) powers.old.items (power.now ∷ [])) }
+{
+    reduced_law();
+    let exponent = factor.exponent(power.exponent());
+    match place_of(powers.as_slice(), power.name()) {
+        Place::Before(index) => powers.insert(index, power.with(alloc, exponent)?)?,
+        Place::At(index) => {
+            let Some(sum) = powers[index].exponent().add(&exponent) else {
+                return Err(ExponentFault::Range);
+            };
+            if sum.is_zero() {
+                powers.remove(index);
+            } else {
+                powers[index].put_exponent(sum);
+            }
+        }
+    }
+    Ok(())
+}
+
+// Returns the position of a name in an ordered list.
+fn place_of(powers: &[Power], name: &Name) -> Place
+    ensures { result ≡ place_in 0 name.now powers.now }
+{
+    let mut index = 0;
+    while index < powers.len() {
+        match powers[index].name().cmp(name) {
+            Ordering::Less => index += 1,
+            Ordering::Equal => return Place::At(index),
+            Ordering::Greater => break,
+        }
+    }
+    Place::Before(index)
+}
+
+// Returns copies of the powers as the factor uses them.
 pub(crate) fn copies(
     alloc: Global,
     powers: &[Power],
     factor: Factor,
-) -> Result<SmallVec<Power, 1>, AllocError>
-    ensures { IfOk result (λ copies. copies.items ≡ map (spec.power_by (exponent_in factor)) powers.now) }
+) -> Result<Vec<Power>, AllocError>
+    ensures { IfOk result (λ copies. copies.items ≡ map (power_by (exponent_in factor)) powers.now) }
 {
-    let mut copies = SmallVec::with_capacity(alloc, powers.len())?;
+    let mut copies = Vec::with_capacity(alloc, powers.len())?;
     for power in powers {
         copies.push(power.with(alloc, factor.exponent(power.exponent()))?)?;
     }
     Ok(copies)
-}
-
-// The merge step by step.
-fn merge_both(
-    alloc: Global,
-    left: SmallVec<Power, 1>,
-    right: &[Power],
-    factor: Factor,
-) -> Result<SmallVec<Power, 1>, ExponentFault>
-    requires left { All IsPower left.items }
-    requires right { All IsPower right.now }
-    ensures { spec.IsListed result (spec.merged (exponent_in factor) left.items right.now) }
-{
-    reduced_law();
-    let mut powers = SmallVec::with_capacity(alloc, left.len())?;
-    let (mut left, mut right) = (left.into_iter(), right);
-    loop {
-        match first_of(left.as_slice(), right) {
-            First::Neither => return Ok(powers),
-            First::Left => powers.push(next_of(&mut left))?,
-            First::Right => {
-                let (power, rest) = parted(right);
-                powers.push(power.with(alloc, factor.exponent(power.exponent()))?)?;
-                right = rest;
-            }
-            First::Both => {
-                let power = next_of(&mut left);
-                let (other, rest) = parted(right);
-                put_sum(&mut powers, power, factor.exponent(other.exponent()))?;
-                right = rest;
-            }
-        }
-    }
-}
-
-// The next of the powers that are left, of which there are some.
-fn next_of(left: &mut IntoIter<Power, 1>) -> Power
-    requires { 0 < length left.old }
-    ensures { left.old ≡ result ∷ left.new }
-{
-    left.next().unwrap()
-}
-
-// The first power of a list, and the others.
-fn parted(powers: &[Power]) -> (&Power, &[Power])
-    requires { 0 < length powers.now }
-    ensures { powers.now ≡ result.0.now ∷ result.1.now }
-{
-    (&powers[0], &powers[1..])
-}
-
-// Where the first name of two lists stands.
-fn first_of(left: &[Power], right: &[Power]) -> First
-    ensures { result ≡ spec.first_of left.now right.now }
-{
-    match (left.first(), right.first()) {
-        (None, None) => First::Neither,
-        (Some(_), None) => First::Left,
-        (None, Some(_)) => First::Right,
-        (Some(l), Some(r)) => match l.name().cmp(r.name()) {
-            Ordering::Less => First::Left,
-            Ordering::Equal => First::Both,
-            Ordering::Greater => First::Right,
-        },
-    }
-}
-
-// Puts a power with a second exponent added at the end, where that is not 0.
-fn put_sum(
-    powers: &mut SmallVec<Power, 1>,
-    power: Power,
-    exponent: Exponent,
-) -> Result<(), ExponentFault>
-    ensures { spec.IsPut result powers.old.items powers.new.items (power.0, exponent_sum power.1 exponent) }
-{
-    let sum = match power.exponent().add(&exponent) {
-        Some(sum) => sum,
-        None => return Err(ExponentFault::Range),
-    };
-    if !sum.is_zero() {
-        powers.push(power.changed(sum))?;
-    }
-    Ok(())
 }

@@ -4,16 +4,14 @@ ghost use Rattle.std.specs.Prelude.{◌≡◌, pos, IfOk};
 ghost use Rattle.frac128.specs.Fraction.{whole};
 
 use crate::exponent::Exponent;
-use smallvec::SmallVec;
+use crate::name::Name;
 use std::alloc::{AllocError, Global};
-use std::default::MadeWith;
 use std::marker::Model;
 
-/// A name with its exponent, which contracts see as a pair. A short name lies in the value itself, since each product
-/// copies the names of a factor.
+/// A name with its exponent, which contracts see as a pair.
 #[derive(Drop)]
 pub(crate) struct Power {
-    name: SmallVec<u8, 16>,
+    name: Name,
     exponent: Exponent,
 }
 
@@ -26,24 +24,21 @@ impl Model for Power {
 
     ghost coded = { power_code };
 
-    ghost view = { λ p. (p.name.items, p.exponent) };
-}
-
-// A small vector fills its unused places with this.
-impl MadeWith<Global> for Power {
-    fn made_with(alloc: Global) -> Power {
-        Power {
-            name: SmallVec::new(alloc),
-            exponent: Exponent::zero(),
-        }
-    }
+    ghost view = { λ p. (p.name, p.exponent) };
 }
 
 impl Power {
-    pub(crate) fn name(&self) -> &[u8]
+    // Creates a power from a name and its exponent.
+    pub(crate) fn new(name: Name, exponent: Exponent) -> Power
+        ensures { result ≡ (name, exponent) }
+    {
+        Power { name, exponent }
+    }
+
+    pub(crate) fn name(&self) -> &Name
         ensures { result.now ≡ self.now.0 }
     {
-        self.name.as_slice()
+        &self.name
     }
 
     pub(crate) fn exponent(&self) -> Exponent
@@ -52,7 +47,7 @@ impl Power {
         self.exponent
     }
 
-    // The name with this exponent.
+    // Returns the power with this exponent instead of its own.
     pub(crate) fn changed(self, exponent: Exponent) -> Power
         ensures { result ≡ (self.0, exponent) }
     {
@@ -62,22 +57,29 @@ impl Power {
         }
     }
 
-    // A copy of the name with this exponent.
+    // Sets the exponent.
+    pub(crate) fn put_exponent(&mut self, exponent: Exponent)
+        ensures { self.new ≡ (self.old.0, exponent) }
+    {
+        self.exponent = exponent;
+    }
+
+    // Returns a copy of the name with this exponent.
     pub(crate) fn with(&self, alloc: Global, exponent: Exponent) -> Result<Power, AllocError>
         ensures { IfOk result (λ power. power ≡ (self.now.0, exponent)) }
     {
         Ok(Power {
-            name: SmallVec::from_slice(alloc, self.name())?,
+            name: self.name.copy(alloc)?,
             exponent,
         })
     }
 
-    // The name with the exponent 1.
+    // Creates a power of a name with the exponent 1.
     pub(crate) fn of(alloc: Global, name: &[u8]) -> Result<Power, AllocError>
         ensures { IfOk result (λ power. power ≡ (name.now, whole (pos 1))) }
     {
         Ok(Power {
-            name: SmallVec::from_slice(alloc, name)?,
+            name: Name::of(alloc, name)?,
             exponent: Exponent::one(),
         })
     }

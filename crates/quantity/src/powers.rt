@@ -15,35 +15,39 @@ use crate::degree::Degree;
 use crate::exponent::Exponent;
 use crate::factor::Factor;
 use crate::fault::ExponentFault;
-use crate::matching::{exponent_in, same_powers};
-use crate::merging::{copies, merge};
+use crate::matching::exponent_in;
 use crate::power::Power;
-use crate::scaling::scale;
-use crate::text::put_powers;
+use crate::store::Store;
 use frac128::reduced_law;
-use smallvec::SmallVec;
 use std::alloc::{AllocError, Global};
 use std::marker::Model;
 
-/// Names with exponents other than 0. One alone is in the value itself, which is small, since it is
-/// moved at each step.
-#[derive(Drop)]
+/// Names with nonzero exponents.
 pub(crate) struct Powers {
-    items: SmallVec<Power, 1>,
+    store: Store,
+}
+
+// Implemented by hand, so that a function that drops a quantity has nothing to prove about the ways in which the
+// powers are stored.
+impl Drop for Powers {
+    fn drop(self) {
+        let Powers { store: _ } = self;
+    }
 }
 
 impl Model for Powers {
     ghost use Rattle.quantity.specs.Amount.{exponents_code};
     ghost use Rattle.quantity.specs.Exponents.{Exponents};
     ghost use Rattle.quantity.specs.Merges.{AreInOrder, exponents_in};
+    ghost use Rattle.quantity.specs.Stores.{powers_of};
 
     ghost Value = { Exponents };
 
     ghost coded = { exponents_code };
 
-    ghost view = { λ powers. exponents_in powers.items.items };
+    ghost view = { λ powers. exponents_in (powers_of powers.store) };
 
-    ghost invariant = { λ powers. AreInOrder powers.items.items };
+    ghost invariant = { λ powers. AreInOrder (powers_of powers.store) };
 }
 
 impl Powers {
@@ -51,71 +55,66 @@ impl Powers {
         ensures { result ≡ map.empty }
     {
         Powers {
-            items: SmallVec::new(alloc),
+            store: Store::new(alloc),
         }
     }
 
-    // The exponent 1 of one name.
+    // Creates the exponents of a single name with the exponent 1.
     pub(crate) fn one(alloc: Global, name: &[u8]) -> Result<Powers, AllocError>
         ensures { IfOk result (λ powers. powers ≡ map.insert map.empty name.now (whole (pos 1))) }
     {
-        let mut items = SmallVec::new(alloc);
-        items.push(Power::of(alloc, name)?)?;
-        Ok(Powers { items })
+        let store = Store::One(Power::of(alloc, name)?);
+        Ok(Powers { store })
     }
 
-    // An equal map.
+    // Returns a copy of the map.
     pub(crate) fn copy(&self, alloc: Global) -> Result<Powers, AllocError>
         ensures { IfOk result (λ powers. powers ≡ self.now) }
     {
-        let items = copies(alloc, self.items.as_slice(), Factor::Plain)?;
-        Ok(Powers { items })
+        let store = self.store.taken(alloc, Factor::Plain)?;
+        Ok(Powers { store })
     }
 
     pub(crate) fn is_empty(&self) -> bool
         ensures { result ≡ (map.len self.now == 0) }
     {
-        self.items.is_empty()
+        self.store.is_empty()
     }
 
-    // The exponent of a name, 0 where it is absent.
+    // Returns the exponent of a name, or 0 if the name is absent.
     pub(crate) fn exponent(&self, name: &[u8]) -> Exponent
         ensures { result ≡ exponent_of self.now name.now }
     {
-        exponent_in(self.items.as_slice(), name)
+        exponent_in(self.store.walk(), name)
     }
 
     // No exponent is 0, and each is in range.
     pub(crate) fn facts(&self)
         ensures { AreExponents self.now }
     {
-        self.items.as_slice();
+        self.store.walk();
     }
 
-    // Whether two maps are equal.
+    // Reports whether two maps are equal.
     pub(crate) fn conform(&self, other: &Powers) -> bool
         ensures value { result ≡ conform self.now other.now }
         ensures equal { IsTrue result ↔ (self.now ≡ other.now) }
         ensures same { IsTrue result ↔ ((name : List ℕ)
             → exponent_of self.now name ≡ exponent_of other.now name) }
     {
-        same_powers(self.items.as_slice(), other.items.as_slice(), Factor::Plain)
+        self.store.matches(&other.store, Factor::Plain)
     }
 
-    // Whether each exponent is the negative of the other's.
+    // Reports whether each exponent is the negative of the exponent that its name has in the other map.
     pub(crate) fn are_reciprocal(&self, other: &Powers) -> bool
         ensures value { result ≡ are_reciprocal self.now other.now }
         ensures opposite { IsTrue result ↔ ((name : List ℕ)
             → exponent_of self.now name ≡ negated (exponent_of other.now name)) }
     {
-        same_powers(
-            self.items.as_slice(),
-            other.items.as_slice(),
-            Factor::Inverse,
-        )
+        self.store.matches(&other.store, Factor::Inverse)
     }
 
-    // The exponents of the product with a factor.
+    // Returns the exponents of the product with a factor.
     pub(crate) fn times(
         self,
         alloc: Global,
@@ -125,11 +124,12 @@ impl Powers {
         ensures { AreThose result (exponents_with factor self other.now) }
     {
         reduced_law();
-        let items = merge(alloc, self.items, other.items.as_slice(), factor)?;
-        Ok(Powers { items })
+        let Powers { store: own } = self;
+        let store = own.merged(alloc, &other.store, factor)?;
+        Ok(Powers { store })
     }
 
-    // The exponents of the product, of which both factors are taken over.
+    // Returns the exponents of the product. It takes ownership of the exponents of both factors.
     pub(crate) fn times_all(self, alloc: Global, other: Powers) -> Result<Powers, ExponentFault>
         ensures { AreThose result (product_exponents self other) }
     {
@@ -140,31 +140,31 @@ impl Powers {
         self.times(alloc, &other, Factor::Plain)
     }
 
-    // A number has no exponents to add or to take away, as the one factor or as the other.
+    // Multiplying by a quantity without exponents, on either side, or dividing by one does not change the exponents.
     pub(crate) fn number_facts(&self)
         ensures product { product_exponents self.now map.empty ≡ Some self.now }
         ensures factor { product_exponents map.empty self.now ≡ Some self.now }
         ensures quotient { quotient_exponents self.now map.empty ≡ Some self.now }
     {
         reduced_law();
-        let _ = &self.items;
+        let _ = &self.store;
     }
 
-    // The exponents of a power.
+    // Returns the exponents of a power.
     pub(crate) fn raised(self, alloc: Global, degree: &Degree) -> Result<Powers, ExponentFault>
         ensures { AreThose result (power_exponents self degree.now) }
     {
         reduced_law();
         degree.denominator_facts();
-        let items = scale(alloc, self.items, degree)?;
-        Ok(Powers { items })
+        let Powers { store: own } = self;
+        let store = own.scaled(alloc, degree)?;
+        Ok(Powers { store })
     }
 
-    // Puts the names behind a text: those with positive exponents and, behind a slash, those with
-    // negative ones.
+    // Appends the names to a text: those with positive exponents and, after a slash, those with negative ones.
     pub(crate) fn put_text(&self, alloc: Global, text: &mut Vec<u8>) -> Result<(), AllocError>
         ensures { OnOk result (text.new.items ≡ text.old.items ++ powers_text self.now) }
     {
-        put_powers(alloc, text, self.items.as_slice())
+        self.store.put_text(alloc, text)
     }
 }

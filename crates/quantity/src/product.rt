@@ -10,24 +10,24 @@ use frac128::{Frac, FracFault};
 use std::alloc::Global;
 
 impl Quantity {
-    /// The product, whose exponents are the sums of both. `Number` where the product of the
-    /// numbers overflows, and else `ExponentRange` where a sum of two exponents is no exponent.
+    /// Returns the product, whose exponents are the sums of the exponents of both quantities. The error is `Number` if
+    /// the product of the numbers overflows, and otherwise `ExponentRange` if a sum of two exponents is out of range.
     pub fn mul(&self, alloc: Global, other: &Quantity) -> Result<Quantity, QuantityFault>
         ensures { IsAnswer result (product_of self.now other.now) }
     {
         self.copy(alloc)?.times(alloc, other)
     }
 
-    /// The quotient, whose exponents are the differences. `Number` where the other's number is 0
-    /// or the quotient of the numbers overflows, and else `ExponentRange` where a difference of
-    /// two exponents is no exponent.
+    /// Returns the quotient, whose exponents are the differences of the exponents of both quantities. The error is
+    /// `Number` if the number of the other quantity is 0 or the quotient of the numbers overflows, and otherwise
+    /// `ExponentRange` if a difference of two exponents is out of range.
     pub fn div(&self, alloc: Global, other: &Quantity) -> Result<Quantity, QuantityFault>
         ensures { IsAnswer result (quotient_of self.now other.now) }
     {
         self.copy(alloc)?.over(alloc, other)
     }
 
-    /// `mul` that takes the quantity over, of which it copies nothing.
+    /// Same as `mul`, but takes ownership of `self` and copies nothing of it.
     pub fn times(self, alloc: Global, other: &Quantity) -> Result<Quantity, QuantityFault>
         ensures { IsAnswer result (product_of self other.now) }
     {
@@ -36,7 +36,7 @@ impl Quantity {
         Ok(Quantity { value, powers })
     }
 
-    /// `div` that takes the quantity over, of which it copies nothing.
+    /// Same as `div`, but takes ownership of `self` and copies nothing of it.
     pub fn over(self, alloc: Global, other: &Quantity) -> Result<Quantity, QuantityFault>
         ensures { IsAnswer result (quotient_of self other.now) }
     {
@@ -45,7 +45,7 @@ impl Quantity {
         Ok(Quantity { value, powers })
     }
 
-    /// `mul` that takes both over. Where this quantity is a number, it copies no name.
+    /// Same as `mul`, but takes ownership of both quantities. It copies no name if `self` is a number.
     pub fn times_all(self, alloc: Global, other: Quantity) -> Result<Quantity, QuantityFault>
         ensures { IsAnswer result (product_of self other) }
     {
@@ -54,8 +54,8 @@ impl Quantity {
         Ok(Quantity { value, powers })
     }
 
-    /// `times` with a number, which leaves the exponents as they are. The error is that of the
-    /// product of the numbers.
+    /// Returns the product with a number. The exponents do not change. The error is that of the product of the
+    /// numbers.
     pub fn times_number(self, x: &Frac) -> Result<Quantity, FracFault>
         ensures { IsStepOnNumbers result (product_of self (number x.now)) }
     {
@@ -67,8 +67,8 @@ impl Quantity {
         })
     }
 
-    /// `over` with a number, which leaves the exponents as they are. The error is that of the
-    /// quotient of the numbers.
+    /// Returns the quotient by a number. The exponents do not change. The error is that of the quotient of the
+    /// numbers.
     pub fn over_number(self, x: &Frac) -> Result<Quantity, FracFault>
         ensures { IsStepOnNumbers result (quotient_of self (number x.now)) }
     {

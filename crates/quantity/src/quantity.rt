@@ -12,8 +12,8 @@ use frac128::Frac;
 use std::alloc::{AllocError, Global};
 use std::marker::Model;
 
-/// A fraction with the exponents of primitive names. Contracts see the fraction and a finite map
-/// from the bytes of a name to its exponent, none of which is 0.
+/// A fraction with the exponents of primitive names. Contracts see the fraction and a finite map from the bytes of
+/// each name to its exponent, which is never 0.
 #[derive(Drop)]
 pub struct Quantity {
     pub(crate) value: Frac,
@@ -31,7 +31,7 @@ impl Model for Quantity {
 }
 
 impl Quantity {
-    /// A number without exponents.
+    /// Creates a quantity from a number, without exponents.
     pub fn number(alloc: Global, x: Frac) -> Quantity
         ensures { result ≡ record { value = x; exponents = map.empty } }
     {
@@ -41,14 +41,14 @@ impl Quantity {
         }
     }
 
-    /// The number 1.
+    /// Returns the number 1.
     pub fn unity(alloc: Global) -> Quantity
         ensures { result ≡ record { value = whole (pos 1); exponents = map.empty } }
     {
         Quantity::number(alloc, one())
     }
 
-    /// One of a primitive: 1 with the exponent 1 of its name. The only error is want of memory.
+    /// Returns one unit of a primitive: the number 1 with the exponent 1 of its name. Fails only if memory runs out.
     pub fn one(alloc: Global, name: &[u8]) -> Result<Quantity, AllocError>
         ensures { IfOk result (λ q. q ≡ record {
           value = whole (pos 1);
@@ -61,7 +61,7 @@ impl Quantity {
         })
     }
 
-    /// An equal quantity. The only error is want of memory.
+    /// Returns a copy of the quantity. Fails only if memory runs out.
     pub fn copy(&self, alloc: Global) -> Result<Quantity, AllocError>
         ensures { IfOk result (λ q. q ≡ self.now) }
     {
@@ -71,14 +71,14 @@ impl Quantity {
         })
     }
 
-    /// The quantity whose number has the other sign. The only error is want of memory.
+    /// Returns the quantity with the sign of its number changed. Fails only if memory runs out.
     pub fn negate(&self, alloc: Global) -> Result<Quantity, AllocError>
         ensures { IfOk result (λ q. q ≡ record self.now { value = negated self.now.value }) }
     {
         Ok(self.copy(alloc)?.negated())
     }
 
-    /// `negate` that takes the quantity over, of which it copies nothing.
+    /// Same as `negate`, but takes ownership of the quantity and copies nothing of it.
     pub fn negated(self) -> Quantity
         ensures { result ≡ record self { value = negated self.value } }
     {
@@ -88,7 +88,7 @@ impl Quantity {
         }
     }
 
-    /// The number, which is in lowest terms and fits.
+    /// Returns the number, which is in lowest terms and fits.
     pub fn value(&self) -> Frac
         ensures value { result ≡ self.now.value }
         ensures kept { IsFrac self.now.value }
@@ -97,22 +97,22 @@ impl Quantity {
         self.value
     }
 
-    /// The exponent of a name, 0/1 where the name is absent.
+    /// Returns the exponent of a name, or 0/1 if the name is absent.
     pub fn exponent(&self, name: &[u8]) -> Exponent
         ensures { result ≡ exponent_of self.now.exponents name.now }
     {
         self.powers.exponent(name)
     }
 
-    /// Tells what is known of the exponents, which the laws of quantities ask for: none is 0, and each is in lowest
-    /// terms, its numerator from -32,767 to 32,767 and its denominator at most 60. The call does nothing.
+    /// States the facts about the exponents that the laws of quantities require: no exponent is 0, and each is in
+    /// lowest terms, with a numerator from -32,767 to 32,767 and a denominator of at most 60. The call does nothing.
     pub fn exponent_facts(&self)
         ensures { AreExponents self.now.exponents }
     {
         self.powers.facts();
     }
 
-    /// Whether no name has an exponent.
+    /// Reports whether no name has an exponent.
     pub fn is_number(&self) -> bool
         ensures { result ≡ spec.is_number self.now }
     {
@@ -127,7 +127,7 @@ fn value_facts(x: &Frac)
     x.den();
 }
 
-// The number 1.
+// Returns the number 1.
 fn one() -> Frac
     ensures { result ≡ whole (pos 1) }
 {

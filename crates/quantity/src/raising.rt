@@ -11,20 +11,19 @@ use frac128::{Frac, FracFault};
 use std::alloc::Global;
 
 impl Quantity {
-    /// The power with the number of `by` as exponent. With p/q as that number in lowest terms it
-    /// is the power p of the root q, and each exponent is multiplied by p/q.
+    /// Returns the power whose exponent is the number of `by`. If p/q is that number in lowest terms, the result is
+    /// the power p of the root q, and each exponent is multiplied by p/q.
     ///
-    /// The errors, in this order: `ExponentNotNumber` where `by` has exponents; `ExponentRange`
-    /// where p or q has a magnitude above 32,767; `Number` with `NoExactRoot` where the number has
-    /// no root q, and with the fault of the root's power p; `ExponentRange` where a product of an
-    /// exponent and p/q is no exponent.
+    /// The errors, in the order in which they are checked: `ExponentNotNumber` if `by` has exponents; `ExponentRange`
+    /// if p or q has a magnitude above 32,767; `Number`, with `NoExactRoot` if the number has no root q, or with the
+    /// fault of the power p of the root; `ExponentRange` if the product of an exponent and p/q is out of range.
     pub fn pow(&self, alloc: Global, by: &Quantity) -> Result<Quantity, QuantityFault>
         ensures { IsAnswer result (spec.power_of self.now by.now) }
     {
         self.copy(alloc)?.raised(alloc, by)
     }
 
-    /// `pow` that takes the quantity over, of which it copies nothing.
+    /// Same as `pow`, but takes ownership of the quantity and copies nothing of it.
     pub fn raised(self, alloc: Global, by: &Quantity) -> Result<Quantity, QuantityFault>
         ensures { IsAnswer result (spec.power_of self by.now) }
     {
@@ -37,7 +36,7 @@ impl Quantity {
         }
     }
 
-    // The power with this exponent.
+    // Returns the power with this exponent.
     fn raised_to(self, alloc: Global, degree: &Degree) -> Result<Quantity, QuantityFault>
         ensures { IsAnswer result (amount_from (spec.powered self.value degree.now)
             (spec.power_exponents self.exponents degree.now)) }
@@ -48,7 +47,7 @@ impl Quantity {
     }
 }
 
-// The power of the root of a number.
+// Returns the power of the root of a number.
 fn powered(x: &Frac, degree: &Degree) -> Result<Frac, FracFault>
     ensures { result ≡ spec.powered x.now degree.now }
 {

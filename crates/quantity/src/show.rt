@@ -10,10 +10,9 @@ use std::alloc::{AllocError, Global};
 use units_io::Text;
 
 impl Quantity {
-    /// The reduced text: the number, the names with positive exponents in byte order and, behind
-    /// a slash, those with negative ones, as `1 kg m^2 / K mol s^2`. An exponent of 1 is left
-    /// out, and one with a denominator above 1 is written as `m^1|2`. The only error is want of
-    /// memory.
+    /// Returns the reduced text: the number, the names with positive exponents in byte order and, after a slash, those
+    /// with negative ones, as in `1 kg m^2 / K mol s^2`. An exponent of 1 is omitted, and one with a denominator above
+    /// 1 is written as in `m^1|2`. Fails only if memory runs out.
     pub fn show(&self, alloc: Global, style: Style) -> Result<Text, AllocError>
         requires { IsStyle style }
         ensures { IfOk result (λ text. text ≡ amount_text style self.now) }
@@ -23,7 +22,7 @@ impl Quantity {
         Ok(Text::from(text))
     }
 
-    /// Puts the text that `show` gives behind another. The only error is want of memory.
+    /// Appends the text that `show` returns to another text. Fails only if memory runs out.
     pub fn put(&self, alloc: Global, text: &mut Vec<u8>, style: Style) -> Result<(), AllocError>
         requires { IsStyle style }
         ensures { OnOk result (text.new.items ≡ text.old.items ++ amount_text style self.now) }

@@ -9,23 +9,23 @@ use frac128::{Frac, FracFault};
 use std::alloc::Global;
 
 impl Quantity {
-    /// The sum. `NotConformable` with both quantities where their exponents differ, and else
-    /// `Number` where the sum of the numbers overflows.
+    /// Returns the sum. The error is `NotConformable` with both quantities if their exponents differ, and otherwise
+    /// `Number` if the sum of the numbers overflows.
     pub fn add(&self, alloc: Global, other: &Quantity) -> Result<Quantity, QuantityFault>
         ensures { IsAnswer result (sum_of self.now other.now) }
     {
         self.copy(alloc)?.plus(alloc, other)
     }
 
-    /// The difference. `NotConformable` with both quantities where their exponents differ, and
-    /// else `Number` where the difference of the numbers overflows.
+    /// Returns the difference. The error is `NotConformable` with both quantities if their exponents differ, and
+    /// otherwise `Number` if the difference of the numbers overflows.
     pub fn sub(&self, alloc: Global, other: &Quantity) -> Result<Quantity, QuantityFault>
         ensures { IsAnswer result (difference_of self.now other.now) }
     {
         self.copy(alloc)?.minus(alloc, other)
     }
 
-    /// `add` that takes the quantity over, of which it copies nothing.
+    /// Same as `add`, but takes ownership of the quantity and copies nothing of it.
     pub fn plus(self, alloc: Global, other: &Quantity) -> Result<Quantity, QuantityFault>
         ensures { IsAnswer result (sum_of self other.now) }
     {
@@ -33,7 +33,7 @@ impl Quantity {
         self.with_number(alloc, other, sum)
     }
 
-    /// `sub` that takes the quantity over, of which it copies nothing.
+    /// Same as `sub`, but takes ownership of the quantity and copies nothing of it.
     pub fn minus(self, alloc: Global, other: &Quantity) -> Result<Quantity, QuantityFault>
         ensures { IsAnswer result (difference_of self other.now) }
     {
@@ -41,7 +41,7 @@ impl Quantity {
         self.with_number(alloc, other, difference)
     }
 
-    // The quantity with the number that a step on both numbers gave, where the two conform.
+    // Returns the quantity with the result of an operation on both numbers, if the two quantities conform.
     fn with_number(
         self,
         alloc: Global,

@@ -8,7 +8,7 @@ use crate::exponent::Exponent;
 use crate::power::Power;
 use std::alloc::{AllocError, Global};
 
-// On which side of the slash a name stands.
+// The side of the slash on which a name is written.
 #[derive(Clone, Copy)]
 enum Side {
     Above,
@@ -16,7 +16,7 @@ enum Side {
 }
 
 impl Side {
-    // Whether a power stands on this side.
+    // Reports whether a power is written on this side.
     fn has(self, power: &Power) -> bool
         ensures { result ≡ sided self power.now }
     {
@@ -27,8 +27,7 @@ impl Side {
     }
 }
 
-// Puts the names behind a text: those with positive exponents and, behind a slash, those with
-// negative ones.
+// Appends the names to a text: those with positive exponents and, after a slash, those with negative ones.
 pub(crate) fn put_powers(
     alloc: Global,
     text: &mut Vec<u8>,
@@ -44,14 +43,14 @@ pub(crate) fn put_powers(
     Ok(())
 }
 
-// Whether a power stands on this side.
+// Reports whether any power is written on this side.
 fn has_side(powers: &[Power], side: Side) -> bool
     ensures { result ≡ list_any (sided side) powers.now }
 {
     powers.iter().any(|power| side.has(power))
 }
 
-// Puts the names of one side behind a text.
+// Appends the names of one side to a text.
 fn put_side(
     alloc: Global,
     text: &mut Vec<u8>,
@@ -69,16 +68,16 @@ fn put_side(
     Ok(())
 }
 
-// Puts a space, a name and the magnitude of its exponent behind a text.
+// Appends a space, a name and the magnitude of its exponent to a text.
 fn put_power(alloc: Global, text: &mut Vec<u8>, power: &Power) -> Result<(), AllocError>
     ensures { OnOk result (text.new.items ≡ text.old.items ++ power_text power.now) }
 {
     text.push(b' ')?;
-    text.extend_from_slice(power.name())?;
+    text.extend_from_slice(power.name().as_bytes())?;
     put_exponent(alloc, text, &power.exponent())
 }
 
-// Puts the magnitude of an exponent other than 1 behind a text.
+// Appends the magnitude of an exponent to a text, unless it is 1.
 fn put_exponent(alloc: Global, text: &mut Vec<u8>, exponent: &Exponent) -> Result<(), AllocError>
     ensures { OnOk result (text.new.items
         ≡ text.old.items ++ exponent_text (unsigned_abs exponent.now.num) exponent.now.den) }

@@ -18,19 +18,19 @@ use Rattle.unit_list.specs.Splits.{counts_of, last_of, nearest_to, rounded_if}
 use Rattle.unit_list.proofs.Counted.{AreCounts, counts_are, goes, ok_same, unit_natural}
 use Rattle.unit_list.proofs.Values.{over_reduced, own_value, times_value}
 
--- a product with the other sign
+-- the negative of a product is the product with the negative
 neg-times : (z : ℤ) (k : ℕ) → neg_ℤ (z *ℤ pos k) ≡ neg_ℤ z *ℤ pos k
 neg-times (pos zero) k = rw (zero-mul k) refl
 neg-times (pos (suc n)) k = refl
 neg-times (negsuc n) k = neg_ℤ-neg_ℤ (pos (suc n * k))
 
--- the magnitude of a number with the other sign
+-- negating a number preserves its magnitude
 pub abs-neg : (z : ℤ) → unsigned_abs (neg_ℤ z) ≡ unsigned_abs z
 abs-neg (pos zero) = refl
 abs-neg (pos (suc n)) = refl
 abs-neg (negsuc n) = refl
 
--- the sum of negated counts
+-- the sum of negated counts is the negative of their sum
 pub total-negated : (counts units : List Fraction) → All IsUnit units
     → total (map negated counts) units ≡ negated (total counts units)
 total-negated [] units are = refl
@@ -53,12 +53,12 @@ total-negated (count ∷ counts) (unit ∷ units) are =
         ∙ ap (λ u. neg_ℤ (z *ℤ pos n *ℤ pos d) +ℤ u) (sym (neg-times t k))
         ∙ sym (neg_ℤ-+ℤ (z *ℤ pos n *ℤ pos d) (t *ℤ pos k))
 
--- counts that keep their sign
+-- counts that keep their sign do not change
 pub map-plain : (counts : List Fraction) → map (negated_if false) counts ≡ counts
 map-plain [] = refl
 map-plain (count ∷ counts) = ap (λ xs. count ∷ xs) (map-plain counts)
 
--- the magnitudes of negated counts
+-- the magnitudes of negated counts are those of the counts
 magnitudes-negated : (counts : List Fraction) → map magnitude (map (negated_if true) counts) ≡ map magnitude counts
 magnitudes-negated [] = refl
 magnitudes-negated (count ∷ counts) =
@@ -81,12 +81,12 @@ sign_back x = by_num x.num x.den
     by_num (pos n) d = ap (λ s. negated_if s (record { num = pos n; den = d })) (plus n)
     by_num (negsuc n) d = refl
 
--- a fraction in lowest terms with the other sign
+-- negating a fraction preserves lowest terms
 negated_lowest : (x : Fraction) → IsReduced x → IsReduced (negated x)
 negated_lowest x is =
     record { positive = is.positive; lowest = subst (λ n. IsGcd n x.den 1) (sym (abs-neg x.num)) is.lowest }
 
--- counts with a sign are those of a split of y
+-- the counts with a sign are those of a split of y
 record AreSigned (negative : Bool) (y : Fraction) (units counts : List Fraction) : Type 0 where
   one_each : length counts ≡ length units
   sum : SameValue (total counts units) y
@@ -94,7 +94,7 @@ record AreSigned (negative : Bool) (y : Fraction) (units counts : List Fraction)
   signs : counts ≡ map (negated_if negative) (map magnitude counts)
   lowest : All IsReduced counts
 
--- the counts of a / b, with a sign, are those of a / b with the sign
+-- the counts of a / b, with a sign, are those of a / b with that sign
 signed_split : (negative : Bool) (a b : ℕ) (units counts : List Fraction) → 0 < b → All IsUnit units
     → AreCounts a b units counts
     → AreSigned negative (negated_if negative (record { num = pos a; den = b })) units
@@ -123,7 +123,7 @@ signed_split true a b units counts some units_are are = record {
       (All-weaker IsReduced (λ x. IsReduced (negated x)) negated_lowest counts are.lowest);
 }
 
--- they are those of a split of x, where y is the number that is split
+-- the counts are those of a split of x, if y is the number that is split
 split_of : (round : Bool) (x y : Fraction) (units counts : List Fraction) → y ≡ split_number round (last_of units) x
     → AreSigned (is_negative x) y units counts
     → IsSplitOf round x units counts
@@ -135,7 +135,7 @@ split_of round x y units counts same are = record {
   lowest = are.lowest;
 }
 
--- the last unit is one
+-- the last unit is a unit
 pub last_unit : (units : List Fraction) → 0 < length units → All IsUnit units → IsUnit (last_of units)
 unfolding last_of
 last_unit [] some are = absurd (omega arith)
@@ -143,7 +143,7 @@ last_unit (unit ∷ []) some are = All-head IsUnit unit [] are
 last_unit (unit ∷ next ∷ units) some are =
     last_unit (next ∷ units) (omega arith) (All-tail IsUnit unit (next ∷ units) are)
 
--- the counts add up
+-- the law that the counts are those of a split
 pub split_law : ReducedLaw → LcmLaw → SplitLaw
 split_law law multiples false x units counts some many units_are h =
     let inner = goes (counts_of (magnitude x) units) _ counts h in

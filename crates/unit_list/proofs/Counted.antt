@@ -20,24 +20,24 @@ use Rattle.unit_list.specs.Splits.{counts_of, part_of}
 use Rattle.unit_list.proofs.Values.{HasValue, floor_value, minus_value, over_lowest, over_value, times_value}
 use Rattle.unit_list.proofs.Values.{whole_lowest}
 
--- what a step that has an answer goes on from
+-- the value with which a step that succeeds continues
 pub record Goes {A B : Type 0} (first : Result A FracFault) (step : A → Result B FracFault) (answer : B) : Type 0 where
   pub value : A
   pub first_is : first ≡ Ok value
   pub step_is : step value ≡ Ok answer
 
--- a step that comes to an answer went through its first part
+-- if a step succeeds, its first part does
 pub goes : {A B : Type 0} (first : Result A FracFault) (step : A → Result B FracFault) (answer : B)
     → (first >>= step) ≡ Ok answer
     → Goes first step answer
 goes (Ok x) step answer h = record { value = x; first_is = refl; step_is = h }
 goes (Err fault) step answer h = absurd (cc)
 
--- two answers of one step
+-- two results of the same step are equal
 pub ok_same : {A : Type 0} (result : Result A FracFault) (x y : A) → result ≡ Ok x → result ≡ Ok y → x ≡ y
 ok_same result x y p q = cc
 
--- the number of a unit as a natural number
+-- the numerator of a unit is a natural number above 0
 pub record HasNatural (unit : Fraction) : Type 0 where
   pub num : ℕ
   pub num_is : unit.num ≡ pos num
@@ -51,7 +51,7 @@ unit_natural unit is = by_num unit.num refl is.positive
     by_num (pos n) e some = record { num = n; num_is = e; some = omega (arith, ints) }
     by_num (negsuc n) e some = absurd (omega (arith, ints))
 
--- a part of a / b by a unit c / d: a whole count and what is left
+-- the part of a / b by a unit c / d: a whole count and a remainder
 pub record IsPart (a b c d : ℕ) (part : Part) : Type 0 where
   pub count : ℕ
   pub count_is : part.count ≡ whole (pos count)
@@ -60,7 +60,7 @@ pub record IsPart (a b c d : ℕ) (part : Part) : Type 0 where
   pub next : a * d < (count + 1) * c * b
   pub rest : HasValue part.rest left (b * d)
 
--- the part of a number by a unit has the greatest count, and the rest that this leaves
+-- the part of a number by a unit has the greatest count and the remainder that this count leaves
 pub part_is : ReducedLaw → LcmLaw → (x unit : Fraction) (a b c : ℕ) (part : Part) → HasValue x a b → 0 < b
     → unit.num ≡ pos c
     → 0 < c → 0 < unit.den
@@ -119,7 +119,7 @@ part_is law multiples x unit a b c part is some_b c_is some_c some_d h =
         turn : (q e : ℕ) → (q + 1) * c * b * e ≡ (q + 1) * e * (b * c)
         turn q e = omega arith
 
--- the sum of a product of natural numbers and a value
+-- the sum of a whole multiple of a unit and a remainder has the value of the number
 sum_value : (count c left b : ℕ) (unit rest : Fraction) (a : ℕ) → unit.num ≡ pos c → 0 < unit.den
     → HasValue rest left (b * unit.den)
     → left + count * c * b ≡ a * unit.den → HasValue (sum (product (whole (pos count)) unit) rest) a b
@@ -144,7 +144,7 @@ sum_value count c left b unit rest a c_is some_d is left_is = record {
     turn : (e d : ℕ) → a * d * e ≡ a * (1 * d * e)
     turn e d = omega arith
 
--- the count of a part is the greatest one in each fraction of that value
+-- the count of a part is the greatest one in each fraction with that value
 greatest_part : (y unit count : Fraction) (a b c k : ℕ) → HasValue y a b → 0 < b → unit.num ≡ pos c → 0 < unit.den
     → count ≡ whole (pos k)
     → k * c * b ≤ a * unit.den → a * unit.den < (k + 1) * c * b → IsGreatest y unit count
@@ -193,7 +193,7 @@ greatest_part y unit count a b c k is some_b c_is some_d count_is low high =
         turn_on : (e d : ℕ) → a * e * d ≡ a * d * e
         turn_on e d = omega arith
 
--- what the part leaves of each fraction of that value
+-- each fraction with that value has the same remainder
 pub difference_value : (y unit count : Fraction) (a b c k left : ℕ) → HasValue y a b → unit.num ≡ pos c → 0 < unit.den
     → count ≡ whole (pos k)
     → left + k * c * b ≡ a * unit.den → 0 < b → HasValue (difference y (product count unit)) left (b * unit.den)
@@ -268,7 +268,7 @@ pub record AreCounts (a b : ℕ) (units counts : List Fraction) : Type 0 where
   pub plain : map magnitude counts ≡ counts
   pub lowest : All IsReduced counts
 
--- the counts of a number by some units are those that its definition wants
+-- the counts of a number by some units have the properties that the definition requires
 pub counts_are : ReducedLaw → LcmLaw → (units counts : List Fraction) (x : Fraction) (a b : ℕ) → HasValue x a b → 0 < b
     → All IsUnit units → 0 < length units
     → counts_of x units ≡ Ok counts → AreCounts a b units counts

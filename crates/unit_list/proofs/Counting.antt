@@ -24,27 +24,27 @@ use Rattle.unit_list.specs.Amounts.{numbers_of, place_fault, unit_fault}
 use Rattle.frac128.specs.Sign.{is_negative, magnitude, negated_if}
 use Rattle.unit_list.specs.Splits.{counts_of, last_of, number_counts, part_of, rounded_if, signed_counts}
 
--- counts behind those that are done
+-- the counts so far followed by other counts
 abbrev pub behind : List Fraction → Result (List Fraction) FracFault → Result (List Fraction) FracFault
 behind done counts = counts >>= (λ cs. Ok (done ++ cs))
 
--- behind the counts so far stand those that the rest has of the units from the place i on
+-- the counts so far, followed by those of the remainder for the units from index i on, are all counts
 pub record IsCounting (negative : Bool) (units : List Amount) (all : Result (List Fraction) FracFault) (i : ℕ)
     (rest : Fraction) (done : List Fraction) : Type 0 where
   pub same : behind done (signed_counts negative (counts_of rest (map number_of (drop i units)))) ≡ all
 
--- nothing is done at the start
+-- no counts so far, followed by other counts, are the other counts
 behind_none : (counts : Result (List Fraction) FracFault) → behind [] counts ≡ counts
 behind_none (Ok counts) = refl
 behind_none (Err fault) = refl
 
--- at the start no count is done, and the whole number is left
+-- at the start there are no counts so far, and the whole number remains
 pub counting_start : (negative : Bool) (units : List Amount) (x : Fraction)
     → IsCounting negative units (signed_counts negative (counts_of x (map number_of units))) 0 x []
 counting_start negative units x =
     record { same = behind_none (signed_counts negative (counts_of x (map number_of units))) }
 
--- the units from a place on that is not the last
+-- the units from an index on that is not the last one
 more_units : (units : List Amount) (i : ℕ) (d : Amount) → i + 1 < length units
     → map number_of (drop i units) ≡ number_of (get_or units i d) ∷ number_of (get_or units (i + 1) d)
     ∷ map number_of (drop (i + 1 + 1) units)
@@ -52,12 +52,12 @@ more_units units i d h =
     ap (map number_of)
     (drop_more units i d (omega arith) ∙ ap (λ xs. get_or units i d ∷ xs) (drop_more units (i + 1) d h))
 
--- the units behind a place begin with the next one
+-- the units after an index start with the next one
 next_units : (units : List Amount) (i : ℕ) (d : Amount) → i + 1 < length units
     → map number_of (drop (i + 1) units) ≡ number_of (get_or units (i + 1) d) ∷ map number_of (drop (i + 1 + 1) units)
 next_units units i d h = ap (map number_of) (drop_more units (i + 1) d h)
 
--- a part that is done goes before the others
+-- the count of a part comes before the other counts
 put_before : (negative : Bool) (done : List Fraction) (count : Fraction) (others : Result (List Fraction) FracFault)
     → behind done (signed_counts negative (others >>= (λ counts. Ok (count ∷ counts))))
     ≡ behind (done ++ negated_if negative count ∷ []) (signed_counts negative others)
@@ -65,7 +65,7 @@ put_before negative done count (Ok others) =
     ap Ok (sym (append_assoc done (negated_if negative count ∷ []) (map (negated_if negative) others)))
 put_before negative done count (Err fault) = refl
 
--- one more unit puts its count behind those that are done, and its rest is left
+-- one more unit appends its count to those so far and leaves its remainder
 pub counting_more : (negative : Bool) (units : List Amount) (all : Result (List Fraction) FracFault) (i : ℕ)
     (rest : Fraction) (done : List Fraction) (unit : Amount) (part : Part)
     → IsCounting negative units all i rest done → i + 1 < length units → unit ≡ get_or units i unit
@@ -89,7 +89,7 @@ counting_more negative units all i rest done unit part is within unit_is part_is
           ∙ ap (λ r. behind done (signed_counts negative r)) (sym step) ∙ is.same;
     }
 
--- a part that has a fault
+-- the fault of a part is the fault of the split
 pub counting_fault : (negative : Bool) (units : List Amount) (all : Result (List Fraction) FracFault) (i : ℕ)
     (rest : Fraction) (done : List Fraction) (unit : Amount) (fault : FracFault)
     → IsCounting negative units all i rest done → i + 1 < length units → unit ≡ get_or units i unit
@@ -106,7 +106,7 @@ counting_fault negative units all i rest done unit fault is within unit_is part_
     >>= (λ counts. Ok (part.count ∷ counts)))) part_is in
     sym is.same ∙ ap (λ r. behind done (signed_counts negative r)) step
 
--- the last unit
+-- the last unit is the only one from its index on
 last_units : (units : List Amount) (i : ℕ) (unit : Amount) → i + 1 ≡ length units
     → unit ≡ get_or units (length units - 1) unit
     → map number_of (drop i units) ≡ number_of unit ∷ []
@@ -124,7 +124,7 @@ last_units units i unit last unit_is =
     drop_past (x ∷ xs) zero h = absurd (omega arith)
     drop_past (x ∷ xs) (suc n) h = drop_past xs n (omega arith)
 
--- its count ends them
+-- the count of the last unit ends the counts
 pub counting_end : (negative : Bool) (units : List Amount) (all : Result (List Fraction) FracFault) (i : ℕ)
     (rest : Fraction) (done : List Fraction) (unit : Amount) (count : Fraction)
     → IsCounting negative units all i rest done → i + 1 ≡ length units → unit ≡ get_or units (length units - 1) unit
@@ -136,7 +136,7 @@ counting_end negative units all i rest done unit count is last unit_is count_is 
     ∙ ap (λ us. behind done (signed_counts negative (counts_of rest us))) (last_units units i unit last unit_is)
     ∙ ap (λ r. behind done (signed_counts negative (r >>= (λ count. Ok (count ∷ []))))) count_is
 
--- or has a fault
+-- the fault of the last unit is the fault of the split
 pub counting_end_fault : (negative : Bool) (units : List Amount) (all : Result (List Fraction) FracFault) (i : ℕ)
     (rest : Fraction) (done : List Fraction) (unit : Amount) (fault : FracFault)
     → IsCounting negative units all i rest done → i + 1 ≡ length units → unit ≡ get_or units (length units - 1) unit
@@ -172,7 +172,7 @@ pub record IsBegun (round : Bool) (q : Amount) (units : List Amount) (negative :
   pub negative_is : negative ≡ is_negative q.value
   pub amount_is : amount ≡ rounded_if round (last_of (map number_of units)) (magnitude q.value)
 
--- by the parts that the code makes
+-- the parts that the code computes begin a split
 pub begun_by : (round : Bool) (q : Amount) (units : List Amount) (number last size : Fraction) (negative : Bool)
     (unit : Amount) (amount : Result Fraction FracFault)
     → None ≡ unit_fault q units → 0 < length units → number ≡ q.value → negative ≡ is_negative number
@@ -187,7 +187,7 @@ begun_by round q units number last size negative unit amount fine some number_is
           ∙ ap (rounded_if round (last_of (map number_of units))) (size_is ∙ ap magnitude number_is);
     }
 
--- where the amount has a fault, the split has it
+-- the fault of the amount is the fault of the split
 pub begun_fault : (round : Bool) (q : Amount) (units : List Amount) (negative : Bool)
     (amount : Result Fraction FracFault) (fault : FracFault)
     → IsBegun round q units negative amount → amount ≡ Err fault → counts_in round q units ≡ Err (Number fault)
@@ -198,7 +198,7 @@ begun_fault round q units negative amount fault is amount_fault =
     >>= (λ amount. signed_counts (is_negative q.value) (counts_of amount (map number_of units)))))
     (sym is.amount_is ∙ amount_fault)
 
--- and else its counts are those of the amount
+-- if the amount has no fault, the counts of the split are those of the amount
 pub begun_counts : (round : Bool) (q : Amount) (units : List Amount) (negative : Bool)
     (amount : Result Fraction FracFault) (x : Fraction)
     → IsBegun round q units negative amount → amount ≡ Ok x
@@ -208,7 +208,7 @@ begun_counts round q units negative amount x is amount_ok =
     (sym is.amount_is ∙ amount_ok)
     ∙ ap (λ b. signed_counts b (counts_of x (numbers_of units))) (sym is.negative_is)
 
--- where the number of a split is found, the counts are those of that number
+-- if the number to split is found, the counts are those of that number
 pub begun_ends : (round : Bool) (q : Amount) (units : List Amount) (negative : Bool)
     (amount : Result Fraction FracFault) (x : Fraction)
     → IsBegun round q units negative amount → amount ≡ Ok x
@@ -218,13 +218,13 @@ begun_ends round q units negative amount x is amount_ok =
     ap (λ f. checked f (number_counts round q.value (numbers_of units))) (sym is.fine)
     ∙ ap numbered (begun_counts round q units negative amount x is amount_ok)
 
--- counts that are given
+-- if the counts succeed, they are the given ones
 pub numbered_ok : (counts : Result (List Fraction) FracFault) (given : List Fraction) → numbered counts ≡ Ok given
     → counts ≡ Ok given
 numbered_ok (Ok counts) given h = cc
 numbered_ok (Err fault) given h = absurd (cc)
 
--- a fault that a `?` hands on is an answer where it is want of memory or the expected one
+-- a fault that `?` passes on is an answer if it is an out-of-memory fault or the expected fault
 pub handed_on : {A B : Type 0} (seen : A → B) (answer : Result A SplitFault) (expected : Result B SplitFault)
     (fault : SplitFault)
     → IsErrAnd answer (λ given. given ≡ fault) → (fault ≡ OutOfMemory) ⊎ (expected ≡ Err fault)
@@ -233,7 +233,7 @@ handed_on seen (Ok x) expected fault given h = absurd given
 handed_on seen (Err other) expected fault given (inl none) = inl (given ∙ none)
 handed_on seen (Err other) expected fault given (inr h) = inr (h ∙ ap Err (sym given))
 
--- the same, of what is expected in another form
+-- a fault that `?` passes on is an answer also for an expected result in another form
 pub handed_same : {A B : Type 0} (seen : A → B) (answer : Result A SplitFault) (expected given : Result B SplitFault)
     (fault : SplitFault)
     → IsErrAnd answer (λ given. given ≡ fault) → expected ≡ given → (fault ≡ OutOfMemory) ⊎ (given ≡ Err fault)
@@ -241,7 +241,7 @@ pub handed_same : {A B : Type 0} (seen : A → B) (answer : Result A SplitFault)
 handed_same seen answer expected given fault is same (inl none) = handed_on seen answer expected fault is (inl none)
 handed_same seen answer expected given fault is same (inr h) = handed_on seen answer expected fault is (inr (same ∙ h))
 
--- units that have a fault
+-- the fault of the units is the fault of the split
 pub unit_fault_ends : (round : Bool) (q : Amount) (units : List Amount) (fault : SplitFault)
     → Some fault ≡ unit_fault q units
     → counts_in round q units ≡ Err fault
@@ -251,15 +251,15 @@ unit_fault_ends round q units fault is =
 
 -- ---- units without a fault
 
--- no place is found
+-- if no index is found, the index is not below the limit
 none_low : (place n : ℕ) → cond (nat_lt place n) (Some place) None ≡ None → n ≤ place
 none_low place n h = grind (arith, nat_tests)
 
--- a place at or behind the end is none
+-- an index at or after the end is not found
 none_high : (place n : ℕ) → n ≤ place → cond (nat_lt place n) (Some place) None ≡ None
 none_high place n h = grind (arith, nat_tests)
 
--- a test that no member passes
+-- if the position of a test is `None`, no member passes it
 none_passes : (test : Amount → Bool) (xs : List Amount) → position test xs ≡ None → Each (λ x. test x ≡ false) xs
 none_passes test [] h = tt
 none_passes test (x ∷ xs) h =
@@ -276,7 +276,7 @@ none_passes test (x ∷ xs) h =
         ap (λ b. cond (not b) (1 + position_or_len test xs) 0) is in
         (is, rest (none_high (position_or_len test xs) (length xs) (omega arith)))
 
--- then each is positive
+-- if the units have no fault, each is positive
 fine_positive : (q : Amount) (units : List Amount) → None ≡ unit_fault q units → position is_not_positive units ≡ None
 fine_positive q units fine = go (position (is_unlike q) units) (position is_not_positive units) (sym fine)
   where
@@ -285,11 +285,11 @@ fine_positive q units fine = go (position (is_unlike q) units) (position is_not_
     go None (Some k) h = absurd (cc)
     go None None h = refl
 
--- a number that is not found to be 0 or less is above 0
+-- a number for which the test for above 0 does not fail is above 0
 positive_is : (z : ℤ) → not (int_lt (pos 0) z) ≡ false → pos 0 <ℤ z
 positive_is z h = grind (arith, ints)
 
--- where no unit has a fault, the number of each is a unit
+-- if no unit has a fault, the number of each is a unit
 pub fine_units : (q : Amount) (units : List Amount) → None ≡ unit_fault q units → All HasDenominator units
     → All IsUnit (numbers_of units)
 fine_units q units fine denominators =

@@ -1,4 +1,4 @@
--- The counts of a split are the only ones.
+-- The counts of a split are unique.
 use Rattle.std.proofs.Common.{◌≡◌, ◌<◌, ◌≤◌, ◌+◌, ◌-◌, ◌*◌, ◌*ℤ◌, ◌+ℤ◌, ◌<ℤ◌, ◌≤ℤ◌, ℕ, ℤ, pos, negsuc, suc}
 use Rattle.std.proofs.Common.{unsigned_abs, arith, refl, sym, ap, ap₂, subst, ◌∙◌}
 use Rattle.std.specs.Prelude.{Bool, true, false, List, [], ◌∷◌, length, map, All}
@@ -24,7 +24,7 @@ record IsPlain (x : Fraction) : Type 0 where
   num_is : x.num ≡ pos num
   reduced : IsReduced x
 
--- the magnitudes of fractions in lowest terms have natural numerators, and are in lowest terms
+-- the magnitudes of fractions in lowest terms are in lowest terms and have natural numerators
 plain_magnitudes : (counts : List Fraction) → Each IsReduced counts → Each IsPlain (map magnitude counts)
 plain_magnitudes [] are = tt
 plain_magnitudes (count ∷ counts) are = (
@@ -70,11 +70,11 @@ record AreBounds (a b c d k : ℕ) : Type 0 where
   low : k * c * b ≤ a * d
   high : a * d < (k + 1) * c * b
 
--- the order of whole numbers is that of natural ones
+-- the order of integers that are not below 0 is that of natural numbers
 natural_low : (m n : ℕ) → pos m ≤ℤ pos n → m ≤ n
 natural_low m n h = omega (arith, ints)
 
--- so is the strict one
+-- the strict order of integers that are not below 0 is that of natural numbers
 natural_high : (m n : ℕ) → pos m <ℤ pos n → m < n
 natural_high m n h = omega (arith, ints)
 
@@ -120,7 +120,7 @@ greatest_bounds y unit count a b c k is some_b c_is count_is greatest =
         order : (e : ℕ) → (k + 1) * c * b * e ≡ (k + 1) * c * e * b
         order e = omega arith
 
--- two greatest counts are one
+-- two greatest counts are equal
 one_greatest : (a b c d j k : ℕ) → 0 < c * b → AreBounds a b c d j → AreBounds a b c d k → j ≡ k
 one_greatest a b c d j k some first second = same (less j k first.low second.high) (less k j second.low first.high)
   where
@@ -136,9 +136,9 @@ one_greatest a b c d j k some first second = same (less j k first.low second.hig
     same : j < k + 1 → k < j + 1 → j ≡ k
     same p q = omega arith
 
--- ---- what the others add up to
+-- ---- the sum of the other counts
 
--- where a count times a unit and a rest add up to a value, the rest has what is left of it
+-- if a count times a unit and a remainder add up to a value, the remainder has the value that is left
 rest_value : (count c a b left : ℕ) (unit rest : Fraction) → unit.num ≡ pos c → IsNatural rest
     → left + count * c * b ≡ a * unit.den
     → HasValue (sum (product (whole (pos count)) unit) rest) a b → HasValue rest left (b * unit.den)
@@ -172,7 +172,7 @@ rest_value count c a b left unit rest c_is natural left_is is = record {
         same_sum : (m n s : ℕ) → m + s ≡ n + s → m ≡ n
         same_sum m n s h = omega arith
 
--- the last count
+-- the last count times its unit has the value that is left
 last_value : (c a b : ℕ) (unit count : Fraction) → unit.num ≡ pos c → (is : IsPlain count)
     → HasValue (total (count ∷ []) (unit ∷ [])) a b
     → is.num * (c * b) ≡ a * unit.den * count.den
@@ -190,7 +190,7 @@ last_value c a b unit count c_is is value = gather is.num ∙ ap (λ z. z * b) (
     turn : (e d : ℕ) → a * (e * d * 1) ≡ a * d * e
     turn e d = omega arith
 
--- two last counts in lowest terms that have one value are equal
+-- two last counts in lowest terms with the same value are equal
 one_last : ReducedLaw → (k l : ℕ) (count other : Fraction) (is : IsPlain count) (of : IsPlain other) → 0 < k
     → is.num * k ≡ l * count.den → of.num * k ≡ l * other.den → count ≡ other
 one_last law k l count other is of some first second =
@@ -219,7 +219,7 @@ one_last law k l count other is of some first second =
 whole_is : (count : Fraction) (is : IsPlain count) → count ≡ whole count.num → count ≡ whole (pos is.num)
 whole_is count is h = h ∙ ap whole is.num_is
 
--- two lists of counts that add up to one value, each the greatest but the last, are equal
+-- two lists of counts that add up to the same value, each but the last the greatest possible, are equal
 same_counts : ReducedLaw → (units ms ns : List Fraction) (y : Fraction) (a b : ℕ) → HasValue y a b → 0 < b
     → Each IsUnit units
     → Each IsPlain ms → Each IsPlain ns
@@ -281,12 +281,12 @@ same_counts law (unit ∷ next ∷ units) (m ∷ ms) (n ∷ ns) y a b is some un
 
 -- ---- with the sign
 
--- the magnitude of a product
+-- the magnitude of a product is the product of the magnitudes
 abs-times : (z : ℤ) (k : ℕ) → unsigned_abs (z *ℤ pos k) ≡ unsigned_abs z * k
 abs-times (pos n) k = refl
 abs-times (negsuc n) k = abs-neg (pos (suc n * k))
 
--- the total of the magnitudes
+-- the magnitudes of counts add up to the magnitude of their sum
 magnitudes_value : (negative : Bool) (counts units : List Fraction) (y : Fraction) → Each IsPlain counts
     → All IsUnit units
     → SameValue (total (map (negated_if negative) counts) units) y
@@ -314,7 +314,7 @@ magnitudes_value negative counts units y plain units_are same =
         magnitudes _ _ n (abs-neg (total counts units).num ∙ ap unsigned_abs n_is)
         (subst (λ t. SameValue t y) (total-negated counts units units_are) h)
 
--- the number that is split has a denominator
+-- the number to split has a denominator
 split_denominator : (round : Bool) (x : Fraction) (units : List Fraction) → 0 < x.den → 0 < length units
     → All IsUnit units
     → 0 < (split_number round (last_of units) x).den
@@ -328,7 +328,7 @@ split_denominator true x units some many units_are =
     by_sign false h = omega arith
     by_sign true h = omega arith
 
--- the law that no other counts are so
+-- the law that the counts are unique
 pub unique_law : ReducedLaw → UniqueLaw
 unique_law law round x units counts others some many units_are first second =
     let y = split_number round (last_of units) x in

@@ -22,17 +22,17 @@ pub record HasValue (x : Fraction) (a b : ℕ) : Type 0 where
   pub positive : 0 < x.den
   pub same : num * b ≡ a * x.den
 
--- what a test lets through
+-- if a test succeeds with a value, it is that value
 if_ok : {A : Type 0} (b : Bool) (x y : A) → (if b then Ok x else Err Overflow) ≡ Ok y → y ≡ x
 if_ok true x y h = cc
 if_ok false x y h = absurd (cc)
 
--- a ratio is in lowest terms
+-- a ratio that succeeds is in lowest terms
 ratio_ok : (n : ℤ) (d : ℕ) (y : Fraction) → 0 < d → ratio n (pos d) ≡ Ok y → y ≡ reduced n d
 ratio_ok n zero y some h = absurd (omega arith)
 ratio_ok n (suc d) y some h = if_ok (fits (reduced n (suc d))) (reduced n (suc d)) y h
 
--- a sum or difference too
+-- a sum or difference that succeeds is in lowest terms
 joined_ok : (step : ℤ → ℤ → ℤ) (m : ℕ) (l r : ℤ) (y : Fraction) → step_over step m l r ≡ Ok y → y ≡ reduced (step l r) m
 joined_ok step m l r y h = by_tests (in_range (pos m)) (in_range l) (in_range r) h
   where
@@ -43,7 +43,7 @@ joined_ok step m l r y h = by_tests (in_range (pos m)) (in_range l) (in_range r)
     by_tests true false c h = absurd (cc)
     by_tests false b c h = absurd (cc)
 
--- equal numbers as whole numbers
+-- natural numbers that are equal as integers are equal
 pub pos_same : (m n : ℕ) → pos m ≡ pos n → m ≡ n
 pos_same m n h = cc
 
@@ -58,11 +58,11 @@ reduced_value law a d some =
 pub own_value : (x : Fraction) (n : ℕ) → x.num ≡ pos n → 0 < x.den → HasValue x n x.den
 own_value x n is some = record { num = n; num_is = is; positive = some; same = refl }
 
--- a factor is taken away
+-- a common factor above 0 can be cancelled
 pub cancelled : (x y k : ℕ) → 0 < k → x * k ≡ y * k → x ≡ y
 cancelled x y k some h = eq_of_mul-eq-mul_right k some x y h
 
--- the quotient of two natural numerators
+-- the quotient of two fractions with natural numerators, in lowest terms
 pub over_reduced : (x unit q : Fraction) (n c : ℕ) → x.num ≡ pos n → unit.num ≡ pos c → 0 < x.den → 0 < c
     → over x unit ≡ Ok q
     → q ≡ reduced (pos (n * unit.den)) (x.den * c)
@@ -72,18 +72,18 @@ over_reduced x unit q n c n_is c_is some_x some_c h =
     ∙ ap (λ z. ratio (pos n *ℤ pos unit.den) (pos x.den *ℤ z)) c_is in
     ratio_ok (pos (n * unit.den)) (x.den * c) q (mul-pos some_x some_c) (sym ratio_is ∙ h)
 
--- it is in lowest terms
+-- the quotient is in lowest terms
 pub over_lowest : ReducedLaw → (x unit q : Fraction) (n c : ℕ) → x.num ≡ pos n → unit.num ≡ pos c → 0 < x.den → 0 < c
     → over x unit ≡ Ok q → IsReduced q
 over_lowest law x unit q n c n_is c_is some_x some_c h =
     subst IsReduced (sym (over_reduced x unit q n c n_is c_is some_x some_c h))
     (law (pos (n * unit.den)) (x.den * c) (mul-pos some_x some_c)).0
 
--- so is a whole number
+-- a whole number is in lowest terms
 pub whole_lowest : (n : ℤ) → IsReduced (whole n)
 whole_lowest n = record { positive = omega arith; lowest = (one-dvd (unsigned_abs n), dvd_refl 1, λ d p q. q) }
 
--- the quotient of two values
+-- the value of a quotient
 pub over_value : ReducedLaw → (x unit q : Fraction) (a b c : ℕ) → HasValue x a b → unit.num ≡ pos c → 0 < unit.den
     → 0 < c → 0 < b
     → over x unit ≡ Ok q → HasValue q (a * unit.den) (b * c)
@@ -112,7 +112,7 @@ over_value law x unit q a b c is c_is some_d some_c some_b h =
         third : (k d e : ℕ) → a * k * (d * e) ≡ a * d * e * k
         third k d e = omega arith
 
--- a whole multiple of a unit
+-- the value of a whole multiple of a unit
 pub times_value : ReducedLaw → (k c : ℕ) (unit t : Fraction) → unit.num ≡ pos c → 0 < unit.den
     → times (whole (pos k)) unit ≡ Ok t
     → HasValue t (k * c) unit.den
@@ -131,13 +131,13 @@ times_value law k c unit t c_is some h =
 pub floor_value : (q : Fraction) (n : ℕ) → q.num ≡ pos n → floor_of q ≡ whole (pos (n / q.den))
 floor_value q n is = ap (λ z. whole (int_div_euclid z (pos q.den))) is
 
--- two denominators and a common multiple
+-- a common multiple of two denominators
 record IsMultiple (b e m : ℕ) : Type 0 where
   first : b * (m / b) ≡ m
   second : e * (m / e) ≡ m
   some : 0 < m
 
--- the least common multiple is a multiple of both numbers, by numbers above 0
+-- the least common multiple is a multiple of both numbers, by factors above 0
 lcm_multiple : LcmLaw → (b e : ℕ) → 0 < b → 0 < e → IsMultiple b e (lcm b e)
 lcm_multiple law b e some_b some_e =
     let is = law b e some_e in
@@ -154,7 +154,7 @@ lcm_multiple law b e some_b some_e =
         absurd (omega arith)
     above (suc m) h = omega arith
 
--- the difference of two values, where it is not below 0
+-- the value of a difference that is not below 0
 pub minus_value : ReducedLaw → LcmLaw → (x t r : Fraction) (a b p e left : ℕ) → HasValue x a b → HasValue t p e → 0 < b
     → 0 < e
     → left + p * b ≡ a * e → minus x t ≡ Ok r → HasValue r left (b * e)
@@ -190,7 +190,7 @@ minus_value law multiples x t r a b p e left is_x is_t some_b some_e left_is h =
     together : (m n : ℕ) → n ≤ m → m - n + n ≡ m
     together m n h = omega arith
 
-    -- the values are in the order of their numerators
+    -- the values have the order of their numerators
     crossed : (xn xd tn td : ℕ) → xn * b ≡ a * xd → tn * e ≡ p * td → tn * xd * (b * e) ≤ xn * td * (b * e)
     crossed xn xd tn td h k =
         let least : p * b * (td * xd) ≤ a * e * (td * xd) =

@@ -11,7 +11,7 @@ use Rattle.unit_list.specs.declared.fault.SplitFault.TheVariants.{NotConformable
 use Rattle.unit_list.specs.declared.fault.SplitFault.TheVariants.{OutOfMemory}
 use Rattle.unit_list.specs.declared.counts.Split.{Split}
 
--- the unit has other exponents than the quantity
+-- the exponents of the unit differ from those of the quantity
 abbrev pub is_unlike : Amount → Amount → Bool
 is_unlike q unit = not (conform q.exponents unit.exponents)
 
@@ -19,22 +19,22 @@ is_unlike q unit = not (conform q.exponents unit.exponents)
 abbrev pub is_not_positive : Amount → Bool
 is_not_positive unit = not (is_positive unit.value)
 
--- the fault of the first unlike unit, and else of the first that is not positive
+-- the fault of the first unlike unit or, if there is none, of the first unit that is not positive
 abbrev pub place_fault : Option ℕ → Option ℕ → Option SplitFault
 place_fault (Some place) not_positive = Some (NotConformable place)
 place_fault None (Some place) = Some (ListUnitNotPositive place)
 place_fault None None = None
 
--- the fault of the units of a quantity, where they have one
+-- the fault of the units of a quantity, if they have one
 abbrev pub unit_fault : Amount → List Amount → Option SplitFault
 unit_fault q units = place_fault (position (is_unlike q) units) (position is_not_positive units)
 
--- the counts, or the fault of a step
+-- the counts, or the fault of an operation
 abbrev pub numbered : Result (List Fraction) FracFault → Result (List Fraction) SplitFault
 numbered (Ok counts) = Ok counts
 numbered (Err fault) = Err (Number fault)
 
--- the fault of the units, and else the counts or the fault of a step
+-- the fault of the units or, if they have none, the counts or the fault of an operation
 abbrev pub checked : Option SplitFault → Result (List Fraction) FracFault
     → Result (List Fraction) SplitFault
 checked (Some fault) counts = Err fault
@@ -52,11 +52,11 @@ numbers_of units = map number_of units
 unfoldable pub counts_in : Bool → Amount → List Amount → Result (List Fraction) SplitFault
 counts_in round q units = checked (unit_fault q units) (number_counts round q.value (numbers_of units))
 
--- the answer has the expected counts or fault, or is want of memory
+-- the answer has the expected counts or the expected fault, or is an out-of-memory fault
 abbrev pub IsSplit : Result Split SplitFault → Result (List Fraction) SplitFault → Type 0
 IsSplit answer expected = Gives OutOfMemory (λ split. split.counts) answer expected
 
--- the counts are the expected ones, or the fault of the step, or there is want of memory
+-- the answer is the expected counts or the expected fault, or an out-of-memory fault
 abbrev pub AreGiven : Result (List Fraction) SplitFault → Result (List Fraction) FracFault → Type 0
 AreGiven answer expected = Gives OutOfMemory (λ counts. counts) answer (numbered expected)
 

@@ -1,4 +1,4 @@
--- Splitting a number into counts of units, by fraction steps.
+-- Splitting a number into counts of units, by operations on fractions.
 use Rattle.std.specs.Prelude.{ℕ, pos, unsigned_abs, Bool, true, false, List, [], ◌∷◌, map, Result, Ok}
 use Rattle.frac128.specs.declared.fault.FracFault.{FracFault}
 use Rattle.frac128.specs.Floor.{floor_of}
@@ -9,7 +9,7 @@ use Rattle.frac128.specs.Steps.{◌>>=◌, over, times}
 use Rattle.frac128.specs.Sums.{minus}
 use Rattle.unit_list.specs.declared.part.Part.{Part}
 
--- the greatest whole count of a unit in x, and what is left of x
+-- the greatest whole count of a unit in x, and the remainder of x
 abbrev pub part_of : Fraction → Fraction → Result Part FracFault
 part_of x unit = do
   quotient ← over x unit
@@ -17,8 +17,8 @@ part_of x unit = do
   rest ← minus x taken
   Ok (record { count = floor_of quotient; rest = rest })
 
--- the counts of the units in x: of each but the last the greatest whole one in what the earlier ones
--- leave, and of the last one all that is left
+-- the counts of the units in x: for each unit but the last the greatest whole number of it in what the earlier units
+-- leave, and for the last one the remainder
 unfoldable pub counts_of : Fraction → List Fraction → Result (List Fraction) FracFault
 counts_of x [] = Ok []
 counts_of x (unit ∷ []) = do
@@ -45,19 +45,19 @@ last_of [] = whole (pos 0)
 last_of (unit ∷ []) = unit
 last_of (unit ∷ next ∷ units) = last_of (next ∷ units)
 
--- x, or with rounding the nearest whole multiple of the unit
+-- x or, if rounding is requested, the nearest whole multiple of the unit
 abbrev pub rounded_if : Bool → Fraction → Fraction → Result Fraction FracFault
 rounded_if false unit x = Ok x
 rounded_if true unit x = rounded_to unit x
 
--- counts with the sign of the number
+-- the counts with the sign of the number
 abbrev pub signed_counts : Bool → Result (List Fraction) FracFault → Result (List Fraction) FracFault
 signed_counts negative counts = do
   plain ← counts
   Ok (map (negated_if negative) plain)
 
--- the counts of the units in a number: those in its magnitude, which is rounded to the last unit where
--- that is asked, with the number's sign
+-- the counts of the units in a number: those in its magnitude, which is rounded to the last unit if requested, with
+-- the sign of the number
 abbrev pub number_counts : Bool → Fraction → List Fraction → Result (List Fraction) FracFault
 number_counts round x units = do
   amount ← rounded_if round (last_of units) (magnitude x)

@@ -1,9 +1,9 @@
-//! What a split gives.
+//! The result of a split.
 
 use frac128::Frac;
 use units_io::List;
 
-/// A list of fractions, in order.
+/// An ordered list of fractions.
 pub type Fracs = List<Frac>;
 
 /// The counts of some units in a quantity.

@@ -1,18 +1,18 @@
-//! Why a quantity is not split.
+//! The faults of a split.
 
 use frac128::FracFault;
 use std::alloc::AllocError;
 
-/// Why a quantity is not split. Places count from 0.
+/// The reason why a quantity cannot be split. Indices of units count from 0.
 #[derive(Clone, Copy)]
 pub enum SplitFault {
-    /// The unit at this place has other exponents, and none before it has.
+    /// The unit at this index has exponents that differ from those of the quantity, and no unit before it has.
     NotConformable(usize),
-    /// The number of the unit at this place is not above 0, and each one before it is.
+    /// The number of the unit at this index is not above 0, but that of each unit before it is.
     ListUnitNotPositive(usize),
-    /// A step on fractions has this fault.
+    /// An operation on fractions failed with this fault.
     Number(FracFault),
-    /// There was no memory.
+    /// Out of memory.
     OutOfMemory,
 }
 

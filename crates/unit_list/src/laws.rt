@@ -4,8 +4,8 @@ ghost use Rattle.unit_list.specs.Counts.{SplitLaw, UniqueLaw};
 
 use frac128::{lcm_law, reduced_law};
 
-/// Counts of units add up to the number that was split and have its sign, and each but the last is
-/// the greatest whole one that leaves a rest of at least 0.
+/// The counts of units add up to the number that was split and have its sign. Each count but the last is the greatest
+/// whole number that leaves a remainder of at least 0.
 pub fn split_law()
     ensures { SplitLaw }
 {
@@ -13,7 +13,7 @@ pub fn split_law()
     reduced_law();
 }
 
-/// Those are the only counts of which that holds.
+/// The counts of a split are the only ones with these properties.
 pub fn unique_law()
     ensures { UniqueLaw }
 {

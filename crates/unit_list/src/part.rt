@@ -5,14 +5,14 @@ ghost use Rattle.unit_list.specs.Splits as spec;
 
 use frac128::{Frac, FracFault};
 
-// The count of a unit in a number, and what is left of the number.
+// The count of a unit in a number, and the remainder of the number.
 #[derive(Clone, Copy)]
 pub(crate) struct Part {
     pub(crate) count: Frac,
     pub(crate) rest: Frac,
 }
 
-// The greatest whole count of the unit in x, and what is left of x.
+// Returns the greatest whole count of the unit in x, and the remainder of x.
 pub(crate) fn part_of(x: &Frac, unit: &Frac) -> Result<Part, FracFault>
     ensures { result ≡ spec.part_of x.now unit.now }
 {

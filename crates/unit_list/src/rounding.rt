@@ -8,21 +8,21 @@ use crate::sign::magnitude;
 use frac128::{Frac, FracFault};
 use std::cmp::Ordering;
 
-// The number, or with rounding the whole multiple of the unit that is nearest to it.
+// Returns the number or, if `round` is set, the whole multiple of the unit that is nearest to it.
 pub(crate) fn rounded_if(round: bool, unit: &Frac, x: &Frac) -> Result<Frac, FracFault>
     ensures { result ≡ spec.rounded_if round unit.now x.now }
 {
     if round { rounded_to(unit, x) } else { Ok(*x) }
 }
 
-// The whole multiple of the unit that is nearest to x.
+// Returns the whole multiple of the unit that is nearest to x.
 fn rounded_to(unit: &Frac, x: &Frac) -> Result<Frac, FracFault>
     ensures { result ≡ spec.rounded_to unit.now x.now }
 {
     nearest_to(&x.div(unit)?).mul(unit)
 }
 
-// The whole number nearest to the magnitude of x, and of two the even one.
+// Returns the whole number nearest to the magnitude of x. A tie goes to the even number.
 fn nearest_to(x: &Frac) -> Frac
     ensures { result ≡ whole (pos (spec.nearest_to x.now)) }
 {
@@ -36,7 +36,7 @@ fn nearest_to(x: &Frac) -> Frac
     }
 }
 
-// The whole number after a fraction that is not below 0 and not whole.
+// Returns the next whole number above a fraction that is not below 0 and not whole.
 fn ceiling(x: &Frac) -> Frac
     requires plain { pos 0 ≤ℤ x.now.num }
     requires part { 0 < unsigned_abs x.now.num % x.now.den }

@@ -16,13 +16,12 @@ use frac128::Frac;
 use quantity::Quantity;
 use std::alloc::Global;
 
-/// The counts of the units in a quantity: of each unit but the last the greatest whole one, by the
-/// magnitude, in what the earlier units leave, and of the last one what is left. A quantity below
-/// 0 has the counts of its magnitude, each negated. With `round` the magnitude is first rounded to
-/// the nearest whole multiple of the last unit, of two to the even one. The faults are
-/// `NotConformable` with the place of the first unit that has other exponents, then
-/// `ListUnitNotPositive` with the place of the first whose number is not above 0, then `Number`
-/// with the fault of the first step that has one.
+/// Returns the counts of the units in a quantity. For each unit but the last, the count is the greatest whole number
+/// of it, by magnitude, in what the earlier units leave. The last unit gets the remainder. A quantity below 0 has the
+/// counts of its magnitude, each negated. If `round` is set, the magnitude is first rounded to the nearest whole
+/// multiple of the last unit, and a tie goes to the even multiple. The faults are `NotConformable` with the index of
+/// the first unit that has other exponents, then `ListUnitNotPositive` with the index of the first unit whose number
+/// is not above 0, then `Number` with the fault of the first operation that fails.
 pub fn split(
     alloc: Global,
     q: &Quantity,
@@ -44,7 +43,7 @@ pub fn split(
     Ok(Split { counts })
 }
 
-// The counts of the units in an amount that is not below 0, each negated where the number is below 0.
+// Returns the counts of the units in an amount that is not below 0, each negated if `negative` is set.
 fn counts_of(
     alloc: Global,
     negative: bool,

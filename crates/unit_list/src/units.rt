@@ -1,4 +1,4 @@
-//! Whether some units can split a quantity.
+//! Checks whether units can split a quantity.
 
 ghost use Rattle.std.specs.Prelude.{◌≡◌, position};
 ghost use Rattle.frac128.specs.Sign as sign;
@@ -7,7 +7,7 @@ ghost use Rattle.unit_list.specs.Amounts as spec;
 use crate::fault::SplitFault;
 use quantity::Quantity;
 
-// The fault of the first unit that does not conform, and else of the first whose number is not
+// Returns the fault of the first unit that does not conform or, if all conform, of the first unit whose number is not
 // above 0.
 pub(crate) fn unit_fault(q: &Quantity, units: &[Quantity]) -> Option<SplitFault>
     ensures { result ≡ spec.unit_fault q.now units.now }
@@ -18,21 +18,21 @@ pub(crate) fn unit_fault(q: &Quantity, units: &[Quantity]) -> Option<SplitFault>
     first_not_positive(units).map(SplitFault::ListUnitNotPositive)
 }
 
-// The place of the first unit that does not conform.
+// Returns the index of the first unit that does not conform.
 fn first_unlike(q: &Quantity, units: &[Quantity]) -> Option<usize>
     ensures { result ≡ position (spec.is_unlike q.now) units.now }
 {
     units.iter().position(|unit| !q.conforms(unit))
 }
 
-// The place of the first unit whose number is not above 0.
+// Returns the index of the first unit whose number is not above 0.
 fn first_not_positive(units: &[Quantity]) -> Option<usize>
     ensures { result ≡ position spec.is_not_positive units.now }
 {
     units.iter().position(|unit| !is_positive(unit))
 }
 
-// Whether the number is above 0.
+// Reports whether the number is above 0.
 fn is_positive(unit: &Quantity) -> bool
     ensures { result ≡ sign.is_positive unit.now.value }
 {

@@ -1,12 +1,13 @@
 use Rattle.std.proofs.Common.{◌≡◌, length}
 use Rattle.quantity.specs.Amount.{matches}
 use Rattle.quantity.specs.Factors.{exponent_in}
+use Rattle.quantity.specs.Stores.{rest_of}
 use Rattle.quantity.proofs.matching.same_powers.Given as goal
 
--- the rests match where the lists do
-abbrev pub invariant-loop-l : goal.invariant-loop-l
-invariant-loop-l l = matches (exponent_in l.factor) l.left l.right
-    ≡ matches (exponent_in l.factor) l.initial.left l.initial.right
+-- the remaining powers match if and only if the lists do
+abbrev pub invariant-loop-power : goal.invariant-loop-power
+invariant-loop-power l = matches (exponent_in l.factor) (rest_of l.left) (rest_of l.right)
+    ≡ matches (exponent_in l.factor) (rest_of l.initial.left) (rest_of l.initial.right)
 
-abbrev pub decreases-loop-l : goal.decreases-loop-l
-decreases-loop-l l = length l.left
+abbrev pub decreases-loop-power : goal.decreases-loop-power
+decreases-loop-power l = length (rest_of l.left)

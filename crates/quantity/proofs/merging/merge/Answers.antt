@@ -1,15 +1,27 @@
-use Rattle.std.proofs.Common.{◌∙◌, sym, true}
-use Rattle.quantity.specs.Factors.{exponent_in}
-use Rattle.quantity.proofs.Copies.{left_alone, none_in, right_alone}
+use Rattle.std.proofs.lemmas.Result.{err_from_is_err_and}
+use Rattle.quantity.proofs.Copies.{none_long}
+use Rattle.quantity.proofs.Joins.{handed_over, joining_end, joining_fault, joining_next, joining_power}
 use Rattle.quantity.proofs.merging.merge.Goals as goal
 
-pub returns-then-is_empty : goal.returns-then-is_empty
-returns-then-is_empty c =
-    let none = none_in c.args.right.now (sym c.is_empty.ensures ∙ c.if-is_empty.true) in
-    left_alone (exponent_in c.args.factor) c.args.left.items c.args.right.now c.args.left.capacity c.requires.left none
+pub join-requires-clause-power : goal.join-requires-clause-power
+join-requires-clause-power c =
+    joining_power c.args.factor _ _ c.loop-power.powers.items c.loop-power.right.now c.in-Some.rest.now
+    c.in-Some.power.now c.loop-power.invariant c.in-Some.ensures.cases.0
 
-pub returns-then-is_empty-2 : goal.returns-then-is_empty-2
-returns-then-is_empty-2 c =
-    let none = none_in c.args.left.items (sym c.is_empty-2.ensures ∙ c.if-is_empty-2.true) in
-    right_alone c.args.factor c.args.left.items c.args.right.now c.in_ok-copies.field-0.items 0 c.requires.right none
-    c.in_ok-copies.ensures
+pub loop-power-preserved : goal.loop-power-preserved
+loop-power-preserved c =
+    joining_next c.reduced_law.ensures c.args.factor _ _ c.loop-power.powers.items c.loop-power.right.now
+    c.join.new.powers.items c.in-Some.rest.now c.in-Some.power.now c.loop-power.invariant
+    c.in-Some.ensures.cases.0 c.in_ok-join.ensures
+
+pub returns-in_err-join : goal.returns-in_err-join
+returns-in_err-join c =
+    let error = err_from_is_err_and c.from_residual.result c.from_residual.ensures.1 in
+    rw (error.1, error.2)
+    (handed_over _ _ _ c.in_err-join.ensures
+    (joining_fault c.reduced_law.ensures c.args.factor _ _ c.loop-power.powers.items c.loop-power.right.now
+    c.in-Some.rest.now c.in-Some.power.now c.loop-power.invariant c.in-Some.ensures.cases.0))
+
+pub returns : goal.returns
+returns c = joining_end c.args.factor _ _ c.loop-power.powers.items c.loop-power.right.now c.loop-power.invariant
+    (none_long c.loop-power.right.now c.in_default.ensures.cases)

@@ -3,7 +3,7 @@ use Rattle.std.specs.List.{filter, flat_map}
 use Rattle.quantity.specs.Text.{power_text, sided}
 use Rattle.quantity.proofs.text.put_side.Given as goal
 
--- the text with the names that are left is the text with all
+-- the text so far and the remaining names are the text with all names
 abbrev pub invariant-loop-power : goal.invariant-loop-power
 invariant-loop-power l =
     l.text.items ++ flat_map power_text (filter (sided l.side) (drop l.power-index l.powers))

@@ -6,7 +6,7 @@ use Rattle.frac128.specs.Floor.{floor_of}
 use Rattle.frac128.specs.Fraction.{negated, whole}
 use Rattle.unit_list.proofs.rounding.ceiling.Goals as goal
 
--- the quotient of the number before one that is no multiple is the same
+-- the quotient of a number that is not a multiple equals that of the number before it
 next_whole : (a d : ℕ) → 0 < suc a % d → suc (a / d) ≡ suc a / d + 1
 next_whole a zero some = rw (div-zero a, div-zero (suc a)) refl
 next_whole a (suc d) some =
@@ -23,7 +23,7 @@ next_whole a (suc d) some =
     high : (q e r : ℕ) → e * q + r ≡ suc a → r < e → a < (q + 1) * e
     high q e r h k = omega arith
 
--- the whole part of the number with the other sign, with the other sign
+-- the floor of the negated number, negated
 ceiling_is : (z : ℤ) (d : ℕ) → pos 0 ≤ℤ z → 0 < unsigned_abs z % d
     → negated (floor_of (negated (record { num = z; den = d }))) ≡ whole (pos (unsigned_abs z / d + 1))
 ceiling_is (pos zero) d natural some = absurd (omega (arith, zero-mod d))

@@ -5,14 +5,14 @@ use Rattle.quantity.specs.Exponents.{IsExponent}
 use Rattle.quantity.proofs.Fractions.{abs-neg}
 use Rattle.quantity.proofs.exponent.Exponent.negate.Goals as goal
 
--- the difference from 0 keeps the magnitude
+-- subtracting from 0 preserves the magnitude
 abs-minus : (z : ℤ) → unsigned_abs (pos 0 -ℤ z) ≡ unsigned_abs z
 abs-minus z = ap unsigned_abs (minus_is z) ∙ abs-neg z
   where
     minus_is : (z : ℤ) → pos 0 -ℤ z ≡ neg_ℤ z
     minus_is z = omega (arith, ints)
 
--- the other sign keeps an exponent one
+-- negating an exponent gives an exponent
 exponent_minus : (z : ℤ) (d : ℕ) → IsExponent (record { num = z; den = d })
     → IsExponent (record { num = pos 0 -ℤ z; den = d })
 exponent_minus z d is = record {

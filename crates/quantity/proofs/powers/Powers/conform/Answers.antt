@@ -1,5 +1,6 @@
-use Rattle.std.proofs.Common.{◌≡◌, ◌∙◌, ap₂, sym}
+use Rattle.std.proofs.Common.{◌≡◌, ◌∙◌, ap₂, refl, sym}
 use Rattle.quantity.specs.Amount.{conform, matches}
+use Rattle.quantity.specs.Stores.{powers_of}
 use Rattle.quantity.proofs.Matched.{conform_is, conform_names}
 use Rattle.quantity.proofs.Single.{list_of}
 use Rattle.quantity.proofs.powers.Powers.conform.Goals as goal
@@ -8,9 +9,9 @@ pub returns : goal.returns
 returns c =
     let p = c.args.self.now in
     let o = c.args.other.now in
-    let left = list_of c.self.inside.items.items _ _ c.self.invariant c.self.view_is c.as_slice.ensures in
-    let right = list_of c.other.inside.items.items _ _ c.other.invariant c.other.view_is c.as_slice-2.ensures in
-    let value : c.same_powers.result ≡ conform p o = c.same_powers.ensures
+    let left = list_of (powers_of c.self.inside.store) _ _ c.self.invariant c.self.view_is refl in
+    let right = list_of (powers_of c.other.inside.store) _ _ c.other.invariant c.other.view_is refl in
+    let value : c.matches.result ≡ conform p o = c.matches.ensures
     ∙ ap₂ (matches (λ e. e)) left.same right.same in
     let equal = conform_is p o in
     let names = conform_names p o left.kept right.kept in

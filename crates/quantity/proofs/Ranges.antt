@@ -1,0 +1,79 @@
+-- Powers with exponents in range, and powers appended to others.
+use Rattle.std.proofs.Common.{◌≡◌, refl, sym, ap, ap₂, ◌∙◌, arith, Bool, true, false, cond, ◌&&◌}
+use Rattle.std.proofs.Common.{ℕ, [], ◌∷◌, ◌++◌, ◌≤◌, IsFalse, unsigned_abs, nat_le, Err}
+use Rattle.std.specs.Cmp.{first_so, second_so}
+use Rattle.std.proofs.lemmas.Bool.Decides.{nat_tests}
+use Rattle.std.proofs.lemmas.List.{append-nil}
+use Rattle.frac128.specs.Fraction.{Fraction, IsReduced}
+use Rattle.frac128.specs.Sign.{is_zero}
+use Rattle.quantity.specs.Exponents.{IsExponent, is_exponent}
+use Rattle.quantity.specs.Merges.{IsFaultOf, IsPut, Powers, are_exponents, put_some}
+use Rattle.quantity.specs.declared.fault.ExponentFault.{ExponentFault}
+use Rattle.quantity.specs.declared.fault.ExponentFault.TheVariants.{Range, OutOfMemory}
+use Rattle.quantity.proofs.Fractions.{zero_is}
+use Rattle.quantity.proofs.Names.{Name}
+
+-- ---- exponents in range
+
+-- the test for at most is true for a number that is at most the other
+within : (m n : ℕ) → m ≤ n → nat_le m n ≡ true
+within m n h = grind (arith, nat_tests)
+
+-- the range test is true for an exponent
+pub exponent_passes : (e : Fraction) → IsExponent e → is_exponent e ≡ true
+exponent_passes e is = ap₂ (λ a b. a && b) (within (unsigned_abs e.num) 32767 is.num_fits) (within e.den 60 is.den_fits)
+
+-- if all exponents are in range, so are they with one more that is in range
+pub all_push : (out : Powers) (p : Name × Fraction) → are_exponents out ≡ true → is_exponent p.1 ≡ true
+    → are_exponents (out ++ p ∷ []) ≡ true
+all_push [] p all fits = ap (λ b. b && true) fits
+all_push (e ∷ out) p all fits =
+    ap₂ (λ a b. a && b) (first_so _ _ all) (all_push out p (second_so (is_exponent e.1) _ all) fits)
+
+-- appending a power unless its exponent is 0 preserves that all exponents are in range
+pub all_put : (out : Powers) (p : Name × Fraction) → are_exponents out ≡ true → is_exponent p.1 ≡ true
+    → are_exponents (out ++ put_some p []) ≡ true
+all_put out p all fits = go (is_zero p.1)
+  where
+    go : (z : Bool) → are_exponents (out ++ cond z [] (p ∷ [])) ≡ true
+    go true = ap are_exponents (append-nil out) ∙ all
+    go false = all_push out p all fits
+
+-- a list with a power out of range has a fault
+pub fault_after : (out : Powers) (p : Name × Fraction) (rest : Powers) → is_exponent p.1 ≡ false
+    → are_exponents (out ++ p ∷ rest) ≡ false
+fault_after [] p rest fails = ap (λ b. b && are_exponents rest) fails
+fault_after (e ∷ out) p rest fails = go (is_exponent e.1) (fault_after out p rest fails)
+  where
+    go : (b : Bool) → are_exponents (out ++ p ∷ rest) ≡ false → (b && are_exponents (out ++ p ∷ rest)) ≡ false
+    go true h = h
+    go false h = refl
+
+-- a list with a power out of range has a fault, since such an exponent is not 0
+pub fault_stays : (out : Powers) (p : Name × Fraction) (rest : Powers) → IsReduced p.1 → is_exponent p.1 ≡ false
+    → are_exponents (out ++ put_some p rest) ≡ false
+fault_stays out p rest reduced fails = go (is_zero p.1) refl
+  where
+    none : is_zero p.1 ≡ true → true ≡ false
+    none zero = sym (ap is_exponent (zero_is p.1 reduced zero)) ∙ fails
+
+    go : (z : Bool) → is_zero p.1 ≡ z → are_exponents (out ++ cond z rest (p ∷ rest)) ≡ false
+    go true zero = let e = none zero in absurd (cc)
+    go false some = fault_after out p rest fails
+
+-- a power put in front of an empty list and then of others is put in front of the others
+pub put_then : (p : Name × Fraction) (rest : Powers) → put_some p [] ++ rest ≡ put_some p rest
+put_then p rest = go (is_zero p.1)
+  where
+    go : (z : Bool) → cond z [] (p ∷ []) ++ rest ≡ cond z rest (p ∷ rest)
+    go true = refl
+    go false = refl
+
+-- ---- passing on an error
+
+-- a fault of appending a power is a fault of the list
+pub handed_on : (out new expected : Powers) (power : Name × Fraction) (fault : ExponentFault)
+    → IsPut (Err fault) out new power
+    → (IsFalse (is_exponent power.1) → IsFalse (are_exponents expected)) → IsFaultOf fault expected
+handed_on out new expected power Range h show = show h
+handed_on out new expected power OutOfMemory h show = tt

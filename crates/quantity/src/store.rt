@@ -1,0 +1,256 @@
+//! The storage of the powers of a quantity.
+
+ghost use Rattle.std.specs.Prelude.{◌≡◌, ◌==◌, ◌++◌, ◌∷◌, [], All, IfOk, IfSome, OnOk, length, map};
+ghost use Rattle.quantity.specs.Amount.{matches};
+ghost use Rattle.frac128.specs.Fraction.{Fraction, IsReduced};
+ghost use Rattle.quantity.specs.Exponents.{IsPower};
+ghost use Rattle.quantity.specs.Factors.{exponent_in};
+ghost use Rattle.quantity.specs.Merges.{AreInOrder, ArePowers, as_exponent, merged, power_by, put_some, scaled};
+ghost use Rattle.quantity.specs.Stores.{powers_of, rest_of};
+ghost use Rattle.quantity.specs.Text.{listed_text};
+
+use crate::degree::Degree;
+use crate::exponent::Exponent;
+use crate::factor::Factor;
+use crate::fault::ExponentFault;
+use crate::joining::join_all;
+use crate::matching::{same_lists, same_powers};
+use crate::merging::{copies, merge};
+use crate::name::Name;
+use crate::power::Power;
+use crate::scaling::scale;
+use crate::text::put_powers;
+use crate::walk::Walk;
+use frac128::reduced_law;
+use std::alloc::{AllocError, Global};
+use std::collections::BTreeMap;
+use std::slice;
+
+// Two lists of at most this many powers are merged as lists.
+const MOST_MERGED: usize = 16;
+
+/// Powers in the byte order of their names. A single power is stored inline: the value stays small, which matters
+/// because each operation moves it. A few powers are a list, and many are a search tree, in which a product changes
+/// only the names of its second factor.
+#[derive(Drop)]
+pub(crate) enum Store {
+    One(Power),
+    Few(Vec<Power>),
+    Many(BTreeMap<Name, Exponent>),
+}
+
+impl Store {
+    // Creates a store without powers.
+    pub(crate) fn new(alloc: Global) -> Store
+        ensures { powers_of result ≡ [] }
+    {
+        Store::Few(Vec::new(alloc))
+    }
+
+    // Creates a store of a power with this exponent, or an empty one if the exponent is 0. An exponent of `None`
+    // stands for a fraction that is out of range.
+    fn of(alloc: Global, power: Power, exponent: Option<Exponent>) -> Result<Store, ExponentFault>
+        ensures { (e : Fraction) → IsReduced e → exponent ≡ as_exponent e
+            → ArePowers powers_of result (put_some (power.0, e) []) }
+    {
+        let Some(exponent) = exponent else {
+            return Err(ExponentFault::Range);
+        };
+        if exponent.is_zero() {
+            return Ok(Store::new(alloc));
+        }
+        Ok(Store::One(power.changed(exponent)))
+    }
+
+    pub(crate) fn is_empty(&self) -> bool
+        ensures { result ≡ (length (powers_of self.now) == 0) }
+    {
+        match self {
+            Store::One(_) => false,
+            Store::Few(items) => items.is_empty(),
+            Store::Many(tree) => tree.len() == 0,
+        }
+    }
+
+    // Returns the powers as a slice, or `None` if they are in a tree.
+    fn list(&self) -> Option<&[Power]>
+        ensures { IfSome result (λ list. list.now ≡ powers_of self.now) }
+    {
+        match self {
+            Store::One(power) => Some(slice::from_ref(power)),
+            Store::Few(items) => Some(items.as_slice()),
+            Store::Many(_) => None,
+        }
+    }
+
+    // Iterates over the powers.
+    pub(crate) fn walk(&self) -> Walk<'_>
+        ensures { rest_of result ≡ powers_of self.now }
+    {
+        match self {
+            Store::One(power) => Walk::Slice(slice::from_ref(power)),
+            Store::Few(items) => Walk::Slice(items.as_slice()),
+            Store::Many(tree) => Walk::Entries(tree.iter()),
+        }
+    }
+
+    // Reports whether both stores have the same names, and each exponent is that of the other store as the factor uses
+    // it.
+    pub(crate) fn matches(&self, other: &Store, factor: Factor) -> bool
+        ensures { result ≡ matches (exponent_in factor) (powers_of self.now) (powers_of other.now) }
+    {
+        if let Some(left) = self.list() {
+            if let Some(right) = other.list() {
+                return same_lists(left, right, factor);
+            }
+        }
+        same_powers(self.walk(), other.walk(), factor)
+    }
+
+    // Returns copies of the powers as the factor uses them.
+    pub(crate) fn taken(&self, alloc: Global, factor: Factor) -> Result<Store, AllocError>
+        ensures { IfOk result (λ store. powers_of store
+            ≡ map (power_by (exponent_in factor)) (powers_of self.now)) }
+    {
+        Ok(match self {
+            Store::One(power) => {
+                Store::One(power.with(alloc, factor.exponent(power.exponent()))?)
+            }
+            Store::Few(items) => Store::Few(copies(alloc, items.as_slice(), factor)?),
+            Store::Many(tree) => Store::Few(listed(alloc, tree, factor)?),
+        })
+    }
+
+    // Merges the powers with those of a factor.
+    pub(crate) fn merged(
+        self,
+        alloc: Global,
+        other: &Store,
+        factor: Factor,
+    ) -> Result<Store, ExponentFault>
+        requires left { AreInOrder (powers_of self) }
+        requires right { AreInOrder (powers_of other.now) }
+        ensures { ArePowers powers_of result
+            (merged (exponent_in factor) (powers_of self) (powers_of other.now)) }
+    {
+        if other.is_empty() {
+            return Ok(self);
+        }
+        if self.is_empty() {
+            return Ok(other.taken(alloc, factor)?);
+        }
+        match self {
+            Store::One(left) => merge_one(alloc, left, other, factor),
+            Store::Few(left) => merge_list(alloc, left, other, factor),
+            Store::Many(left) => {
+                let tree = join_all(alloc, left, other.walk(), factor)?;
+                Ok(Store::Many(tree))
+            }
+        }
+    }
+
+    // Returns the powers with each exponent multiplied by the exponent of a power, without those that become 0.
+    pub(crate) fn scaled(self, alloc: Global, degree: &Degree) -> Result<Store, ExponentFault>
+        requires { All IsPower (powers_of self) }
+        ensures { ArePowers powers_of result (scaled degree.now (powers_of self)) }
+    {
+        let items = match self {
+            Store::One(power) => {
+                reduced_law();
+                degree.denominator_facts();
+                let product = power.exponent().times(degree);
+                return Store::of(alloc, power, product);
+            }
+            Store::Few(items) => items,
+            Store::Many(tree) => listed(alloc, &tree, Factor::Plain)?,
+        };
+        Ok(Store::Few(scale(alloc, items, degree)?))
+    }
+
+    // Appends the names to a text: those with positive exponents and, after a slash, those with negative ones.
+    pub(crate) fn put_text(&self, alloc: Global, text: &mut Vec<u8>) -> Result<(), AllocError>
+        ensures { OnOk result (text.new.items ≡ text.old.items ++ listed_text (powers_of self.now)) }
+    {
+        match self {
+            Store::One(power) => put_powers(alloc, text, slice::from_ref(power)),
+            Store::Few(items) => put_powers(alloc, text, items.as_slice()),
+            Store::Many(tree) => {
+                let items = listed(alloc, tree, Factor::Plain)?;
+                put_powers(alloc, text, items.as_slice())
+            }
+        }
+    }
+}
+
+// Returns copies of the powers of a tree as the factor uses them.
+fn listed(
+    alloc: Global,
+    tree: &BTreeMap<Name, Exponent>,
+    factor: Factor,
+) -> Result<Vec<Power>, AllocError>
+    ensures { IfOk result (λ items. items.items ≡ map (power_by (exponent_in factor)) tree.now.entries) }
+{
+    let mut items = Vec::with_capacity(alloc, tree.len())?;
+    for (name, exponent) in tree {
+        items.push(Power::new(name.copy(alloc)?, factor.exponent(*exponent)))?;
+    }
+    Ok(items)
+}
+
+// Merges one power with those of a factor.
+fn merge_one(
+    alloc: Global,
+    left: Power,
+    other: &Store,
+    factor: Factor,
+) -> Result<Store, ExponentFault>
+    requires left { AreInOrder (left ∷ []) }
+    requires right { AreInOrder (powers_of other.now) }
+    ensures { ArePowers powers_of result (merged (exponent_in factor) (left ∷ []) (powers_of other.now)) }
+{
+    reduced_law();
+    if let Store::One(right) = other {
+        if left.name() == right.name() {
+            let sum = left.exponent().add(&factor.exponent(right.exponent()));
+            return Store::of(alloc, left, sum);
+        }
+    }
+    let mut list = Vec::with_capacity(alloc, 2)?;
+    list.push(left)?;
+    merge_list(alloc, list, other, factor)
+}
+
+// Merges a list with the powers of a factor. The result is a tree if either of them is long.
+fn merge_list(
+    alloc: Global,
+    left: Vec<Power>,
+    other: &Store,
+    factor: Factor,
+) -> Result<Store, ExponentFault>
+    requires left { AreInOrder left.items }
+    requires right { AreInOrder (powers_of other.now) }
+    ensures { ArePowers powers_of result (merged (exponent_in factor) left.items (powers_of other.now)) }
+{
+    if let Some(right) = other.list() {
+        if left.len() <= MOST_MERGED && right.len() <= MOST_MERGED {
+            let items = merge(alloc, left, right, factor)?;
+            return Ok(Store::Few(items));
+        }
+    }
+    let left = planted(alloc, left.as_slice())?;
+    let tree = join_all(alloc, left, other.walk(), factor)?;
+    Ok(Store::Many(tree))
+}
+
+// Creates a tree from copies of these powers. Fails only if memory runs out.
+fn planted(alloc: Global, powers: &[Power]) -> Result<BTreeMap<Name, Exponent>, ExponentFault>
+    requires { AreInOrder powers.now }
+    ensures { ArePowers (λ tree. tree.entries) result powers.now }
+{
+    join_all(
+        alloc,
+        BTreeMap::new(alloc),
+        Walk::Slice(powers),
+        Factor::Plain,
+    )
+}
