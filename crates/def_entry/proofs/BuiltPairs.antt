@@ -1,4 +1,4 @@
--- Pairs that are read are written so: their steps.
+-- Pairs that are read are written that way: the steps of the proof.
 use Rattle.std.proofs.Common.{◌≡◌, ◌≢◌, ◌<◌, ◌==◌, ◌&&◌, ◌||◌, ◌∷◌, [], ◌++◌, ℕ, List, Bool, true}
 use Rattle.std.proofs.Common.{false, not, length, Option, Some, None, refl, sym, ap, ◌∙◌, subst, arith}
 use Rattle.std.proofs.Common.{append_assoc, length-append, true≢false}
@@ -30,9 +30,9 @@ use Rattle.def_entry.proofs.PairSteps.{Front, Number, apart-step, blank_apart, b
 use Rattle.def_entry.proofs.PairSteps.{comma-step, front_of, lacks_both, no_comma_next, none_each}
 use Rattle.def_entry.proofs.PairSteps.{word-step}
 
--- what is read is written so
+-- pairs that are read are written that way
 
--- a pair of two numbers, with the points behind it
+-- a pair of two numbers and the points after it
 pub record PairIs (x y : List ℕ) (found : Option (List Point)) (list : List Point) : Type 0 where
   pub first : Fraction
   pub second : Fraction
@@ -42,7 +42,7 @@ pub record PairIs (x y : List ℕ) (found : Option (List Point)) (list : List Po
   pub found_is : found ≡ Some behind_pair
   pub whole : (first, second) ∷ behind_pair ≡ list
 
--- a pair that is found is so
+-- a pair that is found consists of two numbers and the points after it
 pair-is : (x y : List ℕ) (found : Option (List Point)) (list : List Point) → pair_then x y found ≡ Some list
     → PairIs x y found list
 pair-is x y found list e =
@@ -62,31 +62,31 @@ pair-is x y found list e =
     same : (ps qs : List Point) → ◌≡◌ {A = Option (List Point)} (Some ps) (Some qs) → ps ≡ qs
     same ps qs e = cc
 
--- nothing is no list
+-- `None` is not a list
 pub none_some : (list : List Point) → ◌≡◌ {A = Option (List Point)} None (Some list) → ⊥
 none_some list e = cc
 
--- a number between blanks is one word
+-- a number between blanks is a single word
 lone_words : (before x blanks : List ℕ) → list_all is_blank before ≡ true → Number x → list_all is_blank blanks ≡ true
     → words_of (before ++ (x ++ blanks)) ≡ x ∷ []
 lone_words before x blanks clear is blank =
     word-step before x blanks clear is.word is.some (blank_apart blanks blank)
     ∙ ap (λ ws. x ∷ ws) (blank_words blanks blank)
 
--- where no comma follows it, none stands there
+-- if no comma follows a number, the text contains no comma
 lone_lacks : (before x rest : List ℕ) → list_all is_blank before ≡ true → Number x → lacks 44 rest ≡ true
     → lacks 44 (before ++ (x ++ rest)) ≡ true
 lone_lacks before x rest clear is none =
     lacks_both before (x ++ rest) (blank_lacks before clear) (lacks_both x rest is.clear none)
 
--- one number alone, before a comma or the end, is no pair
+-- a single number before a comma or the end is not a pair
 
--- nothing follows, or a comma
+-- the text is empty or starts with a comma
 abbrev pub is_end : List ℕ → Bool
 is_end [] = true
 is_end (b ∷ rest) = b == 44
 
--- one number alone before such an end is no pair
+-- a single number before a comma or the end has no points
 pub lone-none : (before x blanks rest : List ℕ) → list_all is_blank before ≡ true → Number x
     → list_all is_blank blanks ≡ true
     → is_end rest ≡ true
@@ -109,19 +109,19 @@ lone-none before x blanks (b ∷ rest) clear is blank end =
     (cut-at 44 run rest (lone_lacks before x blanks clear is (blank_lacks blanks blank)))
     ∙ ap (λ ws. both (some_pairs ws) (points_in_runs rest)) (lone_words before x blanks clear is blank)
 
--- nor is a comma in front
+-- a text that starts with a comma has no points
 pub comma-none : (before rest : List ℕ) → list_all is_blank before ≡ true
     → points_in_runs (before ++ (44 ∷ rest)) ≡ None
 comma-none before rest clear =
     points-cut (before ++ (44 ∷ rest)) before rest (cut-at 44 before rest (blank_lacks before clear))
     ∙ ap (λ ws. both (some_pairs ws) (points_in_runs rest)) (blank_words before clear)
 
--- blanks that are there are not empty
+-- a gap that is not the empty text is not empty
 gap_is : (gap : List ℕ) → gap ≢ [] → not (is_empty gap) ≡ true
 gap_is [] some = absurd (some refl)
 gap_is (b ∷ gap) some = refl
 
--- what stands behind a pair is shorter than all
+-- the text after a pair is shorter than the whole text
 longer : (before x gap y rest : List ℕ) → x ≢ [] → length rest < length (front_of before x gap y rest)
 longer before [] gap y rest some = absurd (some refl)
 longer before (b ∷ x) gap y rest some =
@@ -133,17 +133,17 @@ longer before (b ∷ x) gap y rest some =
       length-append y rest,
     )
 
--- how what is shorter is written
+-- shorter texts whose points are read are written that way
 abbrev pub Shorter : List ℕ → Type 0
 Shorter text = (t : List ℕ) (l : List Point) → length t < length text → points_in_runs t ≡ Some l → ArePairs t l
 
--- a pair, and what is behind it
+-- a pair and the text after it
 pub record Paired (before x gap y : List ℕ) : Type 0 where
   pub front : Front before x gap y
   pub x_clear : list_all (λ b. not (ends_number b)) x ≡ true
   pub y_clear : list_all (λ b. not (ends_number b)) y ≡ true
 
--- a pair with a comma behind it is written so
+-- a pair that is followed by a comma is written that way
 comma-built : (before x gap y blanks rest : List ℕ) (list : List Point) → Paired before x gap y
     → list_all is_blank blanks ≡ true
     → points_in_runs (front_of before x gap y (blanks ++ (44 ∷ rest))) ≡ Some list
@@ -169,7 +169,7 @@ comma-built before x gap y blanks rest list is clear e next =
           ∙ ap Some pair.whole;
     }
 
--- so is a pair with a blank or nothing behind it
+-- a pair that is followed by a blank or by nothing is written that way
 apart-built : (before x gap y rest : List ℕ) (list : List Point) → Paired before x gap y → stands_apart rest ≡ true
     → no_comma_next (after_blanks rest) ≡ true
     → points_in_runs (front_of before x gap y rest) ≡ Some list → Shorter (front_of before x gap y rest)
@@ -192,7 +192,7 @@ apart-built before x gap y rest list is apart none e next =
           ∙ ap Some pair.whole;
     }
 
--- where a number ends and no comma follows, the rest stands apart
+-- if a number ends and no comma follows, a blank or nothing does
 ended_apart : (rest : List ℕ) → stops ends_number rest ≡ true → no_comma_next (after_blanks rest) ≡ true
     → stands_apart rest ≡ true
 ended_apart [] stop none = refl
@@ -204,7 +204,7 @@ ended_apart (b ∷ rest) stop none = go (is_blank b) refl (b == 44) refl stop
         absurd (true≢false (sym none ∙ ap no_comma_next (after_blanks-begun (b ∷ rest) (ap not e)) ∙ ap not f))
     go false e false f stop = cc
 
--- so a pair is written in one of these ways
+-- each pair is written in one of these ways
 pub pair-built : (before x gap y rest : List ℕ) (list : List Point) → Paired before x gap y
     → stops ends_number rest ≡ true
     → points_in_runs (front_of before x gap y rest) ≡ Some list → Shorter (front_of before x gap y rest)
@@ -230,17 +230,17 @@ pair-built before x gap y rest list is stop e next = go (after_blanks rest) refl
         apart-built before x gap y rest list is (ended_apart rest stop none) none e next
     go (b ∷ text) f front = by b text f (b == 44) refl front
 
--- a byte that ends no number begins one
+-- if a byte does not end a number, the number before the next such byte is not empty
 pub some_front : (b : ℕ) (text : List ℕ) (part : Parted ends_number (b ∷ text)) → is_blank b ≡ false → (b == 44) ≡ false
     → part.front ≢ []
 some_front b text part f g e =
     let rest : b ∷ text ≡ part.behind = part.whole ∙ ap (λ t. t ++ part.behind) e in
     true≢false (sym (ap (stops ends_number) rest ∙ part.stop) ∙ (λ i. f i || g i))
 
--- bytes of which none ends a number are one, where there are some
+-- bytes of which none ends a number are a number, if there are any
 pub number_by : (x : List ℕ) → list_all (λ b. not (ends_number b)) x ≡ true → x ≢ [] → Number x
 number_by x clear some = record { word = (none_each x clear).0; clear = (none_each x clear).1; some = some }
 
--- the first byte of a text that has begun is no blank
+-- the first byte of a text that does not start with a blank is not a blank
 pub begun_byte : (b : ℕ) (text : List ℕ) → is_begun (b ∷ text) ≡ true → is_blank b ≡ false
 begun_byte b text begun = not_true (is_blank b) begun

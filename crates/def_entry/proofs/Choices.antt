@@ -8,12 +8,12 @@ use Rattle.def_entry.specs.Options.{Options, begins_with, begins_with_no_error, 
 use Rattle.def_entry.specs.Options.{with_choice, with_next}
 use Rattle.def_entry.specs.Steps.{◌>>=◌}
 
--- where two tests hold together, the first does
+-- if a conjunction holds, so does its first test
 and_left : (a b : Bool) → (a && b) ≡ true → a ≡ true
 and_left true b e = refl
 and_left false b e = e
 
--- which option begins, by the tests of each
+-- the option with which a text starts, in terms of the tests of all options
 begins_by : (text : List ℕ) (choice : Choice) (u d r n : Bool) → begins_with Units text ≡ u
     → begins_with Domain text ≡ d → begins_with Range text ≡ r → begins_with_no_error text ≡ n
     → cond u (Some Units) (cond d (Some Domain) (cond r (Some Range) (cond n (Some NoError) None))) ≡ Some choice
@@ -26,7 +26,7 @@ begins_by text choice false false false true eu ed er en e =
     let i : choice ≡ NoError = cc in ap (λ x. begins_with x text) i ∙ and_left (begins_with NoError text) _ en
 begins_by text choice false false false false eu ed er en e = cc
 
--- the option that begins at the front begins with its word
+-- the option with which a text starts has its word at the front of the text
 pub begins-choice_at : (text : List ℕ) (found : Option Choice) (choice : Choice) → found ≡ choice_at text
     → found ≡ Some choice → begins_with choice text ≡ true
 begins-choice_at text found choice is some =
@@ -45,7 +45,7 @@ next (suc n) o text rest found some front is =
     ∙ ap (λ x. with_next (options_from n) x o rest) (sym is)
     ∙ ap (λ k. with_next (options_from k) found o rest) less
 
--- no further option
+-- if the text does not start with an option, reading ends
 pub next-none : (most k : ℕ) (o : Options) (text rest : List ℕ) (found : Option Choice)
     (whole : Option (Options × List ℕ)) → k ≤ most
     → options_from (suc most - k) o text ≡ whole → rest ≡ after_blanks text → found ≡ choice_at rest → found ≡ None
@@ -55,7 +55,7 @@ next-none most k o text rest found whole less is front at none =
     sym (sym is ∙ next (suc most - k) o text rest found some front at
     ∙ ap (λ x. with_next (options_from (suc most - k - 1)) x o rest) none)
 
--- a further option
+-- if the text starts with an option, reading continues after it
 pub next-some : (most k : ℕ) (o : Options) (text rest value : List ℕ) (found : Option Choice) (choice : Choice)
     (made whole : Option (Options × List ℕ)) → k ≤ most
     → options_from (suc most - k) o text ≡ whole → rest ≡ after_blanks text → found ≡ choice_at rest
@@ -72,7 +72,7 @@ next-some most k o text rest value found choice made whole less is front at some
     ∙ ap (λ m. m >>= (λ f. options_from (suc most - k - 1) f.0 f.1)) (sym by)
     ∙ ap (λ m. made >>= (λ f. options_from m f.0 f.1)) count)
 
--- no option is left to be read
+-- if the maximum number of options is exceeded, the result is `None`
 pub next-end : (most k : ℕ) (o : Options) (text : List ℕ) (whole : Option (Options × List ℕ)) → most < k
     → options_from (suc most - k) o text ≡ whole → None ≡ whole
 unfolding options_from

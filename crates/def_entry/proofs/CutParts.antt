@@ -1,4 +1,4 @@
--- Texts that are cut at the first of some bytes, as the parts between those bytes.
+-- Texts that are split at some bytes, as the parts between those bytes.
 use Rattle.std.proofs.Common.{◌≡◌, ◌<◌, ◌≤◌, ◌+◌, ◌==◌, ℕ, List, [], ◌∷◌, Bool, true, false, cond, length, take, drop}
 use Rattle.std.proofs.Common.{Option, Some, None, option_map, unwrap_or, refl, ap, ◌∙◌, arith, length-drop}
 use Rattle.std.specs.List.{position_or_len, slice_split}
@@ -9,15 +9,15 @@ use Rattle.std.proofs.lemmas.List.Sums.{fails_before_first}
 use Rattle.std.proofs.lemmas.List.Splits.{slice_split_first, slice_split_none}
 use Rattle.def_entry.specs.Cuts.{cut_at}
 
--- where the first such byte stands
+-- the index of the first such byte
 abbrev pub place : ℕ → List ℕ → ℕ
 place mark text = position_or_len (λ b. b == mark) text
 
--- what stands around a place, where there is one
+-- the texts around an index, if there is one
 abbrev pub around : Bool → ℕ → List ℕ → Option (List ℕ × List ℕ)
 around there n text = option_map (λ k. (take k text, drop (k + 1) text)) (cond there (Some n) None)
 
--- the parts of a text that is cut: the first, and those of what stands behind it
+-- the parts of a text with such a byte: the first part, and the parts of the text after the byte
 pub parts-some : (mark : ℕ) (text front behind : List ℕ) → cut_at mark text ≡ Some (front, behind)
     → slice_split (λ b. b == mark) text ≡ front ∷ slice_split (λ b. b == mark) behind
 parts-some mark text front behind cut = go (nat_lt (place mark text) (length text)) refl cut
@@ -34,7 +34,7 @@ parts-some mark text front behind cut = go (nat_lt (place mark text) (length tex
         ∙ (λ i. first i ∷ slice_split (λ b. b == mark) (second i))
     go false e cut = cc
 
--- and it gets shorter
+-- the text after the byte is shorter
 pub shorter : (mark : ℕ) (text front behind : List ℕ) → cut_at mark text ≡ Some (front, behind)
     → length behind < length text
 shorter mark text front behind cut = go (nat_lt (place mark text) (length text)) refl cut
@@ -48,7 +48,7 @@ shorter mark text front behind cut = go (nat_lt (place mark text) (length text))
         omega (arith, ap length second, length-drop (place mark text + 1) text)
     go false e cut = cc
 
--- a text that is not cut is its one part
+-- a text without such a byte is its only part
 pub parts-none : (mark : ℕ) (text : List ℕ) → cut_at mark text ≡ None → slice_split (λ b. b == mark) text ≡ text ∷ []
 parts-none mark text cut = go (nat_lt (place mark text) (length text)) refl cut
   where

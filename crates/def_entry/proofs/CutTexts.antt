@@ -11,12 +11,12 @@ use Rattle.std.proofs.lemmas.List.Sums.{passes_at_first, prefix_len-le-length}
 use Rattle.std.proofs.Math.Seq.{drop-append-add, drop-cons, take-append_seam, take-length}
 use Rattle.def_entry.specs.Cuts.{cut_at, lacks}
 
--- what is not, is false
+-- a test that does not hold is false
 pub not_true : (b : Bool) → not b ≡ true → b ≡ false
 not_true true e = cc
 not_true false e = refl
 
--- the first byte that passes stands behind those that do not
+-- the first byte that passes a test comes after those that do not
 pub place-at : (p : ℕ → Bool) (front : List ℕ) (b : ℕ) (behind : List ℕ) → list_all (λ c. not (p c)) front ≡ true
     → p b ≡ true
     → position_or_len p (front ++ (b ∷ behind)) ≡ length front
@@ -33,7 +33,7 @@ place-at p (c ∷ front) b behind clear passes =
         ∙ one-add (position_or_len p (front ++ (b ∷ behind)))
         ∙ ap suc (rest parts.1 passes)
 
--- the first place that passes is behind a front of which none does
+-- the first index that passes comes after a prefix without such a byte
 pub position-at : (p : ℕ → Bool) (front : List ℕ) (b : ℕ) (behind : List ℕ) → list_all (λ c. not (p c)) front ≡ true
     → p b ≡ true
     → position p (front ++ (b ∷ behind)) ≡ Some (length front)
@@ -43,7 +43,7 @@ position-at p front b behind clear passes =
     ∙ ap (λ t. cond t (Some (length front)) None)
     ((Decides-ltb (length front) (length (front ++ (b ∷ behind)))).1 within)
 
--- the byte at that place
+-- the byte at that index
 pub index-at : (front : List ℕ) (b : ℕ) (behind : List ℕ) → slice_index (front ++ (b ∷ behind)) (length front) ≡ b
 index-at front b behind =
     let none : length front ≤ length front = omega arith in
@@ -51,7 +51,7 @@ index-at front b behind =
     get_or-append_right front (b ∷ behind) (length front) (length front) 0 refl none
     ∙ ap (λ n. get_or (b ∷ behind) n 0) least
 
--- a text is cut where the mark stands behind a text that lacks it
+-- a text with the mark after a text without it is cut at the mark
 pub cut-at : (mark : ℕ) (front behind : List ℕ) → lacks mark front ≡ true
     → cut_at mark (front ++ (mark ∷ behind)) ≡ Some (front, behind)
 cut-at mark front behind clear =
@@ -60,7 +60,7 @@ cut-at mark front behind clear =
     (position-at (λ b. b == mark) front mark behind clear ((Decides-eqb mark mark).1 refl))
     ∙ (λ i. Some (take-append_seam front (mark ∷ behind) i, drop-append-add front (mark ∷ behind) 1 i))
 
--- what stands before the first byte that passes has none
+-- the text before the first byte that passes has no such byte
 pub front-clear : (q : ℕ → Bool) (text : List ℕ) → list_all q (take (prefix_len q text) text) ≡ true
 front-clear q [] = refl
 front-clear q (b ∷ text) = go (q b) refl (front-clear q text)
@@ -73,14 +73,14 @@ front-clear q (b ∷ text) = go (q b) refl (front-clear q text)
         ∙ (λ i. e i && rest i)
     go false e rest = ap (λ t. list_all q (take (cond t (1 + prefix_len q text) 0) (b ∷ text))) e
 
--- a text around the first byte that passes
+-- a text is the texts around the first byte that passes
 pub record Around (p : ℕ → Bool) (text : List ℕ) (n : ℕ) : Type 0 where
   pub within : n < length text
   pub whole : text ≡ take n text ++ (slice_index text n ∷ drop (n + 1) text)
   pub passes : p (slice_index text n) ≡ true
   pub clear : list_all (λ c. not (p c)) (take n text) ≡ true
 
--- a place that is found has such a front
+-- an index that is found has a prefix without such a byte
 pub around : (p : ℕ → Bool) (text : List ℕ) (n : ℕ) → position p text ≡ Some n → Around p text n
 around p text n found = go (nat_lt (position_or_len p text) (length text)) refl found
   where
@@ -104,7 +104,7 @@ around p text n found = go (nat_lt (position_or_len p text) (length text)) refl 
         here n (omega (arith, same, less)) same
     go false e found = cc
 
--- a text that is cut has the mark behind a text that lacks it
+-- a text that is cut has the mark after a text without it
 pub cut-is : (mark : ℕ) (text front behind : List ℕ) → cut_at mark text ≡ Some (front, behind)
     → (text ≡ front ++ (mark ∷ behind)) × (lacks mark front ≡ true)
 cut-is mark text front behind cut = go (position (λ b. b == mark) text) refl cut
@@ -120,7 +120,7 @@ cut-is mark text front behind cut = go (position (λ b. b == mark) text) refl cu
         let byte : slice_index text n ≡ mark = eqb-true (slice_index text n) mark at.passes in
         (at.whole ∙ (λ i. first i ++ (byte i ∷ second i)), ap (lacks mark) (sym first) ∙ at.clear)
 
--- where none is found, none passes
+-- if no index is found, no byte passes
 all-clear : (p : ℕ → Bool) (text : List ℕ) → position p text ≡ None → list_all (λ c. not (p c)) text ≡ true
 all-clear p text none = go (nat_lt (position_or_len p text) (length text)) refl none
   where
@@ -135,7 +135,7 @@ all-clear p text none = go (nat_lt (position_or_len p text) (length text)) refl 
         ap (λ t. list_all (λ c. not (p c)) t) (sym (ap (λ k. take k text) all ∙ take-length text))
         ∙ front-clear (λ c. not (p c)) text
 
--- a text that is not cut lacks the mark
+-- a text that is not cut does not contain the mark
 pub cut-none : (mark : ℕ) (text : List ℕ) → cut_at mark text ≡ None → lacks mark text ≡ true
 cut-none mark text none = go (position (λ b. b == mark) text) refl none
   where
@@ -144,14 +144,14 @@ cut-none mark text none = go (position (λ b. b == mark) text) refl none
     go None e none = all-clear (λ b. b == mark) text e
     go (Some n) e none = cc
 
--- a text with the mark in it does not lack it
+-- a text with the mark in it does not lack the mark
 stands : (m : ℕ) (front behind : List ℕ) → lacks m (front ++ (m ∷ behind)) ≡ true → ⊥
 stands m [] behind clear = let here : (m == m) ≡ true =
     (Decides-eqb m m).1 refl in true≢false (sym clear ∙ ap (λ t. not t && lacks m behind) here)
 stands m (b ∷ front) behind clear =
     stands m front behind (and_parts (not (b == m)) (lacks m (front ++ (m ∷ behind))) clear).1
 
--- and the other way round
+-- a text that does not contain the mark is not cut
 pub cut-lacks : (mark : ℕ) (text : List ℕ) → lacks mark text ≡ true → cut_at mark text ≡ None
 cut-lacks mark text clear = go (cut_at mark text) refl
   where

@@ -1,4 +1,4 @@
--- What the lines of the examples give, by the definitions.
+-- The results for the lines of the examples, by the definitions.
 use Rattle.std.proofs.Common.{refl}
 use Rattle.frac128.specs.Divisors.{gcd, gcd_within}
 use Rattle.frac128.specs.Numerals.{greatest}
@@ -40,6 +40,6 @@ keys_read = record { written = refl; read = refl; refused = refl }
 faults_told : FaultTextsLaw
 faults_told = refl
 
--- all of them
+-- all examples
 pub examples : ExamplesLaw
 examples = record { entries = entries; faults = faults; keys_read = keys_read; faults_told = faults_told }

@@ -1,4 +1,4 @@
--- Texts whose front ends at the first byte of a kind.
+-- Texts with a front that ends at the first byte of a kind.
 use Rattle.std.proofs.Common.{◌≡◌, ◌<◌, ◌≤◌, ◌+◌, ◌∷◌, [], ◌++◌, ℕ, suc, List, Bool, true, false, not, cond, length}
 use Rattle.std.proofs.Common.{take, drop, reverse, refl, sym, ap, ◌∙◌, one-add}
 use Rattle.std.specs.List.{before_first, list_all, position_or_len}
@@ -18,12 +18,12 @@ use Rattle.def_lines.proofs.Trimming.{trimmed-begun, trimmed-blank}
 use Rattle.def_entry.specs.Headings.{stands_apart}
 use Rattle.def_entry.proofs.CutTexts.{front-clear, not_true, place-at}
 
--- the text is empty, or begins with such a byte
+-- the text is empty or starts with such a byte
 abbrev pub stops : (ℕ → Bool) → List ℕ → Bool
 stops p [] = true
 stops p (b ∷ text) = p b
 
--- where no byte passes, the place is the length
+-- if no byte passes the test, the index is the length
 place-all : (p : ℕ → Bool) (text : List ℕ) → list_all (λ c. not (p c)) text ≡ true
     → position_or_len p text ≡ length text
 place-all p [] clear = refl
@@ -36,7 +36,7 @@ place-all p (b ∷ text) clear = go (and_parts (not (p b)) (list_all (λ c. not 
         ap (λ t. cond t (1 + position_or_len p text) 0) parts.0 ∙ one-add (position_or_len p text)
         ∙ ap suc (rest parts.1)
 
--- a front without such a byte is what stands before the first one
+-- a front without such a byte is the text before the first one
 pub before-at : (p : ℕ → Bool) (front behind : List ℕ) → list_all (λ c. not (p c)) front ≡ true → stops p behind ≡ true
     → before_first p (front ++ behind) ≡ front
 before-at p front [] clear stop =
@@ -45,7 +45,7 @@ before-at p front (b ∷ behind) clear stop =
     ap (λ n. take n (front ++ (b ∷ behind))) (place-at p front b behind clear stop)
     ∙ take-append_seam front (b ∷ behind)
 
--- a text, by what stands before the first such byte
+-- a text in two parts: the text before the first such byte, and the rest
 pub record Parted (p : ℕ → Bool) (text : List ℕ) : Type 0 where
   pub front : List ℕ
   pub behind : List ℕ
@@ -53,7 +53,7 @@ pub record Parted (p : ℕ → Bool) (text : List ℕ) : Type 0 where
   pub clear : list_all (λ c. not (p c)) front ≡ true
   pub stop : stops p behind ≡ true
 
--- each text is parted at the first byte that passes
+-- each text is split at the first byte that passes the test
 pub parted : (p : ℕ → Bool) (text : List ℕ) → Parted p text
 parted p text =
     let n : ℕ = position_or_len p text in
@@ -76,22 +76,22 @@ parted p text =
 
 -- blanks
 
--- a text that has begun has no blanks in front
+-- skipping blanks does not change a text that does not start with a blank
 pub after_blanks-begun : (text : List ℕ) → is_begun text ≡ true → after_blanks text ≡ text
 after_blanks-begun [] begun = refl
 after_blanks-begun (b ∷ text) begun = after_blanks-word b text (not_true (is_blank b) begun)
 
--- blanks at the end are dropped once
+-- removing trailing blanks twice is the same as removing them once
 before_blanks-again : (text : List ℕ) → before_blanks (before_blanks text) ≡ before_blanks text
 before_blanks-again text =
     ap (λ t. reverse (after_blanks t)) (reverse-reverse (after_blanks (reverse text)))
     ∙ ap reverse (after_blanks-begun (after_blanks (reverse text)) (is_begun-after_blanks (reverse text)))
 
--- trimmed at its end, a text trims to the same
+-- removing trailing blanks does not change the trimmed text
 pub trimmed-before_blanks : (text : List ℕ) → trimmed (before_blanks text) ≡ trimmed text
 trimmed-before_blanks text = ap after_blanks (before_blanks-again text)
 
--- so it does behind more blanks
+-- leading blanks do not change the trimmed text
 pub trimmed-blanks : (blanks text : List ℕ) → list_all is_blank blanks ≡ true → trimmed (blanks ++ text) ≡ trimmed text
 trimmed-blanks [] text clear = refl
 trimmed-blanks (b ∷ blanks) text clear =
@@ -102,7 +102,7 @@ trimmed-blanks (b ∷ blanks) text clear =
         → trimmed ((b ∷ blanks) ++ text) ≡ trimmed text
     go parts rest = trimmed-blank b (blanks ++ text) parts.0 ∙ rest parts.1
 
--- a word in front stays as it is
+-- removing trailing blanks does not change a word at the front
 pub before_blanks-front : (word text : List ℕ) → list_all (λ b. not (is_blank b)) word ≡ true
     → before_blanks (word ++ text) ≡ word ++ before_blanks text
 before_blanks-front [] text clear = refl
@@ -114,7 +114,7 @@ before_blanks-front (b ∷ word) text clear =
         → before_blanks ((b ∷ word) ++ text) ≡ (b ∷ word) ++ before_blanks text
     go parts rest = before_blanks-word b (word ++ text) (not_true (is_blank b) parts.0) ∙ ap (λ t. b ∷ t) (rest parts.1)
 
--- a blank in front stays, or nothing does
+-- removing trailing blanks leaves a leading blank or nothing
 blank_stays : (b : ℕ) (text : List ℕ) → is_blank b ≡ true
     → stands_apart (reverse (after_blanks (text ++ b ∷ []))) ≡ true
 blank_stays b [] blank = ap (λ t. stands_apart (reverse t)) (after_blanks-blank b [] blank)
@@ -128,23 +128,23 @@ blank_stays b (c ∷ text) blank = go (is_blank c) refl (blank_stays b text blan
         ∙ ap stands_apart (reverse-append (c ∷ text) (b ∷ []))
         ∙ blank
 
--- trimmed at its end, a text still stands apart
+-- removing trailing blanks preserves that a text is empty or starts with a blank
 pub apart-before_blanks : (text : List ℕ) → stands_apart text ≡ true → stands_apart (before_blanks text) ≡ true
 apart-before_blanks [] apart = refl
 apart-before_blanks (b ∷ text) apart = ap (λ t. stands_apart (reverse (after_blanks t))) (reverse-append (b ∷ []) text)
     ∙ blank_stays b (reverse text) apart
 
--- and a word stops before it
+-- a text that is empty or starts with a blank ends a word before it
 pub stops-apart : (text : List ℕ) → stands_apart text ≡ true → stops is_blank text ≡ true
 stops-apart [] apart = refl
 stops-apart (b ∷ text) apart = apart
 
--- the first word of a trimmed text, and what stands behind it
+-- the first word of a trimmed text, and the text after it
 pub record FirstWord (text word behind : List ℕ) : Type 0 where
   pub first : first_word (trimmed text) ≡ word
   pub rest : behind_word (trimmed text) ≡ trimmed behind
 
--- the first word behind blanks, before what stands apart
+-- the first word of a text that starts with blanks, if the word is followed by a blank or by nothing
 pub first-word : (blanks word behind : List ℕ) → list_all is_blank blanks ≡ true → is_begun (word ++ behind) ≡ true
     → list_all (λ b. not (is_blank b)) word ≡ true
     → stands_apart behind ≡ true → FirstWord (blanks ++ (word ++ behind)) word behind

@@ -1,4 +1,4 @@
--- What the form of a line says, as it is read.
+-- The meaning of the form of a line, as it is read.
 use Rattle.std.proofs.Common.{◌≡◌, ◌∷◌, [], ◌++◌, ℕ, List, Bool, true, false, cond, map, Option, Some, None, Result, Ok}
 use Rattle.std.proofs.Common.{Err, refl, sym, ap, ◌∙◌, subst}
 use Rattle.units_io.specs.Outcomes.{◌>>=◌}
@@ -25,11 +25,11 @@ abbrev pub list_trees : List (List ℕ) → Result (List Syntax) EntryFault
 list_trees [] = Ok []
 list_trees (part ∷ parts) = tree_in None part >>= (λ tree. list_trees parts >>= (λ trees. Ok (tree ∷ trees)))
 
--- a table by its points and its unit
+-- a table, given its unit and its points
 abbrev table_of : List ℕ → List Point → Result What EntryFault
 table_of unit points = tree_in None unit >>= (λ tree. Ok (Table (record { unit = tree; points = points })))
 
--- what a form says
+-- the meaning of a form
 abbrev pub meaning : List ℕ → WrittenForm → Result What EntryFault
 meaning name PrimitiveForm = Ok Primitive
 meaning name DimensionlessForm = Ok Dimensionless
@@ -47,12 +47,12 @@ points-at text points is =
     ap (λ o. or_fault BadTable o >>= (λ ps. or_fault BadTable (table_points ps))) ((points_read text points).1 is.0)
     ∙ ap (λ t. or_fault BadTable (cond t (Some points) None)) is.1
 
--- the points of a table are, or are not, such
+-- the text has the points of a table, or does not
 pub data PointsOf (text : List ℕ) : Type 0 where
   Points : (points : List Point) → ArePoints text points → PointsOf text
   NoPoints : ((points : List Point) → ArePoints text points → ⊥) → points_in text ≡ Err BadTable → PointsOf text
 
--- a text has points or is no table
+-- a text has points or is not a table
 pub points-of : (text : List ℕ) → PointsOf text
 points-of text = go (points_of text) refl
   where
@@ -81,13 +81,13 @@ points-of text = go (points_of text) refl
 
 -- faults of expressions
 
--- a unit runs through its expression, if it has one
+-- reading a unit reads its expression, if it has one
 runs-unit : (text : List ℕ) → Runs (unit_tree text) (expression None (some_text text))
 runs-unit [] = runs-done None
 runs-unit (b ∷ text) =
     runs-map (tree_in None (b ∷ text)) (λ tree. Some tree) ((None, b ∷ text) ∷ []) (runs-tree None (b ∷ text))
 
--- both units run through theirs
+-- reading both units reads their expressions
 runs-units : (units : Option Units)
     → Runs (units_in units) (expression None (in_unit_text units) ++ expression None (out_unit_text units))
 runs-units None = runs-done (None, None)
@@ -98,13 +98,13 @@ runs-units (Some units) =
     (λ first. runs-map (unit_tree units.out_unit) (λ second. (first, second))
     (expression None (some_text units.out_unit)) (runs-unit units.out_unit))
 
--- so does an inverse
+-- reading an inverse reads its expression
 runs-inverse : (name : List ℕ) (text : Option (List ℕ)) → Runs (inverse_in name text) (expression (Some name) text)
 runs-inverse name None = runs-done None
 runs-inverse name (Some text) =
     runs-map (tree_in (Some name) text) (λ tree. Some tree) ((Some name, text) ∷ []) (runs-tree (Some name) text)
 
--- a list runs through its parts
+-- reading a list reads the expressions of its parts
 runs-list : (parts : List (List ℕ)) → Runs (list_trees parts) (map (λ part. (None, part)) parts)
 runs-list [] = runs-done []
 runs-list (part ∷ parts) =
@@ -112,7 +112,7 @@ runs-list (part ∷ parts) =
     (map (λ part. (None, part)) parts) (runs-tree None part)
     (λ tree. runs-map (list_trees parts) (λ trees. tree ∷ trees) (map (λ part. (None, part)) parts) (runs-list parts))
 
--- a function through its units and bodies
+-- reading a function reads the expressions of its units and its bodies
 runs-function : (name parameter : List ℕ) (form : Form)
     → Runs (function_of name parameter form) (expressions name (FunctionForm parameter form))
 runs-function name parameter form =
@@ -130,7 +130,7 @@ runs-function name parameter form =
     (λ forward. runs-map (inverse_in name form.inverse) (λ inverse. function form units forward inverse)
     (expression (Some name) form.inverse) (runs-inverse name form.inverse)))
 
--- where a table has points, the expressions decide
+-- if a form has points or needs none, reading it reads its expressions
 pub runs-meaning : (name : List ℕ) (form : WrittenForm) → HasPoints form
     → Runs (meaning name form) (expressions name form)
 runs-meaning name PrimitiveForm has = runs-done Primitive
@@ -147,12 +147,12 @@ runs-meaning name (TableForm unit text) has =
 runs-meaning name (ListForm parts) has =
     runs-map (list_trees parts) (λ trees. ListOf trees) (map (λ part. (None, part)) parts) (runs-list parts)
 
--- a form has points, or is a table without
+-- a form has points or needs none, or is a table without points
 pub data FormPoints (name : List ℕ) (form : WrittenForm) : Type 0 where
   Has : HasPoints form → FormPoints name form
   HasNone : (HasPoints form → ⊥) → meaning name form ≡ Err BadTable → FormPoints name form
 
--- a form has points, or none are wanted
+-- each form has points or needs none, or is a table without points
 pub form-points : (name : List ℕ) (form : WrittenForm) → FormPoints name form
 form-points name (TableForm unit text) = go (points-of text)
   where
@@ -166,7 +166,7 @@ form-points name (FunctionForm parameter form) = Has tt
 form-points name (AliasForm target) = Has tt
 form-points name (ListForm parts) = Has tt
 
--- what is said
+-- meanings
 
 -- a tree that is read is the tree of its text
 some-tree : (binder : Option (List ℕ)) (text : List ℕ) (tree : Option Syntax)
@@ -179,7 +179,7 @@ some-tree binder text tree e =
     same : (x y : Option Syntax) → ◌≡◌ {A = Result (Option Syntax) EntryFault} (Ok y) (Ok x) → x ≡ y
     same x y e = cc
 
--- and the tree of a text is read
+-- the tree of a text is read
 tree-some : (binder : Option (List ℕ)) (text : List ℕ) (tree : Option Syntax) → IsTreeOf binder (Some text) tree
     → (tree_in binder text >>= (λ t. Ok (Some t))) ≡ Ok tree
 tree-some binder text tree is = ap (λ r. r >>= (λ t. Ok (Some t))) (ok-tree binder text is.0 is.1) ∙ ap Ok (sym is.2)
@@ -189,19 +189,19 @@ unit-ok : (text : List ℕ) (tree : Option Syntax) → unit_tree text ≡ Ok tre
 unit-ok [] tree e = cc
 unit-ok (b ∷ text) tree e = some-tree None (b ∷ text) tree e
 
--- and a unit with its tree is read
+-- a unit with its tree is read
 ok-unit : (text : List ℕ) (tree : Option Syntax) → IsTreeOf None (some_text text) tree → unit_tree text ≡ Ok tree
 ok-unit [] tree is = ap Ok (sym is)
 ok-unit (b ∷ text) tree is = tree-some None (b ∷ text) tree is
 
--- the parts of two trees that are given
+-- the trees of two units in a result
 
 -- the tree of the first unit
 abbrev first_tree : Result (Option Syntax × Option Syntax) EntryFault → Option Syntax
 first_tree (Ok p) = p.0
 first_tree (Err f) = None
 
--- the tree of the second
+-- the tree of the second unit
 abbrev second_tree : Result (Option Syntax × Option Syntax) EntryFault → Option Syntax
 second_tree (Ok p) = p.1
 second_tree (Err f) = None
@@ -220,7 +220,7 @@ units-ok (Some units) first second e =
       subst (IsTreeOf None (some_text units.out_unit)) b (unit-ok units.out_unit two.0 two.1),
     )
 
--- and units with their trees are read
+-- units with their trees are read
 ok-units : (units : Option Units) (first second : Option Syntax) → IsTreeOf None (in_unit_text units) first
     → IsTreeOf None (out_unit_text units) second
     → units_in units ≡ Ok (first, second)
@@ -235,13 +235,13 @@ inverse-ok : (name : List ℕ) (text : Option (List ℕ)) (tree : Option Syntax)
 inverse-ok name None tree e = cc
 inverse-ok name (Some text) tree e = some-tree (Some name) text tree e
 
--- and an inverse with its tree is read
+-- an inverse with its tree is read
 ok-inverse : (name : List ℕ) (text : Option (List ℕ)) (tree : Option Syntax) → IsTreeOf (Some name) text tree
     → inverse_in name text ≡ Ok tree
 ok-inverse name None tree is = ap Ok (sym is)
 ok-inverse name (Some text) tree is = tree-some (Some name) text tree is
 
--- a function by its trees
+-- the definition of a function, given its trees
 abbrev function_def : Form → Option Syntax × Option Syntax → Syntax → Option Syntax → FunctionDef
 function_def form units forward inverse = record {
   in_unit = units.0;
@@ -252,7 +252,7 @@ function_def form units forward inverse = record {
   inverse = inverse;
 }
 
--- a function that is read is what its form says
+-- a function that is read is the meaning of its form
 function-ok : (name parameter : List ℕ) (form : Form) (what : What) → function_of name parameter form ≡ Ok what
     → Says name (FunctionForm parameter form) what
 function-ok name parameter form what e =
@@ -280,7 +280,7 @@ function-ok name parameter form what e =
     same : (x y : What) → ◌≡◌ {A = Result What EntryFault} (Ok x) (Ok y) → x ≡ y
     same x y e = cc
 
--- and what its form says is read
+-- the meaning of the form of a function is read
 ok-function : (name parameter : List ℕ) (form : Form) (f : FunctionDef) → IsSaidOf name parameter form f
     → function_of name parameter form ≡ Ok (Function f)
 ok-function name parameter form f is =
@@ -314,7 +314,7 @@ list-ok (part ∷ parts) trees e =
     same : (x y : List Syntax) → ◌≡◌ {A = Result (List Syntax) EntryFault} (Ok x) (Ok y) → x ≡ y
     same x y e = cc
 
--- and the trees of the parts are read
+-- the trees of the parts are read
 ok-list : (parts : List (List ℕ)) (trees : List Syntax) → AreTreesOf parts trees → list_trees parts ≡ Ok trees
 ok-list [] [] is = refl
 ok-list [] (t ∷ trees) is = absurd is
@@ -323,11 +323,11 @@ ok-list (part ∷ parts) (t ∷ trees) is =
     ap (λ r. r >>= (λ tree. list_trees parts >>= (λ trees. Ok (tree ∷ trees)))) (ok-tree None part t is.0)
     ∙ ap (λ r. r >>= (λ trees. Ok (t ∷ trees))) (ok-list parts trees is.1)
 
--- equal answers say the same
+-- equal results have equal meanings
 same_what : (x y : What) → ◌≡◌ {A = Result What EntryFault} (Ok x) (Ok y) → x ≡ y
 same_what x y e = cc
 
--- what is read of a form is what it says
+-- the definition read from a form is its meaning
 pub says-ok : (name : List ℕ) (form : WrittenForm) (what : What) → meaning name form ≡ Ok what → Says name form what
 says-ok name PrimitiveForm what e = subst (Says name PrimitiveForm) (same_what Primitive what e) tt
 says-ok name DimensionlessForm what e = subst (Says name DimensionlessForm) (same_what Dimensionless what e) tt
@@ -351,7 +351,7 @@ says-ok name (ListForm parts) what e =
     let step = bind_ok (list_trees parts) (λ trees. Ok (ListOf trees)) what e in
     subst (Says name (ListForm parts)) (same_what (ListOf step.0) what step.2) (list-ok parts step.0 step.1)
 
--- and what it says is read
+-- the meaning of a form is read
 pub ok-says : (name : List ℕ) (form : WrittenForm) (what : What) → Says name form what → meaning name form ≡ Ok what
 ok-says name PrimitiveForm Primitive is = refl
 ok-says name DimensionlessForm Dimensionless is = refl

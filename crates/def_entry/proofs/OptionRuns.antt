@@ -1,4 +1,4 @@
--- Options one behind another are read as they are written.
+-- Sequences of options are read the way they are written.
 use Rattle.std.proofs.Common.{◌≡◌, ◌<◌, ◌≤◌, ◌+◌, ◌&&◌, ◌∷◌, [], ◌++◌, ℕ, zero, suc, List, Bool, true, false, not}
 use Rattle.std.proofs.Common.{length, Option, Some, None, if◌then◌else◌, refl, sym, ap, ◌∙◌, subst, arith}
 use Rattle.std.proofs.Common.{length-append}
@@ -24,18 +24,18 @@ use Rattle.def_entry.proofs.WrittenIntervals.{bind_some, one_pair}
 use Rattle.def_entry.proofs.WrittenOptions.{Added, Fronted, added, after_blanks-front, begun-option, choice-at, fronted}
 use Rattle.def_entry.proofs.WrittenOptions.{has-ended, is_free, no-choice, value-at, value-is}
 
--- `noerror`, as a value that may stand
+-- `noerror`, as an optional value
 abbrev flag : Bool → Option Bool
 flag b = if b then Some true else None
 
--- options behind those that stood before
+-- options that follow the earlier ones
 record Behind (o : Options) (os : List WrittenOption) (new : Options) : Type 0 where
   units : at_most o.units ++ filter_map units_of os ≡ at_most new.units
   domain : at_most o.domain ++ filter_map domain_of os ≡ at_most new.domain
   range : at_most o.range ++ filter_map range_of os ≡ at_most new.range
   no_error : at_most (flag o.no_error) ++ filter_map no_error_of os ≡ at_most (flag new.no_error)
 
--- one more value, where none stood before
+-- a value is added, if there was none before
 more : {A : Type 0} (had v made : Option A) (rest : List A) → not (is_some had) ≡ true
     → at_most v ++ rest ≡ at_most made
     → at_most had ++ cons_option v rest ≡ at_most made
@@ -43,7 +43,7 @@ more None None made rest free e = e
 more None (Some x) made rest free e = e
 more (Some y) v made rest free e = cc
 
--- an option that stands once is free before it, and no more behind
+-- an option that occurs once does not occur before it or after it
 less : {A : Type 0} (had v made : Option A) (rest : List A) → is_some v ≡ true
     → at_most had ++ cons_option v rest ≡ at_most made
     → (not (is_some had) ≡ true) × (at_most v ++ rest ≡ at_most made)
@@ -53,17 +53,17 @@ less (Some y) None made rest some e = cc
 less (Some y) (Some x) None rest some e = cc
 less (Some y) (Some x) (Some z) rest some e = cc
 
--- a flag that is down is free
+-- a flag that is not set is free
 free_flag : (b : Bool) → not b ≡ true → not (is_some (flag b)) ≡ true
 free_flag true e = cc
 free_flag false e = refl
 
--- and a free one is down
+-- a flag that is free is not set
 flag_free : (b : Bool) → not (is_some (flag b)) ≡ true → not b ≡ true
 flag_free true e = cc
 flag_free false e = refl
 
--- an option that is free goes before those behind it
+-- an option that is free can be put in front of those after it
 behind-more : (w : WrittenOption) (o : Options) (os : List WrittenOption) (new : Options) → is_free w o ≡ true
     → Behind (added w o) os new
     → Behind o (w ∷ os) new
@@ -93,7 +93,7 @@ behind-more NoErrorOption o os new free is = record {
   range = is.range;
 }
 
--- and the first of some options is free
+-- the first of some options is free
 behind-less : (w : WrittenOption) (o : Options) (os : List WrittenOption) (new : Options) (rest : List ℕ)
     → is_whole w rest ≡ true
     → Behind o (w ∷ os) new
@@ -120,23 +120,23 @@ behind-less NoErrorOption o os new rest whole is =
       record { no_error = parts.1; units = is.units; domain = is.domain; range = is.range },
     )
 
--- nothing behind them
+-- no options follow
 
--- where nothing is added, a value is the same
+-- if nothing is added, a value does not change
 same_value : {A : Type 0} (x y : Option A) → at_most x ++ [] ≡ at_most y → x ≡ y
 same_value None None e = refl
 same_value None (Some y) e = cc
 same_value (Some x) None e = cc
 same_value (Some x) (Some y) e = cc
 
--- so is a flag
+-- if nothing is added, a flag does not change
 same_flag : (x y : Bool) → at_most (flag x) ++ [] ≡ at_most (flag y) → x ≡ y
 same_flag true true e = refl
 same_flag true false e = cc
 same_flag false true e = cc
 same_flag false false e = refl
 
--- so are options behind none
+-- if no options follow, the options do not change
 behind-none : (o new : Options) → Behind o [] new → o ≡ new
 behind-none o new is =
     let u : o.units ≡ new.units = same_value o.units new.units is.units in
@@ -145,7 +145,7 @@ behind-none o new is =
     let n : o.no_error ≡ new.no_error = same_flag o.no_error new.no_error is.no_error in
     λ i. record { units = u i; domain = d i; range = r i; no_error = n i }
 
--- and the other way round
+-- if the options do not change, no options follow
 none-behind : (o new : Options) → o ≡ new → Behind o [] new
 none-behind o new e = record {
   units = append-nil (at_most o.units) ∙ ap (λ (x : Options). at_most x.units) e;
@@ -154,7 +154,7 @@ none-behind o new e = record {
   no_error = append-nil (at_most (flag o.no_error)) ∙ ap (λ (x : Options). at_most (flag x.no_error)) e;
 }
 
--- what is read, as it is written
+-- the written form of options that are read
 record ReadFrom (o : Options) (text rest : List ℕ) (new : Options) : Type 0 where
   written : WrittenOptions
   spelled : text ≡ options written rest
@@ -162,11 +162,11 @@ record ReadFrom (o : Options) (text rest : List ℕ) (new : Options) : Type 0 wh
   ended : has_ended rest ≡ true
   said : Behind o (in_order written) new
 
--- equal options have the same behind them
+-- equal options are followed by the same options
 with_same : (x y : Options) (os : List WrittenOption) (new : Options) → x ≡ y → Behind x os new → Behind y os new
 with_same x y os new e is = subst (λ (z : Options). Behind z os new) e is
 
--- options that are read are written so
+-- options that are read are written that way
 read-is : (n : ℕ) (o : Options) (text rest : List ℕ) (new : Options) → options_from n o text ≡ Some (new, rest)
     → ReadFrom o text rest new
 unfolding options_from
@@ -207,7 +207,7 @@ read-is (suc n) o text rest new e = go (choice_at (after_blanks text)) refl e (f
                   (with_same o' (added one.written o) (in_order rests.written) new one.made rests.said);
             }
 
--- what is written is read so
+-- options that are written are read
 written-read : (w : WrittenOptions) (n : ℕ) (o new : Options) (rest : List ℕ) → are_whole w rest ≡ true
     → has_ended rest ≡ true
     → Behind o (in_order w) new → length (in_order w) < n
@@ -241,11 +241,11 @@ written-read (NextOption blanks x xs) (suc n) o new rest whole ended said room =
         ∙ ap (λ f. f >>= (λ found. options_from n found.0 found.1)) (value-at x o (options xs rest) front.1 free.0)
         ∙ next parts.1 ended free.1 (omega arith)
 
--- a whole interval has a value
+-- a complete interval has a value
 whole_span : (i : WrittenInterval) → is_interval i ≡ true → is_some (span_of i) ≡ true
 whole_span i whole = (and_parts _ (is_some (span_of i)) whole).1
 
--- each option is one of four
+-- each option is one of four kinds
 counted : (w : WrittenOptions) (rest : List ℕ) → are_whole w rest ≡ true
     → length (in_order w)
     ≤ length (filter_map units_of (in_order w)) + length (filter_map domain_of (in_order w))
@@ -282,12 +282,12 @@ counted (NextOption blanks x xs) rest whole =
         omega arith
     go NoErrorOption here count = omega arith
 
--- at most one value is few
+-- a list of at most one value has at most one item
 few : {A : Type 0} (o : Option A) (xs : List A) → xs ≡ at_most o → length xs ≤ 1
 few None xs e = let n : length xs ≡ 0 = ap length e in omega arith
 few (Some x) xs e = let n : length xs ≡ 1 = ap length e in omega arith
 
--- options are read exactly where they are so written
+-- options are read if and only if they are written according to the grammar
 pub options_read : OptionsLaw
 options_read text rest o = (to, from)
   where
@@ -331,9 +331,9 @@ options_read text rest o = (to, from)
         ap options_at is.spelled
         ∙ written-read is.written (suc most_options) no_options o rest is.whole is.ended said room
 
--- options that change places say the same
+-- exchanging two options does not change their meaning
 
--- two options that change places give the same value of each kind
+-- after an exchange of two options, the values of each kind are the same
 exchanged : {A : Type 0} (h : WrittenOption → Option A) (front : List WrittenOption) (x y : WrittenOption)
     (back : List WrittenOption) (v : Option A)
     → filter_map h (front ++ (x ∷ y ∷ back)) ≡ at_most v → filter_map h (front ++ (y ∷ x ∷ back)) ≡ at_most v

@@ -1,4 +1,4 @@
--- Pairs of numbers, one behind another, are read as they are written.
+-- Sequences of pairs of numbers are read the way they are written.
 use Rattle.std.proofs.Common.{◌≡◌, ◌≢◌, ◌==◌, ◌&&◌, ◌||◌, ◌∷◌, [], ◌++◌, ℕ, List, Bool, true, false, not, cond, length}
 use Rattle.std.proofs.Common.{drop, Option, Some, None, refl, sym, ap, ◌∙◌, append_assoc, true≢false}
 use Rattle.std.specs.List.{list_all}
@@ -31,19 +31,19 @@ use Rattle.def_entry.proofs.WrittenOptions.{Fronted, after_blanks-front, fronted
 
 -- words
 
--- nothing has no words
+-- an empty text has no words
 pub no_words : words_of [] ≡ []
 unfolding words_of
 no_words = refl
 
--- blanks have no words, and no comma
+-- blanks contain no words
 pub blank_words : (blanks : List ℕ) → list_all is_blank blanks ≡ true → words_of blanks ≡ []
 blank_words blanks clear =
     sym (words_of-after_blanks blanks)
     ∙ ap words_of (ap after_blanks (sym (append-nil blanks)) ∙ after_blanks-front blanks [] clear refl)
     ∙ no_words
 
--- a blank is no comma
+-- a blank is not a comma
 pub no_comma : (b : ℕ) → is_blank b ≡ true → not (b == 44) ≡ true
 no_comma b blank = go (b == 32) (b == 9) refl refl blank
   where
@@ -52,7 +52,7 @@ no_comma b blank = go (b == 32) (b == 9) refl refl blank
     go false true e f blank = ap (λ c. not (c == 44)) (eqb-true b 9 f)
     go false false e f blank = cc
 
--- so blanks have none
+-- blanks contain no comma
 pub blank_lacks : (blanks : List ℕ) → list_all is_blank blanks ≡ true → lacks 44 blanks ≡ true
 blank_lacks [] clear = refl
 blank_lacks (b ∷ blanks) clear = go (and_parts (is_blank b) (list_all is_blank blanks) clear) (blank_lacks blanks)
@@ -62,7 +62,7 @@ blank_lacks (b ∷ blanks) clear = go (and_parts (is_blank b) (list_all is_blank
         → lacks 44 (b ∷ blanks) ≡ true
     go parts rest = (λ i. no_comma b parts.0 i && rest parts.1 i)
 
--- a text without blanks and commas has none of each
+-- a text without bytes that end a number contains neither blanks nor commas
 pub none_each : (x : List ℕ) → list_all (λ b. not (ends_number b)) x ≡ true
     → (list_all (λ b. not (is_blank b)) x ≡ true) × (lacks 44 x ≡ true)
 none_each [] clear = (refl, refl)
@@ -83,7 +83,7 @@ none_each (b ∷ x) clear =
         let more : (list_all (λ b. not (is_blank b)) x ≡ true) × (lacks 44 x ≡ true) = rest parts.1 in
         ((λ i. here.0 i && more.0 i), (λ i. here.1 i && more.1 i))
 
--- a word in front, behind blanks
+-- the words of a text that starts with blanks and a word
 pub word-step : (before x rest : List ℕ) → list_all is_blank before ≡ true → list_all (λ b. not (is_blank b)) x ≡ true
     → x ≢ []
     → stands_apart rest ≡ true
@@ -102,18 +102,18 @@ word-step before (b ∷ x) rest clear word some apart =
     ∙ ap (λ t. (b ∷ x) ∷ words_of (after_blanks t)) (drop-append_seam (b ∷ x) rest)
     ∙ ap (λ ws. (b ∷ x) ∷ ws) (words_of-after_blanks rest)
 
--- a number, by its parts
+-- a number is not empty and contains neither blanks nor commas
 pub record Number (x : List ℕ) : Type 0 where
   pub word : list_all (λ b. not (is_blank b)) x ≡ true
   pub clear : lacks 44 x ≡ true
   pub some : x ≢ []
 
--- nothing is no number
+-- an empty text is not a number
 pub nothing_none : number_of [] ≡ None
 unfolding number_of
 nothing_none = refl
 
--- a number has no byte that ends one, and some byte
+-- a number is not empty and contains no byte that ends one
 pub number-parts : (x : List ℕ) → is_number x ≡ true → Number x
 number-parts x whole =
     let parts : (list_all (λ b. not (ends_number b)) x ≡ true) × (is_some (number_of x) ≡ true) = and_parts _ _ whole in
@@ -124,7 +124,7 @@ number-parts x whole =
       some = λ e. true≢false (sym parts.1 ∙ ap (λ t. is_some (number_of t)) e ∙ ap is_some nothing_none);
     }
 
--- what begins with a gap stands apart
+-- a text that starts with a gap starts with a blank
 pub apart_gap : (gap rest : List ℕ) → gap ≢ [] → list_all is_blank gap ≡ true → stands_apart (gap ++ rest) ≡ true
 apart_gap [] rest some clear = absurd (some refl)
 apart_gap (b ∷ gap) rest some clear = (and_parts (is_blank b) (list_all is_blank gap) clear).0
@@ -137,11 +137,11 @@ pub record Front (before x gap y : List ℕ) : Type 0 where
   pub gap_blank : list_all is_blank gap ≡ true
   pub second : Number y
 
--- the bytes of a front, before others
+-- the bytes of a front, followed by other bytes
 abbrev pub front_of : List ℕ → List ℕ → List ℕ → List ℕ → List ℕ → List ℕ
 front_of before x gap y rest = before ++ (x ++ (gap ++ (y ++ rest)))
 
--- the words of a pair and of what stands apart behind it
+-- the words of a pair and of the text after it, which is empty or starts with a blank
 pub pair-words : (before x gap y rest : List ℕ) → Front before x gap y → stands_apart rest ≡ true
     → words_of (front_of before x gap y rest) ≡ x ∷ y ∷ words_of rest
 pair-words before x gap y rest is apart =
@@ -149,16 +149,16 @@ pair-words before x gap y rest is apart =
     (apart_gap gap (y ++ rest) is.wide is.gap_blank)
     ∙ ap (λ ws. x ∷ ws) (word-step gap y rest is.gap_blank is.second.word is.second.some apart)
 
--- two texts without a comma have none together
+-- the concatenation of two texts without a comma has no comma
 pub lacks_both : (s t : List ℕ) → lacks 44 s ≡ true → lacks 44 t ≡ true → lacks 44 (s ++ t) ≡ true
 lacks_both s t e f = list_all-append (λ b. not (b == 44)) s t ∙ (λ i. e i && f i)
 
--- blanks stand apart
+-- blanks are empty or start with a blank
 pub blank_apart : (s : List ℕ) → list_all is_blank s ≡ true → stands_apart s ≡ true
 blank_apart [] e = refl
 blank_apart (b ∷ s) e = (and_parts (is_blank b) (list_all is_blank s) e).0
 
--- the front has no comma
+-- the front contains no comma
 pub front_lacks : (before x gap y rest : List ℕ) → Front before x gap y → lacks 44 rest ≡ true
     → lacks 44 (front_of before x gap y rest) ≡ true
 front_lacks before x gap y rest is clear =
@@ -166,7 +166,7 @@ front_lacks before x gap y rest is clear =
     (lacks_both x (gap ++ (y ++ rest)) is.first.clear
     (lacks_both gap (y ++ rest) (blank_lacks gap is.gap_blank) (lacks_both y rest is.second.clear clear)))
 
--- a front before two texts is the front before one, before the other
+-- appending to the rest of a front is appending to the whole text
 pub front_split : (before x gap y rest others : List ℕ)
     → front_of before x gap y (rest ++ others) ≡ front_of before x gap y rest ++ others
 front_split before x gap y rest others =
@@ -175,7 +175,7 @@ front_split before x gap y rest others =
     ∙ ap (λ t. before ++ t) (sym (append_assoc x (gap ++ (y ++ rest)) others))
     ∙ sym (append_assoc before (x ++ (gap ++ (y ++ rest))) others)
 
--- a pair before two runs is before both
+-- a pair before two runs comes before both
 pub both_pair : (x y : List ℕ) (found given : Option (List Point))
     → both (pair_then x y found) given ≡ pair_then x y (both found given)
 both_pair x y found given = go (number_of x) (number_of y) found given
@@ -189,12 +189,12 @@ both_pair x y found given = go (number_of x) (number_of y) found given
     go (Some v) (Some w) (Some ps) None = refl
     go (Some v) (Some w) (Some ps) (Some qs) = refl
 
--- no points before a run leave it
+-- an empty list before a run does not change it
 pub both_none : (given : Option (List Point)) → both (Some []) given ≡ given
 both_none None = refl
 both_none (Some ps) = refl
 
--- a pair before a comma
+-- the points of a text that starts with a pair and a comma
 pub comma-step : (before x gap y blanks rest : List ℕ) → Front before x gap y → list_all is_blank blanks ≡ true
     → points_in_runs (front_of before x gap y (blanks ++ (44 ∷ rest))) ≡ pair_then x y (points_in_runs rest)
 comma-step before x gap y blanks rest is clear =
@@ -208,12 +208,12 @@ comma-step before x gap y blanks rest is clear =
     ∙ both_pair x y (Some []) (points_in_runs rest)
     ∙ ap (pair_then x y) (both_none (points_in_runs rest))
 
--- no comma comes next, blanks passed over
+-- no comma follows the leading blanks
 abbrev pub no_comma_next : List ℕ → Bool
 no_comma_next [] = true
 no_comma_next (b ∷ text) = not (b == 44)
 
--- a text before a comma has a word, where no comma comes next
+-- a text before a comma has a word, if the text does not start with a comma after blanks
 pub some_words : (front behind : List ℕ) → no_comma_next (after_blanks (front ++ (44 ∷ behind))) ≡ true
     → some_pairs (words_of front) ≡ pairs_of (words_of front)
 some_words front behind next = go (after_blanks front) refl (fronted front)
@@ -231,7 +231,7 @@ some_words front behind next = go (after_blanks front) refl (fronted front)
         sym (words_of-after_blanks front) ∙ ap words_of e ∙ words_of-first b rest begun in
         ap some_pairs words ∙ sym (ap pairs_of words)
 
--- a pair before what stands apart
+-- the points of a text that starts with a pair and a blank, or is only a pair
 pub apart-step : (before x gap y rest : List ℕ) → Front before x gap y → stands_apart rest ≡ true
     → no_comma_next (after_blanks rest) ≡ true
     → points_in_runs (front_of before x gap y rest) ≡ pair_then x y (points_in_runs rest)
@@ -263,9 +263,9 @@ apart-step before x gap y rest is apart next = go (cut_at 44 rest) refl
         ∙ ap (λ found. pair_then x y (both found (points_in_runs parts.1))) (sym words)
         ∙ ap (pair_then x y) (sym (points-cut rest parts.0 parts.1 e))
 
--- what is written is read so
+-- pairs that are written are read
 
--- the tests of a pair say what its parts are
+-- the tests of a pair give the properties of its parts
 pub front-parts : (before x gap y : List ℕ)
     → (list_all is_blank before && is_number x && not (is_empty gap) && list_all is_blank gap && is_number y) ≡ true
     → Front before x gap y
@@ -284,12 +284,12 @@ front-parts before x gap y whole =
       second = number-parts y a.1;
     }
 
--- a number has begun
+-- a number does not start with a blank
 pub number_begun : (x rest : List ℕ) → Number x → is_begun (x ++ rest) ≡ true
 number_begun [] rest is = absurd (is.some refl)
 number_begun (b ∷ x) rest is = (and_parts (not (is_blank b)) (list_all (λ b. not (is_blank b)) x) is.word).0
 
--- so no comma is next
+-- a text that starts with a number does not start with a comma
 pub number-next : (x rest : List ℕ) → Number x → no_comma_next (after_blanks (x ++ rest)) ≡ true
 number-next [] rest is = absurd (is.some refl)
 number-next (b ∷ x) rest is =
@@ -297,7 +297,7 @@ number-next (b ∷ x) rest is =
     (and_parts (not (is_blank b)) (list_all (λ b. not (is_blank b)) x) is.word).0 in
     ap no_comma_next (after_blanks-begun ((b ∷ x) ++ rest) begun) ∙ (and_parts (not (b == 44)) (lacks 44 x) is.clear).0
 
--- blanks before others are skipped with them
+-- leading blanks are skipped along with further ones
 pub after_skipped : (blanks text : List ℕ) → list_all is_blank blanks ≡ true
     → after_blanks (blanks ++ text) ≡ after_blanks text
 after_skipped [] text clear = refl
@@ -309,7 +309,7 @@ after_skipped (b ∷ blanks) text clear =
         → after_blanks ((b ∷ blanks) ++ text) ≡ after_blanks text
     go parts rest = ap (λ t. cond t (after_blanks (blanks ++ text)) ((b ∷ blanks) ++ text)) parts.0 ∙ rest parts.1
 
--- no comma is next where points begin
+-- a text that starts with points does not start with a comma
 pub written-next : (w : WrittenPoints) → are_points w ≡ true → no_comma_next (after_blanks (points w)) ≡ true
 written-next (NoPair blanks) whole =
     ap no_comma_next (ap after_blanks (sym (append-nil blanks)) ∙ after_blanks-front blanks [] whole refl)
@@ -320,7 +320,7 @@ written-next (NextPair before x gap y end rest) whole =
     ap no_comma_next (after_skipped before (x ++ (gap ++ (y ++ pair_end end (points rest)))) is.blank)
     ∙ number-next x (gap ++ (y ++ pair_end end (points rest))) is.first
 
--- points are read as they are written
+-- points are read the way they are written
 pub pairs-read : (w : WrittenPoints) → are_points w ≡ true → points_in_runs (points w) ≡ values w
 pairs-read (NoPair blanks) whole =
     ap points_between (parts-none 44 blanks (cut-lacks 44 blanks (blank_lacks blanks whole)))

@@ -1,4 +1,4 @@
--- The points of a list, taken from what stands between its commas.
+-- The points of a list, taken from the texts between its commas.
 use Rattle.std.proofs.Common.{◌≡◌, ◌<◌, ◌++◌, ℕ, List, [], ◌∷◌, Bool, true, false, cond, length, Option, Some, None}
 use Rattle.std.proofs.Common.{Err, refl, sym, ap, ◌∙◌, arith, append_assoc, length-append}
 use Rattle.std.specs.Prelude.{nat_le}
@@ -21,16 +21,16 @@ use Rattle.def_entry.proofs.PointWords.{few-none, onto}
 abbrev pub points_in_runs : List ℕ → Option (List Point)
 points_in_runs text = points_between (slice_split is_comma text)
 
--- some points, and others behind them
+-- the concatenation of some points and others
 abbrev pub both : Option (List Point) → Option (List Point) → Option (List Point)
 both front points = front >>= (λ f. points >>= (λ ps. Some (f ++ ps)))
 
--- no points in front leave a run
+-- prepending no points does not change a run
 onto-nil : (given : Option (List Point)) → onto [] given ≡ given
 onto-nil None = refl
 onto-nil (Some points) = refl
 
--- before the first point
+-- the state before the first point
 pub points-init : (items : List Point) (text front rest : List ℕ) → items ≡ [] → front ≡ after_blanks text
     → rest ≡ behind_no_error front
     → onto items (points_in_runs rest) ≡ points_of text
@@ -39,13 +39,13 @@ points-init items text front rest none is from =
     ap (λ t. onto t (points_in_runs rest)) none ∙ onto-nil (points_in_runs rest) ∙ ap points_in_runs from
     ∙ ap (λ t. points_in_runs (behind_no_error t)) is
 
--- what stands behind a comma goes on
+-- the points of several runs are those of the first and those of the others
 behind-comma : (run : List ℕ) (runs : List (List ℕ)) (next : List ℕ) (more : List (List ℕ)) → runs ≡ next ∷ more
     → points_between (run ∷ runs) ≡ both (some_pairs (words_of run)) (points_between runs)
 behind-comma run runs next more is =
     ap (λ rs. points_between (run ∷ rs)) is ∙ sym (ap (λ rs. both (some_pairs (words_of run)) (points_between rs)) is)
 
--- some pairs, a comma, and the points behind it
+-- the points of a text with a comma are those before and those after the comma
 pub points-cut : (text run behind : List ℕ) → cut_at 44 text ≡ Some (run, behind)
     → points_in_runs text ≡ both (some_pairs (words_of run)) (points_in_runs behind)
 points-cut text run behind cut = ap points_between (parts-some 44 text run behind cut) ∙ go (cut_at 44 behind) refl
@@ -57,7 +57,7 @@ points-cut text run behind cut = ap points_between (parts-some 44 text run behin
         behind-comma run (slice_split is_comma behind) parts.0 (slice_split is_comma parts.1)
         (parts-some 44 behind parts.0 parts.1 e)
 
--- the points of one run go in front of the next
+-- the points of one run come before those of the next
 join-run : (front new : List Point) (found given : Option (List Point)) → onto front found ≡ Some new
     → onto new given ≡ onto front (both found given)
 join-run front new None given made = cc
@@ -66,7 +66,7 @@ join-run front new (Some points) (Some more) made =
     let is : new ≡ front ++ points = cc in
     ap Some (ap (λ t. t ++ more) is ∙ append_assoc front points more)
 
--- one more run
+-- one more run is read
 pub points-more : (front new : List Point) (text run behind : List ℕ) → cut_at 44 text ≡ Some (run, behind)
     → onto front (some_pairs (words_of run)) ≡ Some new
     → onto new (points_in_runs behind) ≡ onto front (points_in_runs text)
@@ -74,7 +74,7 @@ points-more front new text run behind cut made =
     join-run front new (some_pairs (words_of run)) (points_in_runs behind) made
     ∙ ap (onto front) (sym (points-cut text run behind cut))
 
--- a front that is too long makes no few points, whatever follows
+-- if the points so far are too many, so are all points
 long_front : (front points : List Point) (given : Option (List Point)) (t : Bool)
     → nat_le (length (front ++ points)) most_points ≡ t
     → (fault : EntryFault) → or_fault BadTable (cond t (Some (front ++ points)) None) ≡ Err fault
@@ -91,7 +91,7 @@ long_front front points (Some more) false e fault said =
     above : (n : ℕ) → nat_le n most_points ≡ false → most_points < n
     above n e = leb-false n most_points e
 
--- a run that is no table makes none of all
+-- a run without points, or with too many, makes the whole list a fault
 lost-run : (front : List Point) (found given : Option (List Point)) (fault : EntryFault)
     → or_fault BadTable (few (onto front found)) ≡ Err fault
     → or_fault BadTable (few (onto front (both found given))) ≡ Err fault
@@ -99,7 +99,7 @@ lost-run front None given fault said = said
 lost-run front (Some points) given fault said =
     long_front front points given (nat_le (length (front ++ points)) most_points) refl fault said
 
--- a run that has no points, or too many
+-- the fault of a run without points, or with too many, is the fault of the list
 pub points-fault : (front : List Point) (text run behind : List ℕ) (fault : EntryFault)
     → cut_at 44 text ≡ Some (run, behind)
     → or_fault BadTable (few (onto front (some_pairs (words_of run)))) ≡ Err fault
@@ -108,7 +108,7 @@ points-fault front text run behind fault cut said =
     ap (λ points. or_fault BadTable (few (onto front points))) (points-cut text run behind cut)
     ∙ lost-run front (some_pairs (words_of run)) (points_in_runs behind) fault said
 
--- the last run
+-- the last run is read
 pub points-last : (front : List Point) (text : List ℕ) → cut_at 44 text ≡ None
     → or_fault BadTable (few (onto front (points_in_runs text)))
     ≡ or_fault BadTable (few (onto front (pairs_of (words_of text))))

@@ -1,4 +1,4 @@
--- The words of a text taken two and two, as the pairs of numbers that they are.
+-- The words of a text, taken in pairs, as pairs of numbers.
 use Rattle.std.proofs.Common.{◌≡◌, ◌<◌, ◌≤◌, ◌++◌, ◌==◌, ℕ, List, [], ◌∷◌, Bool, true, false, cond, length, Option}
 use Rattle.std.proofs.Common.{Some, None, Ok, option_map, refl, sym, ap, ◌∙◌, subst, arith, append_assoc, length-append}
 use Rattle.std.specs.Prelude.{nat_le}
@@ -18,11 +18,11 @@ use Rattle.def_entry.specs.Outcomes.{or_fault}
 use Rattle.def_entry.specs.PointLists.{few, most_points, pairs_of, some_pairs}
 use Rattle.def_entry.specs.Steps.{◌>>=◌}
 
--- a number and another, and the pairs behind them
+-- a pair of numbers and the pairs after it
 abbrev pub paired : Option Point → Option (List Point) → Option (List Point)
 paired point points = point >>= (λ p. points >>= (λ ps. Some (p ∷ ps)))
 
--- the numbers at the front of a text
+-- the two numbers at the front of a text
 abbrev pub front_pair : List ℕ → Option Point
 front_pair text = number_of (first_word text) >>= (λ x. number_of (first_word (after_word text)) >>= (λ y. Some (x, y)))
 
@@ -30,12 +30,12 @@ front_pair text = number_of (first_word text) >>= (λ x. number_of (first_word (
 abbrev nothing : Option Fraction
 nothing = None
 
--- no text has no words
+-- an empty text has no words
 words_of-nil : words_of [] ≡ []
 unfolding words_of
 words_of-nil = refl
 
--- no text is no number
+-- an empty text is not a number
 number_of-nil : number_of [] ≡ None
 unfolding number_of
 number_of-nil = refl
@@ -73,17 +73,17 @@ pairs-step b text begun =
         ∙ some (number_of (first_word (b ∷ text))) (number_of (first_word (d ∷ rest)))
         (pairs_of (words_of (after_word (d ∷ rest))))
 
--- pairs behind some points
+-- the pairs after some points
 abbrev pub onto : List Point → Option (List Point) → Option (List Point)
 onto front given = option_map (λ pairs. front ++ pairs) given
 
--- a pair goes behind the points in front of it
+-- a pair comes after the points in front of it
 join-pair : (front new : List Point) (pair : Point) (given : Option (List Point)) → new ≡ front ++ pair ∷ []
     → onto new given ≡ onto front (paired (Some pair) given)
 join-pair front new pair None made = refl
 join-pair front new pair (Some pairs) made = ap Some (ap (λ t. t ++ pairs) made ∙ append_assoc front (pair ∷ []) pairs)
 
--- one more pair
+-- one more pair is read
 pub pairs-more : (front new : List Point) (text word behind word' behind' : List ℕ) (x y : Fraction)
     → is_begun text ≡ true
     → (length text == 0) ≡ false
@@ -101,7 +101,7 @@ pairs-more front new (b ∷ text) word behind word' behind' x y begun some is fr
     ∙ ap (λ p. onto front (paired p (pairs_of (words_of (after_word (after_word (b ∷ text))))))) (sym pair)
     ∙ ap (onto front) (sym (pairs-step b text begun))
 
--- no number at the front
+-- a text that does not start with a number has no pairs
 pub pairs-no_first : (front : List Point) (text word : List ℕ) → is_begun text ≡ true → (length text == 0) ≡ false
     → word ≡ first_word text
     → number_of word ≡ None
@@ -114,7 +114,7 @@ pairs-no_first front (b ∷ text) word begun some is none =
     (pairs_of (words_of (after_word (after_word (b ∷ text)))))))
     (ap number_of (sym is) ∙ none)
 
--- no number behind the first
+-- a text without a second number has no pairs
 pub pairs-no_second : (front : List Point) (text behind word' : List ℕ) → is_begun text ≡ true
     → (length text == 0) ≡ false
     → behind ≡ after_word text → word' ≡ first_word behind
@@ -134,7 +134,7 @@ pairs-no_second front (b ∷ text) behind word' begun some from is' none =
     lost None = refl
     lost (Some v) = refl
 
--- what is left gets shorter
+-- the rest of the text becomes shorter
 pub shorter-pair : (text behind behind' : List ℕ) → is_begun text ≡ true → (length text == 0) ≡ false
     → behind ≡ after_word text
     → behind' ≡ after_word behind → length behind' < length text
@@ -142,24 +142,24 @@ shorter-pair [] behind behind' begun some from from' = cc
 shorter-pair (b ∷ text) behind behind' begun some from from' =
     omega (arith, ap length from, ap length from', length-after_word behind, shorter-after_word b text begun)
 
--- no text has no pairs
+-- an empty text has no pairs
 pub pairs-nil : (front : List Point) (text : List ℕ) → (length text == 0) ≡ true
     → onto front (pairs_of (words_of text)) ≡ Some front
 pairs-nil front text none =
     ap (λ t. onto front (pairs_of (words_of t))) (empty-nil text none)
     ∙ ap (λ ws. onto front (pairs_of ws)) words_of-nil ∙ ap Some (append-nil front)
 
--- blanks have no words
+-- blanks contain no words
 words_of-blanks : (text rest : List ℕ) → rest ≡ after_blanks text → (length rest == 0) ≡ true → words_of text ≡ []
 words_of-blanks text rest is none = sym (words_of-after_blanks text) ∙ ap words_of (sym is ∙ empty-nil rest none)
     ∙ words_of-nil
 
--- blanks have no pair
+-- blanks do not contain the pair that is needed
 pub some_pairs-none : (front : List Point) (text rest : List ℕ) → rest ≡ after_blanks text → (length rest == 0) ≡ true
     → onto front (some_pairs (words_of text)) ≡ None
 some_pairs-none front text rest is none = ap (λ ws. onto front (some_pairs ws)) (words_of-blanks text rest is none)
 
--- any other text has to have one
+-- a text that is not blank needs no further test for a pair
 pub some_pairs-some : (text rest : List ℕ) → rest ≡ after_blanks text → (length rest == 0) ≡ false
     → some_pairs (words_of text) ≡ pairs_of (words_of text)
 some_pairs-some text [] is some = cc
@@ -169,13 +169,13 @@ some_pairs-some text (b ∷ rest) is some =
     ∙ words_of-first b rest (ap is_begun is ∙ is_begun-after_blanks text) in
     ap some_pairs words ∙ sym (ap pairs_of words)
 
--- points that are few, and those that are not
+-- few points, and too many
 
--- points within the most are taken
+-- points up to the maximum number are accepted
 pub few-at : (points : List Point) → length points ≤ most_points → few (Some points) ≡ Some points
 few-at points less = ap (λ t. cond t (Some points) None) (le-leb (length points) most_points less)
 
--- more are not
+-- more points than the maximum number are rejected
 pub few-none : (points : List Point) → most_points < length points → few (Some points) ≡ None
 few-none points more = go (nat_le (length points) most_points) refl
   where
@@ -183,12 +183,12 @@ few-none points more = go (nat_le (length points) most_points) refl
     go true e = let less : length points ≤ most_points = leb-true (length points) most_points e in absurd (omega arith)
     go false e = refl
 
--- what is few is kept
+-- points that are found and are few
 pub record Few (found : Option (List Point)) (points : List Point) : Type 0 where
   pub is : found ≡ Some points
   pub within : length points ≤ most_points
 
--- points that are taken were found and are few
+-- points that are accepted were found and are few
 pub few-is : (found : Option (List Point)) (points : List Point) → or_fault BadTable (few found) ≡ Ok points
     → Few found points
 few-is None points e = cc

@@ -1,4 +1,4 @@
--- Forms are read as they are written.
+-- Forms are read the way they are written.
 use Rattle.std.proofs.Common.{◌≡◌, ◌≢◌, ◌==◌, ◌||◌, ◌∷◌, [], ℕ, List, Bool, true, false, cond, codes}
 use Rattle.std.proofs.Common.{map, Option, Some, None, Result, Ok, Err, refl, sym, ap, ◌∙◌, subst}
 use Rattle.std.specs.Str.{bytes_eq}
@@ -40,7 +40,7 @@ body-at : (text body : List ℕ) → text ≡ body → text ≢ []
 body-at [] body e some = absurd (some refl)
 body-at (b ∷ text) body e some = ap (λ t. tree_in None t >>= (λ tree. Ok (Body tree))) e
 
--- texts that differ are not found equal
+-- the equality test is false for different texts
 other_bytes : (text word : List ℕ) → text ≢ word → bytes_eq text word ≡ false
 other_bytes text word other = go (bytes_eq text word) refl
   where
@@ -48,17 +48,17 @@ other_bytes text word other = go (bytes_eq text word) refl
     go true e = absurd (other ((bytes_eq-Decides text word).0 e))
     go false e = refl
 
--- the trees of parts are those of the trimmed ones
+-- the trees of parts are those of the trimmed parts
 parts-trees : (pieces : List (List ℕ)) → trees_in pieces ≡ list_trees (map trimmed pieces)
 parts-trees [] = refl
 parts-trees (piece ∷ pieces) =
     ap (λ rest. tree_in None (trimmed piece) >>= (λ tree. rest >>= (λ trees. Ok (tree ∷ trees)))) (parts-trees pieces)
 
--- what a list of parts says
+-- the definition of a list, given the text of its parts
 abbrev list_of : List ℕ → Result What EntryFault
 list_of text = trees_in (slice_split is_semicolon text) >>= (λ trees. Ok (ListOf trees))
 
--- a list is read by its parts
+-- a list is read from its parts
 list-at : (text : List ℕ) (parts : List (List ℕ)) → parts ≡ map trimmed (slice_split is_semicolon text) → text ≢ []
     → list_in text ≡ (list_trees parts >>= (λ trees. Ok (ListOf trees)))
 list-at [] parts e some = absurd (some refl)
@@ -66,7 +66,7 @@ list-at (b ∷ text) parts e some =
     ap (λ r. r >>= (λ trees. Ok (ListOf trees)))
     (parts-trees (slice_split is_semicolon (b ∷ text)) ∙ ap list_trees (sym e))
 
--- a function behind its parameter
+-- a function is read from its parameter and its form
 call-at : (name parameter behind : List ℕ) (form : Form) → parameter ≢ [] → is_name parameter ≡ true
     → form_of behind ≡ Some form
     → call_in name parameter behind ≡ function_of name parameter form
@@ -75,7 +75,7 @@ call-at name (b ∷ parameter) behind form some is_one e =
     taken (b ∷ parameter) (λ p. or_fault BadForm (form_of behind) >>= (λ form. function_of name p form)) is_one
     ∙ ap (λ f. or_fault BadForm f >>= (λ form. function_of name (b ∷ parameter) form)) e
 
--- an alias is read by its target
+-- an alias is read from its target
 alias-at : (behind target : List ℕ) → without_call (trimmed behind) ≡ target → target ≢ [] → is_name target ≡ true
     → alias_in behind ≡ Ok (Alias target)
 alias-at behind target e some is_one =
@@ -83,13 +83,13 @@ alias-at behind target e some is_one =
     (some-text (without_call (trimmed behind)) target e some)
     ∙ taken target (λ other. Ok (Alias other)) is_one
 
--- a table by its unit and its points
+-- a table is read from its unit and its points
 table-at : (name text unit points : List ℕ) → text ≡ unit → unit ≢ []
     → table_in text points ≡ meaning name (TableForm unit points)
 table-at name text unit points e some =
     ap (λ o. or_fault BadForm o >>= (λ u. meaning name (TableForm u points))) (some-text text unit e some)
 
--- what is written in a form is read as what that form says
+-- a text with a written form is read as the meaning of that form
 pub written-what : (k : Kind) (name text : List ℕ) (form : WrittenForm)
     → ((w : List ℕ) → HasFurtherName k text w → is_name w ≡ true)
     → IsWritten k text form
@@ -121,12 +121,12 @@ written-what kind.Func name text (TableForm unit points) good is =
 written-what kind.List name text (ListForm parts) good is = list-at text parts (parts-at text parts is) is.some
 written-what _ name text _ good is = absurd is
 
--- a text has a form, or is read as none
+-- a text has a written form, or is read as a bad form
 pub data FormOf (k : Kind) (name text : List ℕ) : Type 0 where
   InForm : (form : WrittenForm) → IsWritten k text form → FormOf k name text
   NoForm : what_in k name text ≡ Err BadForm → FormOf k name text
 
--- the text of a unit has a form or none
+-- the text of a unit has a written form or is read as a bad form
 unit-form : (name text : List ℕ) → FormOf kind.Unit name text
 unit-form name [] = NoForm refl
 unit-form name (b ∷ text) =
@@ -143,7 +143,7 @@ unit-form name (b ∷ text) =
     go false e false f =
         InForm (BodyForm (b ∷ text)) (refl, cons_some b text, differ (codes "!") e, differ (codes "!dimensionless") f)
 
--- so has that of a function or an alias
+-- the text of a function or an alias has a written form or is read as a bad form
 function-form : (name : List ℕ) (b : ℕ) (text inside behind parameter : List ℕ)
     → IsBracketed 40 41 (b ∷ text) inside behind
     → trimmed inside ≡ parameter
@@ -187,7 +187,7 @@ function-form name b text inside behind (c ∷ parameter) is bare read good = go
           bodies_are = formed.bodies_are;
         })
 
--- so has that of a table
+-- the text of a table has a written form or is read as a bad form
 table-form : (name : List ℕ) (b : ℕ) (text inside points unit : List ℕ) → IsBracketed 91 93 (b ∷ text) inside points
     → trimmed inside ≡ unit
     → func_in name (b ∷ text) ≡ table_in unit points → FormOf kind.Func name (b ∷ text)
@@ -196,7 +196,7 @@ table-form name b text inside points (c ∷ unit) is bare read =
     InForm (TableForm (c ∷ unit) points)
     (record { inside = inside; bracketed = is; unit_is = (bare, cons_some c unit) })
 
--- so has that of any of these
+-- the text of a function, an alias or a table has a written form or is read as a bad form
 func-form : (name text : List ℕ) → is_opened text ≡ true
     → ((w : List ℕ) → HasFurtherName kind.Func text w → is_name w ≡ true)
     → FormOf kind.Func name text
@@ -227,7 +227,7 @@ func-form name (b ∷ text) opened good = go (b == 40) refl (cut_at 41 text) ref
         (brackets 91 93 b text parts.0 parts.1 (eqb-true b 91 (bracket_else (b == 40) (b == 91) e opened)) g) refl
         (ap (λ s. cond s (parted_call name (cut_at 41 text)) (parted_table (cut_at 93 text))) e ∙ ap parted_table g)
 
--- so has a text of each kind
+-- the text of each kind of key has a written form or is read as a bad form
 pub form-of : (k : Kind) (name text : List ℕ) → (k ≡ kind.Func → is_opened text ≡ true)
     → ((w : List ℕ) → HasFurtherName k text w → is_name w ≡ true) → FormOf k name text
 form-of kind.Unit name text opened good = unit-form name text

@@ -1,4 +1,4 @@
--- The first fault of expressions that are parsed one behind another.
+-- The first fault of expressions that are parsed in sequence.
 use Rattle.std.proofs.Common.{◌≡◌, inl, inr, ◌∷◌, [], ◌++◌, ℕ, List, Option, Result, Ok, Err, refl, sym, ap, ◌∙◌, subst}
 use Rattle.std.proofs.lemmas.List.{append-nil}
 use Rattle.units_io.specs.Outcomes.{◌>>=◌}
@@ -10,7 +10,7 @@ use Rattle.def_entry.specs.declared.fault.EntryFault.TheVariants.{Parse}
 use Rattle.def_entry.specs.EntryGrammar.{IsFirstFault}
 use Rattle.def_entry.specs.Outcomes.{parsed_entry, tree_in}
 
--- an expression by its binder and its text
+-- an expression, given by its binder and its text
 abbrev pub Expression : Type 0
 Expression = Option (List ℕ) × List ℕ
 
@@ -19,36 +19,36 @@ abbrev pub AllParse : List Expression → Type 0
 AllParse [] = Unit {0}
 AllParse (e ∷ es) = ((tree : Syntax) × (parsed e.0 e.1 ≡ Ok tree)) × AllParse es
 
--- a fault that expressions have
+-- the fault is the first fault of the expressions
 pub record Faulty (es : List Expression) (fault : EntryFault) : Type 0 where
   pub of : ParseFault
   pub is : fault ≡ Parse of
   pub first : IsFirstFault es of
 
--- what is given where each expression has a tree, and else the first fault
+-- the result succeeds if each expression has a tree, and is the first fault otherwise
 pub record Runs {A : Type 0} (given : Result A EntryFault) (es : List Expression) : Type 0 where
   pub ok : (x : A) → given ≡ Ok x → AllParse es
   pub err : (fault : EntryFault) → given ≡ Err fault → Faulty es fault
 
--- where all of two lists parse, all of both do
+-- if all expressions of two lists parse, so do those of their concatenation
 both_parse : (es fs : List Expression) → AllParse es → AllParse fs → AllParse (es ++ fs)
 both_parse [] fs first second = second
 both_parse (e ∷ es) fs first second = (first.0, both_parse es fs first.1 second)
 
--- the first fault of a front is that of all
+-- the first fault of the front is that of all expressions
 fault_front : (es fs : List Expression) (x : ParseFault) → IsFirstFault es x → IsFirstFault (es ++ fs) x
 fault_front [] fs x is = absurd is
 fault_front (e ∷ es) fs x (inl is) = inl is
 fault_front (e ∷ es) fs x (inr is) = inr (is.0, fault_front es fs x is.1)
 
--- where the front parses, it is that of the others
+-- if all expressions of the front parse, the first fault is that of the others
 fault_behind : (es fs : List Expression) (x : ParseFault) → AllParse es → IsFirstFault fs x → IsFirstFault (es ++ fs) x
 fault_behind [] fs x first is = is
 fault_behind (e ∷ es) fs x first is = inr (first.0, fault_behind es fs x first.1 is)
 
--- a first fault is one, and none where each expression has a tree
+-- the first fault is unique, and there is none if each expression has a tree
 
--- where all parse there is none
+-- if all expressions parse, there is no fault
 pub no-fault : (es : List Expression) (x : ParseFault) → AllParse es → IsFirstFault es x → ⊥
 no-fault [] x all is = is
 no-fault (e ∷ es) x all (inl is) = let tree : parsed e.0 e.1 ≡ Ok all.0.0 =
@@ -58,7 +58,7 @@ no-fault (e ∷ es) x all (inl is) = let tree : parsed e.0 e.1 ≡ Ok all.0.0 =
     apart t e = cc
 no-fault (e ∷ es) x all (inr is) = no-fault es x all.1 is.1
 
--- there is one first fault
+-- the first fault is unique
 pub one-fault : (es : List Expression) (x y : ParseFault) → IsFirstFault es x → IsFirstFault es y → x ≡ y
 one-fault [] x y is other = absurd is
 one-fault (e ∷ es) x y (inl is) (inl other) = let same : ◌≡◌ {A = Result Syntax ParseFault} (Err x) (Err y) =
@@ -69,7 +69,7 @@ one-fault (e ∷ es) x y (inr is) (inl other) = let no_way : ◌≡◌ {A = Resu
     sym is.0.1 ∙ other in cc
 one-fault (e ∷ es) x y (inr is) (inr other) = one-fault es x y is.1 other.1
 
--- one expression
+-- a single expression
 pub runs-tree : (binder : Option (List ℕ)) (text : List ℕ) → Runs (tree_in binder text) ((binder, text) ∷ [])
 runs-tree binder text = go (parsed binder text) refl
   where
@@ -82,7 +82,7 @@ runs-tree binder text = go (parsed binder text) refl
           cc in record { of = x; is = same; first = inl e };
     }
 
--- one step behind another
+-- one step after another
 pub runs-then : {A B : Type 0} (given : Result A EntryFault) (step : A → Result B EntryFault) (es fs : List Expression)
     → Runs given es
     → ((x : A) → Runs (step x) fs)
@@ -107,18 +107,18 @@ runs-then {A = A} {B = B} (Err fault) step es fs first next = record {
     same_fault : (f g : EntryFault) → ◌≡◌ {A = Result B EntryFault} (Err f) (Err g) → f ≡ g
     same_fault f g e = cc
 
--- what is given without a fault
+-- a result without a fault
 pub runs-done : {A : Type 0} (x : A) → Runs {A = A} (Ok x) []
 runs-done x = record { ok = λ y e. tt; err = λ fault e. cc }
 
--- the same of what is made of it
+-- a result that is converted
 pub runs-map : {A B : Type 0} (given : Result A EntryFault) (make : A → B) (es : List Expression) → Runs given es
     → Runs (given >>= (λ x. Ok (make x))) es
 runs-map {A = A} {B = B} given make es first =
     subst (Runs (given >>= (λ x. Ok (make x)))) (append-nil es)
     (runs-then given (λ x. Ok (make x)) es [] first (λ x. runs-done (make x)))
 
--- a step that gives something
+-- if a step and its continuation succeed, the step succeeds
 pub bind_ok : {A B : Type 0} (given : Result A EntryFault) (step : A → Result B EntryFault) (y : B)
     → (given >>= step) ≡ Ok y
     → (x : A) × (given ≡ Ok x) × (step x ≡ Ok y)
@@ -137,7 +137,7 @@ tree-ok binder text tree e = go (parsed binder text) refl e
     go (Ok other) f e = let same : other ≡ tree = cc in f ∙ ap Ok same
     go (Err x) f e = cc
 
--- and one that was parsed is read
+-- a tree that was parsed is read
 pub ok-tree : (binder : Option (List ℕ)) (text : List ℕ) (tree : Syntax) → parsed binder text ≡ Ok tree
     → tree_in binder text ≡ Ok tree
 ok-tree binder text tree e = ap parsed_entry e

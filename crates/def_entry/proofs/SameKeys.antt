@@ -1,4 +1,4 @@
--- Keys that are told to be the same are equal.
+-- Keys for which the test for the same key is true are equal.
 use Rattle.std.proofs.Common.{◌≡◌, true, refl, sym, ap, ◌∙◌, subst}
 use Rattle.std.specs.declared.cmp.Ordering.{Ordering}
 use Rattle.std.specs.declared.cmp.Ordering.TheVariants.{Less, Equal, Greater}
@@ -15,7 +15,7 @@ use Rattle.def_entry.specs.declared.key.Kind.TheVariants as kind
 use Rattle.def_entry.specs.KeyOrder.{KeyOrderLaw, key_cmp, kind_at, kind_back, kind_number}
 use Rattle.def_entry.specs.SameKeys.{SameKeysLaw, is_same, is_same_kind}
 
--- kinds that are found to be the same are one
+-- kinds for which the test is true are equal
 same_kinds : (a b : Kind) → is_same_kind a b ≡ true → a ≡ b
 same_kinds kind.Unit kind.Unit e = refl
 same_kinds kind.Unit kind.Prefix e = cc
@@ -41,7 +41,7 @@ kind_itself kind.Prefix = refl
 kind_itself kind.Func = refl
 kind_itself kind.List = refl
 
--- keys that are found to be the same are one
+-- keys for which the test is true are equal
 same_is : (a b : Key) → is_same a b ≡ true → a ≡ b
 same_is a b e =
     let parts : (is_same_kind a.kind b.kind ≡ true) × (bytes_eq a.name b.name ≡ true) = and_parts _ _ e in
@@ -57,13 +57,13 @@ itself a = and_from _ _ (kind_itself a.kind) ((bytes_eq-Decides a.name a.name).1
 pub same_keys : SameKeysLaw
 same_keys a b = (same_is a b, λ e. subst (λ (x : Key). is_same a x ≡ true) e (itself a))
 
--- where two orders in turn tie, the first does
+-- if two orders in sequence tie, the first one ties
 first_equal : (r s : Ordering) → ordering_then r s ≡ Equal → r ≡ Equal
 first_equal Less s e = cc
 first_equal Equal s e = refl
 first_equal Greater s e = cc
 
--- and the second
+-- if two orders in sequence tie, the second one ties
 second_equal : (r s : Ordering) → ordering_then r s ≡ Equal → s ≡ Equal
 second_equal Less s e = cc
 second_equal Equal s e = e

@@ -1,4 +1,4 @@
--- What an entry says follows from its key and its text.
+-- The meaning of an entry follows from its key and its text.
 use Rattle.std.proofs.Common.{◌≡◌, ℕ, List, Result, Ok, Err, refl, sym, ap, ◌∙◌}
 use Rattle.units_io.specs.Outcomes.{◌>>=◌}
 use Rattle.def_entry.specs.declared.fault.EntryFault.{EntryFault}
@@ -8,7 +8,7 @@ use Rattle.def_entry.specs.Headings.{Heading, heading}
 use Rattle.def_entry.specs.Keys.{key}
 use Rattle.def_entry.specs.Reading.{EntryTextLaw, SameTextLaw, entry_by, what_of}
 
--- the value of an answer, or another
+-- the value of a result, or another value
 abbrev value_or : {A : Type 0} → A → Result A EntryFault → A
 value_or x (Ok y) = y
 value_or x (Err fault) = x
@@ -17,11 +17,11 @@ value_or x (Err fault) = x
 abbrev heading_by : Key → List ℕ → Heading
 heading_by k text = record { kind = k.kind; name = k.name; text = text }
 
--- the key and the entry of a heading that says this
+-- the key and the entry of a heading with this meaning
 abbrev entry_with : Heading → What → Result (Key × Entry) EntryFault
 entry_with h what = Ok (key h.kind h.name, record { text = h.text; what = what })
 
--- what a line says of its key is what its text says
+-- the definition that a line gives to its key is the one that its text gives
 told : (h : Heading) (k : Key) (e : Entry) → entry_by h ≡ Ok (k, e) → what_of (heading_by k e.text) ≡ Ok e.what
 told h k e is = go (what_of h) refl is
   where

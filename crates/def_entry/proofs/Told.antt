@@ -1,4 +1,4 @@
--- The faults of lines are never want of memory.
+-- The fault of a line is never an out-of-memory fault.
 use Rattle.std.proofs.Common.{◌≡◌, ◌==◌, ℕ, List, [], ◌∷◌, Bool, true, false, if◌then◌else◌, Option, Some, None, Result}
 use Rattle.std.proofs.Common.{Ok, Err, codes, refl, sym, ap, ◌∙◌}
 use Rattle.std.specs.List.{slice_split}
@@ -28,35 +28,35 @@ use Rattle.def_entry.specs.Reading.{alias_in, body_in, call_in, entry_of, func_i
 use Rattle.def_entry.specs.Reading.{is_semicolon, list_in, name_in, parted_call, parted_table, points_in, table_in}
 use Rattle.def_entry.specs.Reading.{trees_in, unit_in, unit_tree, units_in, wanted, what_in, what_of, without_call}
 
--- what is given, or a fault that is told
+-- the result is a value, or a fault other than an out-of-memory fault
 abbrev tells : {A : Type 0} → Result A EntryFault → Bool
 tells (Ok x) = true
 tells (Err fault) = is_told fault
 
--- where a step and what follows are told, both together are
+-- if neither a step nor its continuation is an out-of-memory fault, their sequence is not
 step : {A B : Type 0} (given : Result A EntryFault) (go : A → Result B EntryFault) → tells given ≡ true
     → ((x : A) → tells (go x) ≡ true)
     → tells (given >>= go) ≡ true
 step (Ok x) go first next = next x
 step (Err fault) go first next = first
 
--- so is the one of two that is taken
+-- if neither branch of a choice is an out-of-memory fault, the choice is not
 either : {A : Type 0} (t : Bool) (one other : Result A EntryFault) → tells one ≡ true → tells other ≡ true
     → tells (if t then one else other) ≡ true
 either true one other e f = e
 either false one other e f = f
 
--- so is a fault where nothing is
+-- if a fault is not an out-of-memory fault, a value that may be missing with this fault is not
 some_or : {A : Type 0} (fault : EntryFault) (given : Option A) → is_told fault ≡ true
     → tells (or_fault fault given) ≡ true
 some_or fault None e = e
 some_or fault (Some x) e = refl
 
--- a name is told
+-- the result for a name is never an out-of-memory fault
 of_name : (w : List ℕ) → tells (named w) ≡ true
 of_name w = either (is_name w) (Ok w) (Err (BadName w)) refl refl
 
--- so is a tree
+-- the result for a tree is never an out-of-memory fault
 of_tree : (binder : Option (List ℕ)) (text : List ℕ) → tells (tree_in binder text) ≡ true
 of_tree binder text = go (parsed binder text) refl
   where
@@ -67,37 +67,37 @@ of_tree binder text = go (parsed binder text) refl
     go (Err parse.NestedTooDeep) e = refl
     go (Err parse.OutOfMemory) e = absurd (texts.told binder text e)
 
--- so is a text that is wanted
+-- the result for a required text is never an out-of-memory fault
 of_wanted : (text : List ℕ) → tells (wanted text) ≡ true
 of_wanted text = some_or BadForm (some_text text) refl
 
--- so is a body
+-- the result for a body is never an out-of-memory fault
 of_body : (text : List ℕ) → tells (body_in text) ≡ true
 of_body text =
     step (wanted text) (λ body. tree_in None body >>= (λ tree. Ok (Body tree))) (of_wanted text)
     (λ body. step (tree_in None body) (λ tree. Ok (Body tree)) (of_tree None body) (λ tree. refl))
 
--- so is a unit
+-- the result for a unit is never an out-of-memory fault
 of_unit : (text : List ℕ) → tells (unit_in text) ≡ true
 of_unit text =
     either (bytes_eq text (codes "!")) (Ok Primitive)
     (if bytes_eq text (codes "!dimensionless") then Ok Dimensionless else body_in text) refl
     (either (bytes_eq text (codes "!dimensionless")) (Ok Dimensionless) (body_in text) refl (of_body text))
 
--- so is an alias
+-- the result for an alias is never an out-of-memory fault
 of_alias : (text : List ℕ) → tells (alias_in text) ≡ true
 of_alias text =
     step (wanted (without_call (trimmed text))) (λ target. named target >>= (λ name. Ok (Alias name)))
     (of_wanted (without_call (trimmed text)))
     (λ target. step (named target) (λ name. Ok (Alias name)) (of_name target) (λ name. refl))
 
--- so is the tree of a unit
+-- the result for the tree of a unit is never an out-of-memory fault
 of_unit_tree : (text : List ℕ) → tells (unit_tree text) ≡ true
 of_unit_tree [] = refl
 of_unit_tree (b ∷ text) =
     step (tree_in None (b ∷ text)) (λ tree. Ok (Some tree)) (of_tree None (b ∷ text)) (λ tree. refl)
 
--- so are both
+-- the result for the trees of both units is never an out-of-memory fault
 of_units : (units : Option Units) → tells (units_in units) ≡ true
 of_units None = refl
 of_units (Some units) =
@@ -106,13 +106,13 @@ of_units (Some units) =
     (λ first. step (unit_tree units.out_unit) (λ second. Ok (first, second)) (of_unit_tree units.out_unit)
     (λ second. refl))
 
--- so is an inverse
+-- the result for an inverse is never an out-of-memory fault
 of_inverse : (name : List ℕ) (text : Option (List ℕ)) → tells (inverse_in name text) ≡ true
 of_inverse name None = refl
 of_inverse name (Some text) =
     step (tree_in (Some name) text) (λ tree. Ok (Some tree)) (of_tree (Some name) text) (λ tree. refl)
 
--- so is a function
+-- the result for a function by expressions is never an out-of-memory fault
 of_function : (name parameter : List ℕ) (form : Form) → tells (function_of name parameter form) ≡ true
 of_function name parameter form =
     step (units_in form.options.units)
@@ -125,7 +125,7 @@ of_function name parameter form =
     (λ forward. step (inverse_in name form.inverse) (λ inverse. Ok (function form units forward inverse))
     (of_inverse name form.inverse) (λ inverse. refl)))
 
--- so is what stands behind a parameter
+-- the result for the text after a parameter is never an out-of-memory fault
 of_call : (name parameter behind : List ℕ) → tells (call_in name parameter behind) ≡ true
 of_call name [] behind = of_alias behind
 of_call name (b ∷ bytes) behind =
@@ -136,14 +136,14 @@ of_call name (b ∷ bytes) behind =
     (some_or BadForm (form_of behind) refl)
     (λ form. of_function name parameter form))
 
--- so are points
+-- the result for points is never an out-of-memory fault
 of_points : (text : List ℕ) → tells (points_in text) ≡ true
 of_points text =
     step (or_fault BadTable (points_of text)) (λ points. or_fault BadTable (table_points points))
     (some_or BadTable (points_of text) refl)
     (λ points. some_or BadTable (table_points points) refl)
 
--- so is a table
+-- the result for a table is never an out-of-memory fault
 of_table : (text behind : List ℕ) → tells (table_in text behind) ≡ true
 of_table text behind =
     step (wanted text)
@@ -155,7 +155,7 @@ of_table text behind =
     (λ points. step (tree_in None unit) (λ tree. Ok (Table (record { unit = tree; points = points })))
     (of_tree None unit) (λ tree. refl)))
 
--- so is any function
+-- the result for any function is never an out-of-memory fault
 of_func : (name text : List ℕ) → tells (func_in name text) ≡ true
 of_func name [] = refl
 of_func name (b ∷ text) =
@@ -167,7 +167,7 @@ of_func name (b ∷ text) =
     (some_or BadForm (cut_at 93 text) refl)
     (λ parts. of_table (trimmed parts.0) parts.1))
 
--- so are trees
+-- the result for trees is never an out-of-memory fault
 of_trees : (parts : List (List ℕ)) → tells (trees_in parts) ≡ true
 of_trees [] = refl
 of_trees (part ∷ parts) = go (of_trees parts)
@@ -178,7 +178,7 @@ of_trees (part ∷ parts) = go (of_trees parts)
         (of_tree None (trimmed part))
         (λ tree. step (trees_in parts) (λ trees. Ok (tree ∷ trees)) rest (λ trees. refl))
 
--- so is a list
+-- the result for a list is never an out-of-memory fault
 of_list : (text : List ℕ) → tells (list_in text) ≡ true
 of_list text =
     step (wanted text) (λ parts. trees_in (slice_split is_semicolon parts) >>= (λ trees. Ok (ListOf trees)))
@@ -186,14 +186,14 @@ of_list text =
     (λ parts. step (trees_in (slice_split is_semicolon parts)) (λ trees. Ok (ListOf trees))
     (of_trees (slice_split is_semicolon parts)) (λ trees. refl))
 
--- so is what a text of each kind says
+-- the result for a text of each kind is never an out-of-memory fault
 of_what : (k : Kind) (name text : List ℕ) → tells (what_in k name text) ≡ true
 of_what kind.Unit name text = of_unit text
 of_what kind.Prefix name text = of_body text
 of_what kind.Func name text = of_func name text
 of_what kind.List name text = of_list text
 
--- so is the name of a heading
+-- the result for the name of a heading is never an out-of-memory fault
 of_name_in : (k : Kind) (name : List ℕ) → tells (name_in k name) ≡ true
 of_name_in kind.Unit name = of_name name
 of_name_in kind.Prefix name = of_name name
@@ -201,20 +201,20 @@ of_name_in kind.Func name = of_name name
 of_name_in kind.List [] = refl
 of_name_in kind.List (b ∷ name) = of_name (b ∷ name)
 
--- so is what a heading says
+-- the result for a heading is never an out-of-memory fault
 of_heading : (h : Heading) → tells (what_of h) ≡ true
 unfolding what_of
 of_heading h =
     step (name_in h.kind h.name) (λ name. what_in h.kind name h.text) (of_name_in h.kind h.name)
     (λ name. of_what h.kind name h.text)
 
--- so is each line
+-- the result for each line is never an out-of-memory fault
 of_line : (line : List ℕ) → tells (entry_of line) ≡ true
 of_line line =
     let h = heading line in
     step (what_of h) (λ what. Ok (key h.kind h.name, record { text = h.text; what = what })) (of_heading h)
     (λ what. refl)
 
--- the law that a fault of a line is told
+-- the law that the fault of a line is never an out-of-memory fault
 pub told : ToldLaw
 told line fault said = sym (ap tells said) ∙ of_line line

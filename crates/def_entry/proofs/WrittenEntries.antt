@@ -1,4 +1,4 @@
--- Lines give the keys, the entries and the faults that they are written with.
+-- Lines give the keys, the entries and the faults with which they are written.
 use Rattle.std.proofs.Common.{◌≡◌, inl, inr, ◌∷◌, [], ℕ, List, true, false, not}
 use Rattle.std.proofs.Common.{Result, Ok, Err, refl, sym, ap, ◌∙◌, subst}
 use Rattle.std.proofs.lemmas.Bool.{and_parts}
@@ -30,16 +30,16 @@ use Rattle.def_entry.proofs.WrittenNames.{NamesOf, Names, NoName, BadNameOf, bad
 use Rattle.def_entry.proofs.WrittenNames.{what-named}
 use Rattle.def_entry.proofs.ReadForms.{FormOf, InForm, NoForm, form-of, written-what}
 
--- the text of a function begins with a bracket
+-- the text of a function starts with a bracket
 
--- trimmed, it still does
+-- a text that starts with a bracket still does when it is trimmed
 opened-trimmed : (text : List ℕ) → is_opened text ≡ true → is_opened (trimmed text) ≡ true
 opened-trimmed [] opened = cc
 opened-trimmed (b ∷ text) opened =
     let word : is_blank b ≡ false = (opened_not_apart (b ∷ text) opened).0 in
     ap is_opened (trimmed-begun (b ∷ text) (ap not word) ∙ before_blanks-word b text word) ∙ opened
 
--- so does the text of a heading of a function
+-- the text in the heading of a function starts with a bracket
 opened-heading : (w : WrittenHeading) → is_heading w ≡ true → (heading_of w).kind ≡ kind.Func
     → is_opened (heading_of w).text ≡ true
 opened-heading (UnitHeading l name behind) whole e = cc
@@ -47,27 +47,27 @@ opened-heading (PrefixHeading l name behind) whole e = cc
 opened-heading (FuncHeading l name behind) whole e = opened-trimmed behind (and_parts _ (is_opened behind) whole).1
 opened-heading (ListHeading before between name behind) whole e = cc
 
--- so does that of a line with such a heading
+-- the text of a line with the heading of a function starts with a bracket
 opened-headed : (line : List ℕ) (h : Heading) → IsHeaded line h → h.kind ≡ kind.Func → is_opened h.text ≡ true
 opened-headed line h is =
     subst (λ (g : Heading). g.kind ≡ kind.Func → is_opened g.text ≡ true) (sym is.same)
     (opened-heading is.written is.whole)
 
--- a line has the heading that it is written with
+-- a line has the heading with which it is written
 headed-is : (line : List ℕ) (h : Heading) → IsHeaded line h → heading line ≡ h
 headed-is line h is = ap heading is.spelled ∙ heading-written is.written is.whole ∙ sym is.same
 
--- what a heading gives
+-- the result for a heading
 
--- a fault is no answer
+-- a fault is not a result
 err_apart : {A : Type 0} (x : A) (f : EntryFault) → ◌≡◌ {A = Result A EntryFault} (Err f) (Ok x) → ⊥
 err_apart x f e = cc
 
--- equal faults are one
+-- equal faults of results are equal
 same_fault : {A : Type 0} (f g : EntryFault) → ◌≡◌ {A = Result A EntryFault} (Err f) (Err g) → f ≡ g
 same_fault f g e = cc
 
--- a form is never read as none
+-- a form is never read as a bad form
 never-form : (name : List ℕ) (form : WrittenForm) → meaning name form ≡ Err BadForm → ⊥
 never-form name form e = go (form-points name form)
   where
@@ -82,19 +82,19 @@ never-form name form e = go (form-points name form)
     go (Has has) = let faulty : Faulty (expressions name form) BadForm =
         (runs-meaning name form has).err BadForm e in parse faulty.of faulty.is
 
--- where all names are names, a form that is written is read
+-- if all names are valid, a form that is written is read
 what-written : (h : Heading) (form : WrittenForm) → HasNames h → IsWritten h.kind h.text form
     → what_of h ≡ meaning h.name form
 what-written h form good is = what-named h good.own ∙ written-what h.kind h.name h.text form good.further is
 
--- what is read of a heading: what it says, or its first fault
+-- the result of reading a heading: its definition, or its first fault
 pub data ReadOf (h : Heading) : Type 0 where
   Gives : HasNames h → (form : WrittenForm) → IsWritten h.kind h.text form → (what : What) → Says h.name form what
       → what_of h ≡ Ok what
       → ReadOf h
   Fails : (x : EntryFault) → IsFaultOf h x → what_of h ≡ Err x → ReadOf h
 
--- each heading is read so
+-- each heading has such a result
 read-of : (h : Heading) → (h.kind ≡ kind.Func → is_opened h.text ≡ true) → ReadOf h
 read-of h opened = by_names (names-of h)
   where
@@ -129,7 +129,7 @@ read-of h opened = by_names (names-of h)
     by_names (BadNameOf w is) = Fails (BadName w) is (bad-name h w is)
     by_names (Names good) = by_form good (form-of h.kind h.name h.text opened good.further)
 
--- the first fault of a heading is the one that is read
+-- the first fault of a heading is the result of reading it
 fault-at : (h : Heading) (x : EntryFault) → (h.kind ≡ kind.Func → is_opened h.text ≡ true) → IsFaultOf h x
     → what_of h ≡ Err x
 fault-at h (BadName w) opened is = bad-name h w is
@@ -154,13 +154,13 @@ fault-at h (Parse x) opened is = what-written h is.1.0 is.0 is.1.1 ∙ go (meani
         ap Err (faulty.is ∙ ap Parse (one-fault (expressions h.name is.1.0) faulty.of x faulty.first is.1.3))
 fault-at h OutOfMemory opened is = absurd is
 
--- what a line gives
+-- the result for a line
 
--- the key and the entry of a heading that says this
+-- the key and the entry of a heading with this meaning
 abbrev entry_with : Heading → What → Result (Key × Entry) EntryFault
 entry_with h what = Ok (key h.kind h.name, record { text = h.text; what = what })
 
--- equal answers have one key and one entry
+-- equal results have the same key and the same entry
 same_pair : (k l : Key) (e f : Entry) → ◌≡◌ {A = Result (Key × Entry) EntryFault} (Ok (k, e)) (Ok (l, f))
     → (k ≡ l) × (e ≡ f)
 same_pair k l e f is = (ap key_of_pair is, ap entry_of_pair is)
@@ -173,7 +173,7 @@ same_pair k l e f is = (ap key_of_pair is, ap entry_of_pair is)
     entry_of_pair (Ok p) = p.1
     entry_of_pair (Err x) = e
 
--- a line gives the entry that it is written with
+-- a line gives the entry with which it is written
 entry-at : (line : List ℕ) (k : Key) (e : Entry) → IsEntry line k e → entry_of line ≡ Ok (k, e)
 entry-at line k e is =
     let h : Heading = is.heading in
@@ -182,7 +182,7 @@ entry-at line k e is =
     (what-written is.heading is.form is.names is.written ∙ ok-says is.heading.name is.form e.what is.says)
     ∙ (λ i. Ok (sym is.key_is i, record { text = sym is.text_is i; what = e.what }))
 
--- or its first fault
+-- a line gives its first fault
 line-fault : (line : List ℕ) (x : EntryFault) → HasFault line x → entry_of line ≡ Err x
 line-fault line x is =
     ap entry_by (headed-is line is.heading is.headed)

@@ -1,4 +1,4 @@
--- The forms of lines are read as they are written.
+-- The forms of lines are read the way they are written.
 use Rattle.std.proofs.Common.{◌≡◌, ◌≢◌, inl, inr, ◌==◌, ◌&&◌, ◌∷◌, [], ◌++◌, ◌-◌, ℕ, List, Bool, true, false, not, cond}
 use Rattle.std.proofs.Common.{length, take, codes, map, Option, Some, None, refl, sym, ap, ◌∙◌, subst}
 use Rattle.std.specs.List.{ends_with, join_with_byte, list_all, onto_first, slice_split}
@@ -22,12 +22,12 @@ use Rattle.def_entry.proofs.KeyTexts.{written_names}
 use Rattle.def_entry.proofs.OptionRuns.{options_read}
 use Rattle.def_entry.proofs.WrittenIntervals.{bind_some}
 
--- a text that is not empty
+-- a text that is not empty is present
 pub some-text : (text bare : List ℕ) → text ≡ bare → bare ≢ [] → some_text text ≡ Some bare
 some-text [] bare e some = absurd (some (sym e))
 some-text (b ∷ text) bare e some = ap Some e
 
--- a text that is there is not empty
+-- a text that is present is not empty
 pub text-some : (text bare : List ℕ) → some_text text ≡ Some bare → (text ≡ bare) × (bare ≢ [])
 text-some [] bare e = cc
 text-some (b ∷ text) bare e = let same : b ∷ text ≡ bare = cc in (same, λ none. cons_some b text (same ∙ none))
@@ -35,12 +35,12 @@ text-some (b ∷ text) bare e = let same : b ∷ text ≡ bare = cc in (same, λ
     cons_some : (c : ℕ) (t : List ℕ) → c ∷ t ≡ [] → ⊥
     cons_some c t e = cc
 
--- one that is not there is
+-- a text that is absent is empty
 pub text-none : (text : List ℕ) → some_text text ≡ None → text ≡ []
 text-none [] e = refl
 text-none (b ∷ text) e = cc
 
--- what is in brackets
+-- a text in brackets is cut at the closing bracket
 pub bracketed : (open_byte close_byte : ℕ) (inner text inside behind : List ℕ) → text ≡ open_byte ∷ inner
     → IsBracketed open_byte close_byte text inside behind
     → cut_at close_byte inner ≡ Some (inside, behind)
@@ -52,7 +52,7 @@ bracketed open_byte close_byte inner text inside behind e is =
     tail_is : (b : ℕ) (s t : List ℕ) → b ∷ s ≡ b ∷ t → s ≡ t
     tail_is b s t e = cc
 
--- what is cut at a closing bracket is written in brackets
+-- a text that is cut at the closing bracket is written in brackets
 pub brackets : (open_byte close_byte b : ℕ) (inner inside behind : List ℕ) → b ≡ open_byte
     → cut_at close_byte inner ≡ Some (inside, behind)
     → IsBracketed open_byte close_byte (b ∷ inner) inside behind
@@ -73,7 +73,7 @@ target-at text target (inl e) =
     ∙ written_names kind.Func target
 target-at text target (inr e) = ap (λ t. cond t (take (length text - 2) text) text) e.1 ∙ e.0
 
--- and is written so
+-- the text of an alias without a final call is its target
 pub target-is : (text : List ℕ) → IsTarget text (without_call text)
 target-is text = go (ends_with nat_eq text (codes "()")) refl
   where
@@ -89,11 +89,11 @@ target-is text = go (ends_with nat_eq text (codes "()")) refl
 
 -- bodies
 
--- a form by its parts
+-- a form, given its parts
 abbrev form_by : Options → List ℕ → Option (List ℕ) → Form
 form_by o forward inverse = record { options = o; forward = forward; inverse = inverse }
 
--- bodies are read as they are written
+-- bodies are read the way they are written
 bodies-at : (o : Options) (text forward : List ℕ) (inverse : Option (List ℕ)) → AreBodies text forward inverse
     → form_parted o (cut_at 59 text) text ≡ Some (form_by o forward inverse)
 bodies-at o text forward None is =
@@ -107,12 +107,12 @@ bodies-at o text forward (Some inverse) is =
     >>= (λ f. some_text (trimmed behind) >>= (λ v. Some (form_by o f (Some v)))))
     ∙ (λ i. some-text (trimmed behind) inverse is.5.0 is.5.1 i >>= (λ v. Some (form_by o forward (Some v))))
 
--- a form that is read, with its bodies
+-- the bodies of a form that is read
 record Bodied (o : Options) (text : List ℕ) (form : Form) : Type 0 where
   options : form.options ≡ o
   bodies : AreBodies text form.forward form.inverse
 
--- and written as they are read
+-- bodies that are read are written that way
 bodies-is : (o : Options) (text : List ℕ) (form : Form) → form_parted o (cut_at 59 text) text ≡ Some form
     → Bodied o text form
 bodies-is o text form e = go (cut_at 59 text) refl e
@@ -154,7 +154,7 @@ bodies-is o text form e = go (cut_at 59 text) refl e
         subst (Bodied o text) (some_is (form_by o step.0 (Some last.0)) form last.2)
         (two parts.0 parts.1 step.0 last.0 cut step.1 last.1)
 
--- a function's form is read as it is written
+-- the form of a function is read the way it is written
 pub form-at : (behind bodies : List ℕ) (form : Form) → AreOptions behind bodies form.options
     → AreBodies bodies form.forward form.inverse
     → form_of behind ≡ Some form
@@ -164,13 +164,13 @@ form-at behind bodies form options are =
     >>= (λ found. form_parted found.0 (cut_at 59 found.1) found.1))
     ∙ bodies-at form.options bodies form.forward form.inverse are
 
--- options and bodies as a form has them
+-- the options and the bodies of a form
 pub record Formed (behind : List ℕ) (form : Form) : Type 0 where
   pub bodies : List ℕ
   pub options_are : AreOptions behind bodies form.options
   pub bodies_are : AreBodies bodies form.forward form.inverse
 
--- a form that is read is written so
+-- a form that is read is written that way
 pub form-is : (behind : List ℕ) (form : Form) → form_of behind ≡ Some form → Formed behind form
 unfolding form_of
 form-is behind form e =
@@ -187,7 +187,7 @@ form-is behind form e =
 
 -- parts
 
--- pieces without a `;` are those between the `;`
+-- pieces without a `;` are the texts between the `;`
 pieces-at : (piece : List ℕ) (pieces : List (List ℕ)) → list_all (lacks 59) (piece ∷ pieces) ≡ true
     → slice_split is_semicolon (join_with_byte 59 (piece ∷ pieces)) ≡ piece ∷ pieces
 pieces-at piece [] clear = parts-none 59 piece (cut-lacks 59 piece (and_parts (lacks 59 piece) true clear).0)
@@ -198,7 +198,7 @@ pieces-at piece (next ∷ pieces) clear =
     (cut-at 59 piece (join_with_byte 59 (next ∷ pieces)) parts.0)
     ∙ ap (λ ps. piece ∷ ps) (pieces-at next pieces parts.1)
 
--- parts are read as they are written
+-- parts are read the way they are written
 pub parts-at : (text : List ℕ) (parts : List (List ℕ)) → AreParts text parts
     → parts ≡ map trimmed (slice_split is_semicolon text)
 parts-at text parts is = is.parts_are ∙ go is.pieces is.joined is.clear
@@ -209,7 +209,7 @@ parts-at text parts is = is.parts_are ∙ go is.pieces is.joined is.clear
     go (piece ∷ pieces) joined clear =
         ap (map trimmed) (sym (ap (slice_split is_semicolon) joined ∙ pieces-at piece pieces clear))
 
--- no piece has the byte that parts them
+-- the pieces do not contain the byte that separates them
 split-clear : (text : List ℕ) → list_all (lacks 59) (slice_split is_semicolon text) ≡ true
 split-clear [] = refl
 split-clear (b ∷ text) = go (b == 59) refl (slice_split is_semicolon text) refl (split-clear text)
@@ -229,7 +229,7 @@ split-clear (b ∷ text) = go (b == 59) refl (slice_split is_semicolon text) ref
         ∙ (λ i. (not (e i) && lacks 59 piece) && list_all (lacks 59) pieces)
         ∙ (ap (list_all (lacks 59)) (sym f) ∙ rest)
 
--- and written as they are read
+-- parts that are read are written that way
 pub parts-is : (text : List ℕ) → text ≢ [] → AreParts text (map trimmed (slice_split is_semicolon text))
 parts-is text some = record {
   pieces = slice_split is_semicolon text;

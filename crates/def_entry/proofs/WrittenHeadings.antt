@@ -1,4 +1,4 @@
--- Headings are read as they are written.
+-- Headings are read the way they are written.
 use Rattle.std.proofs.Common.{◌≡◌, ◌<◌, ◌≤◌, ◌-◌, ◌==◌, ◌&&◌, ◌||◌, ◌∷◌, [], ◌++◌, ℕ, suc, List, Bool, true, false, not}
 use Rattle.std.proofs.Common.{cond, length, drop, codes, Option, Some, None, if◌then◌else◌, refl, sym, ap, ◌∙◌, arith}
 use Rattle.std.proofs.Common.{append_assoc, length-append, true≢false}
@@ -35,7 +35,7 @@ use Rattle.def_entry.proofs.Fronts.{FirstWord, Parted, before-at, first-word, pa
 use Rattle.def_entry.proofs.KeyTexts.{last_behind, written_names}
 use Rattle.def_entry.proofs.WrittenOptions.{Fronted, after_blanks-front, fronted}
 
--- where none of two holds, both are false
+-- if a disjunction does not hold, both of its tests are false
 neither_true : (a b : Bool) → not (a || b) ≡ true → (a ≡ false) × (b ≡ false)
 neither_true true b e = cc
 neither_true false true e = cc
@@ -53,12 +53,12 @@ other head behind opened = record { kind = if opened then Func else UnitKind; na
 abbrev list_by : List ℕ → List ℕ → Heading
 list_by name text = record { kind = ListKind; name = name; text = text }
 
--- nothing holds together with what does not
+-- a conjunction with false is false
 and_no : (t : Bool) → (t && false) ≡ false
 and_no true = refl
 and_no false = refl
 
--- a lead does not count
+-- a lead does not change the heading
 led : (l : Lead) (rest : List ℕ) → is_lead l rest ≡ true → heading (lead l rest) ≡ definition_heading rest
 unfolding heading
 led NoLead [] plain = refl
@@ -71,14 +71,14 @@ led (PlusLead blanks) rest plain =
     let parts : (list_all is_blank blanks ≡ true) × (is_begun rest ≡ true) = and_parts _ _ plain in
     ap definition_heading (after_blanks-front blanks rest parts.0 parts.1)
 
--- the head runs to the first blank or bracket
+-- the head extends to the first blank or bracket
 headed : (head behind : List ℕ) → is_head head ≡ true → stops ends_head behind ≡ true
     → definition_heading (head ++ behind) ≡ heading_by head behind
 headed head behind clear stop =
     ap (λ h. heading_by h (drop (length h) (head ++ behind))) (before-at ends_head head behind clear stop)
     ∙ ap (heading_by head) (drop-append_seam head behind)
 
--- a blank opens no bracket
+-- a text that is empty or starts with a blank does not start with a bracket, and ends a head
 apart_not_opened : (text : List ℕ) → stands_apart text ≡ true → (is_opened text ≡ false) × (stops ends_head text ≡ true)
 apart_not_opened [] apart = (refl, refl)
 apart_not_opened (b ∷ text) apart = (go (b == 32) (b == 9) refl refl apart, ap (λ t. t || is_opening b) apart)
@@ -88,7 +88,7 @@ apart_not_opened (b ∷ text) apart = (go (b == 32) (b == 9) refl refl apart, ap
     go false true e f apart = ap is_opening (eqb-true b 9 f)
     go false false e f apart = cc
 
--- a text with a bracket in front does not stand apart, and ends a head
+-- a text that starts with a bracket is neither empty nor starts with a blank, and ends a head
 pub opened_not_apart : (text : List ℕ) → is_opened text ≡ true
     → (stands_apart text ≡ false) × (stops ends_head text ≡ true)
 opened_not_apart [] opened = cc
@@ -104,7 +104,7 @@ opened_not_apart (b ∷ text) opened =
     go false true e f opened = ap is_blank (eqb-true b 91 f)
     go false false e f opened = cc
 
--- a head and a minus
+-- a name followed by a minus ends in a minus
 minus_ends : (name : List ℕ) → ends_in_minus (name ++ (45 ∷ [])) ≡ true
 minus_ends name =
     and_from (nat_lt 0 (length (name ++ (45 ∷ [])))) (last_byte (name ++ (45 ∷ [])) == 45)
@@ -114,7 +114,7 @@ minus_ends name =
     some : (n : ℕ) → 0 < n → nat_lt 0 n ≡ true
     some n more = (Decides-ltb 0 n).1 more
 
--- a head that ends in a minus is its base and that
+-- a head that ends in a minus is its base followed by the minus
 minus_is : (head : List ℕ) → ends_in_minus head ≡ true → head ≡ base head ++ (45 ∷ [])
 minus_is head ends =
     let parts : (nat_lt 0 (length head) ≡ true) × ((last_byte head == 45) ≡ true) = and_parts _ _ ends in
@@ -126,7 +126,7 @@ minus_is head ends =
     (drop-cons head (length head - 1) 0 last
     ∙ (λ i. eqb-true (last_byte head) 45 parts.1 i ∷ drop_of_length-le head all i))
 
--- what is so written has this heading
+-- a line that is written this way has this heading
 pub heading-written : (w : WrittenHeading) → is_heading w ≡ true → heading (bytes w) ≡ heading_of w
 unfolding heading
 heading-written (UnitHeading l name behind) whole =
@@ -185,13 +185,13 @@ heading-written (ListHeading before between name behind) whole =
     let first : FirstWord y name behind = first-word between name behind e.1 c.1 b.1 a.1 in
     ap (λ (r : List ℕ). list_by (first_word r) (behind_word r)) rest ∙ (λ i. list_by (first.first i) (first.rest i))
 
--- the bytes of a line, as they are written
+-- the written form of the bytes of a line
 pub record Written (line : List ℕ) : Type 0 where
   pub written : WrittenHeading
   pub spelled : line ≡ bytes written
   pub whole : is_heading written ≡ true
 
--- what ends a head and is no bracket stands apart
+-- a text that ends a head and does not start with a bracket is empty or starts with a blank
 apart_else : (text : List ℕ) → stops ends_head text ≡ true → is_opened text ≡ false → stands_apart text ≡ true
 apart_else [] stop closed = refl
 apart_else (b ∷ text) stop closed = go (is_blank b) (is_opening b) stop closed
@@ -201,7 +201,7 @@ apart_else (b ∷ text) stop closed = go (is_blank b) (is_opening b) stop closed
     go false true e f = cc
     go false false e f = cc
 
--- a definition, behind its lead
+-- the written form of a definition with its lead
 defined : (l : Lead) (rest line : List ℕ) → is_lead l rest ≡ true → line ≡ lead l rest → Written line
 defined l rest line plain is = go (parted ends_head rest)
   where
@@ -235,15 +235,15 @@ defined l rest line plain is = go (parted ends_head rest)
               && apart_else part.behind part.stop f i && not (g i));
         }
 
--- no directive but one has an entry
+-- only the directive of a list has an entry
 
--- where no kind has an entry, none is chosen
+-- if neither kind has an entry, nor does the one that is chosen
 never : {A : Type 0} (t : Bool) (one other : LineKind) → has_entry one ≡ false → has_entry other ≡ false
     → has_entry (if t then one else other) ≡ true → A
 never true one other f g e = absurd (true≢false (sym e ∙ f))
 never false one other f g e = absurd (true≢false (sym e ∙ g))
 
--- of the directives only a list has one
+-- of the directives, only that of a list has an entry
 one_directive : (d : Directive) (rest : List ℕ) → has_entry (with_arguments d rest) ≡ true → d ≡ directive.UnitList
 one_directive directive.Include rest e = never (is_word rest) (line.Include rest) line.BadDirective refl refl e
 one_directive directive.Locale rest e = never (is_word rest) (line.Locale rest) line.BadDirective refl refl e
@@ -261,19 +261,19 @@ one_directive directive.Message rest e = absurd (true≢false (sym e))
 one_directive directive.Prompt rest e = absurd (true≢false (sym e))
 one_directive directive.UnitList rest e = refl
 
--- the word of the last directive of a list
+-- if the directive of a list is found, it is not at an entry with another directive
 other_word : (word : List ℕ) (t : Bool) (d : Directive) (found : Option Directive) → (d ≡ directive.UnitList → ⊥)
     → (if t then Some d else found) ≡ Some directive.UnitList → found ≡ Some directive.UnitList
 other_word word true d found f e = let same : d ≡ directive.UnitList = cc in absurd (f same)
 other_word word false d found f e = e
 
--- which has this word
+-- if the last entry gives the directive of a list, the word is `unitlist`
 last_word : (word : List ℕ) (t : Bool) → bytes_eq word (codes "unitlist") ≡ t
     → (if t then Some directive.UnitList else None) ≡ Some directive.UnitList → word ≡ codes "unitlist"
 last_word word true same e = (bytes_eq-Decides word (codes "unitlist")).0 same
 last_word word false same e = cc
 
--- and no other word has it
+-- only the word `unitlist` has the directive of a list
 list_word : (word : List ℕ) → beside word directives ≡ Some directive.UnitList → word ≡ codes "unitlist"
 list_word word e0 =
     let e1 = other_word word (bytes_eq word (codes "include")) directive.Include _ (λ e. cc) e0 in
@@ -289,7 +289,7 @@ list_word word e0 =
     let e11 = other_word word (bytes_eq word (codes "prompt")) directive.Prompt _ (λ e. cc) e10 in
     last_word word (bytes_eq word (codes "unitlist")) refl e11
 
--- so a directive with an entry begins with this word
+-- a directive with an entry starts with the word `unitlist`
 listed : (text : List ℕ) → has_entry (marked_kind text) ≡ true → first_word text ≡ codes "unitlist"
 listed text e = go (beside (first_word text) directives) refl e
   where
@@ -298,7 +298,7 @@ listed text e = go (beside (first_word text) directives) refl e
     go None f e = absurd (true≢false (sym e))
     go (Some d) f e = list_word (first_word text) (f ∙ ap Some (one_directive d (behind_word text) e))
 
--- a line that defines a list, by what stands behind its mark
+-- the written form of a line that defines a list, given the text after its mark
 list_line : (text line : List ℕ) → line ≡ 33 ∷ text → has_entry (marked_kind (after_blanks text)) ≡ true → Written line
 list_line text line is entry =
     let front : Fronted text = fronted text in

@@ -15,13 +15,13 @@ use Rattle.def_entry.specs.OptionGrammar.{WrittenInterval, closing, interval, is
 use Rattle.def_entry.specs.Steps.{◌>>=◌}
 use Rattle.def_entry.proofs.CutTexts.{Around, around, cut-at, cut-is, index-at, position-at}
 
--- the first step of two that give something
+-- if a step and its continuation succeed, the step succeeds
 pub bind_some : {A B : Type 0} (given : Option A) (step : A → Option B) (y : B) → (given >>= step) ≡ Some y
     → (x : A) × (given ≡ Some x) × (step x ≡ Some y)
 bind_some None step y e = cc
 bind_some (Some x) step y e = (x, refl, e)
 
--- an image that is there is that of something
+-- if the image of an option is present, it is the image of a value
 pub mapped_some : {A B : Type 0} (f : A → B) (given : Option A) (y : B) → option_map f given ≡ Some y
     → (x : A) × (given ≡ Some x) × (f x ≡ y)
 mapped_some f None y e = cc
@@ -33,12 +33,12 @@ pub one_pair : {A B : Type 0} (a x : A) (b y : B) → ◌≡◌ {A = Option (A �
 one_pair {A = A} {B = B} a x b y e = let p : (◌≡◌ {A = A × B} (a, b) (x, y)) =
     ap (λ o. unwrap_or {T = A × B} o (a, b)) e in (ap (λ (q : A × B). q.0) p, ap (λ (q : A × B). q.1) p)
 
--- an opening bracket is read
+-- a written opening bracket is read
 opened-at : (is_closed : Bool) (text : List ℕ) → opened (opening is_closed ∷ text) ≡ Some (is_closed, text)
 opened-at true text = refl
 opened-at false text = refl
 
--- and one that is read stands there
+-- an opening bracket that is read is at the front of the text
 opened-is : (text : List ℕ) (is_closed : Bool) (behind : List ℕ) → opened text ≡ Some (is_closed, behind)
     → text ≡ opening is_closed ∷ behind
 opened-is [] is_closed behind e = cc
@@ -58,17 +58,17 @@ opened-is (b ∷ text) is_closed behind e = go (b == 91) (b == 40) refl refl e
         (λ i. byte i ∷ text) ∙ (λ i. opening (parts.0 i) ∷ parts.1 i)
     go false false f g e = cc
 
--- a closing bracket closes
+-- a closing bracket is recognised as one
 closes : (is_closed : Bool) → is_closing (closing is_closed) ≡ true
 closes true = refl
 closes false = refl
 
--- and tells whether the end is in
+-- a closing bracket determines whether the end is included
 closes_so : (is_closed : Bool) → (closing is_closed == 93) ≡ is_closed
 closes_so true = refl
 closes_so false = refl
 
--- what stands before the first closing bracket is read
+-- the text before the first closing bracket is read
 closed-at : (is_closed : Bool) (front behind : List ℕ) → list_all (λ b. not (is_closing b)) front ≡ true
     → closed (front ++ (closing is_closed ∷ behind)) ≡ Some (front, is_closed, behind)
 closed-at is_closed front behind clear =
@@ -83,7 +83,7 @@ closed-at is_closed front behind clear =
       drop-append-add front (closing is_closed ∷ behind) 1 i,
     ))
 
--- the bracket by its test
+-- a closing bracket is determined by the test for `]`
 bracket : (b : ℕ) → is_closing b ≡ true → b ≡ closing (b == 93)
 bracket b passes = go (b == 93) refl (b == 41) refl passes
   where
@@ -92,12 +92,12 @@ bracket b passes = go (b == 93) refl (b == 41) refl passes
     go false e true f passes = eqb-true b 41 f ∙ ap closing (sym e)
     go false e false f passes = cc
 
--- a text around the bracket that closes it
+-- the texts before and after the closing bracket
 pub record Closed (text front : List ℕ) (is_closed : Bool) (behind : List ℕ) : Type 0 where
   pub whole : text ≡ front ++ (closing is_closed ∷ behind)
   pub clear : list_all (λ b. not (is_closing b)) front ≡ true
 
--- and what is read stands so
+-- a closing bracket that is read is in the text
 closed-is : (text front : List ℕ) (is_closed : Bool) (behind : List ℕ) → closed text ≡ Some (front, is_closed, behind)
     → Closed text front is_closed behind
 closed-is text front is_closed behind e = go (position is_closing text) refl e
@@ -120,15 +120,15 @@ closed-is text front is_closed behind e = go (position is_closing text) refl e
           clear = ap (list_all (λ b. not (is_closing b))) (sym first) ∙ at.clear;
         }
 
--- the bounds, and what stands behind them
+-- the span of two bounds, and the text after it
 abbrev both : Option (Option Bound) → Option (Option Bound) → List ℕ → Option (Span × List ℕ)
 both low high rest = low >>= (λ l. high >>= (λ h. Some (record { low = l; high = h }, rest)))
 
--- a span of two bounds, where both are read
+-- the span of two bounds, if both are read
 abbrev span : Option (Option Bound) → Option (Option Bound) → Option Span
 span low high = low >>= (λ l. high >>= (λ h. Some (record { low = l; high = h })))
 
--- two bounds that make a span are read
+-- if two bounds form a span, the span is read
 both-some : (low high : Option (Option Bound)) (s : Span) (rest : List ℕ) → span low high ≡ Some s
     → both low high rest ≡ Some (s, rest)
 both-some None high s rest e = cc
@@ -136,7 +136,7 @@ both-some (Some l) None s rest e = cc
 both-some (Some l) (Some h) s rest e = let same : ◌≡◌ {A = Span} (record { low = l; high = h }) s =
     cc in ap (λ (x : Span). Some (x, rest)) same
 
--- and those that are read make one
+-- if a span is read, the two bounds form it
 some-both : (low high : Option (Option Bound)) (s : Span) (rest behind : List ℕ) → both low high behind ≡ Some (s, rest)
     → (span low high ≡ Some s) × (behind ≡ rest)
 some-both None high s rest behind e = cc
@@ -146,7 +146,7 @@ some-both (Some l) (Some h) s rest behind e =
     one_pair (record { low = l; high = h }) s behind rest e in
     (ap Some parts.0, parts.1)
 
--- what is written so is read so
+-- an interval that is written is read
 pub interval-at : (i : WrittenInterval) (rest : List ℕ) (s : Span) → is_interval i ≡ true → span_of i ≡ Some s
     → interval_at (interval i rest) ≡ Some (s, rest)
 unfolding interval_at
@@ -170,14 +170,14 @@ interval-at i rest s whole value =
     (bound_in back.1 (trimmed back.0)) back.2))
     ∙ both-some (bound_in i.low_closed (trimmed i.low)) (bound_in i.high_closed (trimmed i.high)) s rest value
 
--- an interval that is read, as it is written
+-- the written form of an interval that is read
 pub record Interval (text rest : List ℕ) (s : Span) : Type 0 where
   pub written : WrittenInterval
   pub spelled : text ≡ interval written rest
   pub whole : is_interval written ≡ true
   pub value : span_of written ≡ Some s
 
--- an interval that is read is written so
+-- an interval that is read is written that way
 pub interval-is : (text rest : List ℕ) (s : Span) → interval_at text ≡ Some (s, rest) → Interval text rest s
 unfolding interval_at
 interval-is text rest s e =

@@ -1,4 +1,4 @@
--- The names of lines, and the first of them that is none.
+-- The names of lines, and the first of them that is not valid.
 use Rattle.std.proofs.Common.{◌≡◌, ◌≢◌, ◌==◌, ◌∷◌, [], ℕ, List, Bool, true, false, cond, Option, Some, None, Result, Ok}
 use Rattle.std.proofs.Common.{Err, refl, sym, ap, ◌∙◌, subst, true≢false}
 use Rattle.std.proofs.lemmas.Bool.{eqb-true}
@@ -24,12 +24,12 @@ use Rattle.def_entry.proofs.WrittenForms.{brackets, some-text, target-at, target
 
 -- the name in the text of a function, as it is read
 
--- the name in the parentheses of a function, or that of an alias behind them
+-- the name in the parentheses of a function, or the target of an alias after them
 abbrev call_name : List ℕ → List ℕ → Option (List ℕ)
 call_name [] behind = some_text (without_call (trimmed behind))
 call_name (b ∷ parameter) behind = Some (b ∷ parameter)
 
--- the further name of a text, by what its parentheses cut
+-- the further name of a text, given the parts before and after its closing parenthesis
 abbrev inner_of : Option (List ℕ × List ℕ) → Option (List ℕ)
 inner_of None = None
 inner_of (Some parts) = call_name (trimmed parts.0) parts.1
@@ -53,7 +53,7 @@ name-at text w (Target is) =
     ∙ ap (λ p. call_name p is.behind) is.blank
     ∙ some-text (without_call (trimmed is.behind)) w (target-at (trimmed is.behind) w is.target_is) is.some
 
--- and one that is read is written
+-- a further name that is read is written
 name-is : (text w : List ℕ) → inner_name text ≡ Some w → HasInnerName text w
 name-is [] w e = cc
 name-is (b ∷ text) w e = go (b == 40) refl (cut_at 41 text) refl e
@@ -83,17 +83,17 @@ name-is (b ∷ text) w e = go (b == 40) refl (cut_at 41 text) refl e
     go true f (Some parts) cut e =
         inner parts.0 parts.1 (trimmed parts.0) (brackets 40 41 b text parts.0 parts.1 (eqb-true b 40 f) cut) refl e
 
--- a name that is none is the fault
+-- a bad name is the fault
 
--- what is no name is refused before all that follows
+-- a bad name is rejected before anything after it
 refused : (w : List ℕ) (go : List ℕ → Result What EntryFault) → is_name w ≡ false → (named w >>= go) ≡ Err (BadName w)
 refused w go not_one = ap (λ t. cond t (Ok w) (Err (BadName w)) >>= go) not_one
 
--- and one that is one goes on
+-- if a name is valid, reading continues
 pub taken : (w : List ℕ) (go : List ℕ → Result What EntryFault) → is_name w ≡ true → (named w >>= go) ≡ go w
 taken w go is_one = ap (λ t. cond t (Ok w) (Err (BadName w)) >>= go) is_one
 
--- so is a further name of a function
+-- a bad further name of a function is rejected
 func-bad : (name text w : List ℕ) → inner_name text ≡ Some w → is_name w ≡ false → func_in name text ≡ Err (BadName w)
 func-bad name [] w e not_one = cc
 func-bad name (b ∷ text) w e not_one = go (b == 40) (cut_at 41 text) e
@@ -114,7 +114,7 @@ func-bad name (b ∷ text) w e not_one = go (b == 40) (cut_at 41 text) e
     go true None e = cc
     go true (Some parts) e = inner (trimmed parts.0) parts.1 e
 
--- so is the key's own
+-- a bad name of the key is rejected
 own_bad : (k : Kind) (name w text : List ℕ) → ((k ≡ kind.List) × (name ≡ []) → ⊥) → name ≡ w → is_name w ≡ false
     → (name_in k name >>= (λ n. what_in k n text)) ≡ Err (BadName w)
 own_bad kind.Unit name w text some e not_one = ap (λ n. named n >>= (λ n. what_in kind.Unit n text)) e
@@ -127,7 +127,7 @@ own_bad kind.List [] w text some e not_one = absurd (some (refl, refl))
 own_bad kind.List (b ∷ name) w text some e not_one = ap (λ n. named n >>= (λ n. what_in kind.List n text)) e
     ∙ refused w (λ n. what_in kind.List n text) not_one
 
--- a heading whose name is one says what stands behind it
+-- if the name of a heading is valid, the definition is that of the text after it
 named_so : (k : Kind) (name text : List ℕ) → is_name name ≡ true
     → (name_in k name >>= (λ n. what_in k n text)) ≡ what_in k name text
 named_so kind.Unit name text is_one = taken name (λ n. what_in kind.Unit n text) is_one
@@ -136,41 +136,41 @@ named_so kind.Func name text is_one = taken name (λ n. what_in kind.Func n text
 named_so kind.List [] text is_one = absurd (true≢false (sym is_one))
 named_so kind.List (b ∷ name) text is_one = taken (b ∷ name) (λ n. what_in kind.List n text) is_one
 
--- where the key has a name, what the line says is what its text says
+-- if the name of the key is valid, the definition of the line is that of its text
 pub what-named : (h : Heading) → is_name h.name ≡ true → what_of h ≡ what_in h.kind h.name h.text
 unfolding what_of
 what-named h is_one = named_so h.kind h.name h.text is_one
 
--- a further name that is none is refused
+-- a bad further name is rejected
 further_bad : (k : Kind) (name text w : List ℕ) → HasFurtherName k text w → is_name w ≡ false
     → what_in k name text ≡ Err (BadName w)
 further_bad kind.Func name text w is not_one = func-bad name text w (name-at text w is) not_one
 further_bad _ name text w is not_one = absurd is
 
--- the first name that is none is the fault of the heading
+-- the first bad name is the fault of the heading
 pub bad-name : (h : Heading) (w : List ℕ) → HasBadName h w → what_of h ≡ Err (BadName w)
 unfolding what_of
 bad-name h w (OwnName some e not_one) = own_bad h.kind h.name w h.text some e not_one
 bad-name h w (FurtherName own is not_one) = named_so h.kind h.name h.text own
     ∙ further_bad h.kind h.name h.text w is not_one
 
--- a list without a name has no form
+-- a list without a name is a bad form
 lacks : (k : Kind) (name text : List ℕ) → k ≡ kind.List → name ≡ []
     → (name_in k name >>= (λ n. what_in k n text)) ≡ Err BadForm
 lacks k name text e f = (λ i. name_in (e i) (f i) >>= (λ n. what_in (e i) n text))
 
--- so a heading that lacks one has none
+-- a heading that lacks a name is a bad form
 pub lacks-name : (h : Heading) → LacksName h → what_of h ≡ Err BadForm
 unfolding what_of
 lacks-name h is = lacks h.kind h.name h.text is.0 is.1
 
--- the names of a heading are names, or it has none, or one is none
+-- the names of a heading are valid, or it lacks its name, or one of them is bad
 pub data NamesOf (h : Heading) : Type 0 where
   Names : HasNames h → NamesOf h
   NoName : LacksName h → NamesOf h
   BadNameOf : (w : List ℕ) → HasBadName h w → NamesOf h
 
--- which names a heading has, where its own is one
+-- the names of a heading whose own name is valid
 further : (k : Kind) (name text : List ℕ) → is_name name ≡ true
     → NamesOf (record { kind = k; name = name; text = text })
 further kind.Func name text is_one = go (inner_name text) refl
@@ -200,7 +200,7 @@ further kind.Unit name text is_one = Names (record { own = is_one; further = λ 
 further kind.Prefix name text is_one = Names (record { own = is_one; further = λ w is. absurd is })
 further kind.List name text is_one = Names (record { own = is_one; further = λ w is. absurd is })
 
--- and where it is none
+-- the names of a heading whose own name is bad
 own : (k : Kind) (name text : List ℕ) → is_name name ≡ false → NamesOf (record { kind = k; name = name; text = text })
 own kind.List [] text not_one = NoName (refl, refl)
 own kind.List (b ∷ name) text not_one = BadNameOf (b ∷ name) (OwnName (λ is. cons_none b name is.1) refl not_one)
@@ -220,7 +220,7 @@ own kind.Func name text not_one = BadNameOf name (OwnName (λ is. not_list is.0)
     not_list : kind.Func ≡ kind.List → ⊥
     not_list e = cc
 
--- so it is of each heading
+-- the names of each heading
 pub names-of : (h : Heading) → NamesOf h
 names-of h = go (is_name h.name) refl
   where

@@ -1,4 +1,4 @@
--- Options are read as they are written.
+-- Options are read the way they are written.
 use Rattle.std.proofs.Common.{◌≡◌, ◌==◌, ◌&&◌, ◌||◌, ◌∷◌, [], ◌++◌, ℕ, List, Bool, true, false, not, cond, length, take}
 use Rattle.std.proofs.Common.{drop, codes, Option, Some, None, option_map, refl, sym, ap, ◌∙◌}
 use Rattle.std.specs.List.{list_all, starts_with}
@@ -29,7 +29,7 @@ use Rattle.def_entry.proofs.WrittenIntervals.{Interval, bind_some, interval-at, 
 
 -- blanks
 
--- blanks before what has begun are passed over
+-- blanks before a text that does not start with a blank are skipped
 pub after_blanks-front : (blanks text : List ℕ) → list_all is_blank blanks ≡ true → is_begun text ≡ true
     → after_blanks (blanks ++ text) ≡ text
 after_blanks-front [] [] clear begun = refl
@@ -42,13 +42,13 @@ after_blanks-front (b ∷ blanks) text clear begun =
         → after_blanks ((b ∷ blanks) ++ text) ≡ text
     go parts rest = after_blanks-blank b (blanks ++ text) parts.0 ∙ rest parts.1 begun
 
--- a text with the blanks at its front
+-- a text and its leading blanks
 pub record Fronted (text : List ℕ) : Type 0 where
   pub blanks : List ℕ
   pub whole : text ≡ blanks ++ after_blanks text
   pub clear : list_all is_blank blanks ≡ true
 
--- each text is blanks and then what has begun, or blanks alone
+-- each text is a sequence of blanks followed by a text that does not start with a blank
 pub fronted : (text : List ℕ) → Fronted text
 fronted [] = record { blanks = []; whole = refl; clear = refl }
 fronted (b ∷ text) = go (is_blank b) refl (fronted text)
@@ -61,7 +61,7 @@ fronted (b ∷ text) = go (is_blank b) refl (fronted text)
     }
     go false e rest = record { blanks = []; whole = sym (after_blanks-word b text e); clear = refl }
 
--- what a text begins with
+-- a text that starts with a front is the front followed by the rest
 pub starts-is : (text front : List ℕ) → starts_with nat_eq text front ≡ true → text ≡ front ++ drop (length front) text
 starts-is text front e =
     sym (take-append-drop (length front) text)
@@ -74,7 +74,7 @@ choice_of (DomainOption i) = Domain
 choice_of (RangeOption i) = Range
 choice_of NoErrorOption = NoError
 
--- it begins as such
+-- an option starts with the word of its kind
 pub choice-at : (w : WrittenOption) (rest : List ℕ) → is_whole w rest ≡ true
     → choice_at (option w rest) ≡ Some (choice_of w)
 choice-at (UnitsOption a b) rest whole = refl
@@ -82,14 +82,14 @@ choice-at (DomainOption i) rest whole = refl
 choice-at (RangeOption i) rest whole = refl
 choice-at NoErrorOption rest whole = ap (λ t. cond t (Some NoError) None) whole
 
--- an option has begun
+-- an option does not start with a blank
 pub begun-option : (w : WrittenOption) (rest : List ℕ) → is_begun (option w rest) ≡ true
 begun-option (UnitsOption a b) rest = refl
 begun-option (DomainOption i) rest = refl
 begun-option (RangeOption i) rest = refl
 begun-option NoErrorOption rest = refl
 
--- the end of the options, by the tests of their words
+-- the end of the options, in terms of the tests for their words
 ended-cases : (u d r n b : Bool) → (not (u || d || r || n) && b) ≡ true
     → (cond u (Some UnitsChoice) (cond d (Some Domain) (cond r (Some Range) (cond n (Some NoError) None))) ≡ None)
     × (b ≡ true)
@@ -100,13 +100,13 @@ ended-cases false true d r b e = cc
 ended-cases false false true n b e = cc
 ended-cases false false false true b e = cc
 
--- where options have ended none begins
+-- if the options have ended, the text does not start with an option
 pub no-choice : (rest : List ℕ) → has_ended rest ≡ true → (choice_at rest ≡ None) × (is_begun rest ≡ true)
 no-choice rest e =
     ended-cases (begins_with UnitsChoice rest) (begins_with Domain rest) (begins_with Range rest)
     (begins_with_no_error rest) (is_begun rest) e
 
--- where none is chosen, no test holds
+-- if no option is chosen, no test for a word holds
 cases-ended : (u d r n b : Bool)
     → cond u (Some UnitsChoice) (cond d (Some Domain) (cond r (Some Range) (cond n (Some NoError) None))) ≡ None
     → b ≡ true
@@ -117,13 +117,13 @@ cases-ended false true r n b e f = cc
 cases-ended false false true n b e f = cc
 cases-ended false false false true b e f = cc
 
--- so options have ended
+-- if the text does not start with an option, the options have ended
 pub has-ended : (rest : List ℕ) → choice_at rest ≡ None → is_begun rest ≡ true → has_ended rest ≡ true
 has-ended rest none begun =
     cases-ended (begins_with UnitsChoice rest) (begins_with Domain rest) (begins_with Range rest)
     (begins_with_no_error rest) (is_begun rest) none begun
 
--- one option
+-- a single option
 
 -- the units of two texts
 abbrev units_by : List ℕ → List ℕ → Units
@@ -152,19 +152,19 @@ added (DomainOption i) o = record o { domain = span_of i }
 added (RangeOption i) o = record o { range = span_of i }
 added NoErrorOption o = with_no_error o
 
--- no such option stood before
+-- no such option occurred before
 abbrev pub is_free : WrittenOption → Options → Bool
 is_free (UnitsOption a b) o = not (is_some o.units)
 is_free (DomainOption i) o = not (is_some o.domain)
 is_free (RangeOption i) o = not (is_some o.range)
 is_free NoErrorOption o = not o.no_error
 
--- what is found to be there is there
+-- an option that is found to be present has a value
 pub some_value : {A : Type 0} (v : Option A) → is_some v ≡ true → (x : A) × (v ≡ Some x)
 some_value None e = cc
 some_value (Some x) e = (x, refl)
 
--- units are read as they are written
+-- units are read the way they are written
 units-at : (a b rest : List ℕ) → lacks 59 a ≡ true → lacks 93 b ≡ true
     → units_at (91 ∷ (a ++ (59 ∷ (b ++ (93 ∷ rest))))) ≡ Some (units_by a b, rest)
 units-at a b rest clear clear' =
@@ -172,7 +172,7 @@ units-at a b rest clear clear' =
     >>= (λ first. cut_at 93 first.1 >>= (λ second. Some (units_by first.0 second.0, second.1))))
     ∙ (λ i. cut-at 93 b rest clear' i >>= (λ second. Some (units_by a second.0, second.1)))
 
--- its value is read
+-- the value of an option is read
 pub value-at : (w : WrittenOption) (o : Options) (rest : List ℕ) → is_whole w rest ≡ true → is_free w o ≡ true
     → with_choice (choice_of w) o (behind (choice_of w) (option w rest)) ≡ Some (added w o, rest)
 value-at (UnitsOption a b) o rest whole free =
@@ -200,7 +200,7 @@ value-at (RangeOption i) o rest whole free =
 value-at NoErrorOption o rest whole free =
     ap (λ t. cond t None (Some (with_no_error o, rest))) (not_true o.no_error free)
 
--- an option that is read, as it is written
+-- the written form of an option that is read
 pub record Added (text : List ℕ) (o new : Options) (rest : List ℕ) : Type 0 where
   pub written : WrittenOption
   pub spelled : text ≡ option written rest
@@ -208,7 +208,7 @@ pub record Added (text : List ℕ) (o new : Options) (rest : List ℕ) : Type 0 
   pub free : is_free written o ≡ true
   pub made : new ≡ added written o
 
--- a text behind a byte begins with it
+-- a text with a byte removed from its front starts with that byte
 byte-is : (mark : ℕ) (text inside : List ℕ) → behind_byte mark text ≡ Some inside → text ≡ mark ∷ inside
 byte-is mark [] inside e = cc
 byte-is mark (b ∷ text) inside e = go (b == mark) refl e
@@ -217,7 +217,7 @@ byte-is mark (b ∷ text) inside e = go (b == mark) refl e
     go true f e = let same : text ≡ inside = cc in let byte : b ≡ mark = eqb-true b mark f in (λ i. byte i ∷ same i)
     go false f e = cc
 
--- the units of a text, as they are written
+-- the written form of the units of a text
 record UnitsWritten (text rest : List ℕ) (u : Units) : Type 0 where
   in_unit : List ℕ
   out_unit : List ℕ
@@ -225,7 +225,7 @@ record UnitsWritten (text rest : List ℕ) (u : Units) : Type 0 where
   clear : (lacks 59 in_unit && lacks 93 out_unit) ≡ true
   value : u ≡ units_by in_unit out_unit
 
--- units that are read are written so
+-- units that are read are written that way
 units-is : (text rest : List ℕ) (u : Units) → units_at text ≡ Some (u, rest) → UnitsWritten text rest u
 units-is text rest u e =
     let one = bind_some (behind_byte 91 text)
@@ -256,14 +256,14 @@ units-is text rest u e =
           value = sym pair.0;
         }
 
--- where an option with a value is taken, it is free, and the value is read
+-- if an option with a value is accepted, it was free, and its value is read
 taken : {A : Type 0} (had : Bool) (put : A → Options × List ℕ) (given : Option A) (made : Options × List ℕ)
     → cond had None (option_map put given) ≡ Some made
     → (not had ≡ true) × ((x : A) × (given ≡ Some x) × (put x ≡ made))
 taken true put given made e = cc
 taken false put given made e = (refl, mapped_some put given made e)
 
--- `noerror` stands apart
+-- `noerror` is followed by a blank or by nothing
 apart : (text : List ℕ) → choice_at text ≡ Some NoError → stands_apart (behind NoError text) ≡ true
 apart text e = go (begins_with UnitsChoice text) (begins_with Domain text) (begins_with Range text)
     (begins_with NoError text) (stands_apart (behind NoError text)) e
@@ -279,14 +279,14 @@ apart text e = go (begins_with UnitsChoice text) (begins_with Domain text) (begi
     go false false false true false e = cc
     go false false false false s e = cc
 
--- options with an interval that is read
+-- the written form of an option with an interval that is read
 record Spanned (text rest : List ℕ) (put : Option Span → Options) (new : Options) : Type 0 where
   written : WrittenInterval
   spelled : text ≡ interval written rest
   whole : is_interval written ≡ true
   made : new ≡ put (span_of written)
 
--- so is a span
+-- an interval that is read is written that way
 spanned : (text rest : List ℕ) (put : Option Span → Options) (new : Options) (s : Span) (left : List ℕ)
     → interval_at text ≡ Some (s, left) → ◌≡◌ {A = Options × List ℕ} (put (Some s), left) (new, rest)
     → Spanned text rest put new
@@ -299,7 +299,7 @@ spanned text rest put new s left value made =
       made = sym (ap (λ (p : Options × List ℕ). p.0) made) ∙ ap put (sym is.value);
     }
 
--- so is the value of each option
+-- the value of each option that is read is written that way
 pub value-is : (c : Choice) (text : List ℕ) (o new : Options) (rest : List ℕ) → choice_at text ≡ Some c
     → with_choice c o (behind c text) ≡ Some (new, rest) → Added text o new rest
 value-is UnitsChoice text o new rest begins e =

@@ -1,4 +1,4 @@
--- Points are read as they are written.
+-- Points are read the way they are written.
 use Rattle.std.proofs.Common.{◌≡◌, ◌≢◌, inl, inr, ◌<◌, ◌==◌, ◌&&◌, ◌||◌, ◌∷◌, [], ◌++◌, ℕ, zero, suc, List, Bool, true}
 use Rattle.std.proofs.Common.{false, not, cond, length, codes, Option, Some, None, refl, sym, ap, ◌∙◌, subst, arith}
 use Rattle.std.proofs.Common.{append_assoc, true≢false}
@@ -31,7 +31,7 @@ use Rattle.def_entry.proofs.PairSteps.{number_begun, pairs-read}
 use Rattle.def_entry.proofs.BuiltPairs.{Paired, Shorter, begun_byte, comma-none, is_end, lone-none, none_some}
 use Rattle.def_entry.proofs.BuiltPairs.{number_by, pair-built, some_front}
 
--- behind the first number
+-- the pairs of a text whose first number was read are written that way
 second-built : (before x rest : List ℕ) (list : List Point) → list_all is_blank before ≡ true
     → list_all (λ b. not (ends_number b)) x ≡ true
     → x ≢ [] → stops ends_number rest ≡ true
@@ -82,11 +82,11 @@ second-built before x rest list clear x_clear some stop e next = go (after_blank
     go [] f front = alone front.blanks [] (front.whole ∙ ap (λ t. front.blanks ++ t) f) front.clear refl
     go (b ∷ text) f front = by b text f (b == 44) refl front (parted ends_number (b ∷ text))
 
--- no points are the empty list
+-- the list of no points is empty
 no_points : (list : List Point) → ◌≡◌ {A = Option (List Point)} (Some []) (Some list) → [] ≡ list
 no_points list e = cc
 
--- pairs that are read are written so
+-- pairs that are read are written that way
 pairs-built : (n : ℕ) (text : List ℕ) (list : List Point) → length text < n → points_in_runs text ≡ Some list
     → ArePairs text list
 pairs-built zero text list less e = absurd (omega arith)
@@ -123,11 +123,11 @@ pairs-built (suc n) text list less e = go (after_blanks text) refl (fronted text
 
 -- the leading word
 
--- and pairs that are written are read
+-- pairs that are written are read
 pairs-found : (text : List ℕ) (list : List Point) → ArePairs text list → points_in_runs text ≡ Some list
 pairs-found text list is = ap points_in_runs is.spelled ∙ pairs-read is.written is.whole ∙ is.same
 
--- pairs without the blanks in front
+-- pairs without leading blanks are written pairs
 bare : (w : WrittenPoints) (list : List Point) → are_points w ≡ true → values w ≡ Some list
     → ArePairs (after_blanks (points w)) list
 bare (NoPair blanks) list whole same = record {
@@ -154,7 +154,7 @@ bare (NextPair before x gap y end rest) list whole same =
     without_blanks true q r s t u v e = e
     without_blanks false q r s t u v e = cc
 
--- pairs behind more blanks
+-- pairs after further blanks are written pairs
 behind-blanks : (blanks : List ℕ) (w : WrittenPoints) (list : List Point) → list_all is_blank blanks ≡ true
     → are_points w ≡ true
     → values w ≡ Some list → ArePairs (blanks ++ points w) list
@@ -175,12 +175,12 @@ behind-blanks blanks (NextPair before x gap y end rest) list clear whole same = 
   same = same;
 }
 
--- `noerror` is no number
+-- `noerror` is not a number
 word_none : number_of (codes "noerror") ≡ None
 unfolding number_of
 word_none = refl
 
--- pairs do not begin with `noerror`
+-- pairs do not start with `noerror`
 no_word_led : (text : List ℕ) (list : List Point) → ArePairs text list
     → begins_with_no_error (after_blanks text) ≡ false
 no_word_led text list is = ap (λ t. begins_with_no_error (after_blanks t)) is.spelled ∙ go is.written is.whole

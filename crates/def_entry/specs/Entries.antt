@@ -1,4 +1,4 @@
--- What definition lines say of their keys, whatever place it has in memory.
+-- The definitions that lines give to their keys, independent of how they are stored.
 use Rattle.std.specs.Prelude.{ℕ, List, Option}
 use Rattle.def_entry.specs.declared.entry.Span.{Span}
 use Rattle.expr_tree.specs.Syntax.{Syntax}
@@ -18,7 +18,7 @@ pub record TableDef : Type 0 where
   pub unit : Syntax
   pub points : List Point
 
--- what a key stands for
+-- the meaning of a key
 pub data What : Type 0 where
   Primitive : What
   Dimensionless : What
@@ -28,7 +28,7 @@ pub data What : Type 0 where
   Table : TableDef → What
   ListOf : List Syntax → What
 
--- the text of a definition, and what it says
+-- the text of a definition, and its meaning
 pub record Entry : Type 0 where
   pub text : List ℕ
   pub what : What

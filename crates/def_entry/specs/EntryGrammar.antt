@@ -1,4 +1,4 @@
--- The key and the entry of a line by how it is written, or the fault of one that has none.
+-- The key and the entry of a line in terms of how it is written, or the fault of a line without an entry.
 use Rattle.std.specs.Prelude.{◌≡◌, ◌↔◌, ◌⊎◌, ◌++◌, ℕ, List, [], ◌∷◌, true, false, map, Option, Some, None, Ok, Err}
 use Rattle.def_lines.specs.Kinds.{kind_of}
 use Rattle.expr_tree.specs.declared.fault.ParseFault.{ParseFault}
@@ -28,18 +28,18 @@ use Rattle.def_entry.specs.Reading.{entry_of, has_entry}
 
 -- names
 
--- the text of a function has this name: its parameter, or the target of an alias
+-- the text of a function contains this name, as its parameter or as the target of an alias
 pub data HasInnerName (text w : List ℕ) : Type 0 where
   Parameter : (inside behind : List ℕ) → IsBracketed open_paren close_paren text inside behind → IsTrimmed inside w
       → HasInnerName text w
   Target : IsAlias text w → HasInnerName text w
 
--- beside the name of its key a line has this name
+-- a line has this name besides the name of its key
 abbrev pub HasFurtherName : Kind → List ℕ → List ℕ → Type 0
 HasFurtherName kind.Func text w = HasInnerName text w
 HasFurtherName _ text w = ⊥
 
--- all its names are names
+-- all names of the line are valid
 pub record HasNames (h : Heading) : Type 0 where
   pub own : is_name h.name ≡ true
   pub further : (w : List ℕ) → HasFurtherName h.kind h.text w → is_name w ≡ true
@@ -48,7 +48,7 @@ pub record HasNames (h : Heading) : Type 0 where
 abbrev pub LacksName : Heading → Type 0
 LacksName h = (h.kind ≡ kind.List) × (h.name ≡ [])
 
--- the first of its names that is none
+-- w is the first name of the line that is not valid
 pub data HasBadName (h : Heading) (w : List ℕ) : Type 0 where
   OwnName : (LacksName h → ⊥) → h.name ≡ w → is_name w ≡ false → HasBadName h w
   FurtherName : is_name h.name ≡ true → HasFurtherName h.kind h.text w → is_name w ≡ false → HasBadName h w
@@ -59,14 +59,14 @@ pub data HasBadName (h : Heading) (w : List ℕ) : Type 0 where
 abbrev pub ArePoints : List ℕ → List Point → Type 0
 ArePoints text points = AreWrittenPoints text points × (is_table points ≡ true)
 
--- a table has points
+-- if the form is a table, it has points
 abbrev pub HasPoints : WrittenForm → Type 0
 HasPoints (TableForm unit text) = (points : List Point) × ArePoints text points
 HasPoints _ = Unit {0}
 
 -- expressions
 
--- the texts of the units of a function, where they stand and are not empty
+-- the texts of the units of a function, if they are given and not empty
 
 abbrev pub in_unit_text : Option Units → Option (List ℕ)
 in_unit_text None = None
@@ -76,13 +76,13 @@ abbrev pub out_unit_text : Option Units → Option (List ℕ)
 out_unit_text None = None
 out_unit_text (Some units) = some_text units.out_unit
 
--- an expression by its binder and its text, where there is one
+-- the expression with this binder and this text, if there is one
 abbrev pub expression : Option (List ℕ) → Option (List ℕ) → List (Option (List ℕ) × List ℕ)
 expression binder None = []
 expression binder (Some text) = (binder, text) ∷ []
 
--- the expressions of a form, in the order of their faults; in the forward one the parameter stands
--- for the argument, in the inverse one the name of the function
+-- the expressions of a form, in the order of their faults; in the forward one the parameter denotes the argument, and
+-- in the inverse one the name of the function does
 abbrev pub expressions : List ℕ → WrittenForm → List (Option (List ℕ) × List ℕ)
 expressions name (BodyForm body) = (None, body) ∷ []
 expressions name (FunctionForm parameter form) =
@@ -99,7 +99,7 @@ IsFirstFault [] x = ⊥
 IsFirstFault (e ∷ es) x =
     (parsed e.0 e.1 ≡ Err x) ⊎ (((tree : Syntax) × (parsed e.0 e.1 ≡ Ok tree)) × IsFirstFault es x)
 
--- the tree of an expression, where there is one
+-- the tree of an expression, if there is one
 abbrev pub IsTreeOf : Option (List ℕ) → Option (List ℕ) → Option Syntax → Type 0
 IsTreeOf binder None tree = tree ≡ None
 IsTreeOf binder (Some text) tree = (e : Syntax) × (parsed binder text ≡ Ok e) × (tree ≡ Some e)
@@ -110,7 +110,7 @@ AreTreesOf [] [] = Unit {0}
 AreTreesOf (part ∷ parts) (e ∷ es) = (parsed None part ≡ Ok e) × AreTreesOf parts es
 AreTreesOf _ _ = ⊥
 
--- what is said
+-- definitions
 
 pub record IsSaidOf (name parameter : List ℕ) (form : Form) (f : FunctionDef) : Type 0 where
   pub in_unit : IsTreeOf None (in_unit_text form.options.units) f.in_unit
@@ -120,7 +120,7 @@ pub record IsSaidOf (name parameter : List ℕ) (form : Form) (f : FunctionDef) 
   pub forward : parsed (Some parameter) form.forward ≡ Ok f.forward
   pub inverse : IsTreeOf (Some name) form.inverse f.inverse
 
--- what a form says of a key of this name
+-- the definition that a form gives to a key with this name
 abbrev pub Says : List ℕ → WrittenForm → What → Type 0
 Says name PrimitiveForm Primitive = Unit {0}
 Says name DimensionlessForm Dimensionless = Unit {0}
@@ -131,7 +131,7 @@ Says name (TableForm unit points) (Table t) = (parsed None unit ≡ Ok t.unit) �
 Says name (ListForm parts) (ListOf es) = AreTreesOf parts es
 Says _ _ _ = ⊥
 
--- the line is written so that it gives this key and this entry
+-- the line is written such that it gives this key and this entry
 pub record IsEntry (line : List ℕ) (k : Key) (e : Entry) : Type 0 where
   pub heading : Heading
   pub headed : IsHeaded line heading
@@ -142,8 +142,8 @@ pub record IsEntry (line : List ℕ) (k : Key) (e : Entry) : Type 0 where
   pub written : IsWritten heading.kind heading.text form
   pub says : Says heading.name form e.what
 
--- the first fault of a line: a name that is none, before a form that fits none, before points that
--- are no table, before an expression
+-- the first fault of a line: a bad name precedes a bad form, which precedes points that do not form a table, which
+-- precede an expression
 abbrev pub IsFaultOf : Heading → EntryFault → Type 0
 IsFaultOf h (fault.BadName w) = HasBadName h w
 IsFaultOf h fault.BadForm =
@@ -161,14 +161,14 @@ pub record HasFault (line : List ℕ) (x : EntryFault) : Type 0 where
   pub headed : IsHeaded line heading
   pub is : IsFaultOf heading x
 
--- law: a line gives a key and an entry exactly where it is so written, and a fault exactly where
--- that is its first one
+-- law: a line gives a key and an entry if and only if it is written that way, and a fault if and only if that is its
+-- first one
 abbrev pub EntryLaw : Type 0
 EntryLaw = (line : List ℕ) → has_entry (kind_of line) ≡ true
     → ((k : Key) (e : Entry) → (entry_of line ≡ Ok (k, e)) ↔ IsEntry line k e)
     × ((x : EntryFault) → (entry_of line ≡ Err x) ↔ HasFault line x)
 
--- law: what is written in two ways has one key and one entry, or one fault, and never both
+-- law: a line that can be written in two ways has one key and one entry, or one fault, and never both
 pub record OneEntryLaw : Type 0 where
   pub entries : (line : List ℕ) (k l : Key) (e f : Entry) → IsEntry line k e → IsEntry line l f → (k ≡ l) × (e ≡ f)
   pub faults : (line : List ℕ) (x y : EntryFault) → HasFault line x → HasFault line y → x ≡ y

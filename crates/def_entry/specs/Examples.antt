@@ -1,4 +1,4 @@
--- The keys and entries of a few lines, the faults of others, and the texts of keys and faults, found by hand.
+-- The keys and entries of a few lines, the faults of others, and the texts of keys and faults, worked out by hand.
 use Rattle.std.specs.Prelude.{◌≡◌, ℕ, pos, negsuc, true, List, [], ◌∷◌, Some, None, Result, Ok, Err, codes, map}
 use Rattle.expr_tree.specs.declared.fault.ParseFault.TheVariants.{Syntax as SyntaxFault, NumeralTooLong, NestedTooDeep}
 use Rattle.expr_tree.specs.Syntax.{Syntax, Number, Word, Argument, Juxtaposed, NoMember, Member}
@@ -14,7 +14,7 @@ use Rattle.def_entry.specs.Intervals.{bound}
 use Rattle.def_entry.specs.Keys.{key, key_of, key_text}
 use Rattle.def_entry.specs.Reading.{entry_of}
 
--- a key of this kind and this name, whose entry has this text and says this
+-- the key of this kind and this name, whose entry has this text and this meaning
 abbrev pub gives : Kind → List ℕ → List ℕ → What → Result (Key × Entry) EntryFault
 gives k name text what = Ok (key k name, record { text = text; what = what })
 
@@ -22,7 +22,7 @@ gives k name text what = Ok (key k name, record { text = text; what = what })
 abbrev pub number : ℕ → Syntax
 number n = Number (record { coefficient = n; scale = pos 0 })
 
--- a function of x with an inverse of its own name, from meters that are not negative
+-- a function of x with an inverse by its own name, whose argument is a nonnegative number of meters
 abbrev pub from_meters : What
 from_meters = Function (record {
   in_unit = Some (Word (codes "m"));
@@ -33,7 +33,7 @@ from_meters = Function (record {
   inverse = Some Argument;
 })
 
--- a function without any option
+-- a function without options
 abbrev pub constant : Syntax → What
 constant tree = Function (record {
   in_unit = None;
@@ -51,7 +51,7 @@ short_table = Table (record {
   points = (whole (pos 1), whole (pos 2)) ∷ (whole (pos 3), record { num = negsuc 0; den = 2 }) ∷ [];
 })
 
--- law: keys and entries, one of each form
+-- law: lines with a key and an entry, one for each form
 abbrev pub EntriesLaw : Type 0
 EntriesLaw =
     (entry_of (codes "m !") ≡ gives kind.Unit (codes "m") (codes "!") Primitive)
@@ -69,7 +69,7 @@ EntriesLaw =
     × (entry_of (codes "!unitlist l ft;m")
     ≡ gives kind.List (codes "l") (codes "ft;m") (ListOf (Word (codes "ft") ∷ Word (codes "m") ∷ [])))
 
--- law: faults, the first of those that a line has
+-- law: the faults of lines, each the first fault of its line
 abbrev pub FaultsLaw : Type 0
 FaultsLaw =
     (entry_of (codes "foo2 m") ≡ Err (BadName (codes "foo2")))
@@ -85,7 +85,7 @@ FaultsLaw =
     × (entry_of (codes "!unitlist l m;;s") ≡ Err (Parse (SyntaxFault 0)))
     × (entry_of (codes "a 1e10000 m") ≡ Err (Parse NumeralTooLong))
 
--- keys with their texts
+-- keys and their texts
 abbrev pub keys : List (Key × List ℕ)
 keys =
     (key kind.Unit (codes "m"), codes "m")
@@ -113,7 +113,7 @@ pub record KeysLaw : Type 0 where
   pub read : map (λ row. key_of row.1) keys ≡ map (λ row. Some row.0) keys
   pub refused : map key_of no_keys ≡ map (λ bytes. None) no_keys
 
--- faults with their texts
+-- faults and their texts
 abbrev pub fault_texts : List (EntryFault × List ℕ)
 fault_texts =
     (BadName (codes "foo2"), codes "bad name: foo2")
@@ -123,11 +123,11 @@ fault_texts =
     ∷ (Parse NestedTooDeep, codes "nested too deep")
     ∷ []
 
--- law: each fault has its text
+-- law: each fault has the text that `fault_texts` gives it
 abbrev pub FaultTextsLaw : Type 0
 FaultTextsLaw = map (λ row. entry_fault_text row.0) fault_texts ≡ map (λ row. row.1) fault_texts
 
--- law: all of them
+-- law: all of these examples hold
 pub record ExamplesLaw : Type 0 where
   pub entries : EntriesLaw
   pub faults : FaultsLaw

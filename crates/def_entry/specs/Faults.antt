@@ -1,4 +1,4 @@
--- What is told of a line that gives no entry.
+-- The messages for lines without an entry.
 use Rattle.std.specs.Prelude.{◌≡◌, ◌++◌, ℕ, Bool, true, false, List, [], codes, Err}
 use Rattle.std.specs.Fmt.{decimal}
 use Rattle.expr_tree.specs.declared.fault.ParseFault.{ParseFault}
@@ -7,20 +7,20 @@ use Rattle.def_entry.specs.declared.fault.EntryFault.{EntryFault}
 use Rattle.def_entry.specs.declared.fault.EntryFault.TheVariants as entry
 use Rattle.def_entry.specs.Reading.{entry_of}
 
--- the fault is of the line, and no want of memory
+-- the fault is one of the line, not an out-of-memory fault
 abbrev pub is_told : EntryFault → Bool
 is_told entry.OutOfMemory = false
 is_told (entry.Parse parse.OutOfMemory) = false
 is_told _ = true
 
--- what is told of an expression
+-- the message for an expression
 abbrev pub parse_fault_text : ParseFault → List ℕ
 parse_fault_text (parse.Syntax place) = codes "syntax error at " ++ decimal place
 parse_fault_text parse.NumeralTooLong = codes "numeral too long"
 parse_fault_text parse.NestedTooDeep = codes "nested too deep"
 parse_fault_text parse.OutOfMemory = []
 
--- what is told of a line
+-- the message for a line
 abbrev pub entry_fault_text : EntryFault → List ℕ
 entry_fault_text (entry.BadName w) = codes "bad name: " ++ w
 entry_fault_text entry.BadForm = codes "bad definition"
@@ -28,6 +28,6 @@ entry_fault_text entry.BadTable = codes "bad table"
 entry_fault_text (entry.Parse fault) = parse_fault_text fault
 entry_fault_text entry.OutOfMemory = []
 
--- law: a fault that a line has is never want of memory
+-- law: the fault of a line is never an out-of-memory fault
 abbrev pub ToldLaw : Type 0
 ToldLaw = (line : List ℕ) (fault : EntryFault) → entry_of line ≡ Err fault → is_told fault ≡ true

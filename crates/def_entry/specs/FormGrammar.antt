@@ -1,4 +1,4 @@
--- How what a line says of its key is written. Expressions are left aside: a form has their texts.
+-- The grammar of the definition in a line. Expressions are not analysed: a form contains their texts.
 use Rattle.std.specs.Prelude.{◌≡◌, ◌≢◌, ◌⊎◌, ◌++◌, ℕ, List, [], ◌∷◌, true, false, codes, nat_eq, map, Option, Some}
 use Rattle.std.specs.Prelude.{None}
 use Rattle.std.specs.List.{ends_with, join_with_byte, list_all}
@@ -26,12 +26,12 @@ pub data WrittenForm : Type 0 where
   -- part { ";" part }
   ListForm : List (List ℕ) → WrittenForm
 
--- a bracket, what is in it, the first byte that closes it, and what is behind that
+-- a bracket, the text in it up to the first byte that closes it, and the text after that
 pub record IsBracketed (open_byte close_byte : ℕ) (text inside behind : List ℕ) : Type 0 where
   pub spelled : text ≡ open_byte ∷ (inside ++ (close_byte ∷ behind))
   pub clear : lacks close_byte inside ≡ true
 
--- a text without the blanks at its ends, where something is left
+-- a text without the blanks at its ends, which must not be empty
 abbrev pub IsTrimmed : List ℕ → List ℕ → Type 0
 IsTrimmed text bare = (trimmed text ≡ bare) × (bare ≢ [])
 
@@ -80,7 +80,7 @@ pub record AreParts (text : List ℕ) (parts : List (List ℕ)) : Type 0 where
   pub parts_are : parts ≡ map trimmed pieces
   pub some : text ≢ []
 
--- what is written of a key of this kind
+-- the text of a key of this kind has this written form
 abbrev pub IsWritten : Kind → List ℕ → WrittenForm → Type 0
 IsWritten kind.Unit text PrimitiveForm = text ≡ codes "!"
 IsWritten kind.Unit text DimensionlessForm = text ≡ codes "!dimensionless"

@@ -1,4 +1,5 @@
--- The bodies of a function, behind its parameter, as they are computed. FormGrammar says how they are written.
+-- The bodies of a function, which follow its parameter, as they are computed. FormGrammar defines how they are
+-- written.
 use Rattle.std.specs.Prelude.{ℕ, List, [], ◌∷◌, Option, Some, None}
 use Rattle.def_lines.specs.Blanks.{trimmed}
 use Rattle.def_entry.specs.Cuts.{cut_at}
@@ -12,12 +13,12 @@ pub record Form : Type 0 where
   pub forward : List ℕ
   pub inverse : Option (List ℕ)
 
--- a text, but none where it is empty
+-- a text, or `None` if it is empty
 abbrev pub some_text : List ℕ → Option (List ℕ)
 some_text [] = None
 some_text (b ∷ text) = Some (b ∷ text)
 
--- the bodies, by how the first `;` parts them; none of them is empty
+-- the bodies, separated at the first `;`; neither may be empty
 abbrev pub form_parted : Options → Option (List ℕ × List ℕ) → List ℕ → Option Form
 form_parted options None text = do
   forward ← some_text (trimmed text)
@@ -27,7 +28,7 @@ form_parted options (Some parts) text = do
   inverse ← some_text (trimmed parts.1)
   Some (record { options = options; forward = forward; inverse = Some inverse })
 
--- the options, and the bodies behind them
+-- the options, and the bodies after them
 unfoldable pub form_of : List ℕ → Option Form
 form_of text = do
   found ← options_at text

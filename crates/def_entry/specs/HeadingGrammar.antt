@@ -1,4 +1,4 @@
--- How the headings of lines are written.
+-- The grammar of the headings of lines.
 use Rattle.std.specs.Prelude.{◌≡◌, ◌↔◌, ◌==◌, ◌&&◌, ◌||◌, ◌++◌, ℕ, List, [], ◌∷◌, Bool, true, false, not, codes}
 use Rattle.std.specs.List.{list_all}
 use Rattle.units_io.specs.Blanks.{is_blank}
@@ -10,14 +10,14 @@ use Rattle.def_entry.specs.Headings.{Heading, ends_head, ends_in_minus, heading,
 use Rattle.def_entry.specs.Marks.{exclamation, minus_mark, plus_mark}
 use Rattle.def_entry.specs.Reading.{has_entry}
 
--- what is before the name of a definition
+-- the text before the name of a definition
 pub data Lead : Type 0 where
   -- nothing
   NoLead : Lead
   -- "+" blanks
   PlusLead : List ℕ → Lead
 
--- what is before a name, the name, and what is behind it
+-- the text before a name, the name, and the text after it
 pub data WrittenHeading : Type 0 where
   -- lead name, and a text apart from it
   UnitHeading : Lead → List ℕ → List ℕ → WrittenHeading
@@ -41,25 +41,25 @@ bytes (FuncHeading l name behind) = lead l (name ++ behind)
 bytes (ListHeading before between name behind) =
     exclamation ∷ (before ++ (codes "unitlist" ++ (between ++ (name ++ behind))))
 
--- a `!` or a `+` is at the front
+-- the text starts with `!` or `+`
 abbrev pub is_marked : List ℕ → Bool
 is_marked [] = false
 is_marked (b ∷ text) = b == exclamation || b == plus_mark
 
--- blanks are behind a leading `+`, all that are there; and none begins with a mark of its own
+-- a leading `+` is followed by all the blanks after it, and a line without `+` does not start with a mark
 abbrev pub is_lead : Lead → List ℕ → Bool
 is_lead NoLead rest = not (is_marked rest)
 is_lead (PlusLead blanks) rest = list_all is_blank blanks && is_begun rest
 
--- no blank, `(` or `[` stands in the head of a definition
+-- the head of a definition contains no blank, `(` or `[`
 abbrev pub is_head : List ℕ → Bool
 is_head name = list_all (λ b. not (ends_head b)) name
 
--- no blank stands in the name of a list
+-- the name of a list contains no blank
 abbrev pub is_list_name : List ℕ → Bool
 is_list_name name = list_all (λ b. not (is_blank b)) name
 
--- the parts of a heading are such
+-- the parts of a heading are well-formed
 abbrev pub is_heading : WrittenHeading → Bool
 is_heading (UnitHeading l name behind) =
     is_lead l (name ++ behind) && is_head name && stands_apart behind && not (ends_in_minus name)
@@ -74,7 +74,7 @@ is_heading (ListHeading before between name behind) =
     && is_list_name name
     && stands_apart behind
 
--- the heading that is so written
+-- the heading that is written in this way
 abbrev pub heading_of : WrittenHeading → Heading
 heading_of (UnitHeading l name behind) = record { kind = UnitKind; name = name; text = trimmed behind }
 heading_of (PrefixHeading l name behind) = record { kind = Prefix; name = name; text = trimmed behind }
@@ -89,7 +89,7 @@ pub record IsHeaded (line : List ℕ) (h : Heading) : Type 0 where
   pub whole : is_heading written ≡ true
   pub same : h ≡ heading_of written
 
--- law: the heading of a line is the one that it is written with
+-- law: the heading of a line is the one with which it is written
 abbrev pub HeadingLaw : Type 0
 HeadingLaw = (line : List ℕ) (h : Heading) → has_entry (kind_of line) ≡ true
     → (heading line ≡ h) ↔ IsHeaded line h

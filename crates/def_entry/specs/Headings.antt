@@ -1,5 +1,5 @@
--- The head of a line: the kind of its key, its name, and what stands behind that, as they are computed.
--- HeadingGrammar says how they are written.
+-- The head of a line: the kind of its key, its name, and the text after the name, as they are computed. HeadingGrammar
+-- defines how they are written.
 use Rattle.std.specs.Prelude.{◌==◌, ◌||◌, ◌&&◌, ℕ, List, [], ◌∷◌, Bool, true, false, length, drop, nat_lt}
 use Rattle.std.specs.Prelude.{if◌then◌else◌}
 use Rattle.std.specs.List.{before_first}
@@ -11,26 +11,26 @@ use Rattle.def_entry.specs.declared.key.Kind.{Kind}
 use Rattle.def_entry.specs.declared.key.Kind.TheVariants.{Unit as UnitKind, Prefix, Func, List as ListKind}
 use Rattle.def_entry.specs.Marks.{exclamation, minus_mark, open_bracket, open_paren, plus_mark}
 
--- the kind of a line's key, its name, and the text of its entry
+-- the kind of the key of a line, its name, and the text of its entry
 pub record Heading : Type 0 where
   pub kind : Kind
   pub name : List ℕ
   pub text : List ℕ
 
--- the byte `(` or `[`
+-- the byte is `(` or `[`
 abbrev pub is_opening : ℕ → Bool
 is_opening b = b == open_paren || b == open_bracket
 
--- a blank, `(` or `[`
+-- the byte is a blank, `(` or `[`
 abbrev pub ends_head : ℕ → Bool
 ends_head b = is_blank b || is_opening b
 
--- a blank is at the front, or nothing
+-- the text is empty or starts with a blank
 abbrev pub stands_apart : List ℕ → Bool
 stands_apart [] = true
 stands_apart (b ∷ text) = is_blank b
 
--- `(` or `[` is at the front
+-- the text starts with `(` or `[`
 abbrev pub is_opened : List ℕ → Bool
 is_opened [] = false
 is_opened (b ∷ text) = is_opening b
@@ -39,7 +39,7 @@ is_opened (b ∷ text) = is_opening b
 abbrev pub ends_in_minus : List ℕ → Bool
 ends_in_minus head = nat_lt 0 (length head) && last_byte head == minus_mark
 
--- a head, and what stands behind it
+-- the heading of a head and the text after it
 abbrev pub heading_of : List ℕ → List ℕ → Heading
 heading_of head behind =
     if ends_in_minus head && stands_apart behind
@@ -50,18 +50,18 @@ heading_of head behind =
       text = trimmed behind;
     }
 
--- a line that defines a unit, a prefix or a function
+-- the heading of a line that defines a unit, a prefix or a function
 abbrev pub definition_heading : List ℕ → Heading
 definition_heading line =
     let head = before_first ends_head line in heading_of head (drop (length head) line)
 
--- a line that defines a list, by what stands behind its `!`
+-- the heading of a line that defines a list, given the text after its `!`
 abbrev pub list_heading : List ℕ → Heading
 list_heading directive =
     let rest = behind_word (after_blanks directive) in
     record { kind = ListKind; name = first_word rest; text = behind_word rest }
 
--- the head of a line; one leading `+` does not count, nor do the blanks behind it
+-- the head of a line; one leading `+` and the blanks after it are ignored
 unfoldable pub heading : List ℕ → Heading
 heading [] = definition_heading []
 heading (b ∷ line) =

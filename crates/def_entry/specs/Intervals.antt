@@ -11,17 +11,17 @@ use Rattle.def_entry.specs.Marks.{close_bracket, close_paren, comma, open_bracke
 use Rattle.def_entry.specs.Numbers.{number_of}
 use Rattle.def_entry.specs.Steps.{◌>>=◌}
 
--- whether the bracket at the front is `[`, and what stands behind it
+-- whether the bracket at the front is `[`, and the text after it
 abbrev pub opened : List ℕ → Option (Bool × List ℕ)
 opened [] = None
 opened (b ∷ text) =
     if b == open_bracket then Some (true, text) else (if b == open_paren then Some (false, text) else None)
 
--- the byte `]` or `)`
+-- the byte is `]` or `)`
 abbrev pub is_closing : ℕ → Bool
 is_closing b = b == close_bracket || b == close_paren
 
--- what stands before the first `]` or `)`, whether that is `]`, and what stands behind it
+-- the text before the first `]` or `)`, whether that bracket is `]`, and the text after it
 abbrev pub closed : List ℕ → Option (List ℕ × Bool × List ℕ)
 closed text =
     option_map
@@ -32,12 +32,12 @@ closed text =
 abbrev pub bound : Bool → Fraction → Bound
 bound is_in x = record { at = x; closed = is_in }
 
--- a bound, if one stands there; what stands there and is no number is none
+-- a bound, which is absent if the text is empty; there is no result if the text is neither empty nor a number
 abbrev pub bound_in : Bool → List ℕ → Option (Option Bound)
 bound_in is_in [] = Some None
 bound_in is_in (b ∷ text) = option_map (λ x. Some (bound is_in x)) (number_of (b ∷ text))
 
--- the interval at the front, and what stands behind it
+-- the interval at the front, and the text after it
 unfoldable pub interval_at : List ℕ → Option (Span × List ℕ)
 interval_at text = do
   front ← opened text

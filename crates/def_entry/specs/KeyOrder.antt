@@ -1,4 +1,4 @@
--- The order of keys, and their code.
+-- The order of keys, and their encoding.
 use Rattle.std.specs.Prelude.{◌≡◌, ℕ, List, [], ◌∷◌, refl, slice_index_or}
 use Rattle.std.specs.Cmp.{IsTotalOrder}
 use Rattle.std.specs.Cmp.Lexicographic.{slice_cmp}
@@ -10,7 +10,7 @@ use Rattle.def_entry.specs.declared.key.Key.{Key}
 use Rattle.def_entry.specs.declared.key.Kind.{Kind}
 use Rattle.def_entry.specs.declared.key.Kind.TheVariants as kind
 
--- the order of kinds
+-- the position of a kind in the order of kinds
 abbrev pub kind_number : Kind → ℕ
 kind_number kind.Unit = 0
 kind_number kind.Prefix = 1
@@ -20,7 +20,7 @@ kind_number kind.List = 3
 abbrev pub kind_at : ℕ → Kind
 kind_at n = slice_index_or (kind.Unit ∷ kind.Prefix ∷ kind.Func ∷ []) n kind.List
 
--- in byte order of names, and then by kind
+-- the order of keys by the bytes of their names, and then by kind
 abbrev pub key_cmp : Key → Key → Ordering
 key_cmp = then_cmp (on (λ k. k.name) (slice_cmp nat_cmp)) (on (λ k. kind_number k.kind) nat_cmp)
 
@@ -30,13 +30,13 @@ kind_back kind.Prefix = refl
 kind_back kind.Func = refl
 kind_back kind.List = refl
 
--- a kind by its number, and a name
+-- the encoding of a key as the number of its kind and its name
 abbrev pub key_code : Coded Key
 key_code =
     code_by _ (coded× coded_ℕ (coded_list coded_ℕ)) (λ k. (kind_number k.kind, k.name))
     (λ p. record { kind = kind_at p.0; name = p.1 }) (λ k i. record { kind = kind_back k.kind i; name = k.name })
 
--- law: keys are in a total order, in which only equal keys tie
+-- law: the order of keys is total, and only equal keys tie
 pub record KeyOrderLaw : Type 0 where
   pub total : IsTotalOrder key_cmp
   pub exact : (k l : Key) → key_cmp k l ≡ Equal → k ≡ l

@@ -1,4 +1,4 @@
--- Keys, and how they are written.
+-- Keys and their texts.
 use Rattle.std.specs.Prelude.{◌≡◌, ◌≢◌, ◌↔◌, ◌==◌, ◌&&◌, ℕ, ◌-◌, Bool, true, if◌then◌else◌}
 use Rattle.std.specs.Prelude.{List, ◌++◌, length, take, drop, slice_index, codes, Option, Some, None}
 use Rattle.std.specs.Str.{bytes_eq}
@@ -12,11 +12,11 @@ use Rattle.def_entry.specs.Marks.{close_paren, exclamation, minus_mark}
 abbrev pub key : Kind → List ℕ → Key
 key k w = record { kind = k; name = w }
 
--- its name is a name
+-- the name of the key is valid
 abbrev pub IsNamed : Key → Type 0
 IsNamed k = is_name k.name ≡ true
 
--- a name, as a key of this kind is written
+-- the text of a key of this kind with this name
 abbrev pub written : Kind → List ℕ → List ℕ
 written kind.Unit w = w
 written kind.Prefix w = w ++ codes "-"
@@ -27,11 +27,11 @@ written kind.List w = codes "!unitlist " ++ w
 abbrev pub key_text : Key → List ℕ
 key_text k = written k.kind k.name
 
--- the text of no key that has a name
+-- the bytes are not the text of a key with a valid name
 abbrev pub IsNoKey : List ℕ → Type 0
 IsNoKey bytes = (k : Key) → IsNamed k → key_text k ≢ bytes
 
--- the kind of key that the last and the first byte of a text tell
+-- the kind of key that the last and the first byte of a text indicate
 abbrev pub kind_shown : List ℕ → Kind
 kind_shown bytes =
     if last_byte bytes == close_paren then kind.Func
@@ -39,29 +39,29 @@ kind_shown bytes =
     else (if slice_index bytes 0 == exclamation then kind.List
     else kind.Unit))
 
--- what stands in the place of the name in the text of a key of this kind
+-- the part of the text that is the name, if the text is that of a key of this kind
 abbrev pub name_shown : Kind → List ℕ → List ℕ
 name_shown kind.Unit bytes = bytes
 name_shown kind.Prefix bytes = take (length bytes - 1) bytes
 name_shown kind.Func bytes = take (length bytes - 2) bytes
 name_shown kind.List bytes = drop 10 bytes
 
--- the one key whose text the bytes might be
+-- the only key whose text the bytes can be
 abbrev pub key_shown : List ℕ → Key
 key_shown bytes = key (kind_shown bytes) (name_shown (kind_shown bytes) bytes)
 
--- the key has a name, and the bytes are its text
+-- the key has a valid name, and the bytes are its text
 abbrev pub is_key_of : List ℕ → Key → Bool
 is_key_of bytes k = is_name k.name && bytes_eq (key_text k) bytes
 
--- the key whose text the bytes are
+-- the key whose text the bytes are, if there is one
 unfoldable pub key_of : List ℕ → Option Key
 key_of bytes = if is_key_of bytes (key_shown bytes) then Some (key_shown bytes) else None
 
--- law: bytes are read as a key exactly where it has a name and they are its text
+-- law: bytes are read as a key if and only if it has a valid name and they are its text
 abbrev pub KeyOfLaw : Type 0
 KeyOfLaw = (bytes : List ℕ) (k : Key) → (key_of bytes ≡ Some k) ↔ (IsNamed k × (key_text k ≡ bytes))
 
--- law: keys that have names are equal where their texts are
+-- law: keys with valid names are equal if their texts are equal
 abbrev pub OneKeyLaw : Type 0
 OneKeyLaw = (k l : Key) → IsNamed k → IsNamed l → key_text k ≡ key_text l → k ≡ l

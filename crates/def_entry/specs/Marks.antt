@@ -1,4 +1,4 @@
--- The bytes that part a definition line, by their names.
+-- Names for the bytes that separate the parts of a definition line.
 use Rattle.std.specs.Prelude.{ℕ}
 
 -- `!`

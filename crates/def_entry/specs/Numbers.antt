@@ -1,4 +1,4 @@
--- The numbers of tables and intervals: an optional sign, and a numeral or two with `|` between.
+-- The numbers of tables and intervals: an optional sign, and a numeral or two numerals separated by `|`.
 use Rattle.std.specs.Prelude.{◌==◌, ℕ, List, [], ◌∷◌, if◌then◌else◌, Option, Some, None, option_map, Result, Ok, Err}
 use Rattle.std.specs.Result.{result_ok}
 use Rattle.frac128.specs.declared.numeral.NumeralFault.{NumeralFault}
@@ -9,7 +9,7 @@ use Rattle.def_entry.specs.Cuts.{cut_at}
 use Rattle.def_entry.specs.Marks.{bar_mark, minus_mark, plus_mark}
 use Rattle.def_entry.specs.Steps.{◌>>=◌}
 
--- the value of what was read, if it has one
+-- the value of a numeral that was read, if it has one
 abbrev pub value_read : Result Decimal NumeralFault → Option Fraction
 value_read (Ok numeral) = result_ok (value_of numeral)
 value_read (Err fault) = None
@@ -18,14 +18,14 @@ value_read (Err fault) = None
 abbrev pub numeral_value : List ℕ → Option Fraction
 numeral_value bytes = value_read (read bytes)
 
--- the value of two numerals with `|` between
+-- the value of two numerals separated by `|`
 abbrev pub quotient_value : List ℕ → List ℕ → Option Fraction
 quotient_value above below = do
   x ← numeral_value above
   y ← numeral_value below
   result_ok (over x y)
 
--- the value of a number, by how `|` parts it
+-- the value of a number, given its parts before and after `|`
 abbrev pub parted_value : Option (List ℕ × List ℕ) → List ℕ → Option Fraction
 parted_value None text = numeral_value text
 parted_value (Some parts) text = quotient_value parts.0 parts.1

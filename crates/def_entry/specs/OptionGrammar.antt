@@ -1,4 +1,4 @@
--- How the options of a function are written: each at most once, in any order, blanks between.
+-- The grammar of the options of a function: each occurs at most once, in any order, separated by blanks.
 use Rattle.std.specs.Prelude.{◌≡◌, ◌↔◌, ◌||◌, ◌&&◌, ◌++◌, ℕ, List, [], ◌∷◌, Bool, true, not}
 use Rattle.std.specs.Prelude.{codes, drop, nat_eq, if◌then◌else◌, Option, Some, None}
 use Rattle.std.specs.List.{filter_map, list_all, starts_with}
@@ -14,7 +14,7 @@ use Rattle.def_entry.specs.Marks.{close_bracket, close_paren, comma, open_bracke
 use Rattle.def_entry.specs.Options.{Options, Units, options_at}
 use Rattle.def_entry.specs.Steps.{◌>>=◌}
 
--- an interval: its brackets, and what stands in the places of its bounds
+-- an interval: its brackets, and the texts of its bounds
 pub record WrittenInterval : Type 0 where
   pub low_closed : Bool
   pub low : List ℕ
@@ -36,7 +36,7 @@ pub data WrittenOptions : Type 0 where
   NoOption : List ℕ → WrittenOptions
   NextOption : List ℕ → WrittenOption → WrittenOptions → WrittenOptions
 
--- the bytes `[` and `(`, and `]` and `)`
+-- the brackets `[` or `(`, and `]` or `)`
 
 abbrev pub opening : Bool → ℕ
 opening is_closed = if is_closed then open_bracket else open_paren
@@ -44,7 +44,7 @@ opening is_closed = if is_closed then open_bracket else open_paren
 abbrev pub closing : Bool → ℕ
 closing is_closed = if is_closed then close_bracket else close_paren
 
--- the bytes of each, before others
+-- the bytes of each form, followed by other bytes
 
 abbrev pub interval : WrittenInterval → List ℕ → List ℕ
 interval i rest = opening i.low_closed ∷ (i.low ++ (comma ∷ (i.high ++ (closing i.high_closed ∷ rest))))
@@ -60,20 +60,19 @@ abbrev pub options : WrittenOptions → List ℕ → List ℕ
 options (NoOption blanks) rest = blanks ++ rest
 options (NextOption blanks o os) rest = blanks ++ option o (options os rest)
 
--- the value of an interval; it has none where something else than a number stands in the place of
--- a bound
+-- the value of an interval; there is none if the text of a bound is neither empty nor a number
 abbrev pub span_of : WrittenInterval → Option Span
 span_of i = do
   low ← bound_in i.low_closed (trimmed i.low)
   high ← bound_in i.high_closed (trimmed i.high)
   Some (record { low = low; high = high })
 
--- the low bound runs to the first `,`, the high one to the first bracket behind that
+-- the low bound extends to the first `,`, and the high bound to the first bracket after that
 abbrev pub is_interval : WrittenInterval → Bool
 is_interval i = lacks comma i.low && list_all (λ b. not (is_closing b)) i.high && is_some (span_of i)
 
--- the option is whole, before these bytes: the in unit runs to the first `;`, the out unit to the
--- first `]` behind that, and a blank or the end is behind `noerror`
+-- the option is complete when followed by these bytes: the in unit extends to the first `;`, the out unit to the first
+-- `]` after that, and `noerror` is followed by a blank or by the end
 abbrev pub is_whole : WrittenOption → List ℕ → Bool
 is_whole (UnitsOption in_unit out_unit) rest = lacks semicolon in_unit && lacks close_bracket out_unit
 is_whole (DomainOption i) rest = is_interval i
@@ -85,7 +84,7 @@ are_whole (NoOption blanks) rest = list_all is_blank blanks
 are_whole (NextOption blanks o os) rest =
     list_all is_blank blanks && is_whole o (options os rest) && are_whole os rest
 
--- no further option begins at the front, and no blank is there
+-- the text starts neither with another option nor with a blank
 abbrev pub has_ended : List ℕ → Bool
 has_ended rest =
     not
@@ -95,12 +94,12 @@ has_ended rest =
     || (starts_with nat_eq rest (codes "noerror") && stands_apart (drop 7 rest)))
     && is_begun rest
 
--- the options, one behind another
+-- the options in order, as a list
 abbrev pub in_order : WrittenOptions → List WrittenOption
 in_order (NoOption blanks) = []
 in_order (NextOption blanks o os) = o ∷ in_order os
 
--- what each says of the function
+-- the meaning of each option for the function
 
 abbrev pub units_of : WrittenOption → Option Units
 units_of (UnitsOption in_unit out_unit) =
@@ -119,19 +118,19 @@ abbrev pub no_error_of : WrittenOption → Option Bool
 no_error_of NoErrorOption = Some true
 no_error_of _ = None
 
--- one value at most, as a list
+-- at most one value, as a list
 abbrev pub at_most : {A : Type 0} → Option A → List A
 at_most None = []
 at_most (Some x) = x ∷ []
 
--- each option stands at most once, and says this
+-- each option occurs at most once, and together they have this meaning
 pub record AreStated (os : List WrittenOption) (o : Options) : Type 0 where
   pub units : filter_map units_of os ≡ at_most o.units
   pub domain : filter_map domain_of os ≡ at_most o.domain
   pub range : filter_map range_of os ≡ at_most o.range
   pub no_error : filter_map no_error_of os ≡ at_most (if o.no_error then Some true else None)
 
--- the text is options and what is left of it, and they say this
+-- the text consists of options with this meaning and the rest
 pub record AreOptions (text rest : List ℕ) (o : Options) : Type 0 where
   pub written : WrittenOptions
   pub spelled : text ≡ options written rest
@@ -139,11 +138,11 @@ pub record AreOptions (text rest : List ℕ) (o : Options) : Type 0 where
   pub ended : has_ended rest ≡ true
   pub stated : AreStated (in_order written) o
 
--- law: options are read exactly where they are so written
+-- law: options are read if and only if they are written according to the grammar
 abbrev pub OptionsLaw : Type 0
 OptionsLaw = (text rest : List ℕ) (o : Options) → (options_at text ≡ Some (o, rest)) ↔ AreOptions text rest o
 
--- law: options that change places say the same
+-- law: exchanging two options does not change their meaning
 abbrev pub AnyOrderLaw : Type 0
 AnyOrderLaw = (front : List WrittenOption) (x y : WrittenOption) (back : List WrittenOption) (o : Options)
     → AreStated (front ++ (x ∷ y ∷ back)) o → AreStated (front ++ (y ∷ x ∷ back)) o

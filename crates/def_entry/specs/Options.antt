@@ -1,4 +1,4 @@
--- The options of a function, as they are computed. OptionGrammar says how they are written.
+-- The options of a function, as they are computed. OptionGrammar defines how they are written.
 use Rattle.std.specs.Prelude.{◌&&◌, ℕ, zero, suc, List, Bool, true, false, length, drop, codes, nat_eq, if◌then◌else◌}
 use Rattle.std.specs.Prelude.{Option, Some, None, option_map}
 use Rattle.std.specs.List.{starts_with}
@@ -13,42 +13,42 @@ use Rattle.def_entry.specs.Intervals.{interval_at}
 use Rattle.def_entry.specs.Marks.{close_bracket, open_bracket, semicolon}
 use Rattle.def_entry.specs.Steps.{◌>>=◌}
 
--- the texts of the in unit and of the out unit, each of which may be empty
+-- the texts of the in unit and of the out unit, either of which may be empty
 pub record Units : Type 0 where
   pub in_unit : List ℕ
   pub out_unit : List ℕ
 
--- the options that stand in a line
+-- the options in a line
 pub record Options : Type 0 where
   pub units : Option Units
   pub domain : Option Span
   pub range : Option Span
   pub no_error : Bool
 
--- none of them
+-- the set without options
 abbrev pub no_options : Options
 no_options = record { units = None; domain = None; range = None; no_error = false }
 
--- what each option begins with
+-- the text with which an option starts
 abbrev pub word : Choice → List ℕ
 word UnitsChoice = codes "units="
 word Domain = codes "domain="
 word Range = codes "range="
 word NoError = codes "noerror"
 
--- the text begins with the word of an option
+-- the text starts with the word of an option
 abbrev pub begins_with : Choice → List ℕ → Bool
 begins_with choice text = starts_with nat_eq text (word choice)
 
--- what stands behind the word of an option
+-- the text after the word of an option
 abbrev pub behind : Choice → List ℕ → List ℕ
 behind choice text = drop (length (word choice)) text
 
--- `noerror` is at the front, with a blank or the end behind it
+-- the text starts with `noerror` followed by a blank or by nothing
 abbrev pub begins_with_no_error : List ℕ → Bool
 begins_with_no_error text = begins_with NoError text && stands_apart (behind NoError text)
 
--- the option that begins at the front
+-- the option with which the text starts
 abbrev pub choice_at : List ℕ → Option Choice
 choice_at text =
     if begins_with UnitsChoice text
@@ -58,7 +58,7 @@ choice_at text =
     else (if begins_with_no_error text then Some NoError
     else None)))
 
--- `[A;B]`: A runs to the next `;`, and B from there to the next `]`
+-- the units in `[A;B]` and the text after it: A extends to the first `;`, and B from there to the next `]`
 abbrev pub units_at : List ℕ → Option (Units × List ℕ)
 units_at text = do
   inside ← behind_byte open_bracket text
@@ -66,8 +66,8 @@ units_at text = do
   second ← cut_at close_bracket first.1
   Some (record { in_unit = trimmed first.0; out_unit = trimmed second.0 }, second.1)
 
--- the options with one more, whose value stands at the front, and what stands behind it; none where
--- it has no value, or the same option stood before
+-- the options with one more, whose value is at the front, and the text after it; `None` if it has no value, or if the
+-- option is repeated
 abbrev pub with_choice : Choice → Options → List ℕ → Option (Options × List ℕ)
 with_choice UnitsChoice options text =
     if is_some options.units
@@ -84,11 +84,11 @@ with_choice Range options text =
 with_choice NoError options text =
     if options.no_error then None else Some (record options { no_error = true }, text)
 
--- the most options: one of each kind
+-- the maximum number of options: one of each kind
 abbrev pub most_options : ℕ
 most_options = 4
 
--- the options with the one that begins at the front, if one does, and how they go on behind it
+-- the options with the one with which the text starts, if there is one, and the rest by the continuation
 abbrev pub with_next : (Options → List ℕ → Option (Options × List ℕ)) → Option Choice → Options
     → List ℕ → Option (Options × List ℕ)
 with_next go_on None options text = Some (options, text)
@@ -96,12 +96,12 @@ with_next go_on (Some choice) options text = do
   found ← with_choice choice options (behind choice text)
   go_on found.0 found.1
 
--- the options with those at the front, fewer than n, and what stands behind them
+-- the options with those at the front, fewer than n of them, and the text after them
 unfoldable pub options_from : ℕ → Options → List ℕ → Option (Options × List ℕ)
 options_from zero options text = None
 options_from (suc n) options text =
     let rest = after_blanks text in with_next (options_from n) (choice_at rest) options rest
 
--- the options at the front, blanks passed over, and what stands behind them
+-- the options at the front after any blanks, and the text after them
 abbrev pub options_at : List ℕ → Option (Options × List ℕ)
 options_at text = options_from (suc most_options) no_options text

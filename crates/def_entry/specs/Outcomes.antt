@@ -1,4 +1,4 @@
--- What calls of the program give, and parts that may be faults.
+-- The results of calls of the program, and values that may be faults.
 use Rattle.std.specs.Prelude.{ℕ, List, if◌then◌else◌, Option, Some, None, Result, Ok, Err}
 use Rattle.units_io.specs.Outcomes.{Gives as GivesUnless}
 use Rattle.expr_tree.specs.declared.fault.ParseFault.{ParseFault}
@@ -8,20 +8,20 @@ use Rattle.expr_tree.specs.Syntax.{Syntax}
 use Rattle.def_entry.specs.declared.fault.EntryFault.{EntryFault}
 use Rattle.def_entry.specs.declared.fault.EntryFault.TheVariants.{BadName, Parse, OutOfMemory}
 
--- a call gives what is said, as it is seen, or there is no memory
+-- a call gives the specified result, as it is viewed, or an out-of-memory fault
 abbrev pub Gives : {A B : Type 0} → (A → B) → Result A EntryFault → Result B EntryFault → Type 0
 Gives seen given said = GivesUnless OutOfMemory seen given said
 
--- what some parts give, or a fault where there are none
+-- the value, or a fault if there is none
 abbrev pub or_fault : {A : Type 0} → EntryFault → Option A → Result A EntryFault
 or_fault fault None = Err fault
 or_fault fault (Some x) = Ok x
 
--- a name, or that it is none
+-- a name, or the fault of a bad name
 abbrev pub named : List ℕ → Result (List ℕ) EntryFault
 named w = if is_name w then Ok w else Err (BadName w)
 
--- what the parser gives
+-- the result of the parser
 abbrev pub parsed_entry : Result Syntax ParseFault → Result Syntax EntryFault
 parsed_entry (Ok tree) = Ok tree
 parsed_entry (Err fault) = Err (Parse fault)

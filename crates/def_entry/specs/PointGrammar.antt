@@ -1,4 +1,4 @@
--- How the points of a table are written: pairs of numbers, with an optional comma behind each pair.
+-- The grammar of the points of a table: pairs of numbers, with an optional comma after each pair.
 use Rattle.std.specs.Prelude.{◌≡◌, ◌↔◌, ◌⊎◌, ◌==◌, ◌||◌, ◌&&◌, ◌++◌, ℕ, List, [], ◌∷◌, Bool, true, not, codes, Option}
 use Rattle.std.specs.Prelude.{Some}
 use Rattle.std.specs.List.{list_all}
@@ -12,9 +12,9 @@ use Rattle.def_entry.specs.Numbers.{number_of}
 use Rattle.def_entry.specs.PointLists.{points_of}
 use Rattle.def_entry.specs.Steps.{◌>>=◌}
 
--- what is behind a pair
+-- the text after a pair
 pub data PairEnd : Type 0 where
-  -- nothing: blanks or the end part it from what follows
+  -- nothing: a blank or the end follows the pair
   Apart : PairEnd
   -- blanks ","
   Comma : List ℕ → PairEnd
@@ -24,7 +24,7 @@ pub data WrittenPoints : Type 0 where
   NoPair : List ℕ → WrittenPoints
   NextPair : List ℕ → List ℕ → List ℕ → List ℕ → PairEnd → WrittenPoints → WrittenPoints
 
--- the bytes of each
+-- the bytes of each form
 
 abbrev pub pair_end : PairEnd → List ℕ → List ℕ
 pair_end Apart rest = rest
@@ -34,11 +34,11 @@ abbrev pub points : WrittenPoints → List ℕ
 points (NoPair blanks) = blanks
 points (NextPair before x gap y end rest) = before ++ (x ++ (gap ++ (y ++ pair_end end (points rest))))
 
--- a blank or a comma
+-- the byte is a blank or a comma
 abbrev pub ends_number : ℕ → Bool
 ends_number b = is_blank b || b == comma
 
--- a number runs to the first blank or comma
+-- a number extends to the first blank or comma
 abbrev pub is_number : List ℕ → Bool
 is_number text = list_all (λ b. not (ends_number b)) text && is_some (number_of text)
 
@@ -57,7 +57,7 @@ are_points (NextPair before x gap y end rest) =
     && is_pair_end end (points rest)
     && are_points rest
 
--- two numbers, and the points behind them
+-- two numbers as a point, followed by the points after them
 abbrev pub pair_then : List ℕ → List ℕ → Option (List Point) → Option (List Point)
 pair_then x y found = do
   a ← number_of x
@@ -69,14 +69,14 @@ abbrev pub values : WrittenPoints → Option (List Point)
 values (NoPair blanks) = Some []
 values (NextPair before x gap y end rest) = pair_then x y (values rest)
 
--- the text is pairs, which are these points
+-- the text consists of pairs, which are these points
 pub record ArePairs (text : List ℕ) (list : List Point) : Type 0 where
   pub written : WrittenPoints
   pub spelled : text ≡ points written
   pub whole : are_points written ≡ true
   pub same : values written ≡ Some list
 
--- the same behind `noerror`, which has no effect
+-- the text is `noerror`, which has no effect, followed by pairs, which are these points
 pub record ArePairsBehind (text : List ℕ) (list : List Point) : Type 0 where
   pub blanks : List ℕ
   pub rest : List ℕ
@@ -89,6 +89,6 @@ pub record ArePairsBehind (text : List ℕ) (list : List Point) : Type 0 where
 abbrev pub AreWrittenPoints : List ℕ → List Point → Type 0
 AreWrittenPoints text list = ArePairs text list ⊎ ArePairsBehind text list
 
--- law: points are read exactly where they are so written
+-- law: points are read if and only if they are written according to the grammar
 abbrev pub PointsLaw : Type 0
 PointsLaw = (text : List ℕ) (list : List Point) → (points_of text ≡ Some list) ↔ AreWrittenPoints text list

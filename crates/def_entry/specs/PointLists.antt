@@ -1,4 +1,4 @@
--- The points of a table, as they are computed. PointGrammar says how they are written.
+-- The points of a table, as they are computed. PointGrammar defines how they are written.
 use Rattle.std.specs.Prelude.{◌==◌, ◌++◌, ℕ, List, [], ◌∷◌, Bool, length, nat_le, if◌then◌else◌, Option, Some, None}
 use Rattle.std.specs.List.{slice_split}
 use Rattle.def_lines.specs.Blanks.{after_blanks}
@@ -11,7 +11,7 @@ use Rattle.def_entry.specs.Numbers.{number_of}
 use Rattle.def_entry.specs.Options.{begins_with_no_error, behind}
 use Rattle.def_entry.specs.Steps.{◌>>=◌}
 
--- words as numbers, two and two
+-- the numbers of words, in pairs
 abbrev pub pairs_of : List (List ℕ) → Option (List Point)
 pairs_of [] = Some []
 pairs_of (x ∷ []) = None
@@ -21,13 +21,12 @@ pairs_of (x ∷ y ∷ words) = do
   points ← pairs_of words
   Some ((a, b) ∷ points)
 
--- the same, where at least one pair has to stand
+-- the numbers of words, in pairs, of which there must be at least one
 abbrev pub some_pairs : List (List ℕ) → Option (List Point)
 some_pairs [] = None
 some_pairs (x ∷ words) = pairs_of (x ∷ words)
 
--- the points of what stands between commas: some pairs each time, but behind the last comma perhaps
--- none
+-- the points of the texts between commas: each text has at least one pair, except that the last may have none
 abbrev pub points_between : List (List ℕ) → Option (List Point)
 points_between [] = Some []
 points_between (run ∷ []) = pairs_of (words_of run)
@@ -36,7 +35,7 @@ points_between (run ∷ next ∷ runs) = do
   points ← points_between (next ∷ runs)
   Some (front ++ points)
 
--- the byte `,`
+-- the byte is `,`
 abbrev pub is_comma : ℕ → Bool
 is_comma b = b == comma
 
@@ -48,15 +47,15 @@ behind_no_error text = if begins_with_no_error text then behind NoError text els
 unfoldable pub points_of : List ℕ → Option (List Point)
 points_of text = points_between (slice_split is_comma (behind_no_error (after_blanks text)))
 
--- the most points of a table
+-- the maximum number of points of a table
 abbrev pub most_points : ℕ
 most_points = 1000
 
--- points, but none where they are more than those of any table
+-- the points, or `None` if there are more of them than a table can have
 abbrev pub few : Option (List Point) → Option (List Point)
 few None = None
 few (Some points) = if nat_le (length points) most_points then Some points else None
 
--- those of a table
+-- the points, or `None` if they do not form a table
 abbrev pub table_points : List Point → Option (List Point)
 table_points points = if is_table points then Some points else None

@@ -1,4 +1,4 @@
--- The key and the entry of a line, as they are computed. EntryGrammar says how a line is written that has them.
+-- The key and the entry of a line, as they are computed. EntryGrammar defines how such a line is written.
 use Rattle.std.specs.Prelude.{◌≡◌, ◌↔◌, ◌==◌, ◌-◌, ℕ, List, [], ◌∷◌, Bool, true, false, length, take, codes, nat_eq}
 use Rattle.std.specs.Prelude.{if◌then◌else◌, Option, Some, None, Result, Ok, Err}
 use Rattle.std.specs.List.{ends_with, slice_split}
@@ -23,18 +23,18 @@ use Rattle.def_entry.specs.Keys.{key}
 use Rattle.def_entry.specs.Options.{Units}
 use Rattle.def_entry.specs.PointLists.{points_of, table_points}
 
--- a text that the form wants, which an empty one does not fit
+-- a text, or the fault of a bad form if it is empty
 abbrev pub wanted : List ℕ → Result (List ℕ) EntryFault
 wanted text = or_fault BadForm (some_text text)
 
--- a unit or a prefix by an expression
+-- the definition of a unit or a prefix by an expression
 abbrev pub body_in : List ℕ → Result What EntryFault
 body_in text = do
   body ← wanted text
   tree ← tree_in None body
   Ok (Body tree)
 
--- a unit
+-- the definition of a unit
 abbrev pub unit_in : List ℕ → Result What EntryFault
 unit_in text =
     if bytes_eq text (codes "!")
@@ -46,21 +46,21 @@ abbrev pub without_call : List ℕ → List ℕ
 without_call text =
     if ends_with nat_eq text (codes "()") then take (length text - 2) text else text
 
--- the function of another name
+-- an alias of the function with another name
 abbrev pub alias_in : List ℕ → Result What EntryFault
 alias_in text = do
   target ← wanted (without_call (trimmed text))
   name ← named target
   Ok (Alias name)
 
--- a unit of a function, if its text is not empty
+-- a unit of a function, or `None` if its text is empty
 abbrev pub unit_tree : List ℕ → Result (Option Syntax) EntryFault
 unit_tree [] = Ok None
 unit_tree (b ∷ text) = do
   tree ← tree_in None (b ∷ text)
   Ok (Some tree)
 
--- the in unit and the out unit, where that option stands
+-- the in unit and the out unit, if the line has that option
 abbrev pub units_in : Option Units → Result (Option Syntax × Option Syntax) EntryFault
 units_in None = Ok (None, None)
 units_in (Some units) = do
@@ -68,14 +68,14 @@ units_in (Some units) = do
   out_unit ← unit_tree units.out_unit
   Ok (in_unit, out_unit)
 
--- the inverse, in which the name of the function stands for its argument
+-- the inverse, in which the name of the function denotes its argument
 abbrev pub inverse_in : List ℕ → Option (List ℕ) → Result (Option Syntax) EntryFault
 inverse_in name None = Ok None
 inverse_in name (Some text) = do
   tree ← tree_in (Some name) text
   Ok (Some tree)
 
--- a function of these parts
+-- the function with these parts
 abbrev pub function : Form → Option Syntax × Option Syntax → Syntax → Option Syntax → What
 function form units forward inverse = Function (record {
   in_unit = units.0;
@@ -94,7 +94,7 @@ function_of name parameter form = do
   inverse ← inverse_in name form.inverse
   Ok (function form units forward inverse)
 
--- a function by its parameter, which is empty for an alias, and what stands behind it
+-- a function, given its parameter, which is empty for an alias, and the text after it
 abbrev pub call_in : List ℕ → List ℕ → List ℕ → Result What EntryFault
 call_in name [] behind = alias_in behind
 call_in name (b ∷ bytes) behind = do
@@ -108,7 +108,7 @@ points_in text = do
   points ← or_fault BadTable (points_of text)
   or_fault BadTable (table_points points)
 
--- a table by its unit and what stands behind it
+-- a table, given its unit and the text after it
 abbrev pub table_in : List ℕ → List ℕ → Result What EntryFault
 table_in text behind = do
   unit ← wanted text
@@ -116,25 +116,25 @@ table_in text behind = do
   tree ← tree_in None unit
   Ok (Table (record { unit = tree; points = points }))
 
--- a function, by how `)` parts what stands behind its `(`
+-- a function, given the parts before and after `)` of the text after its `(`
 abbrev pub parted_call : List ℕ → Option (List ℕ × List ℕ) → Result What EntryFault
 parted_call name found = do
   parts ← or_fault BadForm found
   call_in name (trimmed parts.0) parts.1
 
--- a table, by how `]` parts what stands behind its `[`
+-- a table, given the parts before and after `]` of the text after its `[`
 abbrev pub parted_table : Option (List ℕ × List ℕ) → Result What EntryFault
 parted_table found = do
   parts ← or_fault BadForm found
   table_in (trimmed parts.0) parts.1
 
--- a function, whose text begins with `(`, or a table, whose text begins with `[`
+-- a function, whose text starts with `(`, or a table, whose text starts with `[`
 abbrev pub func_in : List ℕ → List ℕ → Result What EntryFault
 func_in name [] = Err BadForm
 func_in name (b ∷ text) =
     if b == open_paren then parted_call name (cut_at close_paren text) else parted_table (cut_at close_bracket text)
 
--- the byte `;`
+-- the byte is `;`
 abbrev pub is_semicolon : ℕ → Bool
 is_semicolon b = b == semicolon
 
@@ -146,32 +146,32 @@ trees_in (part ∷ parts) = do
   trees ← trees_in parts
   Ok (tree ∷ trees)
 
--- a list, whose parts `;` parts
+-- a list, whose parts are separated by `;`
 abbrev pub list_in : List ℕ → Result What EntryFault
 list_in text = do
   parts ← wanted text
   trees ← trees_in (slice_split is_semicolon parts)
   Ok (ListOf trees)
 
--- what a text says of a name of this kind
+-- the definition that a text gives to a name of this kind
 abbrev pub what_in : Kind → List ℕ → List ℕ → Result What EntryFault
 what_in kind.Unit name text = unit_in text
 what_in kind.Prefix name text = body_in text
 what_in kind.Func name text = func_in name text
 what_in kind.List name text = list_in text
 
--- a name that is none is the first fault, but a list without a name has no form
+-- a bad name is the first fault, except that a list without a name is a bad form
 abbrev pub name_in : Kind → List ℕ → Result (List ℕ) EntryFault
 name_in kind.List [] = Err BadForm
 name_in _ name = named name
 
--- what a line says of its key
+-- the definition in a line, given its heading
 unfoldable pub what_of : Heading → Result What EntryFault
 what_of h = do
   name ← name_in h.kind h.name
   what_in h.kind name h.text
 
--- the key and the entry of a heading
+-- the key and the entry in a line, given its heading
 abbrev pub entry_by : Heading → Result (Key × Entry) EntryFault
 entry_by h = do
   what ← what_of h
@@ -181,17 +181,17 @@ entry_by h = do
 abbrev pub entry_of : List ℕ → Result (Key × Entry) EntryFault
 entry_of line = entry_by (heading line)
 
--- lines of these kinds have an entry or a fault of one
+-- lines of this kind have an entry or the fault of an entry
 abbrev pub has_entry : LineKind → Bool
 has_entry Definition = true
 has_entry UnitList = true
 has_entry _ = false
 
--- law: the text of an entry is the one behind the name in the heading of its line
+-- law: the text of an entry is the text after the name in the heading of its line
 abbrev pub EntryTextLaw : Type 0
 EntryTextLaw = (line : List ℕ) (k : Key) (e : Entry) → entry_of line ≡ Ok (k, e) → e.text ≡ entry_text line
 
--- law: two entries of one key that lines give are equal exactly where their texts are
+-- law: two entries for one key that lines give are equal if and only if their texts are equal
 abbrev pub SameTextLaw : Type 0
 SameTextLaw = (k : Key) (line other : List ℕ) (e f : Entry)
     → entry_of line ≡ Ok (k, e) → entry_of other ≡ Ok (k, f) → (e ≡ f) ↔ (e.text ≡ f.text)

@@ -1,4 +1,4 @@
--- One key and another.
+-- Equality of keys.
 use Rattle.std.specs.Prelude.{◌≡◌, ◌↔◌, ◌&&◌, Bool, true, false, List}
 use Rattle.std.specs.List.{list_any}
 use Rattle.std.specs.Str.{bytes_eq}
@@ -13,7 +13,7 @@ is_same_kind kind.Func kind.Func = true
 is_same_kind kind.List kind.List = true
 is_same_kind _ _ = false
 
--- one kind and one name
+-- the keys have the same kind and the same name
 abbrev pub is_same : Key → Key → Bool
 is_same a b = is_same_kind a.kind b.kind && bytes_eq a.name b.name
 
@@ -21,6 +21,6 @@ is_same a b = is_same_kind a.kind b.kind && bytes_eq a.name b.name
 abbrev pub is_among : List Key → Key → Bool
 is_among keys k = list_any (is_same k) keys
 
--- law: keys of one kind and one name are one key
+-- law: keys of the same kind and the same name are equal
 abbrev pub SameKeysLaw : Type 0
 SameKeysLaw = (a b : Key) → (is_same a b ≡ true) ↔ (a ≡ b)

@@ -1,4 +1,4 @@
--- Steps that may give nothing.
+-- Steps that may have no result.
 use Rattle.std.specs.Prelude.{Option, Some, None}
 
 infixl 10 ◌>>=◌

@@ -1,4 +1,4 @@
--- What contracts see of an entry that the program makes.
+-- The view of an entry in contracts.
 use Rattle.std.specs.Prelude.{ℕ, List, option_map}
 use Rattle.expr_tree.specs.Trees.{syntax, trees_of}
 use Rattle.def_entry.specs.declared.entry.Entry.{Entry as MadeEntry}
@@ -32,7 +32,7 @@ what_view (made.Alias target) = Alias target
 what_view (made.Table t) = Table (table_view t.value)
 what_view (made.ListOf parts) = ListOf (trees_of parts)
 
--- the entry that a line gives, by what was read of it
+-- the entry that a line gives, given the definition read from it
 abbrev pub said_by : List ℕ → MadeWhat → Entry
 said_by line what = record { text = entry_text line; what = what_view what }
 

@@ -1,4 +1,4 @@
-//! Copies of what lines say of their keys.
+//! Copies of definitions.
 
 ghost use Rattle.std.specs.Prelude.{◌≡◌, IfOk, option_map};
 ghost use Rattle.expr_tree.specs.Trees.{syntax};
@@ -9,7 +9,7 @@ use expr_tree::Tree;
 use std::alloc::{AllocError, Global};
 
 impl What {
-    /// What is equal. The only error is want of memory.
+    /// Returns a copy of the definition. Fails only if memory runs out.
     pub fn copy(&self, alloc: Global) -> Result<What, AllocError>
         ensures { IfOk result (λ what. what_view what ≡ what_view self.now) }
     {
@@ -32,7 +32,7 @@ impl What {
 }
 
 impl FunctionDef {
-    // A function that is equal.
+    // Returns a copy of the function.
     fn copy(&self, alloc: Global) -> Result<FunctionDef, AllocError>
         ensures { IfOk result (λ function. function_view function ≡ function_view self.now) }
     {
@@ -52,7 +52,7 @@ impl FunctionDef {
 }
 
 impl TableDef {
-    // A table that is equal.
+    // Returns a copy of the table.
     fn copy(&self, alloc: Global) -> Result<TableDef, AllocError>
         ensures { IfOk result (λ table. table_view table ≡ table_view self.now) }
     {
@@ -62,7 +62,7 @@ impl TableDef {
     }
 }
 
-// An equal tree, where there is one.
+// Returns a copy of the tree, if there is one.
 fn copied_tree(alloc: Global, tree: &Option<Tree>) -> Result<Option<Tree>, AllocError>
     ensures { IfOk result (λ copy. option_map syntax copy ≡ option_map syntax tree.now) }
 {

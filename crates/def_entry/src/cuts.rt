@@ -1,4 +1,4 @@
-//! Where the parts of a line end.
+//! Finding the ends of the parts of a line.
 
 ghost use Rattle.std.specs.Prelude.{◌≡◌, ◌==◌, ◌<◌, length, option_map, IfSome};
 ghost use Rattle.std.specs.List.{position};
@@ -6,7 +6,7 @@ ghost use Rattle.std.specs.Option.{option_copied};
 ghost use Rattle.def_entry.specs.Cuts as spec;
 ghost use Rattle.def_entry.specs.Seen.{seen_pair};
 
-// What stands behind the byte that the text begins with.
+// Returns the text after its first byte if that byte is `mark`, and `None` otherwise.
 pub(crate) fn behind_byte(text: &[u8], mark: u8) -> Option<&[u8]>
     ensures { option_copied result ≡ spec.behind_byte mark text.now }
 {
@@ -14,7 +14,7 @@ pub(crate) fn behind_byte(text: &[u8], mark: u8) -> Option<&[u8]>
     if *first == mark { Some(behind) } else { None }
 }
 
-/// What stands before the first such byte, and what stands behind it, or `None` where there is none.
+/// Returns the text before the first `mark` and the text after it, or `None` if there is no `mark`.
 pub fn cut_at(text: &[u8], mark: u8) -> Option<(&[u8], &[u8])>
     ensures { option_map seen_pair result ≡ spec.cut_at mark text.now }
 {
@@ -24,7 +24,7 @@ pub fn cut_at(text: &[u8], mark: u8) -> Option<(&[u8], &[u8])>
     }
 }
 
-// The place of the first such byte.
+// Returns the index of the first `mark`.
 fn place_of(text: &[u8], mark: u8) -> Option<usize>
     ensures is { result ≡ position (λ b. b == mark) text.now }
     ensures within { IfSome result (λ place. place < length text.now) }

@@ -1,4 +1,4 @@
-//! Entries: what definition lines say of their keys.
+//! Entries: the definitions that lines give to their keys.
 
 ghost use Rattle.std.specs.Prelude.{◌≡◌};
 ghost use Rattle.def_entry.specs.Views.{entry_view};
@@ -9,18 +9,18 @@ use frac128::Frac;
 use piecewise::Points;
 use units_io::Text;
 
-/// What a definition line says of its key. The text of an entry is part of its line, and is held with
-/// that alone.
+/// The definition that a line gives to its key. The text of an entry is part of its line, which is the only copy of
+/// it.
 #[derive(Clone, Copy)]
 pub struct Entry<'a> {
     /// The line.
     pub line: &'a [u8],
-    /// What it says.
+    /// The definition.
     pub what: &'a What,
 }
 
 impl<'a> Entry<'a> {
-    /// The line behind the name, or for a prefix behind its `-`, trimmed.
+    /// Returns the trimmed text of the line after the name, or after the `-` that follows the name of a prefix.
     pub fn text(self) -> &'a [u8]
         ensures { result.now ≡ (entry_view self.entry).text }
     {
@@ -28,7 +28,7 @@ impl<'a> Entry<'a> {
     }
 }
 
-/// What a key stands for.
+/// The meaning of a key.
 #[derive(Drop)]
 pub enum What {
     /// A unit that no other unit defines.
@@ -37,56 +37,56 @@ pub enum What {
     Dimensionless,
     /// An expression, for a unit or a prefix.
     Body(Tree),
-    /// A function.
+    /// A function by expressions.
     Function(Box<FunctionDef>),
-    /// The function of another name.
+    /// An alias of the function with this name.
     Alias(Text),
     /// A function by a table of points.
     Table(Box<TableDef>),
-    /// Units into which a quantity is split, in order.
+    /// The units into which a quantity is split, in order.
     ListOf(Trees),
 }
 
 /// A function by expressions.
 #[derive(Drop)]
 pub struct FunctionDef {
-    /// The unit of its argument.
+    /// The unit of the argument.
     pub in_unit: Option<Tree>,
-    /// The unit of its result.
+    /// The unit of the result.
     pub out_unit: Option<Tree>,
-    /// The numbers that it takes, in its in unit.
+    /// The numbers that the function accepts, in its in unit.
     pub domain: Option<Span>,
-    /// The numbers that it gives, in its out unit.
+    /// The numbers that the function returns, in its out unit.
     pub range: Option<Span>,
-    /// Its result, by its argument.
+    /// The result in terms of the argument.
     pub forward: Tree,
-    /// Its argument, by its result.
+    /// The argument in terms of the result.
     pub inverse: Option<Tree>,
 }
 
 /// An interval of numbers.
 #[derive(Clone, Copy, Debug, PartialEq, Eq, Drop)]
 pub struct Span {
-    /// Its lower end, or `None` where it has none.
+    /// The lower end, or `None` if the interval has none.
     pub low: Option<Bound>,
-    /// Its upper end, or `None` where it has none.
+    /// The upper end, or `None` if the interval has none.
     pub high: Option<Bound>,
 }
 
 /// An end of an interval.
 #[derive(Clone, Copy, Debug, PartialEq, Eq, Drop)]
 pub struct Bound {
-    /// The number where the interval ends.
+    /// The number at which the interval ends.
     pub at: Frac,
-    /// Whether that number is in the interval.
+    /// Whether that number belongs to the interval.
     pub closed: bool,
 }
 
 /// A function by a table of points.
 #[derive(Drop)]
 pub struct TableDef {
-    /// The unit of its results.
+    /// The unit of the results.
     pub unit: Tree,
-    /// Its points, the numbers of its results in its unit.
+    /// The points. Their results are numbers in the unit.
     pub points: Points,
 }

@@ -8,7 +8,7 @@ use crate::fault::EntryFault;
 use expr_tree::{ParseFault, Tree, parse_expr};
 use std::alloc::Global;
 
-// The tree of an expression, with or without a binder.
+// Returns the tree of an expression, with or without a binder.
 pub(crate) fn tree_of(alloc: Global, text: &[u8], binder: Option<&[u8]>) -> Result<Tree, EntryFault>
     ensures { Gives syntax result (tree_in (option_copied binder.entry) text.now) }
 {

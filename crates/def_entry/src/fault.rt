@@ -1,21 +1,21 @@
-//! Why a line gives no entry.
+//! The faults of lines without an entry.
 
 use expr_tree::ParseFault;
 use std::alloc::{AllocError, AllocFailed};
 use units_io::Text;
 
-/// Why a line gives no entry.
+/// The reason why a line has no entry.
 #[derive(Drop)]
 pub enum EntryFault {
-    /// This name, parameter or alias target is no name.
+    /// This name, parameter or alias target is not a valid name.
     BadName(Text),
-    /// The line has no form of a definition.
+    /// The line does not have the form of a definition.
     BadForm,
-    /// The points are no table.
+    /// The points do not form a table.
     BadTable,
-    /// An expression has this fault, which is not want of memory.
+    /// An expression has this fault, which is not an out-of-memory fault.
     Parse(ParseFault),
-    /// There is no memory.
+    /// Out of memory.
     OutOfMemory,
 }
 

@@ -1,4 +1,4 @@
-//! What is told of a line that gives no entry.
+//! The messages for lines without an entry.
 
 ghost use Rattle.std.specs.Prelude.{◌≡◌, ◌≢◌, true, IfOk};
 ghost use Rattle.expr_tree.specs.declared.fault.ParseFault.TheVariants as parse;
@@ -10,9 +10,8 @@ use expr_tree::ParseFault;
 use std::alloc::{AllocError, Global};
 use units_io::Text;
 
-/// The fault in words: `bad name: ` and the bytes that are no name, `bad definition`, `bad table`,
-/// `syntax error at ` and the place, `numeral too long`, or `nested too deep`. The only error is
-/// want of memory.
+/// Returns the message of the fault: `bad name: ` and the bytes that are not a name, `bad definition`, `bad table`,
+/// `syntax error at ` and the place, `numeral too long`, or `nested too deep`. Fails only if memory runs out.
 pub fn entry_fault_text(alloc: Global, fault: &EntryFault) -> Result<Text, AllocError>
     requires { spec.is_told fault.now ≡ true }
     ensures { IfOk result (λ text. text ≡ spec.entry_fault_text fault.now) }
@@ -26,8 +25,8 @@ pub fn entry_fault_text(alloc: Global, fault: &EntryFault) -> Result<Text, Alloc
     }
 }
 
-/// The fault of an expression in words: `syntax error at ` and the place, `numeral too long`, or
-/// `nested too deep`. The only error is want of memory.
+/// Returns the message of the fault of an expression: `syntax error at ` and the place, `numeral too long`, or `nested
+/// too deep`. Fails only if memory runs out.
 pub fn parse_fault_text(alloc: Global, fault: ParseFault) -> Result<Text, AllocError>
     requires { fault ≢ parse.OutOfMemory }
     ensures { IfOk result (λ text. text ≡ spec.parse_fault_text fault) }

@@ -1,4 +1,4 @@
-//! The options and the bodies of a function, behind its parameter.
+//! The options and the bodies of a function, which follow its parameter.
 
 ghost use Rattle.std.specs.Prelude.{◌≡◌, option_map};
 ghost use Rattle.std.specs.Option.{option_copied};
@@ -17,8 +17,8 @@ pub(crate) struct Form<'a> {
     pub inverse: Option<&'a [u8]>,
 }
 
-// The options, and the bodies behind them, which the first `;` parts. None where an option is not
-// whole or stands twice, or a body is empty.
+// Returns the options and the bodies after them, which are separated at the first `;`. Returns `None` if an option is
+// incomplete or repeated, or if a body is empty.
 #[tactic(auto, unfolding(crate::specs::Forms::form_of))]
 pub(crate) fn form_of(text: &[u8]) -> Option<Form<'_>>
     ensures { option_map seen_form result ≡ spec.form_of text.now }
@@ -47,7 +47,7 @@ pub(crate) fn form_of(text: &[u8]) -> Option<Form<'_>>
     }
 }
 
-// The text, but none where it is empty.
+// Returns the text, or `None` if it is empty.
 pub(crate) fn some_text(text: &[u8]) -> Option<&[u8]>
     ensures { option_copied result ≡ spec.some_text text.now }
 {

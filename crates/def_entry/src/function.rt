@@ -15,7 +15,7 @@ use crate::options::Units;
 use expr_tree::Tree;
 use std::alloc::Global;
 
-// The function of a form, in whose forward expression the parameter stands for the argument.
+// Returns the function of a form. In its forward expression the parameter denotes the argument.
 pub(crate) fn function_of(
     alloc: Global,
     name: &[u8],
@@ -38,7 +38,7 @@ pub(crate) fn function_of(
     Ok(What::Function(Box::new(alloc, function)?))
 }
 
-// The in unit and the out unit, where that option stands.
+// Returns the in unit and the out unit, if the line has that option.
 fn unit_trees(
     alloc: Global,
     units: Option<Units>,
@@ -53,7 +53,7 @@ fn unit_trees(
     Ok((in_unit, out_unit))
 }
 
-// A unit of a function, if its text is not empty.
+// Returns a unit of a function, or `None` if its text is empty.
 fn unit_tree(alloc: Global, text: &[u8]) -> Result<Option<Tree>, EntryFault>
     ensures { Gives seen_tree result (spec.unit_tree text.now) }
 {
@@ -63,7 +63,7 @@ fn unit_tree(alloc: Global, text: &[u8]) -> Result<Option<Tree>, EntryFault>
     Ok(Some(tree_of(alloc, text, None)?))
 }
 
-// The inverse, in which the name of the function stands for its argument.
+// Returns the inverse, in which the name of the function denotes its argument.
 fn inverse_tree(alloc: Global, name: &[u8], text: Option<&[u8]>) -> Result<Option<Tree>, EntryFault>
     ensures { Gives seen_tree result (spec.inverse_in name.now (option_copied text.entry)) }
 {

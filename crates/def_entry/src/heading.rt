@@ -1,4 +1,4 @@
-//! The head of a line: the kind of its key, its name, and what stands behind that.
+//! The head of a line: the kind of its key, its name, and the text after the name.
 
 ghost use Rattle.std.specs.Prelude.{◌≡◌, ◌≤◌, length};
 ghost use Rattle.std.specs.List.{position_or_len};
@@ -9,7 +9,7 @@ use crate::key::Kind;
 use def_lines::{split_word, trim, trim_front};
 use units_io::{is_blank, prefix_len};
 
-// The kind of a line's key, its name, and the text of its entry.
+// The kind of the key of a line, its name, and the text of its entry.
 #[derive(Clone, Copy)]
 pub(crate) struct Heading<'a> {
     pub kind: Kind,
@@ -17,7 +17,7 @@ pub(crate) struct Heading<'a> {
     pub text: &'a [u8],
 }
 
-// The head of a line. One leading `+` does not count, nor do the blanks behind it.
+// Returns the head of a line. One leading `+` and the blanks after it are ignored.
 #[tactic(auto, unfolding(crate::specs::Headings::heading))]
 pub(crate) fn heading_in(line: &[u8]) -> Heading<'_>
     ensures { seen_heading result ≡ spec.heading line.now }
@@ -29,7 +29,7 @@ pub(crate) fn heading_in(line: &[u8]) -> Heading<'_>
     }
 }
 
-// The head of a line that defines a list, by what stands behind its `!`.
+// Returns the head of a line that defines a list, given the text after its `!`.
 fn list_heading(directive: &[u8]) -> Heading<'_>
     ensures { seen_heading result ≡ spec.list_heading directive.now }
 {
@@ -42,7 +42,7 @@ fn list_heading(directive: &[u8]) -> Heading<'_>
     }
 }
 
-// The head of a line that defines a unit, a prefix or a function.
+// Returns the head of a line that defines a unit, a prefix or a function.
 fn definition_heading(line: &[u8]) -> Heading<'_>
     ensures { seen_heading result ≡ spec.definition_heading line.now }
 {
@@ -50,7 +50,7 @@ fn definition_heading(line: &[u8]) -> Heading<'_>
     heading_of(head, behind)
 }
 
-// The heading by the head and what stands behind it.
+// Returns the heading, given the head and the text after it.
 fn heading_of<'a>(head: &'a [u8], behind: &'a [u8]) -> Heading<'a>
     ensures { seen_heading result ≡ spec.heading_of head.now behind.now }
 {
@@ -74,7 +74,7 @@ fn heading_of<'a>(head: &'a [u8], behind: &'a [u8]) -> Heading<'a>
     }
 }
 
-// The place of the first blank, `(` or `[`, or the length where there is none.
+// Returns the index of the first blank, `(` or `[`, or the length if there is none.
 fn head_len(line: &[u8]) -> usize
     ensures is { result ≡ position_or_len spec.ends_head line.now }
     ensures within { result ≤ length line.now }
@@ -82,28 +82,28 @@ fn head_len(line: &[u8]) -> usize
     prefix_len(line, |byte| !ends_head(byte))
 }
 
-// Whether the byte is a blank, `(` or `[`.
+// Reports whether the byte is a blank, `(` or `[`.
 fn ends_head(byte: u8) -> bool
     ensures { result ≡ spec.ends_head byte }
 {
     is_blank(byte) || is_opening(byte)
 }
 
-// Whether the byte is `(` or `[`.
+// Reports whether the byte is `(` or `[`.
 fn is_opening(byte: u8) -> bool
     ensures { result ≡ spec.is_opening byte }
 {
     byte == b'(' || byte == b'['
 }
 
-// Whether the last byte is `-`.
+// Reports whether the last byte is `-`.
 fn ends_in_minus(head: &[u8]) -> bool
     ensures { result ≡ spec.ends_in_minus head.now }
 {
     !head.is_empty() && head[head.len() - 1] == b'-'
 }
 
-// Whether a blank is at the front, or nothing.
+// Reports whether the text is empty or starts with a blank.
 pub(crate) fn stands_apart(text: &[u8]) -> bool
     ensures { result ≡ spec.stands_apart text.now }
 {
@@ -113,7 +113,7 @@ pub(crate) fn stands_apart(text: &[u8]) -> bool
     }
 }
 
-// Whether `(` or `[` is at the front.
+// Reports whether the text starts with `(` or `[`.
 fn is_opened(text: &[u8]) -> bool
     ensures { result ≡ spec.is_opened text.now }
 {

@@ -10,7 +10,8 @@ use crate::entry::{Bound, Span};
 use crate::number::number;
 use def_lines::trim;
 
-// The parts of a text that a bracket closes: what stands before it, whether it is `]`, and what stands behind it.
+// The parts of a text with a closing bracket: the text before the bracket, whether the bracket is `]`, and the text
+// after it.
 #[derive(Clone, Copy)]
 struct Closing<'a> {
     before: &'a [u8],
@@ -18,7 +19,7 @@ struct Closing<'a> {
     behind: &'a [u8],
 }
 
-// The interval at the front, and what stands behind it.
+// Returns the interval at the front and the text after it.
 #[tactic(auto, unfolding(crate::specs::Intervals::interval_at))]
 pub(crate) fn interval_at(text: &[u8]) -> Option<(Span, &[u8])>
     ensures { option_map seen_behind result ≡ spec.interval_at text.now }
@@ -31,7 +32,7 @@ pub(crate) fn interval_at(text: &[u8]) -> Option<(Span, &[u8])>
     Some((Span { low, high }, end.behind))
 }
 
-// Whether the bracket at the front is `[`, and what stands behind it.
+// Returns whether the bracket at the front is `[`, and the text after it.
 fn opened(text: &[u8]) -> Option<(bool, &[u8])>
     ensures { option_map seen_behind result ≡ spec.opened text.now }
 {
@@ -42,7 +43,7 @@ fn opened(text: &[u8]) -> Option<(bool, &[u8])>
     }
 }
 
-// What stands before the first `]` or `)`, whether that is `]`, and what stands behind it.
+// Returns the text before the first `]` or `)`, whether that bracket is `]`, and the text after it.
 fn closed(text: &[u8]) -> Option<Closing<'_>>
     ensures { option_map seen_closed result ≡ spec.closed text.now }
 {
@@ -56,7 +57,7 @@ fn closed(text: &[u8]) -> Option<Closing<'_>>
     }
 }
 
-// The place of the first `]` or `)`.
+// Returns the index of the first `]` or `)`.
 fn closing_place(text: &[u8]) -> Option<usize>
     ensures is { result ≡ position spec.is_closing text.now }
     ensures within { IfSome result (λ place. place < length text.now) }
@@ -64,14 +65,14 @@ fn closing_place(text: &[u8]) -> Option<usize>
     text.iter().position(|byte| is_closing(*byte))
 }
 
-// Whether the byte is `]` or `)`.
+// Reports whether the byte is `]` or `)`.
 fn is_closing(byte: u8) -> bool
     ensures { result ≡ spec.is_closing byte }
 {
     byte == b']' || byte == b')'
 }
 
-// A bound, if one stands there; none at all where what stands there is no number.
+// Returns the bound, which is absent if the text is empty. Returns `None` if the text is neither empty nor a number.
 fn bound_in(closed: bool, text: &[u8]) -> Option<Option<Bound>>
     ensures { result ≡ spec.bound_in closed text.now }
 {

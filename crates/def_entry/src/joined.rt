@@ -1,11 +1,11 @@
-//! Two texts side by side.
+//! Concatenation of two texts.
 
 ghost use Rattle.std.specs.Prelude.{◌≡◌, ◌++◌, IfOk, OnOk};
 
 use std::alloc::{AllocError, Global};
 use units_io::Text;
 
-// A text of the bytes in front and those behind.
+// Returns the concatenation of two texts.
 pub(crate) fn joined(alloc: Global, front: &[u8], behind: &[u8]) -> Result<Text, AllocError>
     ensures { IfOk result (λ text. text ≡ front.now ++ behind.now) }
 {
@@ -14,7 +14,7 @@ pub(crate) fn joined(alloc: Global, front: &[u8], behind: &[u8]) -> Result<Text,
     Ok(Text::from(bytes))
 }
 
-// Puts two texts, one behind the other, at the end of another.
+// Appends two texts to another, one after the other.
 pub(crate) fn put_joined(text: &mut Vec<u8>, front: &[u8], behind: &[u8]) -> Result<(), AllocError>
     ensures { OnOk result (text.new.items ≡ text.old.items ++ (front.now ++ behind.now)) }
 {

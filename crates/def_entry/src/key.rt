@@ -2,7 +2,7 @@
 
 use units_io::Text;
 
-/// What a key names.
+/// The kind of thing that a key names.
 #[derive(Clone, Copy, Debug, PartialEq, Eq, Drop)]
 pub enum Kind {
     /// A unit.
@@ -15,11 +15,11 @@ pub enum Kind {
     List,
 }
 
-/// What a definition defines.
+/// The name and the kind of a definition.
 #[derive(Drop)]
 pub struct Key {
-    /// What it names.
+    /// The kind of thing that the key names.
     pub kind: Kind,
-    /// Its name, that of a prefix without its `-`.
+    /// The name. That of a prefix has no `-`.
     pub name: Text,
 }

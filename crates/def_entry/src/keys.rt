@@ -1,7 +1,7 @@
-//! A list of keys.
+//! Lists of keys.
 
 use crate::key::Key;
 use units_io::List;
 
-/// A list of keys, in order.
+/// An ordered list of keys.
 pub type Keys = List<Key>;

@@ -11,75 +11,75 @@ ghost use Rattle.def_entry.specs.PointGrammar.{PointsLaw};
 ghost use Rattle.def_entry.specs.Reading.{EntryTextLaw, SameTextLaw};
 ghost use Rattle.def_entry.specs.SameKeys.{SameKeysLaw};
 
-/// A text is read as a key exactly where that key has a name and is written so.
+/// A text is read as a key if and only if that key has a valid name and this text.
 pub fn key_text_law()
     ensures { KeyOfLaw }
 {}
 
-/// Keys that have names have one text only where they are one key.
+/// Keys with valid names have the same text only if they are equal.
 pub fn one_key_law()
     ensures { OneKeyLaw }
 {}
 
-/// Two entries of one key that lines give are equal exactly where their texts are.
+/// Two entries for one key that lines give are equal if and only if their texts are equal.
 pub fn same_text_law()
     ensures { SameTextLaw }
 {}
 
-/// The text of an entry is that behind the name in the heading of its line.
+/// The text of an entry is the text after the name in the heading of its line.
 pub fn entry_text_law()
     ensures { EntryTextLaw }
 {}
 
-/// A fault that a line has is never want of memory.
+/// The fault of a line is never an out-of-memory fault.
 pub fn told_law()
     ensures { ToldLaw }
 {}
 
-/// A few lines have the keys, the entries and the faults that were found by hand, and a few keys and
-/// faults their texts.
+/// A few lines have the keys, the entries and the faults that were found by hand, and a few keys and faults their
+/// texts.
 pub fn examples_law()
     ensures { ExamplesLaw }
 {}
 
-/// The heading of a line is the one that it is written with.
+/// The heading of a line is the one with which it is written.
 pub fn heading_law()
     ensures { HeadingLaw }
 {}
 
-/// Options are read exactly where they are written as the grammar says.
+/// Options are read if and only if they are written according to the grammar.
 pub fn options_law()
     ensures { OptionsLaw }
 {}
 
-/// Points are read exactly where they are written as the grammar says.
+/// Points are read if and only if they are written according to the grammar.
 pub fn points_law()
     ensures { PointsLaw }
 {}
 
-/// Options that change places say the same.
+/// Exchanging two options does not change their meaning.
 pub fn any_order_law()
     ensures { AnyOrderLaw }
 {}
 
-/// Keys of one kind and one name are one key.
+/// Keys of the same kind and the same name are equal.
 pub fn same_keys_law()
     ensures { SameKeysLaw }
 {}
 
-/// Keys are in a total order: the byte order of their names, and then units, prefixes, functions
-/// and lists. Only equal keys tie.
+/// The order of keys is total: they are sorted by the bytes of their names, and then as units, prefixes, functions and
+/// lists. Only equal keys tie.
 pub fn key_order_law()
     ensures { KeyOrderLaw }
 {}
 
-/// A line gives a key and an entry exactly where it is so written, and a fault exactly where that
+/// A line gives a key and an entry if and only if it is written as the grammar says, and a fault if and only if that
 /// is its first one.
 pub fn entry_law()
     ensures { EntryLaw }
 {}
 
-/// What is written in two ways has one key and one entry, or one fault, and never both.
+/// A line that can be written in two ways has one key and one entry, or one fault, and never both.
 pub fn one_entry_law()
     ensures { OneEntryLaw }
 {}

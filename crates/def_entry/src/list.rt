@@ -12,7 +12,7 @@ use def_lines::trim;
 use expr_tree::Trees;
 use std::alloc::Global;
 
-// The trees of the parts, which `;` parts, from left to right.
+// Returns the trees of the parts, which are separated by `;`, from left to right.
 pub(crate) fn part_trees(alloc: Global, text: &[u8]) -> Result<Trees, EntryFault>
     ensures { Gives trees_of result (trees_in (slice_split is_semicolon text.now)) }
 {

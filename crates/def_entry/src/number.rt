@@ -6,8 +6,8 @@ ghost use Rattle.def_entry.specs.Numbers as spec;
 use crate::cuts::cut_at;
 use frac128::{Frac, read_numeral};
 
-// The value of a number: an optional sign, and a numeral or two with `|` between. None where the
-// text is no number, or has no value that fits.
+// Returns the value of a number: an optional sign, and a numeral or two numerals separated by `|`. Returns `None` if
+// the text is not a number or if its value does not fit.
 #[tactic(auto, unfolding(crate::specs::Numbers::number_of))]
 pub(crate) fn number(text: &[u8]) -> Option<Frac>
     ensures { result ≡ spec.number_of text.now }
@@ -19,7 +19,7 @@ pub(crate) fn number(text: &[u8]) -> Option<Frac>
     }
 }
 
-// The value of a number without a sign.
+// Returns the value of a number without a sign.
 fn unsigned_value(text: &[u8]) -> Option<Frac>
     ensures { result ≡ spec.unsigned_value text.now }
 {
@@ -29,7 +29,7 @@ fn unsigned_value(text: &[u8]) -> Option<Frac>
     }
 }
 
-// The value of two numerals with `|` between.
+// Returns the value of two numerals separated by `|`.
 fn quotient_value(above: &[u8], below: &[u8]) -> Option<Frac>
     ensures { result ≡ spec.quotient_value above.now below.now }
 {
@@ -38,7 +38,7 @@ fn quotient_value(above: &[u8], below: &[u8]) -> Option<Frac>
     above.div(&below).ok()
 }
 
-// The value of a numeral.
+// Returns the value of a numeral.
 fn numeral_value(bytes: &[u8]) -> Option<Frac>
     ensures { result ≡ spec.numeral_value bytes.now }
 {

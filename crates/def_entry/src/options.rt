@@ -10,7 +10,7 @@ use crate::heading::stands_apart;
 use crate::interval::interval_at;
 use def_lines::{trim, trim_front};
 
-// The most options: one of each kind.
+// The maximum number of options: one of each kind.
 const MOST_OPTIONS: usize = 4;
 
 // The kind of an option.
@@ -22,14 +22,14 @@ pub(crate) enum Choice {
     NoError,
 }
 
-// The texts of the in unit and of the out unit, each of which may be empty.
+// The texts of the in unit and of the out unit, either of which may be empty.
 #[derive(Clone, Copy)]
 pub(crate) struct Units<'a> {
     pub in_unit: &'a [u8],
     pub out_unit: &'a [u8],
 }
 
-// The options that stand in a line.
+// The options in a line.
 #[derive(Drop)]
 pub(crate) struct Options<'a> {
     pub units: Option<Units<'a>>,
@@ -38,8 +38,8 @@ pub(crate) struct Options<'a> {
     pub no_error: bool,
 }
 
-// The options at the front, blanks passed over, and what stands behind them. None where one has no
-// value, or stands twice.
+// Skips blanks and returns the options at the front and the text after them. Returns `None` if an option has no value
+// or is repeated.
 pub(crate) fn options_at(text: &[u8]) -> Option<(Options<'_>, &[u8])>
     ensures { option_map seen_found result ≡ spec.options_at text.now }
 {
@@ -56,7 +56,7 @@ pub(crate) fn options_at(text: &[u8]) -> Option<(Options<'_>, &[u8])>
 }
 
 impl<'a> Options<'a> {
-    // None of them.
+    // Creates a set without options.
     fn new() -> Options<'a>
         ensures { seen_options result ≡ spec.no_options }
     {
@@ -68,8 +68,8 @@ impl<'a> Options<'a> {
         }
     }
 
-    // Adds one more, whose value stands at the front, and gives what stands behind that. None where
-    // it has no value, or the same option stood before.
+    // Adds an option whose value is at the front of the text, and returns the text after the value. Returns `None` if
+    // the value is missing or if the option is repeated.
     fn add(&mut self, choice: Choice, text: &'a [u8]) -> Option<&'a [u8]>
         ensures { option_map (λ behind. (seen_options self.new, behind.now)) result
             ≡ spec.with_choice choice (seen_options self.old) text.now }
@@ -104,7 +104,7 @@ impl<'a> Options<'a> {
 }
 
 impl Choice {
-    // What the option begins with.
+    // Returns the text with which the option starts.
     fn word(self) -> &'static [u8]
         ensures { result.now ≡ spec.word self }
     {
@@ -116,14 +116,14 @@ impl Choice {
         }
     }
 
-    // Whether the text begins with the word of the option.
+    // Reports whether the text starts with the word of the option.
     fn begins(self, text: &[u8]) -> bool
         ensures { result ≡ spec.begins_with self text.now }
     {
         text.starts_with(self.word())
     }
 
-    // What stands behind the word of the option.
+    // Returns the text after the word of the option.
     pub(crate) fn behind(self, text: &[u8]) -> &[u8]
         requires { spec.begins_with self text.now ≡ true }
         ensures { result.now ≡ spec.behind self text.now }
@@ -132,7 +132,7 @@ impl Choice {
     }
 }
 
-// The option that begins at the front.
+// Returns the option with which the text starts.
 fn choice_at(text: &[u8]) -> Option<Choice>
     ensures { result ≡ spec.choice_at text.now }
 {
@@ -149,14 +149,14 @@ fn choice_at(text: &[u8]) -> Option<Choice>
     }
 }
 
-// Whether `noerror` is at the front, with a blank or the end behind it.
+// Reports whether the text starts with `noerror` followed by a blank or by nothing.
 pub(crate) fn begins_with_no_error(text: &[u8]) -> bool
     ensures { result ≡ spec.begins_with_no_error text.now }
 {
     Choice::NoError.begins(text) && stands_apart(Choice::NoError.behind(text))
 }
 
-// `[A;B]`: A runs to the next `;`, and B from there to the next `]`.
+// Returns the units in `[A;B]` and the text after it: A extends to the first `;`, and B from there to the next `]`.
 fn units_at(text: &[u8]) -> Option<(Units<'_>, &[u8])>
     ensures { option_map seen_units_found result ≡ spec.units_at text.now }
 {

@@ -15,10 +15,10 @@ use frac128::Frac;
 use piecewise::{Points, PointsFault};
 use std::alloc::Global;
 
-// The most points of a table.
+// The maximum number of points of a table.
 const MOST_POINTS: usize = 1_000;
 
-// The table of a list of points.
+// Returns the table of a list of points.
 pub(crate) fn table_points(alloc: Global, text: &[u8]) -> Result<Points, EntryFault>
     ensures { Gives (λ points. points) result (points_in text.now) }
 {
@@ -30,8 +30,8 @@ pub(crate) fn table_points(alloc: Global, text: &[u8]) -> Result<Points, EntryFa
     }
 }
 
-// The points of a list, whose pairs commas may part. `BadTable` where they are more than those of
-// any table: no more is read or kept than decides that.
+// Returns the points of a list, whose pairs may be separated by commas. The error is `BadTable` if there are more
+// points than a table can have. No more points are read or stored than are needed to detect that.
 fn points_of(alloc: Global, text: &[u8]) -> Result<Vec<(Frac, Frac)>, EntryFault>
     ensures { Gives (λ points. points.items) result
         (or_fault EntryFault.BadTable (spec.few (spec.points_of text.now))) }
@@ -46,7 +46,7 @@ fn points_of(alloc: Global, text: &[u8]) -> Result<Vec<(Frac, Frac)>, EntryFault
     Ok(points)
 }
 
-// The text without a leading `noerror`.
+// Returns the text without a leading `noerror`.
 fn behind_no_error(text: &[u8]) -> &[u8]
     ensures { result.now ≡ spec.behind_no_error text.now }
 {
@@ -57,7 +57,7 @@ fn behind_no_error(text: &[u8]) -> &[u8]
     }
 }
 
-// Puts the pairs of numbers in a text, at least one, behind the points.
+// Appends the pairs of numbers in a text, of which there must be at least one, to the points.
 fn push_some_pairs(points: &mut Vec<(Frac, Frac)>, text: &[u8]) -> Result<(), EntryFault>
     requires { length points.old.items ≤ spec.most_points }
     ensures { Gives (λ done. points.new.items) result
@@ -70,7 +70,7 @@ fn push_some_pairs(points: &mut Vec<(Frac, Frac)>, text: &[u8]) -> Result<(), En
     push_pairs(points, text)
 }
 
-// Puts the pairs of numbers in a text behind the points, as long as a table has so many.
+// Appends the pairs of numbers in a text to the points, up to the maximum number of points of a table.
 fn push_pairs(points: &mut Vec<(Frac, Frac)>, text: &[u8]) -> Result<(), EntryFault>
     requires { length points.old.items ≤ spec.most_points }
     ensures { Gives (λ done. points.new.items) result

@@ -16,12 +16,11 @@ use crate::what::what_of;
 use std::alloc::Global;
 use units_io::Text;
 
-/// The key of a line, and what the line says of it, where it is one that `classify` takes for a
-/// definition or a unit list.
+/// Returns the key of a line and its definition, if `classify` takes the line for a definition or a unit list.
 ///
-/// The first fault in this order: `BadName` with the name, the parameter or the alias target that
-/// is no name; `BadForm` where the line has no form of a definition; `BadTable` where the points
-/// are no table; `Parse` with the first fault of its expressions.
+/// The error is the first fault in this order: `BadName` with the name, the parameter or the alias target that is not
+/// a valid name; `BadForm` if the line does not have the form of a definition; `BadTable` if the points do not form a
+/// table; `Parse` with the first fault of its expressions.
 pub fn read_entry(alloc: Global, line: &[u8]) -> Result<(Key, What), EntryFault>
     requires { has_entry (kind_of line.now) ≡ true }
     ensures exact { MatchResult result
@@ -32,7 +31,7 @@ pub fn read_entry(alloc: Global, line: &[u8]) -> Result<(Key, What), EntryFault>
     entry_behind(alloc, &heading_in(line))
 }
 
-// The key of a heading, and what its line says of it.
+// Returns the key of a heading and the definition in its line.
 fn entry_behind(alloc: Global, heading: &Heading) -> Result<(Key, What), EntryFault>
     ensures { Gives (λ made. (made.0, record { text = heading.now.text.now; what = what_view made.1 }))
         result (entry_by (seen_heading heading.now)) }

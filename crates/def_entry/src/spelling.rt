@@ -1,4 +1,4 @@
-//! The texts of keys, written and read.
+//! Writing and reading the texts of keys.
 
 ghost use Rattle.std.specs.Prelude.{◌≡◌, ◌≢◌, ◌⊎◌, ◌++◌, ℕ, List, IfOk, MatchOption, MatchResult, OnOk, Some, None};
 ghost use Rattle.def_entry.specs.Keys as spec;
@@ -10,12 +10,12 @@ use expr_tree::is_name;
 use std::alloc::{AllocError, Global};
 use units_io::Text;
 
-/// Why bytes are not read as a key.
+/// The reason why bytes cannot be read as a key.
 #[derive(Clone, Copy, Debug, PartialEq, Eq)]
 pub enum KeyFault {
-    /// They are the text of no key that has a name.
+    /// The bytes are not the text of a key with a valid name.
     NotKey,
-    /// There is no memory.
+    /// Out of memory.
     OutOfMemory,
 }
 
@@ -30,9 +30,8 @@ impl From<AllocError> for KeyFault {
     }
 }
 
-/// The key as it is written: the name for a unit, with a `-` behind it for a prefix, with `()`
-/// behind it for a function or a table, and with `!unitlist ` before it for a list. The only error
-/// is want of memory.
+/// Returns the text of a key: the name for a unit, the name and `-` for a prefix, the name and `()` for a function or
+/// a table, and `!unitlist ` and the name for a list. Fails only if memory runs out.
 pub fn key_text(alloc: Global, key: &Key) -> Result<Text, AllocError>
     ensures { IfOk result (λ text. text ≡ spec.key_text key.now) }
 {
@@ -41,7 +40,7 @@ pub fn key_text(alloc: Global, key: &Key) -> Result<Text, AllocError>
     Ok(Text::from(text))
 }
 
-/// Puts a key behind a text, as `key_text` writes it. The only error is want of memory.
+/// Appends the text of a key, as `key_text` returns it, to another text. Fails only if memory runs out.
 pub fn put_key(text: &mut Vec<u8>, key: &Key) -> Result<(), AllocError>
     ensures { OnOk result (text.new.items ≡ text.old.items ++ spec.key_text key.now) }
 {
@@ -54,7 +53,7 @@ pub fn put_key(text: &mut Vec<u8>, key: &Key) -> Result<(), AllocError>
     }
 }
 
-/// The key that has a name and is written so. `NotKey` where there is none.
+/// Returns the key with a valid name whose text these bytes are. The error is `NotKey` if there is no such key.
 pub fn read_key(alloc: Global, bytes: &[u8]) -> Result<Key, KeyFault>
     ensures exact { MatchResult result
         (λ key. spec.IsNamed key × (spec.key_text key ≡ bytes.now))
@@ -74,7 +73,7 @@ pub fn read_key(alloc: Global, bytes: &[u8]) -> Result<Key, KeyFault>
     Ok(Key { kind, name })
 }
 
-// The kind of key that the ends of a text tell.
+// Returns the kind of key that the start and the end of a text indicate.
 fn shown_kind(bytes: &[u8]) -> Kind
     ensures { result ≡ spec.kind_shown bytes.now }
 {
@@ -89,7 +88,7 @@ fn shown_kind(bytes: &[u8]) -> Kind
     }
 }
 
-// The name in the text of a key of this kind.
+// Returns the name in the text of a key of this kind.
 fn shown_name(kind: Kind, bytes: &[u8]) -> Option<&[u8]>
     ensures { MatchOption result
         ((w : List ℕ) → spec.written kind w ≢ bytes.now)

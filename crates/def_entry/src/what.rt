@@ -1,4 +1,4 @@
-//! What a line says of its key.
+//! The definitions in lines.
 
 ghost use Rattle.std.specs.Prelude.{◌≡◌};
 ghost use Rattle.std.specs.Option.{option_copied};
@@ -22,7 +22,7 @@ use expr_tree::is_name;
 use std::alloc::Global;
 use units_io::Text;
 
-// What a line says of its key, by its heading.
+// Returns the definition in a line, given its heading.
 #[tactic(auto, unfolding(crate::specs::Reading::what_of))]
 pub(crate) fn what_of(alloc: Global, heading: &Heading) -> Result<What, EntryFault>
     ensures { outcomes.Gives what_view result (spec.what_of (seen_heading heading.now)) }
@@ -37,7 +37,7 @@ pub(crate) fn what_of(alloc: Global, heading: &Heading) -> Result<What, EntryFau
     }
 }
 
-// That the name of a heading is one. A list without a name has no form.
+// Checks that the name of a heading is valid. A list without a name is a bad form.
 fn check_heading(alloc: Global, heading: &Heading) -> Result<(), EntryFault>
     ensures { outcomes.Gives (λ done. heading.now.name.now) result
         (spec.name_in heading.now.kind heading.now.name.now) }
@@ -48,7 +48,7 @@ fn check_heading(alloc: Global, heading: &Heading) -> Result<(), EntryFault>
     }
 }
 
-// That a word is a name.
+// Checks that a word is a valid name.
 pub(crate) fn check_name(alloc: Global, word: &[u8]) -> Result<(), EntryFault>
     ensures { outcomes.Gives (λ done. word.now) result (outcomes.named word.now) }
 {
@@ -58,14 +58,14 @@ pub(crate) fn check_name(alloc: Global, word: &[u8]) -> Result<(), EntryFault>
     Err(EntryFault::BadName(Text::from_bytes(alloc, word)?))
 }
 
-// The text, which the form wants: an empty one does not fit it.
+// Returns the text, or the fault of a bad form if it is empty.
 fn wanted(text: &[u8]) -> Result<&[u8], EntryFault>
     ensures { outcomes.Gives seen_text result (spec.wanted text.now) }
 {
     some_text(text).ok_or(EntryFault::BadForm)
 }
 
-// A unit.
+// Returns the definition of a unit.
 fn unit_of(alloc: Global, text: &[u8]) -> Result<What, EntryFault>
     ensures { outcomes.Gives what_view result (spec.unit_in text.now) }
 {
@@ -78,7 +78,7 @@ fn unit_of(alloc: Global, text: &[u8]) -> Result<What, EntryFault>
     body_of(alloc, text)
 }
 
-// A unit or a prefix by an expression.
+// Returns the definition of a unit or a prefix by an expression.
 fn body_of(alloc: Global, text: &[u8]) -> Result<What, EntryFault>
     ensures { outcomes.Gives what_view result (spec.body_in text.now) }
 {
@@ -86,7 +86,7 @@ fn body_of(alloc: Global, text: &[u8]) -> Result<What, EntryFault>
     Ok(What::Body(tree_of(alloc, body, None)?))
 }
 
-// A function, whose text begins with `(`, or a table, whose text begins with `[`.
+// Returns a function, whose text starts with `(`, or a table, whose text starts with `[`.
 fn func_of(alloc: Global, name: &[u8], text: &[u8]) -> Result<What, EntryFault>
     ensures { outcomes.Gives what_view result (spec.func_in name.now text.now) }
 {
@@ -102,7 +102,7 @@ fn func_of(alloc: Global, name: &[u8], text: &[u8]) -> Result<What, EntryFault>
     }
 }
 
-// A function by its parameter, which is empty for an alias, and what stands behind it.
+// Returns a function, given its parameter, which is empty for an alias, and the text after it.
 fn call_of(alloc: Global, name: &[u8], parameter: &[u8], behind: &[u8]) -> Result<What, EntryFault>
     ensures { outcomes.Gives what_view result (spec.call_in name.now parameter.now behind.now) }
 {
@@ -116,7 +116,7 @@ fn call_of(alloc: Global, name: &[u8], parameter: &[u8], behind: &[u8]) -> Resul
     }
 }
 
-// The function of another name.
+// Returns an alias of another function.
 fn alias_of(alloc: Global, text: &[u8]) -> Result<What, EntryFault>
     ensures { outcomes.Gives what_view result (spec.alias_in text.now) }
 {
@@ -125,7 +125,7 @@ fn alias_of(alloc: Global, text: &[u8]) -> Result<What, EntryFault>
     Ok(What::Alias(Text::from_bytes(alloc, target)?))
 }
 
-// The text without a final `()`.
+// Returns the text without a final `()`.
 fn without_call(text: &[u8]) -> &[u8]
     ensures { result.now ≡ spec.without_call text.now }
 {
@@ -136,7 +136,7 @@ fn without_call(text: &[u8]) -> &[u8]
     }
 }
 
-// A table by its unit and what stands behind it.
+// Returns a table, given its unit and the text after it.
 fn table_of(alloc: Global, text: &[u8], behind: &[u8]) -> Result<What, EntryFault>
     ensures { outcomes.Gives what_view result (spec.table_in text.now behind.now) }
 {
@@ -146,7 +146,7 @@ fn table_of(alloc: Global, text: &[u8], behind: &[u8]) -> Result<What, EntryFaul
     Ok(What::Table(Box::new(alloc, TableDef { unit, points })?))
 }
 
-// A list, whose parts `;` parts.
+// Returns a list, whose parts are separated by `;`.
 fn list_of(alloc: Global, text: &[u8]) -> Result<What, EntryFault>
     ensures { outcomes.Gives what_view result (spec.list_in text.now) }
 {

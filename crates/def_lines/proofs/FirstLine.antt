@@ -1,4 +1,4 @@
--- The first physical line, and those behind it.
+-- The first physical line, and the lines after it.
 use Rattle.std.proofs.Common.{◌≡◌, ◌==◌, ◌<◌, ◌+◌, ◌∷◌, [], ℕ, List, true, false, cond, not, length, take, drop, refl}
 use Rattle.std.proofs.Common.{sym, ap, ◌∙◌}
 use Rattle.std.proofs.Common.{arith, one-add, add-one}
@@ -6,16 +6,16 @@ use Rattle.std.specs.List.{position_or_len}
 use Rattle.std.proofs.lemmas.List.{drop-drop}
 use Rattle.def_lines.specs.Lines.{physical_lines, onto_line}
 
--- the place of the first line feed, or the length where there is none
+-- the index of the first line feed, or the length if there is none
 abbrev place : List ℕ → ℕ
 place bytes = position_or_len (λ x. x == 10) bytes
 
--- a byte that is no line feed is put at the front of the first line
+-- a byte other than a line feed is put in front of the first line
 step : (x : ℕ) (rest : List ℕ) (q : ℕ) → physical_lines rest ≡ take q rest ∷ physical_lines (drop (q + 1) rest)
     → onto_line x (physical_lines rest) ≡ take (1 + q) (x ∷ rest) ∷ physical_lines (drop (1 + q + 1) (x ∷ rest))
 step x rest q ih = rw ih (simp (one-add, add-one))
 
--- the first line is what stands before the first line feed, and the others are the lines of what stands behind it
+-- the first line is the text before the first line feed, and the other lines are those of the text after it
 first : (bytes : List ℕ) → 0 < length bytes
     → physical_lines bytes ≡ take (place bytes) bytes ∷ physical_lines (drop (place bytes + 1) bytes)
 first [] h = absurd (omega arith)
@@ -33,7 +33,7 @@ first (x ∷ y ∷ ys) h =
     ∷ physical_lines (drop (cond (not v) (1 + place (y ∷ ys)) 0 + 1) (x ∷ y ∷ ys)))
     [ true ↦ refl | false ↦ step x (y ∷ ys) (place (y ∷ ys)) ih ]
 
--- by what `split_at` gives
+-- the first line and the others, in terms of the results of `split_at`
 pub parted : (bytes part behind : List ℕ) (at : ℕ) → 0 < length bytes → at ≡ place bytes → part ≡ take at bytes
     → behind ≡ drop at bytes
     → physical_lines bytes ≡ part ∷ physical_lines (drop 1 behind)
@@ -43,14 +43,14 @@ parted bytes part behind at h e p q =
     (ap (λ t. take at bytes ∷ physical_lines t) (sym (drop-drop 1 at bytes))
     ∙ ap (λ t. take at bytes ∷ physical_lines (drop 1 t)) (sym q)))
 
--- the same of bytes that are parted there, where a line feed stands
+-- the first line and the others if the bytes contain a line feed
 pub parted_some : (bytes part behind : List ℕ) (at b : ℕ) (tail : List ℕ) → 0 < length bytes → at ≡ place bytes
     → part ≡ take at bytes
     → behind ≡ drop at bytes → behind ≡ b ∷ tail → physical_lines bytes ≡ part ∷ physical_lines tail
 parted_some bytes part behind at b tail h e p q is = parted bytes part behind at h e p q
     ∙ ap (λ t. part ∷ physical_lines (drop 1 t)) is
 
--- and where none stands
+-- the first line if the bytes contain no line feed
 pub parted_none : (bytes part behind : List ℕ) (at : ℕ) → 0 < length bytes → at ≡ place bytes → part ≡ take at bytes
     → behind ≡ drop at bytes → length behind ≡ 0 → physical_lines bytes ≡ part ∷ physical_lines behind
 parted_none bytes part [] at h e p q none = parted bytes part [] at h e p q

@@ -1,4 +1,4 @@
--- Lines that go on.
+-- Lines that continue.
 use Rattle.std.proofs.Common.{◌≡◌, ◌++◌, ◌∷◌, [], ℕ, List, false, cond, ◌+◌, map, refl, sym, ap, ◌∙◌, append_assoc}
 use Rattle.std.proofs.lemmas.List.{append-nil}
 use Rattle.def_lines.specs.declared.line.Line.{Line}
@@ -6,14 +6,14 @@ use Rattle.def_lines.specs.Blanks.{trimmed}
 use Rattle.def_lines.specs.Lines.{cleaned, continued, ends_with, front, joined, lines_from, physical_lines}
 use Rattle.def_lines.specs.Lines.{trimmed_line}
 
--- what is joined to a line that is joined
+-- joining two texts in turn joins their concatenation
 pub joined-joined : (n m : ℕ) (front text : List ℕ) (lines : List Line)
     → joined n front (joined m text lines) ≡ joined n (front ++ text) lines
 joined-joined n m front text [] = refl
 joined-joined n m front text (line ∷ lines) =
     ap (λ (t : List ℕ). record { number = n; text = t } ∷ lines) (sym (append_assoc front text line.text))
 
--- two texts that are trimmed alike, whatever comes behind, make the same lines
+-- two texts that are trimmed alike, whatever text follows, make the same lines
 pub trimmed-joined : (n : ℕ) (a b : List ℕ) → ((behind : List ℕ) → trimmed (a ++ behind) ≡ trimmed (b ++ behind))
     → (lines : List Line)
     → map trimmed_line (joined n a lines) ≡ map trimmed_line (joined n b lines)
@@ -23,7 +23,7 @@ trimmed-joined n a b same [] =
 trimmed-joined n a b same (line ∷ lines) =
     ap (λ (t : List ℕ). record { number = n; text = t } ∷ map trimmed_line lines) (same line.text)
 
--- a line that these bytes end
+-- the line that ends with these bytes
 pub line-ended : (number : ℕ) (line : Line) (old new bytes : List ℕ) → line.number ≡ number → line.text ≡ trimmed new
     → ((behind : List ℕ) → trimmed (new ++ behind) ≡ trimmed (old ++ (bytes ++ behind)))
     → (more : List Line) → line ∷ map trimmed_line more ≡ trimmed_line (record { number = number; text = old ++ bytes })
@@ -33,7 +33,7 @@ line-ended number line old new bytes named text put more =
     text ∙ ap trimmed (sym (append-nil new)) ∙ put [] ∙ ap (λ t. trimmed (old ++ t)) (append-nil bytes) in
     (λ i. (record { number = named i; text = all i } ∷ map trimmed_line more))
 
--- the logical lines from a physical line on that does not go on
+-- the logical lines from a physical line on that does not continue
 pub lines_from-ended : (number : ℕ) (bytes line behind left : List ℕ)
     → physical_lines bytes ≡ line ∷ physical_lines behind
     → left ≡ cleaned line

@@ -11,17 +11,17 @@ use Rattle.def_lines.specs.Words.{after_word, first_word, is_listed, nonempty, w
 use Rattle.def_lines.proofs.Trimming.{after_blanks-blank, after_blanks-word, empty-nil, is_begun-after_blanks}
 use Rattle.def_lines.proofs.Trimming.{length-after_blanks}
 
--- where the first blank stands
+-- the index of the first blank
 abbrev pub word_end : List ℕ → ℕ
 word_end text = position_or_len is_blank text
 
--- a blank at the front is no word
+-- a leading blank does not change the words
 words_of-blank : (b : ℕ) (text : List ℕ) → is_blank b ≡ true → words_of (b ∷ text) ≡ words_of text
 unfolding words_of
 words_of-blank b text blank =
     ap (λ t. nonempty (cond t ([] ∷ slice_split is_blank text) (onto_first b (slice_split is_blank text)))) blank
 
--- nor are all blanks there
+-- leading blanks do not change the words
 pub words_of-after_blanks : (text : List ℕ) → words_of (after_blanks text) ≡ words_of text
 words_of-after_blanks [] = refl
 words_of-after_blanks (b ∷ text) = go (is_blank b) refl (words_of-after_blanks text)
@@ -31,13 +31,13 @@ words_of-after_blanks (b ∷ text) = go (is_blank b) refl (words_of-after_blanks
     go true e rest = ap words_of (after_blanks-blank b text e) ∙ rest ∙ sym (words_of-blank b text e)
     go false e rest = ap words_of (after_blanks-word b text e)
 
--- what stands before the first blank, and the words behind it
+-- the text before the first blank, and the words after it
 pub record Parted (text : List ℕ) : Type 0 where
   pub behind : List (List ℕ)
   pub pieces : slice_split is_blank text ≡ take (word_end text) text ∷ behind
   pub words : nonempty behind ≡ words_of (after_blanks (drop (word_end text) text))
 
--- each text is parted so
+-- each text is a first part and the words after it
 pub parted : (text : List ℕ) → Parted text
 unfolding words_of
 parted [] = record { behind = []; pieces = refl; words = refl }
@@ -67,7 +67,7 @@ parted (b ∷ text) = go (is_blank b) refl (parted text)
           ∙ ap (λ t. words_of (after_blanks (drop (cond (not t) (1 + word_end text) 0) (b ∷ text)))) (sym e);
     }
 
--- a byte at the front that is no blank
+-- if a text does not start with a blank, its first byte is not one
 front_word : (b : ℕ) (text : List ℕ) → is_begun (b ∷ text) ≡ true → is_blank b ≡ false
 front_word b text begun = go (is_blank b) begun
   where
@@ -75,7 +75,7 @@ front_word b text begun = go (is_blank b) begun
     go true e = cc
     go false e = refl
 
--- the first word ends where the first blank stands
+-- the length of the first word is the index of the first blank
 length-first_word : (text : List ℕ) → length (first_word text) ≡ word_end text
 length-first_word [] = refl
 length-first_word (b ∷ text) = go (is_blank b) refl (length-first_word text)
@@ -90,7 +90,7 @@ length-first_word (b ∷ text) = go (is_blank b) refl (length-first_word text)
         ∙ one-add (word_end text) in
         ap (λ n. length (take n (b ∷ text))) at ∙ ap suc rest ∙ sym at
 
--- the words of a text whose front is no blank: the first, and those behind it
+-- if a text does not start with a blank, its words are the first one and those after it
 pub words_of-first : (b : ℕ) (text : List ℕ) → is_begun (b ∷ text) ≡ true
     → words_of (b ∷ text) ≡ first_word (b ∷ text) ∷ words_of (after_word (b ∷ text))
 unfolding words_of
@@ -104,7 +104,7 @@ words_of-first b text begun =
     ∙ (λ i. sym front i ∷ part.words i)
     ∙ ap (λ n. first_word (b ∷ text) ∷ words_of (after_blanks (drop n (b ∷ text)))) (sym (length-first_word (b ∷ text)))
 
--- what stands behind the first word is no longer than the text
+-- the text after the first word is no longer than the text
 pub length-after_word : (text : List ℕ) → length (after_word text) ≤ length text
 length-after_word text =
     omega (
@@ -113,7 +113,7 @@ length-after_word text =
       length-drop (length (first_word text)) text,
     )
 
--- and shorter, where no blank is at the front
+-- if a text does not start with a blank, the text after its first word is shorter
 pub shorter-after_word : (b : ℕ) (text : List ℕ) → is_begun (b ∷ text) ≡ true
     → length (after_word (b ∷ text)) < length (b ∷ text)
 shorter-after_word b text begun =
@@ -126,27 +126,27 @@ shorter-after_word b text begun =
       length-drop (length (first_word (b ∷ text))) (b ∷ text),
     )
 
--- no blank is at its front
+-- the text after the first word does not start with a blank
 pub is_begun-after_word : (text : List ℕ) → is_begun (after_word text) ≡ true
 is_begun-after_word text = is_begun-after_blanks (drop (length (first_word text)) text)
 
--- blanks at the front change nothing
+-- leading blanks do not change whether a value is listed
 pub is_listed-after_blanks : (text value : List ℕ) → is_listed (after_blanks text) value ≡ is_listed text value
 is_listed-after_blanks text value = ap (λ ws. list_any (λ word. bytes_eq word value) ws) (words_of-after_blanks text)
 
--- nothing is listed in no text
+-- no value is listed in an empty text
 pub is_listed-none : (text value : List ℕ) → (length text == 0) ≡ true → is_listed text value ≡ false
 unfolding words_of
 is_listed-none text value none = ap (λ t. is_listed t value) (empty-nil text none)
 
--- a value is listed where it is the first word, or where it is one behind that
+-- a value is listed if it is the first word or one of the words after it
 pub is_listed-first : (text value : List ℕ) → is_begun text ≡ true → (length text == 0) ≡ false
     → is_listed text value ≡ (bytes_eq (first_word text) value || is_listed (after_word text) value)
 is_listed-first [] value begun some = cc
 is_listed-first (b ∷ text) value begun some =
     ap (λ ws. list_any (λ w. bytes_eq w value) ws) (words_of-first b text begun)
 
--- what stands behind the first word is shorter
+-- the text after the first word is shorter
 pub shorter : (text : List ℕ) → is_begun text ≡ true → (length text == 0) ≡ false
     → length (after_word text) < length text
 shorter [] begun some = cc

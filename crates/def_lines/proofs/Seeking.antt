@@ -1,16 +1,16 @@
--- The place of a byte that a search finds.
+-- The index of a byte that a search finds.
 use Rattle.std.specs.Option.{unwrap_or}
 use Rattle.std.specs.List.{position_or_len}
 use Rattle.std.proofs.Common.{◌≡◌, ◌≤◌, ℕ, Bool, true, false, List, Option, Some, None, length, refl, sym, arith}
 use Rattle.std.proofs.lemmas.List.Sums.{position_or_len_is}
 use Rattle.memchr.specs.Find.{IsFirstByte}
 
--- a test that is not passed
+-- a test that does not hold is false
 not_passed : (answer : Bool) → ¬ (answer ≡ true) → answer ≡ false
 not_passed true h = absurd (h refl)
 not_passed false h = refl
 
--- the first place, or the length where there is none
+-- the search gives the first index, or the length if there is none
 pub first_is : (test : ℕ → Bool) (bytes : List ℕ) (found : Option ℕ) → IsFirstByte test bytes found
     → unwrap_or found (length bytes) ≡ position_or_len test bytes
 first_is test bytes None h =
@@ -20,7 +20,7 @@ first_is test bytes (Some place) h =
     sym (position_or_len_is test bytes place 0 (omega (arith, h.0.high))
     (λ other before. not_passed _ (h.0.before other (omega arith) before)) (λ inside. h.1))
 
--- it is within the bytes, or at their end
+-- the search gives an index within the bytes, or their length
 pub first_within : (test : ℕ → Bool) (bytes : List ℕ) (found : Option ℕ) → IsFirstByte test bytes found
     → unwrap_or found (length bytes) ≤ length bytes
 first_within test bytes None h = omega arith

@@ -5,21 +5,21 @@ use Rattle.std.specs.List.{prefix_len}
 use Rattle.def_lines.specs.declared.line.Line.{Line}
 use Rattle.def_lines.specs.Lines.{lines_behind, lines_from, onto_line, physical_lines, shown, trimmed_line}
 
--- how many line feeds are at the front
+-- the number of leading line feeds
 abbrev feeds : List ℕ → ℕ
 feeds bytes = prefix_len (λ b. b == 10) bytes
 
--- the lines behind so many more physical lines are as before but for blank ones
+-- the new lines are the old ones without some blank ones
 pub record AreSkipped (old new : List Line) : Type 0 where
   pub same : shown new ≡ shown old
   pub fewer : length new ≤ length old
 
--- an empty line is a blank one
+-- an empty line is blank and can be skipped
 one_skipped : (number : ℕ) (bytes : List ℕ) (new : List Line) → AreSkipped (lines_behind (number + 1) bytes) new
     → AreSkipped (map trimmed_line (lines_from (number + 1) ([] ∷ physical_lines bytes))) new
 one_skipped number bytes new h = record { same = h.same; fewer = omega (arith, h.fewer) }
 
--- the line feeds at the front of some bytes are lines that are skipped, and each is counted
+-- the leading line feeds are lines that are skipped, and each is counted
 pub feeds_skipped : (bytes : List ℕ) (number : ℕ) → AreSkipped (lines_behind number bytes)
     (lines_behind (number + feeds bytes) (drop (feeds bytes) bytes))
 feeds_skipped [] number = record { same = refl; fewer = omega arith }

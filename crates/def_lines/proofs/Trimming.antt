@@ -1,4 +1,4 @@
--- Blanks at the ends of texts that are put together.
+-- Blanks at the ends of texts that are concatenated.
 use Rattle.std.proofs.Common.{◌≡◌, ◌≤◌, ◌++◌, ◌∷◌, [], ℕ, List, Bool, true, false, cond, not, reverse, length, drop}
 use Rattle.std.proofs.Common.{◌+◌, one-add}
 use Rattle.std.proofs.Common.{if◌then◌else◌, Result, Ok, Err, OnOk, is_ok, ◌==◌, refl, sym, ap, ◌∙◌, arith}
@@ -9,15 +9,15 @@ use Rattle.units_io.specs.Blanks.{is_blank}
 use Rattle.def_lines.specs.Blanks.{after_blanks, before_blanks, trimmed}
 use Rattle.def_lines.specs.Parts.{is_begun}
 
--- a blank at the front is passed over
+-- a leading blank is skipped
 pub after_blanks-blank : (b : ℕ) (bytes : List ℕ) → is_blank b ≡ true → after_blanks (b ∷ bytes) ≡ after_blanks bytes
 after_blanks-blank b bytes blank = ap (λ t. cond t (after_blanks bytes) (b ∷ bytes)) blank
 
--- and no other byte is
+-- a leading byte that is not a blank is not skipped
 pub after_blanks-word : (b : ℕ) (bytes : List ℕ) → is_blank b ≡ false → after_blanks (b ∷ bytes) ≡ b ∷ bytes
 after_blanks-word b bytes word = ap (λ t. cond t (after_blanks bytes) (b ∷ bytes)) word
 
--- the blanks at the front are the longest front of blanks
+-- the leading blanks are the longest prefix of blanks
 pub passed_over : (bytes : List ℕ) → drop (prefix_len is_blank bytes) bytes ≡ after_blanks bytes
 passed_over [] = refl
 passed_over (b ∷ bytes) = go (is_blank b) refl (passed_over bytes)
@@ -31,7 +31,7 @@ passed_over (b ∷ bytes) = go (is_blank b) refl (passed_over bytes)
     go false e rest =
         ap (λ t. drop (cond t (1 + prefix_len is_blank bytes) 0) (b ∷ bytes)) e ∙ sym (after_blanks-word b bytes e)
 
--- nothing is added
+-- skipping blanks does not make a text longer
 pub length-after_blanks : (bytes : List ℕ) → length (after_blanks bytes) ≤ length bytes
 length-after_blanks [] = omega arith
 length-after_blanks (b ∷ bytes) = go (is_blank b) refl (length-after_blanks bytes)
@@ -41,7 +41,7 @@ length-after_blanks (b ∷ bytes) = go (is_blank b) refl (length-after_blanks by
     go true e rest = omega (arith, ap length (after_blanks-blank b bytes e))
     go false e rest = omega (arith, ap length (after_blanks-word b bytes e))
 
--- no blank is at the front of what they leave
+-- a text without leading blanks does not start with a blank
 pub is_begun-after_blanks : (bytes : List ℕ) → is_begun (after_blanks bytes) ≡ true
 is_begun-after_blanks [] = refl
 is_begun-after_blanks (b ∷ bytes) = go (is_blank b) refl (is_begun-after_blanks bytes)
@@ -50,7 +50,7 @@ is_begun-after_blanks (b ∷ bytes) = go (is_blank b) refl (is_begun-after_blank
     go true e rest = ap is_begun (after_blanks-blank b bytes e) ∙ rest
     go false e rest = ap is_begun (after_blanks-word b bytes e) ∙ ap not e
 
--- a byte that is no blank stays at the end
+-- a byte that is not a blank stays at the end
 after_blanks-end_word : (b : ℕ) (bytes : List ℕ) → is_blank b ≡ false
     → after_blanks (bytes ++ b ∷ []) ≡ after_blanks bytes ++ b ∷ []
 after_blanks-end_word b [] word = after_blanks-word b [] word
@@ -63,7 +63,7 @@ after_blanks-end_word b (c ∷ bytes) word = go (is_blank c) refl (after_blanks-
     go false e rest = after_blanks-word c (bytes ++ b ∷ []) e
         ∙ ap (λ t. t ++ b ∷ []) (sym (after_blanks-word c bytes e))
 
--- a byte that is no blank stays at the front
+-- a byte that is not a blank stays at the front
 pub before_blanks-word : (b : ℕ) (bytes : List ℕ) → is_blank b ≡ false
     → before_blanks (b ∷ bytes) ≡ b ∷ before_blanks bytes
 before_blanks-word b bytes word =
@@ -71,7 +71,7 @@ before_blanks-word b bytes word =
     ∙ ap reverse (after_blanks-end_word b (reverse bytes) word)
     ∙ reverse-append (after_blanks (reverse bytes)) (b ∷ [])
 
--- of a text that begins with no blank only its end is trimmed
+-- if a text does not start with a blank, trimming changes only its end
 pub trimmed-begun : (bytes : List ℕ) → is_begun bytes ≡ true → trimmed bytes ≡ before_blanks bytes
 trimmed-begun [] begun = refl
 trimmed-begun (b ∷ bytes) begun = go (is_blank b) refl
@@ -83,7 +83,7 @@ trimmed-begun (b ∷ bytes) begun = go (is_blank b) refl
         ∙ after_blanks-word b (before_blanks bytes) e
         ∙ sym (before_blanks-word b bytes e)
 
--- what is left before a blank at the end: nothing, or the same
+-- a blank at the end does not change the text left after trimming
 after_blanks-end_blank : (b : ℕ) (bytes : List ℕ) → is_blank b ≡ true
     → after_blanks (reverse (after_blanks (bytes ++ b ∷ []))) ≡ after_blanks (reverse (after_blanks bytes))
 after_blanks-end_blank b [] blank = ap (λ t. after_blanks (reverse t)) (after_blanks-blank b [] blank)
@@ -103,13 +103,13 @@ after_blanks-end_blank b (c ∷ bytes) blank = go (is_blank c) refl (after_blank
         ∙ after_blanks-blank b (reverse (c ∷ bytes)) blank
         ∙ ap (λ t. after_blanks (reverse t)) (sym (after_blanks-word c bytes e))
 
--- a blank at the front does not count
+-- a leading blank does not change the trimmed text
 pub trimmed-blank : (b : ℕ) (bytes : List ℕ) → is_blank b ≡ true → trimmed (b ∷ bytes) ≡ trimmed bytes
 trimmed-blank b bytes blank =
     ap (λ t. after_blanks (reverse (after_blanks t))) (reverse-append (b ∷ []) bytes)
     ∙ after_blanks-end_blank b (reverse bytes) blank
 
--- nor do blanks at the front of a text that goes on
+-- leading blanks of a text that continues do not change the trimmed text
 pub trimmed-after_blanks : (bytes behind : List ℕ) → trimmed (after_blanks bytes ++ behind) ≡ trimmed (bytes ++ behind)
 trimmed-after_blanks [] behind = refl
 trimmed-after_blanks (b ∷ bytes) behind = go (is_blank b) refl (trimmed-after_blanks bytes behind)
@@ -126,7 +126,7 @@ empty-nil [] none = refl
 empty-nil (b ∷ text) none = let e : length (b ∷ text) ≡ 0 =
     (Decides-eqb (length (b ∷ text)) 0).0 none in absurd (omega arith)
 
--- bytes are put behind a text that has none
+-- bytes appended to an empty text lose their leading blanks
 pub put-first : {E : Type 0} (r : Result (Unit {0}) E) (old new part bytes : List ℕ) → (length old == 0) ≡ true
     → part ≡ after_blanks bytes → new ≡ (if is_ok r then old ++ part else old)
     → OnOk r ((behind : List ℕ) → trimmed (new ++ behind) ≡ trimmed (old ++ (bytes ++ behind)))
@@ -137,7 +137,7 @@ put-first (Ok done) old new part bytes none from is = λ behind.
     ∙ ap (λ t. trimmed (t ++ (bytes ++ behind))) (sym (empty-nil old none))
 put-first (Err fault) old new part bytes none from is = tt
 
--- the text begins with no blank then
+-- a text started with such bytes does not start with a blank
 pub is_begun-put-first : (t : Bool) (old new part bytes : List ℕ) → (length old == 0) ≡ true → part ≡ after_blanks bytes
     → new ≡ (if t then old ++ part else old) → is_begun new ≡ true
 is_begun-put-first true old new part bytes none from is =
@@ -145,7 +145,7 @@ is_begun-put-first true old new part bytes none from is =
     ∙ is_begun-after_blanks bytes
 is_begun-put-first false old new part bytes none from is = ap is_begun (is ∙ empty-nil old none)
 
--- nor does one that began with none
+-- appending to a text that does not start with a blank preserves this
 pub is_begun-put : (t : Bool) (old new bytes : List ℕ) → (length old == 0) ≡ false → is_begun old ≡ true
     → new ≡ (if t then old ++ bytes else old) → is_begun new ≡ true
 is_begun-put t [] new bytes some begun is = cc

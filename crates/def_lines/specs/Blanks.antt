@@ -2,12 +2,12 @@
 use Rattle.std.specs.Prelude.{ℕ, List, [], ◌∷◌, reverse, if◌then◌else◌}
 use Rattle.units_io.specs.Blanks.{is_blank}
 
--- a text without the blanks at its front
+-- a text without leading blanks
 abbrev pub after_blanks : List ℕ → List ℕ
 after_blanks [] = []
 after_blanks (b ∷ bytes) = if is_blank b then after_blanks bytes else b ∷ bytes
 
--- a text without the blanks at its end
+-- a text without trailing blanks
 abbrev pub before_blanks : List ℕ → List ℕ
 before_blanks bytes = reverse (after_blanks (reverse bytes))
 

@@ -1,5 +1,5 @@
--- The lines of a few files, the kinds of a few lines and the words of a few texts, found by hand from the rules of the
--- format.
+-- The lines of a few files, the kinds of a few lines and the words of a few texts, worked out by hand from the rules
+-- of the format.
 use Rattle.std.specs.Prelude.{◌≡◌, ℕ, List, [], ◌∷◌, Bool, true, false, codes, map}
 use Rattle.def_lines.specs.declared.line.Line.{Line}
 use Rattle.def_lines.specs.Kinds.{Kind, kind_of, Blank, Definition, Include, Locale, EndLocale, Set, Var, VarNot}
@@ -8,11 +8,11 @@ use Rattle.def_lines.specs.Kinds.{Message, Prompt, UnitList, UnknownDirective, B
 use Rattle.def_lines.specs.Lines.{logical_lines}
 use Rattle.def_lines.specs.Words.{is_listed}
 
--- a line of this number that says this
+-- a line with this number and this text
 abbrev pub at : ℕ → List ℕ → Line
 at number text = record { number = number; text = text }
 
--- files with their lines
+-- files and their lines
 abbrev pub files : List (List ℕ × List Line)
 files =
     (codes "", [])
@@ -36,7 +36,7 @@ files =
     ∷ (codes "a # b\r\n\nc", at 1 (codes "a") ∷ at 2 [] ∷ at 3 (codes "c") ∷ [])
     ∷ []
 
--- lines with their kinds
+-- lines and their kinds
 abbrev pub kinds : List (List ℕ × Kind)
 kinds =
     (codes "", Blank)
@@ -103,14 +103,14 @@ listings =
     ∷ (codes "a b a", (codes "a", true))
     ∷ []
 
--- law: each file has its lines
+-- law: each file has the lines that `files` gives it
 abbrev pub LinesLaw : Type 0
 LinesLaw = map (λ file. logical_lines file.0) files ≡ map (λ file. file.1) files
 
--- law: each line has its kind
+-- law: each line has the kind that `kinds` gives it
 abbrev pub KindsLaw : Type 0
 KindsLaw = map (λ line. kind_of line.0) kinds ≡ map (λ line. line.1) kinds
 
--- law: each value is listed, or is not
+-- law: each value is listed if and only if `listings` says so
 abbrev pub ListingsLaw : Type 0
 ListingsLaw = map (λ row. is_listed row.0 row.1.0) listings ≡ map (λ row. row.1.1) listings

@@ -6,7 +6,7 @@ use Rattle.def_lines.specs.declared.directive.Directive.TheVariants as directive
 use Rattle.def_lines.specs.Blanks.{after_blanks}
 use Rattle.def_lines.specs.Words.{behind_word, first_word, is_empty, is_word}
 
--- what kind of line it is, with its arguments
+-- the kind of a line, with its arguments
 pub data Kind : Type 0 where
   Blank : Kind
   Definition : Kind
@@ -25,7 +25,7 @@ pub data Kind : Type 0 where
   UnknownDirective : Kind
   BadDirective : Kind
 
--- the directives by their words
+-- the words of the directives
 abbrev pub directives : List (List ℕ × Directive)
 directives =
     (codes "include", directive.Include)
@@ -42,25 +42,25 @@ directives =
     ∷ (codes "unitlist", directive.UnitList)
     ∷ []
 
--- what stands beside a word in such a list
+-- the directive of a word in such a list
 abbrev pub beside : List ℕ → List (List ℕ × Directive) → Option Directive
 beside word [] = None
 beside word (d ∷ ds) = if bytes_eq word d.0 then Some d.1 else beside word ds
 
--- an argument of one word
+-- a kind that takes one word
 abbrev pub with_word : (List ℕ → Kind) → List ℕ → Kind
 with_word kind rest = if is_word rest then kind rest else BadDirective
 
--- a word, and one or more behind it
+-- a kind that takes a word and at least one more after it
 abbrev pub with_rest : (List ℕ → List ℕ → Kind) → List ℕ → Kind
 with_rest kind rest =
     if is_empty (behind_word rest) then BadDirective else kind (first_word rest) (behind_word rest)
 
--- no argument
+-- a kind that takes no argument
 abbrev pub alone : Kind → List ℕ → Kind
 alone kind rest = if is_empty rest then kind else BadDirective
 
--- what a directive is with the rest of its line
+-- the kind of a directive with the rest of its line
 abbrev pub with_arguments : Directive → List ℕ → Kind
 with_arguments directive.Include rest = with_word Include rest
 with_arguments directive.Locale rest = with_word Locale rest
@@ -75,12 +75,12 @@ with_arguments directive.Message rest = Message rest
 with_arguments directive.Prompt rest = Prompt
 with_arguments directive.UnitList rest = UnitList
 
--- the same where there is such a directive
+-- the kind of a directive with the rest of its line, if there is such a directive
 abbrev pub directive_kind : Option Directive → List ℕ → Kind
 directive_kind (Some d) rest = with_arguments d rest
 directive_kind None rest = UnknownDirective
 
--- the kind of what stands behind a `!`, the blanks directly behind it passed over
+-- the kind of a line by the text after its `!` and the blanks that follow the `!`
 abbrev pub marked_kind : List ℕ → Kind
 marked_kind text = directive_kind (beside (first_word text) directives) (behind_word text)
 

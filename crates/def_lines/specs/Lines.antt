@@ -5,7 +5,7 @@ use Rattle.def_lines.specs.declared.line.Line.{Line}
 use Rattle.def_lines.specs.Blanks.{after_blanks, before_blanks, trimmed}
 use Rattle.def_lines.specs.Words.{is_empty}
 
--- a byte at the front of the first of some lines
+-- some lines with a byte put in front of the first one
 abbrev pub onto_line : ℕ → List (List ℕ) → List (List ℕ)
 onto_line b [] = (b ∷ []) ∷ []
 onto_line b (line ∷ lines) = (b ∷ line) ∷ lines
@@ -20,7 +20,7 @@ abbrev pub begins_with : ℕ → List ℕ → Bool
 begins_with b [] = false
 begins_with b (x ∷ bytes) = x == b
 
--- all but the first byte
+-- the text without its first byte
 abbrev pub behind_first : List ℕ → List ℕ
 behind_first [] = []
 behind_first (b ∷ bytes) = bytes
@@ -29,38 +29,38 @@ behind_first (b ∷ bytes) = bytes
 abbrev pub ends_with : ℕ → List ℕ → Bool
 ends_with b bytes = begins_with b (reverse bytes)
 
--- all but the last byte
+-- the text without its last byte
 abbrev pub front : List ℕ → List ℕ
 front bytes = reverse (behind_first (reverse bytes))
 
--- what stands before the first such byte, or all where there is none
+-- the text before the first such byte, or all of it if there is none
 abbrev pub before_byte : ℕ → List ℕ → List ℕ
 before_byte b bytes = before_first (λ x. x == b) bytes
 
--- a physical line without a final carriage return, then without `#` and what follows, then
--- without trailing blanks
+-- a physical line without a final carriage return, then without `#` and the text after it, then without trailing
+-- blanks
 abbrev pub cleaned : List ℕ → List ℕ
 cleaned line = before_blanks (before_byte 35 (if ends_with 13 line then front line else line))
 
--- the content of a line that stands by itself: cleaned, and without blanks at the front
+-- the content of a line on its own: cleaned, and without leading blanks
 unfoldable pub line_content : List ℕ → List ℕ
 line_content line = after_blanks (cleaned line)
 
--- a text at the front of the first of some lines, which takes this number, or alone where there
--- is none
+-- some lines with a text put in front of the first one, which also gets this number; if there are no lines, the text
+-- is a line of its own
 abbrev pub joined : ℕ → List ℕ → List Line → List Line
 joined number text [] = record { number = number; text = text } ∷ []
 joined number text (line ∷ lines) = record { number = number; text = text ++ line.text } ∷ lines
 
--- what is left of a physical line before the lines behind it: where it ends in `\`, that is one
--- space and the next line is joined
+-- the rest of a physical line followed by the lines after it: if the rest ends in `\`, the `\` is replaced by a space
+-- and the next line is joined
 abbrev pub continued : ℕ → List ℕ → List Line → List Line
 continued number text lines =
     if ends_with 92 text
     then joined number (front text ++ 32 ∷ []) lines
     else record { number = number; text = text } ∷ lines
 
--- the lines that physical lines make, the first of which has this number
+-- the lines that physical lines make, if the first of them has this number
 abbrev pub lines_from : ℕ → List (List ℕ) → List Line
 lines_from number [] = []
 lines_from number (line ∷ lines) = continued number (cleaned line) (lines_from (number + 1) lines)
@@ -69,7 +69,7 @@ lines_from number (line ∷ lines) = continued number (cleaned line) (lines_from
 abbrev pub trimmed_line : Line → Line
 trimmed_line line = record { number = line.number; text = trimmed line.text }
 
--- the logical lines of bytes that stand behind so many physical lines
+-- the logical lines of bytes that follow this many physical lines
 abbrev pub lines_behind : ℕ → List ℕ → List Line
 lines_behind count bytes = map trimmed_line (lines_from (count + 1) (physical_lines bytes))
 
@@ -81,6 +81,6 @@ logical_lines bytes = lines_behind 0 bytes
 abbrev pub is_shown : Line → Bool
 is_shown line = not (is_empty line.text)
 
--- those of some lines that are not blank
+-- the lines that are not blank
 abbrev pub shown : List Line → List Line
 shown lines = filter is_shown lines

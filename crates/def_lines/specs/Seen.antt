@@ -1,4 +1,4 @@
--- What contracts see of the kind of a line.
+-- The view of the kind of a line in contracts.
 use Rattle.def_lines.specs.declared.kind.LineKind.{LineKind}
 use Rattle.def_lines.specs.declared.kind.LineKind.TheVariants as line
 use Rattle.def_lines.specs.Kinds.{Kind}

@@ -1,38 +1,38 @@
--- The words of a text, which blanks part.
+-- The words of a text, which are separated by blanks.
 use Rattle.std.specs.Prelude.{◌&&◌, ℕ, List, [], ◌∷◌, Bool, true, false, not, length, drop}
 use Rattle.std.specs.List.{before_first, list_any, slice_split}
 use Rattle.std.specs.Str.{bytes_eq}
 use Rattle.units_io.specs.Blanks.{is_blank}
 use Rattle.def_lines.specs.Blanks.{after_blanks, trimmed}
 
--- those of some texts that have a byte
+-- the texts that are not empty
 abbrev pub nonempty : List (List ℕ) → List (List ℕ)
 nonempty [] = []
 nonempty ([] ∷ texts) = nonempty texts
 nonempty ((b ∷ bytes) ∷ texts) = (b ∷ bytes) ∷ nonempty texts
 
--- the words: what stands between blanks
+-- the words: the nonempty texts between blanks
 unfoldable pub words_of : List ℕ → List (List ℕ)
 words_of text = nonempty (slice_split is_blank text)
 
--- what stands before the first blank, or all where there is none
+-- the text before the first blank, or all of it if there is none
 abbrev pub first_word : List ℕ → List ℕ
 first_word text = before_first is_blank text
 
--- what stands behind that, without the blanks at its front
+-- the text after the first word, without leading blanks
 abbrev pub after_word : List ℕ → List ℕ
 after_word text = after_blanks (drop (length (first_word text)) text)
 
--- what stands behind that, trimmed
+-- the text after the first word, trimmed
 abbrev pub behind_word : List ℕ → List ℕ
 behind_word text = trimmed (drop (length (first_word text)) text)
 
--- a text of no byte
+-- the text is empty
 abbrev pub is_empty : List ℕ → Bool
 is_empty [] = true
 is_empty (b ∷ bytes) = false
 
--- a word and nothing else
+-- the text is a single word
 abbrev pub is_word : List ℕ → Bool
 is_word text = not (is_empty text) && not (list_any is_blank text)
 

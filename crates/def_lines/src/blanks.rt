@@ -6,14 +6,14 @@ ghost use Rattle.def_lines.specs.Blanks.{after_blanks, before_blanks, trimmed};
 
 use units_io::{is_blank, prefix_len};
 
-/// The text without the blanks at both ends.
+/// Returns the text without the blanks at both ends.
 pub fn trim(text: &[u8]) -> &[u8]
     ensures { result.now ≡ trimmed text.now }
 {
     trim_front(trim_end(text))
 }
 
-/// The text without the blanks at its front.
+/// Returns the text without leading blanks.
 #[tactic(auto, using(crate::proofs::Trimming::passed_over))]
 pub fn trim_front(text: &[u8]) -> &[u8]
     ensures { result.now ≡ after_blanks text.now }
@@ -22,7 +22,7 @@ pub fn trim_front(text: &[u8]) -> &[u8]
     rest
 }
 
-// How many blanks are at the front of the text.
+// Returns the number of leading blanks.
 fn blank_len(text: &[u8]) -> usize
     ensures is { result ≡ lists.prefix_len blanks.is_blank text.now }
     ensures within { result ≤ length text.now }
@@ -30,14 +30,14 @@ fn blank_len(text: &[u8]) -> usize
     prefix_len(text, |byte| is_blank(byte))
 }
 
-// The text without the blanks at its end.
+// Returns the text without trailing blanks.
 pub(crate) fn trim_end(text: &[u8]) -> &[u8]
     ensures { result.now ≡ before_blanks text.now }
 {
     &text[..kept_len(text)]
 }
 
-// How long the text is without the blanks at its end.
+// Returns the length of the text without its trailing blanks.
 pub(crate) fn kept_len(text: &[u8]) -> usize
     ensures is { take result text.now ≡ before_blanks text.now }
     ensures within { result ≤ length text.now }

@@ -1,4 +1,4 @@
-//! The logical lines of a file, taken one by one.
+//! Iteration over the logical lines of a file.
 ghost use Rattle.std.specs.Prelude.{◌≡◌, ◌≤◌, ◌+◌, ◌++◌, ◌∷◌, [], List, IfOk, OnErr, length, map};
 ghost use Rattle.std.specs.Map.Iter.{TakesFirst};
 ghost use Rattle.def_lines.specs.Lines.{joined, lines_behind, lines_from, logical_lines, physical_lines, shown};
@@ -10,7 +10,7 @@ use crate::physical::{clean, line_feed_count, next_line, strip_last};
 use std::alloc::{AllocError, Global};
 use std::marker::Model;
 
-/// The logical lines of a file that are left, which are taken from the front. Contracts see them as a list.
+/// The remaining logical lines of a file, which are taken from the front. Contracts see them as a list.
 #[derive(Drop)]
 pub struct Cursor<'a> {
     rest: &'a [u8],
@@ -31,10 +31,10 @@ impl<'a> Model for Cursor<'a> {
 }
 
 impl<'a> Cursor<'a> {
-    /// All logical lines of a file of at most 16,777,216 bytes, blank ones too. A line ends at a line
-    /// feed or at the end of the file. A final carriage return is dropped, then `#` and what follows,
-    /// then trailing blanks. Where the rest ends in `\`, that is replaced by a space and the next line
-    /// is joined. The number is that of the first physical line, from 1.
+    /// Creates a cursor over all logical lines of a file of at most 16,777,216 bytes, including blank ones. A physical
+    /// line ends at a line feed or at the end of the file. A final carriage return is removed, then `#` and the text
+    /// after it, then trailing blanks. If the rest ends in `\`, the `\` is replaced by a space and the next line is
+    /// appended. The number of a logical line is that of its first physical line, from 1.
     pub fn new(bytes: &'a [u8]) -> Cursor<'a>
         requires { length bytes.now ≤ 16777216 }
         ensures { result ≡ logical_lines bytes.now }
@@ -45,8 +45,8 @@ impl<'a> Cursor<'a> {
         }
     }
 
-    /// The next line, or `None` where none is left. Only a line that is joined takes memory; where that is
-    /// wanting, no line is taken.
+    /// Returns the next line, or `None` if none is left. Memory is allocated only for a line joined from several
+    /// physical ones. If the allocation fails, no line is taken.
     pub fn take(&mut self, alloc: Global) -> Result<Option<LentLine<'a>>, AllocError>
         ensures ok { IfOk result (λ line. TakesFirst (λ line. line) self.old line self.new) }
         ensures err { OnErr result (self.new ≡ self.old) }
@@ -72,8 +72,8 @@ impl<'a> Cursor<'a> {
         }
     }
 
-    /// The next line that is not blank, or `None` where none is left. Only a line that is joined takes
-    /// memory; where that is wanting, no line but blank ones is taken.
+    /// Returns the next line that is not blank, or `None` if none is left. Memory is allocated only for a line joined
+    /// from several physical ones. If the allocation fails, only blank lines are taken.
     pub fn take_shown(&mut self, alloc: Global) -> Result<Option<LentLine<'a>>, AllocError>
         ensures ok { IfOk result (λ line. TakesFirst (λ line. line) (shown self.old) line (shown self.new)) }
         ensures err { OnErr result (shown self.new ≡ shown self.old) }
@@ -87,7 +87,7 @@ impl<'a> Cursor<'a> {
         Ok(None)
     }
 
-    // Passes over the empty physical lines at the front. A file may have millions of them.
+    // Skips the empty physical lines at the front. A file may have millions of them.
     fn skip_line_feeds(&mut self)
         ensures shown { shown self.new ≡ shown self.old }
         ensures fewer { length self.new ≤ length self.old }
@@ -99,7 +99,7 @@ impl<'a> Cursor<'a> {
     }
 }
 
-// A line that was joined, the bytes behind it, and the number of its last physical line.
+// A joined line, the bytes after it, and the number of its last physical line.
 #[derive(Drop)]
 struct Joined<'a> {
     line: Line,
@@ -107,7 +107,7 @@ struct Joined<'a> {
     number: u32,
 }
 
-// The line of this number that begins with these bytes and goes on in the next physical line.
+// Returns the line of this number that starts with these bytes and continues in the next physical line.
 fn join_lines<'a>(
     alloc: Global,
     number: u32,
@@ -147,8 +147,8 @@ fn join_lines<'a>(
     })
 }
 
-/// The logical lines of a file of at most 16,777,216 bytes, as a cursor gives them. The only error is want
-/// of memory.
+/// Returns the logical lines of a file of at most 16,777,216 bytes, in the form that a cursor returns. Fails only if
+/// memory runs out.
 pub fn split_lines(alloc: Global, bytes: &[u8]) -> Result<Lines, AllocError>
     requires { length bytes.now ≤ 16777216 }
     ensures { IfOk result (λ lines. lines ≡ logical_lines bytes.now) }

@@ -1,38 +1,38 @@
-//! The directives by their words.
+//! The directives and their words.
 
 ghost use Rattle.std.specs.Prelude.{◌≡◌};
 ghost use Rattle.def_lines.specs.Kinds.{beside, directives};
 
-/// What the word behind a `!` asks for.
+/// A directive, named by the word after a `!`.
 #[derive(Clone, Copy)]
 pub enum Directive {
-    /// `!include`: the lines of another file.
+    /// `!include`: includes the lines of another file.
     Include,
-    /// `!locale`: a block for one locale.
+    /// `!locale`: starts a block for one locale.
     Locale,
-    /// `!endlocale`: its end.
+    /// `!endlocale`: ends a block for one locale.
     EndLocale,
-    /// `!set`: a value for a variable that has none.
+    /// `!set`: sets a variable that has no value.
     Set,
-    /// `!var`: a block for some values of a variable.
+    /// `!var`: starts a block for some values of a variable.
     Var,
-    /// `!varnot`: a block for all its other values.
+    /// `!varnot`: starts a block for all other values of a variable.
     VarNot,
-    /// `!endvar`: the end of either.
+    /// `!endvar`: ends a block for values of a variable.
     EndVar,
-    /// `!utf8`: a block that always holds.
+    /// `!utf8`: starts a block that always applies.
     Utf8,
-    /// `!endutf8`: its end.
+    /// `!endutf8`: ends a block that always applies.
     EndUtf8,
-    /// `!message`: a text to show.
+    /// `!message`: a text to display.
     Message,
-    /// `!prompt`: a prompt, which is passed over.
+    /// `!prompt`: a prompt, which is ignored.
     Prompt,
-    /// `!unitlist`: a list of units by name.
+    /// `!unitlist`: a named list of units.
     UnitList,
 }
 
-// The directive of a word.
+// Returns the directive with this word.
 pub(crate) fn directive_of(word: &[u8]) -> Option<Directive>
     ensures { result ≡ beside word.now directives }
 {

@@ -1,4 +1,4 @@
-//! What kind of line a line is.
+//! The kinds of lines.
 
 ghost use Rattle.std.specs.Prelude.{◌≡◌, true};
 ghost use Rattle.def_lines.specs.Kinds as spec;
@@ -9,47 +9,46 @@ use crate::blanks::trim_front;
 use crate::directive::{Directive, directive_of};
 use crate::words::{is_word, split_word};
 
-/// The kind of a line, with its arguments as parts of the line.
+/// The kind of a line, with its arguments as slices of the line.
 #[derive(Clone, Copy)]
 pub enum LineKind<'a> {
-    /// Nothing.
+    /// An empty line.
     Blank,
-    /// No directive.
+    /// A line that is not a directive.
     Definition,
-    /// Another file.
+    /// Includes another file.
     Include(&'a [u8]),
-    /// The begin of a block for this locale.
+    /// Starts a block for this locale.
     Locale(&'a [u8]),
-    /// The end of such a block.
+    /// Ends a block for a locale.
     EndLocale,
-    /// A variable, and its value where it has none.
+    /// Sets a variable to a value if it has none.
     Set(&'a [u8], &'a [u8]),
-    /// The begin of a block: a variable, and the values of which it has one.
+    /// Starts a block for a variable that has one of these values.
     Var(&'a [u8], &'a [u8]),
-    /// The begin of a block: a variable, and the values of which it has none.
+    /// Starts a block for a variable that has none of these values.
     VarNot(&'a [u8], &'a [u8]),
-    /// The end of either.
+    /// Ends a block for values of a variable.
     EndVar,
-    /// The begin of a block that always holds.
+    /// Starts a block that always applies.
     Utf8,
-    /// The end of such a block.
+    /// Ends a block that always applies.
     EndUtf8,
-    /// A text to show, which may be empty.
+    /// A text to display, which may be empty.
     Message(&'a [u8]),
-    /// A prompt, which is passed over.
+    /// A prompt, which is ignored.
     Prompt,
     /// A list of units.
     UnitList,
-    /// A word behind the `!` that is no directive, or none.
+    /// The word after the `!` is missing or is not a directive.
     UnknownDirective,
-    /// A directive with other arguments than it takes.
+    /// The arguments are not those of the directive.
     BadDirective,
 }
 
-/// The kind of a line, which need not be trimmed: `Blank` where it is empty, and `Definition`
-/// where it does not begin with `!`. Behind a `!` blanks are passed over, and the first word says
-/// the directive: `UnknownDirective` where there is none of it, `BadDirective` where its arguments
-/// are not those that it takes.
+/// Returns the kind of a line, which need not be trimmed: `Blank` if it is empty, and `Definition` if it does not
+/// start with `!`. Blanks after a `!` are skipped, and the first word selects the directive. The kind is
+/// `UnknownDirective` if there is no such directive, and `BadDirective` if its arguments are not those that it takes.
 #[tactic(auto, unfolding(crate::specs::Kinds::kind_of))]
 pub fn classify(line: &[u8]) -> LineKind<'_>
     ensures { seen_kind result ≡ spec.kind_of line.now }
@@ -67,7 +66,7 @@ pub fn classify(line: &[u8]) -> LineKind<'_>
     }
 }
 
-// What a directive is with the rest of its line.
+// Returns the kind of a directive with the rest of its line.
 fn with_arguments(directive: Directive, rest: &[u8]) -> LineKind<'_>
     ensures { seen_kind result ≡ spec.with_arguments directive rest.now }
 {
@@ -86,7 +85,7 @@ fn with_arguments(directive: Directive, rest: &[u8]) -> LineKind<'_>
     }
 }
 
-// What a directive is that takes a word and one or more behind it.
+// Returns the kind of a directive that takes a word and at least one more after it.
 fn with_rest(directive: Directive, rest: &[u8]) -> LineKind<'_>
     requires { takes_rest directive ≡ true }
     ensures { seen_kind result ≡ spec.with_arguments directive rest.now }

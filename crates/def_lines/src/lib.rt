@@ -1,4 +1,4 @@
-//! The lines of a definition file: its logical lines, and what kind of line each of them is.
+//! The lines of a definition file: its logical lines and the kind of each.
 #![tactic(auto)]
 
 mod blanks;

@@ -13,14 +13,14 @@ use units_io::{List, Text};
 pub struct Line {
     /// The number of its first physical line, from 1.
     pub number: u32,
-    /// What it says, without blanks at the ends.
+    /// The content, without blanks at the ends.
     pub text: Text,
 }
 
-/// Lines, in order.
+/// An ordered list of lines.
 pub type Lines = List<Line>;
 
-/// A logical line of a file, whose text is lent from the file where it stands on one physical line.
+/// A logical line of a file. Its text is borrowed from the file if the line is a single physical line.
 #[derive(Drop)]
 pub struct LentLine<'a> {
     number: u32,
@@ -37,7 +37,7 @@ impl<'a> Model for LentLine<'a> {
 }
 
 impl<'a> LentLine<'a> {
-    // A line that stands on one physical line.
+    // Creates a line from a single physical line.
     pub(crate) fn lent(number: u32, text: &'a [u8]) -> LentLine<'a>
         ensures { result ≡ record { number = number; text = trimmed text.now } }
     {
@@ -47,7 +47,7 @@ impl<'a> LentLine<'a> {
         }
     }
 
-    // A line that was made of more.
+    // Creates a line from a joined one.
     pub(crate) fn made(line: Line) -> LentLine<'a>
         ensures { result ≡ line }
     {
@@ -57,21 +57,21 @@ impl<'a> LentLine<'a> {
         }
     }
 
-    /// The number of its first physical line, from 1.
+    /// Returns the number of the first physical line, from 1.
     pub fn number(&self) -> u32
         ensures { result ≡ self.now.number }
     {
         self.number
     }
 
-    /// What it says, without blanks at the ends.
+    /// Returns the content, without blanks at the ends.
     pub fn text(&self) -> &[u8]
         ensures { result.now ≡ self.now.text }
     {
         self.text.as_slice()
     }
 
-    /// The line in memory of its own. A text that was lent is copied.
+    /// Converts the line into one that owns its text. A borrowed text is copied.
     pub fn into_line(self, alloc: Global) -> Result<Line, AllocError>
         ensures { IfOk result (λ line. line ≡ self.entry) }
     {

@@ -1,4 +1,4 @@
-//! The front of a logical line that goes on.
+//! The first part of a logical line that continues.
 ghost use Rattle.std.specs.Prelude.{◌≡◌, ◌++◌, ◌∷◌, [], List, ℕ, IfOk, OnOk, map, true};
 ghost use Rattle.def_lines.specs.declared.line.Line as line_spec;
 ghost use Rattle.def_lines.specs.Blanks.{trimmed};
@@ -10,7 +10,7 @@ use crate::line::Line;
 use std::alloc::{AllocError, Global};
 use units_io::Text;
 
-// The number of its first physical line, and its text so far without the blanks at its front.
+// The number of the first physical line, and the text so far without leading blanks.
 #[derive(Drop)]
 pub(crate) struct Part {
     pub(crate) number: u32,
@@ -19,7 +19,7 @@ pub(crate) struct Part {
 }
 
 impl Part {
-    // A line with no text so far.
+    // Creates a line without text.
     pub(crate) fn new(alloc: Global, number: u32) -> Part
         ensures number { result.number ≡ number }
         ensures text { result.text.items ≡ [] }
@@ -30,7 +30,7 @@ impl Part {
         }
     }
 
-    // Puts bytes at the end.
+    // Appends bytes.
     fn put(&mut self, bytes: &[u8]) -> Result<(), AllocError>
         ensures number { self.new.number ≡ self.old.number }
         ensures text { OnOk result ((behind : List ℕ) → trimmed (self.new.text.items ++ behind)
@@ -43,7 +43,7 @@ impl Part {
         }
     }
 
-    // Goes on with what stands before a `\`, in whose place comes a space.
+    // Appends the text before a `\`, and a space in place of the `\`.
     pub(crate) fn go_on(&mut self, start: &[u8]) -> Result<(), AllocError>
         ensures { OnOk result ((number : ℕ) (more : List line_spec.Line) →
             map trimmed_line (joined self.new.number self.new.text.items more)
@@ -54,7 +54,7 @@ impl Part {
         self.put(b" ")
     }
 
-    // The line, where nothing more comes.
+    // Returns the line, if no text follows.
     pub(crate) fn finished(self) -> Line
         ensures number { result.number ≡ self.number }
         ensures text { result.text ≡ trimmed self.text.items }
@@ -67,7 +67,7 @@ impl Part {
         }
     }
 
-    // The line that these bytes end.
+    // Appends the bytes that end the line, and returns the line.
     pub(crate) fn ended(mut self, bytes: &[u8]) -> Result<Line, AllocError>
         ensures { IfOk result (λ line. (number : ℕ) (more : List line_spec.Line) → line ∷ map trimmed_line more
             ≡ map trimmed_line

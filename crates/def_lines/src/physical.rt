@@ -8,7 +8,7 @@ use crate::blanks::{trim_end, trim_front};
 use memchr::memchr;
 use units_io::prefix_len;
 
-// The first physical line, and the bytes behind it.
+// Returns the first physical line and the bytes after it.
 pub(crate) fn next_line(bytes: &[u8]) -> (&[u8], &[u8])
     requires { 0 < length bytes.now }
     ensures lines { spec.physical_lines bytes.now ≡ result.0.now ∷ spec.physical_lines result.1.now }
@@ -21,7 +21,7 @@ pub(crate) fn next_line(bytes: &[u8]) -> (&[u8], &[u8])
     }
 }
 
-/// A physical line without its final carriage return, then without `#` and what follows, then without its
+/// Returns a physical line without its final carriage return, then without `#` and the text after it, then without its
 /// trailing blanks.
 pub fn clean(line: &[u8]) -> &[u8]
     ensures { result.now ≡ spec.cleaned line.now }
@@ -30,7 +30,7 @@ pub fn clean(line: &[u8]) -> &[u8]
     trim_end(&line[..place_of(line, b'#')])
 }
 
-/// The content of a line that stands by itself: without a final carriage return, then without `#` and what follows,
+/// Returns the content of a line on its own: without a final carriage return, then without `#` and the text after it,
 /// then without outer blanks.
 #[tactic(auto, unfolding(crate::specs::Lines::line_content))]
 pub fn line_content(line: &[u8]) -> &[u8]
@@ -39,7 +39,7 @@ pub fn line_content(line: &[u8]) -> &[u8]
     trim_front(clean(line))
 }
 
-// All but the last byte, where that is this one.
+// Returns the text without its last byte if that byte is this one, and `None` otherwise.
 pub(crate) fn strip_last(text: &[u8], byte: u8) -> Option<&[u8]>
     ensures { MatchOption result
         (spec.ends_with byte text.now ≡ false)
@@ -51,7 +51,7 @@ pub(crate) fn strip_last(text: &[u8], byte: u8) -> Option<&[u8]>
     }
 }
 
-// How many line feeds are at the front of the bytes.
+// Returns the number of leading line feeds.
 pub(crate) fn line_feed_count(bytes: &[u8]) -> usize
     ensures is { result ≡ lists.prefix_len (λ b. b == 10) bytes.now }
     ensures within { result ≤ length bytes.now }
@@ -59,7 +59,7 @@ pub(crate) fn line_feed_count(bytes: &[u8]) -> usize
     prefix_len(bytes, |byte| byte == b'\n')
 }
 
-// The place of the first such byte, or the length where there is none.
+// Returns the index of the first such byte, or the length if there is none.
 fn place_of(text: &[u8], byte: u8) -> usize
     ensures is { result ≡ lists.position_or_len (λ b. b == byte) text.now }
     ensures within { result ≤ length text.now }

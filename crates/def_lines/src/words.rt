@@ -1,4 +1,4 @@
-//! The words of a text, which blanks part.
+//! The words of a text, which are separated by blanks.
 
 ghost use Rattle.std.specs.Prelude.{◌≡◌, ◌≤◌, length};
 ghost use Rattle.std.specs.List.{list_any, position_or_len};
@@ -8,8 +8,7 @@ ghost use Rattle.def_lines.specs.Words as spec;
 use crate::blanks::{trim, trim_front};
 use units_io::{is_blank, prefix_len};
 
-/// What stands before the first blank, or all where there is none, and what stands behind that,
-/// trimmed.
+/// Returns the text before the first blank, or all of it if there is none, and the text after that, trimmed.
 pub fn split_word(text: &[u8]) -> (&[u8], &[u8])
     ensures word { result.0.now ≡ spec.first_word text.now }
     ensures behind { result.1.now ≡ spec.behind_word text.now }
@@ -18,8 +17,8 @@ pub fn split_word(text: &[u8]) -> (&[u8], &[u8])
     (word, trim(behind))
 }
 
-/// What stands before the first blank, or all where there is none, and what stands behind that,
-/// without the blanks at its front.
+/// Returns the text before the first blank, or all of it if there is none, and the text after that, without leading
+/// blanks.
 pub fn cut_word(text: &[u8]) -> (&[u8], &[u8])
     ensures word { result.0.now ≡ spec.first_word text.now }
     ensures behind { result.1.now ≡ spec.after_word text.now }
@@ -28,7 +27,7 @@ pub fn cut_word(text: &[u8]) -> (&[u8], &[u8])
     (word, trim_front(behind))
 }
 
-/// Whether the value is one of the words of a text.
+/// Reports whether the value is one of the words of a text.
 pub fn listed(values: &[u8], value: &[u8]) -> bool
     ensures { result ≡ spec.is_listed values.now value.now }
 {
@@ -43,21 +42,21 @@ pub fn listed(values: &[u8], value: &[u8]) -> bool
     false
 }
 
-// Whether the text is a word and nothing else.
+// Reports whether the text is a single word.
 pub(crate) fn is_word(text: &[u8]) -> bool
     ensures { result ≡ spec.is_word text.now }
 {
     !text.is_empty() && !has_blank(text)
 }
 
-// Whether a blank is among the bytes.
+// Reports whether the bytes contain a blank.
 fn has_blank(text: &[u8]) -> bool
     ensures { result ≡ list_any blanks.is_blank text.now }
 {
     text.iter().any(|byte| is_blank(*byte))
 }
 
-// The place of the first blank, or the length where there is none.
+// Returns the index of the first blank, or the length if there is none.
 fn word_len(text: &[u8]) -> usize
     ensures is { result ≡ position_or_len blanks.is_blank text.now }
     ensures within { result ≤ length text.now }

@@ -20,6 +20,7 @@ pub mod Stands
 pub mod Steps
 pub mod Stops
 pub mod Told
+pub mod Usual
 pub mod Views
 pub mod Whole
 pub mod WordFronts

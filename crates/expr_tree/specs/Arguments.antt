@@ -1,4 +1,4 @@
--- Trees in which the argument of a function stands.
+-- Trees that contain the argument of a function.
 use Rattle.std.specs.Prelude.{◌≡◌, ℕ, Bool, true, false, ◌||◌, List, None, Ok}
 use Rattle.expr_tree.specs.Parsed.{parsed}
 use Rattle.expr_tree.specs.Syntax.{Syntax, Number, Bar, Word, Argument, Call, Inverse, Root, Group, Negate, Power}
@@ -33,6 +33,6 @@ abbrev mutual
   terms_hold NoTerm = false
   terms_hold (Term sign e ts) = holds_argument e || terms_hold ts
 
--- law: a text that is parsed without a binder holds no argument
+-- law: the tree of a text that is parsed without a binder contains no argument
 abbrev pub FreeLaw : Type 0
 FreeLaw = (text : List ℕ) (e : Syntax) → parsed None text ≡ Ok e → holds_argument e ≡ false

@@ -1,4 +1,4 @@
--- Trees of a few token lists, found by hand.
+-- Trees of a few token lists, worked out by hand.
 use Rattle.std.specs.Prelude.{◌≡◌, ℕ, pos, List, [], ◌∷◌, Some, None}
 use Rattle.frac128.specs.Decimals.{Decimal}
 use Rattle.expr_tree.specs.declared.operator.RootKind.TheVariants.{Square}
@@ -34,7 +34,7 @@ abbrev pub both : Syntax → Syntax → Syntax
 both e f = Juxtaposed (Member e (Member f NoMember))
 
 -- law: the trees of `2^3^2`, `-2^2`, `1/2 m`, `m/s s*m`, `2 - -m`, `m2^3`, `1|2 m`, `sqrt(m)`, and
--- of `x2`, `x(m)` and `~x(m)` where the binder is `x`
+-- of `x2`, `x(m)` and `~x(m)` with the binder `x`
 abbrev pub ExamplesLaw : Type 0
 ExamplesLaw =
     (tree_of None (numeral 2 ∷ Caret ∷ numeral 3 ∷ Caret ∷ numeral 2 ∷ [])

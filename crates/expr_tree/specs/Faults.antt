@@ -7,20 +7,20 @@ use Rattle.expr_tree.specs.Lexemes.{Lexeme, Blank, Whole, TooLong, Malformed, Pl
 use Rattle.expr_tree.specs.Rules.{After, WantsOperand, count_closes, count_deepens, left_by, may, may_end, opened}
 use Rattle.expr_tree.specs.Tokens.{Token, Numeral}
 
--- the greatest depth of a token
+-- the maximum depth of a token
 abbrev pub deepest : ℕ
 deepest = 64
 
--- how deep a token after these is
+-- the depth of the token that follows these
 abbrev pub depth_behind : List Token → ℕ
 depth_behind before = count_deepens WantsOperand before - count_closes before
 
--- whether a numeral may stand, whatever its value
+-- whether a numeral of any value may follow
 abbrev pub takes_numeral : After → Bool
 takes_numeral last = may last 0 (Numeral (record { coefficient = 0; scale = pos 0 }))
 
--- the fault of a lexeme, by what the tokens before it leave, by how many parentheses are open and
--- by its depth; a numeral that is too long may stand where any numeral may
+-- the fault of a lexeme, by the state after the tokens before it, the number of open parentheses, its depth and its
+-- place; a numeral that is too long is allowed at the same places as any numeral
 abbrev pub fault_at : After → ℕ → ℕ → ℕ → Lexeme → Option ParseFault
 fault_at last opened depth place Blank = None
 fault_at last opened depth place Malformed = Some (Syntax place)
@@ -31,12 +31,12 @@ fault_at last opened depth place (Whole t) =
     then (if nat_lt deepest depth then Some NestedTooDeep else None)
     else Some (Syntax place)
 
--- the first, or else the second
+-- the first fault if there is one, or else the second
 abbrev pub or_later : Option ParseFault → Option ParseFault → Option ParseFault
 or_later (Some fault) later = Some fault
 or_later None later = later
 
--- the first fault of the lexemes that follow some tokens, in a text of this length
+-- the first fault of the lexemes that follow the tokens, in a text of the given length
 unfoldable pub fault_from : List Token → ℕ → List Placed → Option ParseFault
 fault_from before len [] =
     if may_end (left_by WantsOperand before) (opened before) then None else Some (Syntax len)

@@ -1,4 +1,4 @@
--- Trees that are well formed.
+-- Well-formed trees.
 use Rattle.std.specs.Prelude.{◌≡◌, ℕ, Bool, true, false, ◌&&◌, IsTrue, List, Option, Ok}
 use Rattle.expr_tree.specs.declared.operator.Scale.TheVariants.{Multiply}
 use Rattle.expr_tree.specs.declared.operator.Sign.TheVariants.{Plus}
@@ -7,7 +7,7 @@ use Rattle.expr_tree.specs.Syntax.{Syntax, Number, Bar, Word, Argument, Call, In
 use Rattle.expr_tree.specs.Syntax.{Juxtaposed, Product, Sum}
 use Rattle.expr_tree.specs.Syntax.{Members, NoMember, Member, Factors, NoFactor, Factor, Terms, NoTerm, Term}
 
--- each list has a first member, that of a product multiplies and that of a sum has a plus
+-- no list is empty, the first member of a product multiplies, and the first member of a sum has a plus
 abbrev mutual
   pub is_formed : Syntax → Bool
   is_formed (Number x) = true
@@ -37,6 +37,6 @@ abbrev mutual
   are_formed_terms NoTerm = true
   are_formed_terms (Term sign e ts) = is_formed e && are_formed_terms ts
 
--- law: a text is parsed to a tree that is well formed
+-- law: a text that has a tree is parsed to a well-formed one
 abbrev pub FormedLaw : Type 0
 FormedLaw = (binder : Option (List ℕ)) (text : List ℕ) (e : Syntax) → parsed binder text ≡ Ok e → IsTrue (is_formed e)

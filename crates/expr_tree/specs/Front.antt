@@ -1,4 +1,4 @@
--- What stands at the front of tokens: single tokens, and derivations before the other tokens.
+-- The front of a list of tokens: single tokens, and derivations followed by the other tokens.
 use Rattle.std.specs.Prelude.{◌≡◌, ◌<◌, ◌≤◌, ℕ, Bool, true, false, List, [], ◌∷◌, drop, length, map, Option, Some, None}
 use Rattle.std.specs.Prelude.{Result, IfOk}
 use Rattle.std.specs.declared.alloc.AllocError.{AllocError}
@@ -21,39 +21,39 @@ use Rattle.expr_tree.specs.Trees.{syntax}
 abbrev pub tokens_from : List Made → ℕ → List Token
 tokens_from ts i = map seen (drop i ts)
 
--- the sign that stands first
+-- the sign that is the first token
 abbrev pub first_sign : List Token → Option Sign
 first_sign (Plus ∷ ts) = Some signs.Plus
 first_sign (Minus ∷ ts) = Some signs.Minus
 first_sign _ = None
 
--- the `*` or `/` that stands first
+-- the `*` or `/` that is the first token
 abbrev pub first_scale : List Token → Option Scale
 first_scale (Star ∷ ts) = Some Multiply
 first_scale (Slash ∷ ts) = Some Divide
 first_scale _ = None
 
--- a `^` stands first
+-- the first token is a `^`
 abbrev pub first_caret : List Token → Bool
 first_caret (Caret ∷ ts) = true
 first_caret _ = false
 
--- a token that begins an operand stands first
+-- the first token can begin an operand
 abbrev pub begins : List Token → Bool
 begins [] = false
 begins (t ∷ ts) = begins_operand t
 
--- the numeral after a `|` that stands first
+-- the numeral after a `|` that is the first token
 abbrev pub first_denominator : List Token → Option Decimal
 first_denominator (Bar ∷ Numeral n ∷ ts) = Some n
 first_denominator _ = None
 
--- the first token, where there is one, is one of those
+-- there is no token, or the first one satisfies `follow`
 abbrev pub stops : (Token → Bool) → List Token → Bool
 stops follow [] = true
 stops follow (t ∷ ts) = follow t
 
--- what stands after each rule of the grammar
+-- which tokens may follow each rule of the grammar
 
 abbrev pub after_sum : Token → Bool
 after_sum Close = true
@@ -82,8 +82,8 @@ abbrev pub after_atom : Token → Bool
 after_atom Bar = false
 after_atom _ = true
 
--- a derivation of the tree stands before the other tokens, which may stand after an operand inside
--- so many parentheses
+-- the tokens are a derivation of the tree followed by the others, which may follow an operand inside `opened`
+-- parentheses
 pub record IsFront {X : Type 0} (spell : X → List Token → List Token) (tree : X → Syntax) (follow : Token → Bool)
     (opened : ℕ) (ts : List Token) (e : Syntax) (others : List Token) : Type 0 where
   pub made : X
@@ -92,7 +92,7 @@ pub record IsFront {X : Type 0} (spell : X → List Token → List Token) (tree 
   pub stop : stops follow others ≡ true
   pub fit : fits EndsOperand opened others ≡ true
 
--- the same for each rule of the grammar
+-- `IsFront` for each rule of the grammar
 
 abbrev pub SumAt : Option (List ℕ) → ℕ → List Token → Syntax → List Token → Type 0
 SumAt binder = IsFront sum (sum_tree binder) after_sum
@@ -112,7 +112,7 @@ ExponentAt binder = IsFront exponent (exponent_tree binder) after_power
 abbrev pub AtomAt : Option (List ℕ) → ℕ → List Token → Syntax → List Token → Type 0
 AtomAt binder = IsFront atom (atom_tree binder) after_atom
 
--- a sum and its `)` stand before the other tokens
+-- the tokens are a sum and its `)` followed by the others
 pub record IsClosed (binder : Option (List ℕ)) (opened : ℕ) (ts : List Token) (e : Syntax)
     (others : List Token) : Type 0 where
   pub made : Sum
@@ -120,7 +120,7 @@ pub record IsClosed (binder : Option (List ℕ)) (opened : ℕ) (ts : List Token
   pub says : e ≡ sum_tree binder made
   pub fit : fits EndsOperand opened others ≡ true
 
--- what a rule reads at a place: its tree stands there, before the tokens from a later place on
+-- what a rule reads at a place: its tree begins there, and ends at a later place
 abbrev pub IsReadAt : (List Token → Syntax → List Token → Type 0) → List Made → ℕ → Result (Tree × ℕ) AllocError
     → Type 0
 IsReadAt Stands tokens at result =

@@ -75,7 +75,7 @@ abbrev pub scale : Scale → Token
 scale Multiply = Star
 scale Divide = Slash
 
--- the tokens of a derivation, before other tokens
+-- the tokens of a derivation, followed by other tokens
 abbrev mutual
   pub sum : Sum → List Token → List Token
   sum (SumOf p ps) others = product p (sum_rest ps others)
@@ -122,7 +122,7 @@ abbrev pub is_binder : Option (List ℕ) → List ℕ → Bool
 is_binder None w = false
 is_binder (Some binder) w = bytes_eq binder w
 
--- a word, which stands for the argument where it is the binder
+-- a word, which is the argument if it is the binder
 abbrev pub word : Option (List ℕ) → List ℕ → Syntax
 word binder w = if is_binder binder w then tree.Argument else tree.Word w
 
@@ -130,7 +130,7 @@ word binder w = if is_binder binder w then tree.Argument else tree.Word w
 abbrev pub argument_times : Syntax → Syntax
 argument_times e = tree.Group (tree.Juxtaposed (tree.Member tree.Argument (tree.Member e tree.NoMember)))
 
--- a word before what stands in its parentheses: a product where it is the binder, and else a call
+-- a word before an operand in parentheses: a product if the word is the binder, and else a call
 abbrev pub call : Option (List ℕ) → List ℕ → Syntax → Syntax
 call binder w e = if is_binder binder w then argument_times e else tree.Call w e
 
@@ -138,7 +138,7 @@ abbrev pub signed : Sign → Syntax → Syntax
 signed signs.Plus e = e
 signed signs.Minus e = tree.Negate e
 
--- a list of one member is that member
+-- a list of one member is that member itself
 
 abbrev pub summed : Syntax → Terms → Syntax
 summed e tree.NoTerm = e
@@ -198,7 +198,7 @@ abbrev mutual
 abbrev pub Gives : Option (List ℕ) → List Token → Syntax → Type 0
 Gives binder ts e = (d : Sum) × (ts ≡ sum d []) × (e ≡ sum_tree binder d)
 
--- law: tokens give one tree at most
+-- law: tokens give at most one tree
 abbrev pub OneTreeLaw : Type 0
 OneTreeLaw = (binder : Option (List ℕ)) (ts : List Token) (x y : Syntax)
     → Gives binder ts x → Gives binder ts y → x ≡ y

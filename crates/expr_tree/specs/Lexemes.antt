@@ -16,17 +16,17 @@ use Rattle.expr_tree.specs.Tokens.{Plus, Minus, Star, Slash, Bar, Caret, Tilde, 
 pub data Lexeme : Type 0 where
   Blank : Lexeme
   Whole : Token → Lexeme
-  -- a numeral past its limits
+  -- a numeral that exceeds its limits
   TooLong : Lexeme
-  -- bytes that are no token
+  -- bytes that are not a token
   Malformed : Lexeme
 
--- a lexeme at the front of a text, and how many bytes it has
+-- a lexeme at the front of a text, and its length in bytes
 pub record Piece : Type 0 where
   pub lexeme : Lexeme
   pub len : ℕ
 
--- a lexeme, and the place of its first byte
+-- a lexeme, and the offset of its first byte
 pub record Placed : Type 0 where
   pub place : ℕ
   pub lexeme : Lexeme
@@ -34,28 +34,28 @@ pub record Placed : Type 0 where
 abbrev pub piece : Lexeme → ℕ → Piece
 piece x n = record { lexeme = x; len = n }
 
--- what the bytes of a numeral are
+-- the lexeme of the bytes of a numeral
 abbrev pub numeral : Result Decimal NumeralFault → Lexeme
 numeral (Ok x) = Whole (Numeral x)
 numeral (Err fault.TooLong) = TooLong
 numeral (Err fault.NotNumeral) = Malformed
 
--- the longest numeral; a point with no digit is none
+-- the longest numeral at the front; a point without a digit is not a numeral
 abbrev pub numeral_piece : List ℕ → Piece
 numeral_piece text =
     if numeral_len_of text == 0
     then piece Malformed 1
     else piece (numeral (read (take (numeral_len_of text) text))) (numeral_len_of text)
 
--- a digit from 2 to 9 as a numeral
+-- the last digit of a word, as a numeral
 abbrev pub power_of : List ℕ → Decimal
 power_of word = record { coefficient = last_byte word - 48; scale = pos 0 }
 
--- a name with one digit from 2 to 9 behind it
+-- a name followed by one digit from 2 to 9
 abbrev pub word_with_power : List ℕ → Lexeme
 word_with_power word = if has_power word then Whole (WordWithPower (base word) (power_of word)) else Malformed
 
--- what a word is that is neither a name nor refused
+-- the lexeme of a word that is neither a name nor refused
 abbrev pub other_word : List ℕ → Lexeme
 other_word word =
     if bytes_eq word (codes "per") then Whole Slash
@@ -63,14 +63,14 @@ other_word word =
     else (if bytes_eq word (codes "cuberoot") then Whole (Root Cube)
     else word_with_power word))
 
--- what a word is, where a `(` follows or not
+-- the lexeme of a word, by whether a `(` follows it
 abbrev pub word_piece : List ℕ → Bool → Piece
 word_piece word opened =
     if is_name word || is_refused word
     then (if opened then piece (Whole (Head word)) (length word + 1) else piece (Whole (Word word)) (length word))
     else piece (other_word word) (length word)
 
--- the byte `(` stands at the front
+-- the first byte is `(`
 abbrev pub is_opened : List ℕ → Bool
 is_opened text = slice_index text 0 == 40
 
@@ -78,7 +78,7 @@ is_opened text = slice_index text 0 == 40
 abbrev pub word_front : List ℕ → Piece
 word_front text = word_piece (word_of text) (is_opened (drop (prefix_len is_word_byte text) text))
 
--- a byte that is a token by itself
+-- the token that a byte is by itself
 abbrev pub mark : ℕ → Lexeme
 mark b =
     if b == 43 then Whole Plus
@@ -92,18 +92,18 @@ mark b =
     else (if b == 41 then Whole Close
     else Malformed))))))))
 
--- two stars are a caret
+-- the lexeme of two stars, which are a caret, or of a single byte
 abbrev pub mark_piece : List ℕ → Piece
 mark_piece text =
     if slice_index text 0 == 42 && slice_index text 1 == 42
     then piece (Whole Caret) 2
     else piece (mark (slice_index text 0)) 1
 
--- the byte `.` stands at the front
+-- the first byte is `.`
 abbrev pub is_pointed : List ℕ → Bool
 is_pointed text = slice_index text 0 == 46
 
--- the lexeme at the front of a text that has a byte; directly after a numeral a point is malformed
+-- the lexeme at the front of a non-empty text; a point directly after a numeral is malformed
 abbrev pub front : Bool → List ℕ → Piece
 front after_numeral text =
     if is_blank (slice_index text 0) then piece Blank 1
@@ -121,7 +121,7 @@ is_numeral (Whole t) = is_numeral_token t
 is_numeral TooLong = true
 is_numeral _ = false
 
--- the lexemes of a text whose first bytes the lexeme before may still cover
+-- the lexemes of a text whose first `covered` bytes belong to the lexeme before it
 unfoldable pub lexemes_from : ℕ → Bool → ℕ → List ℕ → List Placed
 lexemes_from covered after_numeral place [] = []
 lexemes_from (suc covered) after_numeral place (b ∷ bs) = lexemes_from covered after_numeral (suc place) bs
@@ -130,11 +130,11 @@ lexemes_from zero after_numeral place (b ∷ bs) =
     record { place = place; lexeme = first.lexeme }
     ∷ lexemes_from (first.len - 1) (is_numeral first.lexeme) (suc place) bs
 
--- the lexemes of a text, each with its place
+-- the lexemes of a text, each with its offset
 abbrev pub lexemes : List ℕ → List Placed
 lexemes text = lexemes_from 0 false 0 text
 
--- the token that a lexeme is, if it is one
+-- the token of a lexeme, if it is a token
 abbrev pub token_in : Lexeme → List Token
 token_in (Whole t) = t ∷ []
 token_in _ = []

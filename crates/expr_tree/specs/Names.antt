@@ -6,7 +6,7 @@ use Rattle.std.specs.Str.{bytes_eq}
 use Rattle.frac128.specs.Numerals.{is_digit}
 use Rattle.units_io.specs.Blanks.{is_blank}
 
--- below 32 and no tab, or 127
+-- below 32 but not a tab, or 127
 abbrev pub is_control : ℕ → Bool
 is_control b = (nat_lt b 32 && not (b == 9)) || b == 127
 
@@ -18,19 +18,19 @@ is_one_of bytes b = list_any (nat_eq b) bytes
 abbrev pub is_word_byte : ℕ → Bool
 is_word_byte b = not (is_blank b || is_control b || is_one_of (codes "+-*/|^;~#()[]") b)
 
--- the longest word that the bytes begin with
+-- the longest word at the front of the bytes
 abbrev pub word_of : List ℕ → List ℕ
 word_of bytes = take_while is_word_byte bytes
 
--- the last byte, or 0 where there is none
+-- the last byte, or 0 if there is none
 abbrev pub last_byte : List ℕ → ℕ
 last_byte bytes = slice_index bytes (length bytes - 1)
 
--- what a name may begin with
+-- a byte that a name may begin with
 abbrev pub may_begin : ℕ → Bool
 may_begin b = not (is_digit b || is_one_of (codes "_,.!") b)
 
--- what a name may end in
+-- a byte that a name may end with
 abbrev pub may_end : ℕ → Bool
 may_end b = not (is_one_of (codes "_,.") b)
 
@@ -42,16 +42,16 @@ is_count b = nat_le 49 b && nat_le b 57
 abbrev pub is_index_byte : ℕ → Bool
 is_index_byte b = is_digit b || is_one_of (codes ".,") b
 
--- some `_` has nothing but digits, dots and commas after it
+-- some `_` is followed only by digits, dots and commas
 abbrev pub has_index : List ℕ → Bool
 has_index [] = false
 has_index (b ∷ bs) = (b == 95 && list_all is_index_byte bs) || has_index bs
 
--- the words that mean something of their own
+-- the keywords
 abbrev pub keywords : List (List ℕ)
 keywords = codes "per" ∷ codes "sqrt" ∷ codes "cuberoot" ∷ []
 
--- the functions that are refused
+-- the names of the refused functions
 abbrev pub refused_names : List (List ℕ)
 refused_names =
     codes "sin" ∷ codes "cos" ∷ codes "tan" ∷ codes "asin" ∷ codes "acos" ∷ codes "atan"
@@ -65,11 +65,11 @@ is_among words bytes = list_any (bytes_eq bytes) words
 abbrev pub is_refused : List ℕ → Bool
 is_refused bytes = is_among refused_names bytes
 
--- the most bytes of a name
+-- the maximum length of a name in bytes
 abbrev pub longest_name : ℕ
 longest_name = 255
 
--- the number of bytes, the bytes, the first and the last are those of a name
+-- the length, the bytes, the first byte and the last byte are those of a name
 abbrev pub is_spelled : List ℕ → Bool
 is_spelled bytes =
     nat_lt 0 (length bytes)
@@ -78,7 +78,7 @@ is_spelled bytes =
     && may_end (last_byte bytes)
     && list_all is_word_byte bytes
 
--- the last byte is a digit from 1 to 9, and belongs to no index
+-- the last byte is a digit from 1 to 9 that is not part of an index
 abbrev pub ends_in_count : List ℕ → Bool
 ends_in_count bytes = nat_lt 0 (length bytes) && is_count (last_byte bytes) && not (has_index bytes)
 
@@ -97,6 +97,6 @@ base word = take (length word - 1) word
 abbrev pub is_power_byte : ℕ → Bool
 is_power_byte b = nat_le 50 b && nat_le b 57
 
--- a name, followed by one digit from 2 to 9
+-- a name followed by one digit from 2 to 9
 abbrev pub has_power : List ℕ → Bool
 has_power word = is_power_byte (last_byte word) && is_name (base word)

@@ -1,4 +1,4 @@
--- What a text is parsed to.
+-- The result of parsing a text.
 use Rattle.std.specs.Prelude.{◌≡◌, ◌↔◌, ℕ, List, length, Option, Some, None, Result, Ok, Err}
 use Rattle.expr_tree.specs.declared.fault.ParseFault.{ParseFault}
 use Rattle.expr_tree.specs.declared.fault.ParseFault.TheVariants as fault
@@ -8,7 +8,7 @@ use Rattle.expr_tree.specs.Lexemes.{tokens}
 use Rattle.expr_tree.specs.Reading.{tree_of}
 use Rattle.expr_tree.specs.Syntax.{Syntax}
 
--- a fault, or else a tree; a text of this length without a fault has one
+-- the fault if there is one, or else the tree, which a text without a fault always has
 abbrev pub fault_or_tree : ℕ → Option ParseFault → Option Syntax → Result Syntax ParseFault
 fault_or_tree len (Some x) e = Err x
 fault_or_tree len None (Some e) = Ok e
@@ -18,8 +18,8 @@ fault_or_tree len None None = Err (fault.Syntax len)
 unfoldable pub parsed : Option (List ℕ) → List ℕ → Result Syntax ParseFault
 parsed binder text = fault_or_tree (length text) (first_fault text) (tree_of binder (tokens text))
 
--- law: a text is parsed to a tree exactly where it has no fault and its tokens give that tree, and
--- to a fault exactly where that is its first one
+-- law: a text is parsed to a tree exactly if it has no fault and its tokens give that tree, and to a fault exactly if
+-- that is its first one
 abbrev pub ParsedLaw : Type 0
 ParsedLaw = (binder : Option (List ℕ)) (text : List ℕ)
     → ((e : Syntax) → (parsed binder text ≡ Ok e) ↔ ((first_fault text ≡ None) × Gives binder (tokens text) e))

@@ -1,5 +1,5 @@
--- The tree that tokens give, as a function: each rule of the grammar reads its derivation from the
--- front of the tokens, and leaves the others.
+-- The tree that tokens give, as a function: each rule of the grammar reads its derivation from the front of the tokens
+-- and returns the tokens after it.
 use Rattle.std.specs.Prelude.{◌↔◌, ◌≡◌, ℕ, zero, suc, ◌+◌, ◌*◌, List, [], ◌∷◌, length, Option, Some, None, option_map}
 use Rattle.std.specs.Prelude.{if◌then◌else◌}
 use Rattle.expr_tree.specs.Grammar.{Sum, SumOf, SumRest, NoTerm, NextTerm, Product, ProductOf, ProductRest, NoFactor}
@@ -20,12 +20,12 @@ abbrev pub ◌>>=◌ : {A B : Type 0} → Option A → (A → Option B) → Opti
 None >>= f = None
 (Some x) >>= f = f x
 
--- what is made of a sum that `)` follows
+-- what `make` makes of a sum, if a `)` follows it
 abbrev pub closed_by : {A : Type 0} → (Sum → A) → Sum × List Token → Option (A × List Token)
 closed_by make (d, Close ∷ ts) = Some (make d, ts)
 closed_by make _ = None
 
--- n: how deep the rules may go; where tokens fit, eight for each of them is enough
+-- `n` limits how deep the rules may nest; eight for each token is enough if the tokens fit
 abbrev mutual
   pub read_sum : ℕ → List Token → Option (Sum × List Token)
   read_sum zero ts = None
@@ -132,7 +132,7 @@ tree_of binder ts =
     then option_map (λ x. sum_tree binder x.0) (read_sum (8 * length ts + 8) ts)
     else None
 
--- law: the function gives a tree exactly where the tokens give it
+-- law: the function gives a tree exactly if the tokens give it
 abbrev pub TreeOfLaw : Type 0
 TreeOfLaw = (binder : Option (List ℕ)) (ts : List Token) (e : Syntax)
     → (tree_of binder ts ≡ Some e) ↔ Gives binder ts e

@@ -1,4 +1,4 @@
--- Which token may stand where, when the tokens may end, and how deep a token is nested.
+-- Which token is allowed at which place, when the tokens may end, and how deep a token is nested.
 use Rattle.std.specs.Prelude.{◌≡◌, ℕ, suc, ◌-◌, Bool, true, false, ◌||◌, ◌&&◌, IsTrue, nat_eq, nat_lt}
 use Rattle.std.specs.Prelude.{List, [], ◌∷◌, take, Some, slice_get}
 use Rattle.expr_tree.specs.Tokens.{Token, Numeral, Word, WordWithPower, Head, Root}
@@ -30,7 +30,7 @@ is_operator Slash = true
 is_operator Caret = true
 is_operator _ = false
 
--- what a token leaves, by what the tokens before it leave
+-- the state after a token, by the state before it
 abbrev pub after : Token → After → After
 after (Numeral n) WantsNumeral = EndsOperand
 after (Numeral n) _ = EndsNumeral
@@ -48,8 +48,7 @@ has_ended EndsNumeral = true
 has_ended EndsOperand = true
 has_ended _ = false
 
--- whether the token may stand, by what the tokens before it leave, and by how many parentheses
--- are open
+-- whether the token may follow, by the state after the tokens before it and the number of open parentheses
 abbrev pub may : After → ℕ → Token → Bool
 may WantsOperand opened t = begins_operand t || is_sign t
 may WantsHead opened (Head w) = true
@@ -72,8 +71,8 @@ opens (Head w) = true
 opens Open = true
 opens _ = false
 
--- the token nests what follows deeper: a `(`, a head, a `^` or a sign, which is a `+` or `-`
--- that does not follow the end of an operand
+-- the tokens after it are nested deeper: it is a `(`, a head, a `^` or a sign, which is a `+` or `-` that does not
+-- follow the end of an operand
 abbrev pub deepens : Token → After → Bool
 deepens Caret last = true
 deepens Plus EndsNumeral = false
@@ -94,22 +93,22 @@ counted true less n = suc n
 counted false true n = n - 1
 counted false false n = n
 
--- how many parentheses are open after a token, by how many are before it
+-- how many parentheses are open after a token, by how many are open before it
 abbrev pub opened_after : Token → ℕ → ℕ
 opened_after t opened = counted (opens t) (closes t) opened
 
--- how deep the token after a token is, by how deep that one is
+-- the depth of the token after a token, by the depth of that token
 abbrev pub depth_after : Token → After → ℕ → ℕ
 depth_after t last depth = counted (deepens t last) (closes t) depth
 
--- each of the tokens may stand, and they may end, by what stands before them
+-- each of the tokens is allowed at its place and they may end, by the state before them
 abbrev pub fits : After → ℕ → List Token → Bool
 fits last opened [] = may_end last opened
 fits last opened (t ∷ ts) = may last opened t && fits (after t last) (opened_after t opened) ts
 
--- the plain rules, over all tokens before a place
+-- the plain rules, which look at all tokens before a place
 
--- what a list of tokens leaves
+-- the state after a list of tokens
 abbrev pub left_by : After → List Token → After
 left_by last [] = last
 left_by last (t ∷ ts) = left_by (after t last) ts
@@ -130,7 +129,7 @@ count_closes (t ∷ ts) = counted (closes t) false (count_closes ts)
 abbrev pub opened : List Token → ℕ
 opened ts = count_opens ts - count_closes ts
 
--- token i may stand after the tokens before it
+-- token i may follow the tokens before it
 abbrev pub MayStand : List Token → ℕ → Type 0
 MayStand ts i = (t : Token) → slice_get ts i ≡ Some t
     → IsTrue (may (left_by WantsOperand (take i ts)) (opened (take i ts)) t)

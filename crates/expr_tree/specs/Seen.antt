@@ -1,4 +1,4 @@
--- The tokens and lexemes that the program makes, as those of the grammar.
+-- The tokens and lexemes of the program, as those of the grammar.
 use Rattle.std.specs.Prelude.{ℕ, pos}
 use Rattle.frac128.specs.Decimals.{Decimal}
 use Rattle.expr_tree.specs.declared.lexeme.Lexeme.{Lexeme as MadeLexeme}
@@ -27,7 +27,7 @@ seen_digit Nine = 9
 abbrev pub power_numeral : PowerDigit → Decimal
 power_numeral digit = record { coefficient = seen_digit digit; scale = pos 0 }
 
--- the token, whose words are bytes wherever they lie
+-- the token, whose word is its bytes, wherever they are in memory
 abbrev pub seen : Made → Token
 seen (made.Numeral n) = Numeral n
 seen (made.Word w) = Word w.now

@@ -1,4 +1,4 @@
--- What an expression says: a tree, whatever place it has in memory.
+-- The meaning of an expression: a tree, wherever it is in memory.
 use Rattle.std.specs.Prelude.{ℕ, List}
 use Rattle.frac128.specs.Decimals.{Decimal}
 use Rattle.expr_tree.specs.declared.operator.RootKind.{RootKind}

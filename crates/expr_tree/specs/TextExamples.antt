@@ -1,4 +1,4 @@
--- What a few texts are cut into, and their first faults, found by hand.
+-- The tokens and first faults of a few texts, worked out by hand.
 use Rattle.std.specs.Prelude.{◌≡◌, ℕ, pos, true, false, [], ◌∷◌, Some, None, codes}
 use Rattle.frac128.specs.Decimals.{Decimal}
 use Rattle.expr_tree.specs.declared.fault.ParseFault.TheVariants.{Syntax, NumeralTooLong}

@@ -3,8 +3,8 @@ use Rattle.std.specs.Prelude.{ℕ, List}
 use Rattle.frac128.specs.Decimals.{Decimal}
 use Rattle.expr_tree.specs.declared.operator.RootKind.{RootKind}
 
--- a word with power has its digit as a numeral; a head has its `(` in it; `sqrt` is the square root
--- and `cuberoot` the cube root; `per` is a slash and `**` a caret
+-- a word with power has its digit as a numeral; a head includes its `(`; `sqrt` is the square root and `cuberoot` the
+-- cube root; `per` is a slash and `**` a caret
 pub data Token : Type 0 where
   Numeral : Decimal → Token
   Word : List ℕ → Token

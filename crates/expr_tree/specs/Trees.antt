@@ -1,4 +1,4 @@
--- What trees and their lists say.
+-- The meaning of trees and of their lists, as `Syntax`.
 use Rattle.std.specs.Prelude.{List, [], ◌∷◌, map}
 use Rattle.expr_tree.specs.declared.operator.Scale.{Scale}
 use Rattle.expr_tree.specs.declared.operator.Sign.{Sign}
@@ -27,7 +27,7 @@ abbrev pub terms : List (Sign × Syntax) → Terms
 terms [] = NoTerm
 terms (t ∷ ts) = Term t.0 t.1 (terms ts)
 
--- what a tree says, when what its parts say stands in their places
+-- the meaning of a tree whose parts are replaced by their meanings
 abbrev pub level : one.Tree-F Syntax Factors Terms Members → Syntax
 level (one.Number x) = Number x
 level (one.Bar q) = Bar q.value.top q.value.bottom
@@ -43,27 +43,27 @@ level (one.Juxtaposed es) = Juxtaposed es
 level (one.Product fs) = Product fs
 level (one.Sum ts) = Sum ts
 
--- what a tree says
+-- the meaning of a tree
 abbrev pub syntax : Tree → Syntax
 syntax = fold-Tree Syntax Factors Terms Members level (λ fs. factors fs.items.items) (λ ts. terms ts.items.items)
     (λ es. members es.items.items)
 
--- what a member of a product says
+-- the meaning of a member of a product
 abbrev pub factor : Scale × Tree → Scale × Syntax
 factor f = (f.0, syntax f.1)
 
--- what a member of a sum says
+-- the meaning of a member of a sum
 abbrev pub term : Sign × Tree → Sign × Syntax
 term t = (t.0, syntax t.1)
 
--- what the trees of a list say
+-- the meanings of the trees of a list
 abbrev pub trees_of : Trees → List Syntax
 trees_of es = map syntax (out-Trees es).items.items
 
--- what the members of a product say
+-- the meanings of the members of a product
 abbrev pub factors_of : FactorList → List (Scale × Syntax)
 factors_of fs = map factor (out-Factors fs).items.items
 
--- what the members of a sum say
+-- the meanings of the members of a sum
 abbrev pub terms_of : TermList → List (Sign × Syntax)
 terms_of ts = map term (out-Terms ts).items.items

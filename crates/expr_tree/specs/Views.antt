@@ -1,4 +1,4 @@
--- What each kind of tree says, and what lists of trees say.
+-- The meaning of each kind of tree.
 use Rattle.std.specs.Prelude.{◌≡◌, ℕ, List}
 use Rattle.std.specs.Global.{Box}
 use Rattle.frac128.specs.Decimals.{Decimal}
@@ -13,7 +13,7 @@ use Rattle.expr_tree.specs.declared.tree.Trees.{Trees}
 use Rattle.expr_tree.specs.Syntax as tree
 use Rattle.expr_tree.specs.Trees.{syntax, members, factors, terms, trees_of, factors_of, terms_of}
 
--- law: what a tree of each kind says, by what its parts say
+-- law: the meaning of a tree of each kind, by the meanings of its parts
 pub record ViewLaw : Type 0 where
   pub number : (x : Decimal) → syntax (Number x) ≡ tree.Number x
   pub bar : (q : Box Quotient) → syntax (Bar q) ≡ tree.Bar q.value.top q.value.bottom

@@ -1,4 +1,4 @@
--- A word of an expression: its bytes, and how it stands there.
+-- A word of an expression: its bytes, and how it is used.
 use Rattle.std.specs.Prelude.{ℕ, List}
 use Rattle.expr_tree.specs.declared.word_list.WordKind.{WordKind}
 

@@ -1,4 +1,4 @@
-//! Which token stands at a place of the tokens.
+//! Looks at the token at a place without consuming it.
 
 ghost use Rattle.std.specs.Prelude.{◌≡◌};
 ghost use Rattle.expr_tree.specs.Front.{begins, first_caret, first_denominator, first_scale, first_sign, tokens_from};
@@ -7,7 +7,7 @@ use crate::operator::{Scale, Sign};
 use crate::token::Token;
 use frac128::Numeral;
 
-// The `+` or `-` at the place.
+// Returns the `+` or `-` at `at`, if one is there.
 pub(crate) fn sign_at(tokens: &[Token], at: usize) -> Option<Sign>
     ensures { result ≡ first_sign (tokens_from tokens.now at) }
 {
@@ -18,7 +18,7 @@ pub(crate) fn sign_at(tokens: &[Token], at: usize) -> Option<Sign>
     }
 }
 
-// The `*` or `/` at the place.
+// Returns the `*` or `/` at `at`, if one is there.
 pub(crate) fn scale_at(tokens: &[Token], at: usize) -> Option<Scale>
     ensures { result ≡ first_scale (tokens_from tokens.now at) }
 {
@@ -29,14 +29,14 @@ pub(crate) fn scale_at(tokens: &[Token], at: usize) -> Option<Scale>
     }
 }
 
-// Whether a `^` stands at the place.
+// Whether the token at `at` is a `^`.
 pub(crate) fn has_caret(tokens: &[Token], at: usize) -> bool
     ensures { result ≡ first_caret (tokens_from tokens.now at) }
 {
     matches!(tokens.get(at), Some(Token::Caret))
 }
 
-// Whether a token that begins an operand stands at the place.
+// Whether the token at `at` can begin an operand.
 pub(crate) fn has_operand(tokens: &[Token], at: usize) -> bool
     ensures { result ≡ begins (tokens_from tokens.now at) }
 {
@@ -46,7 +46,7 @@ pub(crate) fn has_operand(tokens: &[Token], at: usize) -> bool
     }
 }
 
-// The numeral after a `|` at the place.
+// Returns the numeral after the `|` at `at`, if both tokens are there.
 pub(crate) fn denominator_at(tokens: &[Token], at: usize) -> Option<Numeral>
     ensures { result ≡ first_denominator (tokens_from tokens.now at) }
 {

@@ -1,4 +1,4 @@
-//! The words of a tree.
+//! Collects the words of a tree.
 
 ghost use Rattle.std.specs.Prelude.{◌≡◌, ◌++◌, ◌∷◌, [], IfOk};
 ghost use Rattle.expr_tree.specs.Trees.{factors, factors_of, members, syntax, terms, terms_of, trees_of};
@@ -9,7 +9,7 @@ use crate::word_list::{WordKind, WordUse, Words};
 use std::alloc::{AllocError, Global};
 use units_io::Text;
 
-/// The words of the tree, from left to right. Their bytes are those of the tree.
+/// Returns the words of the tree from left to right. They borrow the bytes of the tree. Fails only if out of memory.
 pub fn words<'a>(alloc: Global, tree: &'a Tree) -> Result<Words<'a>, AllocError>
     ensures { IfOk result (λ words. words ≡ words_in (syntax tree.now)) }
 {
@@ -18,7 +18,7 @@ pub fn words<'a>(alloc: Global, tree: &'a Tree) -> Result<Words<'a>, AllocError>
     Ok(words)
 }
 
-/// Puts the words of the tree behind others, as `words` gives them. The only error is want of memory.
+/// Appends the words of the tree to the list, from left to right. Fails only if out of memory.
 #[cycle(put)]
 #[tactic(auto, using(crate::proofs::Says::says))]
 pub fn put_words<'a>(alloc: Global, words: &mut Words<'a>, tree: &'a Tree) -> Result<(), AllocError>
@@ -48,7 +48,7 @@ pub fn put_words<'a>(alloc: Global, words: &mut Words<'a>, tree: &'a Tree) -> Re
     }
 }
 
-// Puts a word at the end.
+// Appends a word.
 fn put_word<'a>(
     alloc: Global,
     words: &mut Words<'a>,
@@ -60,7 +60,7 @@ fn put_word<'a>(
     words.push(alloc, WordUse::new(word.as_bytes(), kind))
 }
 
-// Puts the words of trees side by side at the end.
+// Appends the words of a list of trees.
 #[cycle(put)]
 #[tactic(auto, using(crate::proofs::Says::member_words))]
 fn put_members<'a>(alloc: Global, words: &mut Words<'a>, trees: &'a Trees) -> Result<(), AllocError>
@@ -72,7 +72,7 @@ fn put_members<'a>(alloc: Global, words: &mut Words<'a>, trees: &'a Trees) -> Re
     Ok(())
 }
 
-// Puts the words of a product at the end.
+// Appends the words of the members of a product.
 #[cycle(put)]
 #[tactic(auto, using(crate::proofs::Says::factor_words))]
 fn put_factors<'a>(
@@ -88,7 +88,7 @@ fn put_factors<'a>(
     Ok(())
 }
 
-// Puts the words of a sum at the end.
+// Appends the words of the members of a sum.
 #[cycle(put)]
 #[tactic(auto, using(crate::proofs::Says::term_words))]
 fn put_terms<'a>(alloc: Global, words: &mut Words<'a>, members: &'a Terms) -> Result<(), AllocError>

@@ -7,7 +7,7 @@ use crate::tree::{Factors, Terms, Tree, Trees};
 use std::alloc::{AllocError, Global};
 
 impl Tree {
-    /// A tree that is equal. The only error is want of memory.
+    /// Returns an equal tree. Fails only if out of memory.
     #[cycle(copy)]
     #[tactic(auto, using(crate::proofs::Says::says))]
     pub fn copy(&self, alloc: Global) -> Result<Tree, AllocError>
@@ -39,7 +39,7 @@ impl Tree {
         }
     }
 
-    // A boxed tree that is equal.
+    // Returns an equal tree in a box.
     #[cycle(copy)]
     fn boxed(&self, alloc: Global) -> Result<Box<Tree>, AllocError>
         ensures { IfOk result (λ tree. syntax tree.value ≡ syntax self.now) }
@@ -50,7 +50,7 @@ impl Tree {
 }
 
 impl Trees {
-    /// Equal trees, in their order. The only error is want of memory.
+    /// Returns a list of equal trees in the same order. Fails only if out of memory.
     #[cycle(copy)]
     #[tactic(auto, using(crate::proofs::Says::copies))]
     pub fn copy(&self, alloc: Global) -> Result<Trees, AllocError>
@@ -65,7 +65,7 @@ impl Trees {
 }
 
 impl Factors {
-    // Members that are equal.
+    // Returns equal members of a product, in the same order.
     #[cycle(copy)]
     #[tactic(auto, using(crate::proofs::Says::copies))]
     fn copy(&self, alloc: Global) -> Result<Factors, AllocError>
@@ -80,7 +80,7 @@ impl Factors {
 }
 
 impl Terms {
-    // Members that are equal.
+    // Returns equal members of a sum, in the same order.
     #[cycle(copy)]
     #[tactic(auto, using(crate::proofs::Says::copies))]
     fn copy(&self, alloc: Global) -> Result<Terms, AllocError>

@@ -1,7 +1,7 @@
-//! Recursive descent over tokens that fit: a function for each rule of the grammar, each of which
-//! gives the tree at a place and the place after it. Calls nest as deep as the tokens are.
+//! Recursive descent over tokens that are already known to fit. Each rule of the grammar has a function, which returns
+//! the tree at a place and the place after it. Calls nest as deep as the tokens do.
 
-ghost use Rattle.std.specs.Prelude.{◌≡◌, ◌+◌, ◌<◌, ◌≤◌, ◌∷◌, true, IfOk, Some, map};
+ghost use Rattle.std.specs.Prelude.{◌≡◌, ◌+◌, ◌<◌, ◌≤◌, ◌∷◌, true, IfOk, IfSome, Some, map};
 ghost use Rattle.std.specs.Option.{option_copied};
 ghost use Rattle.expr_tree.specs.Front.{AtomAt, ExponentAt, IsClosed, IsReadAt, JuxtapositionAt, PowerAt, ProductAt};
 ghost use Rattle.expr_tree.specs.Front.{SumAt, begins, tokens_from};
@@ -12,18 +12,65 @@ ghost use Rattle.expr_tree.specs.Tokens.{Tilde};
 ghost use Rattle.expr_tree.specs.Trees.{syntax};
 
 use crate::ahead::{denominator_at, has_caret, has_operand, scale_at, sign_at};
-use crate::making::{bar_tree, call_tree, inverse_tree, power_tree, signed_tree, word_tree};
+use crate::making::{
+    bar_tree, call_tree, inverse_tree, power_tree, scaled_tree, signed_tree, word_tree,
+};
 use crate::operator::{Scale, Sign};
 use crate::token::Token;
 use crate::tree::{Factors, Terms, Tree, Trees};
 use std::alloc::{AllocError, Global};
 
-// The tree that the tokens give.
+// Returns the tree of the tokens. Most expressions are a word, a numeral, or a numeral or fraction before a word.
+// Their trees are made without the descent.
 pub(crate) fn tree_of_tokens(
     alloc: Global,
     tokens: &[Token],
     binder: Option<&[u8]>,
 ) -> Result<Tree, AllocError>
+    requires { fits WantsOperand 0 (map seen tokens.now) ≡ true }
+    ensures { IfOk result (λ e. tree_of (option_copied binder.entry) (map seen tokens.now) ≡ Some (syntax e)) }
+{
+    match usual_tree(alloc, tokens, binder)? {
+        Some(tree) => Ok(tree),
+        None => tree_of_sum(alloc, tokens, binder),
+    }
+}
+
+// Returns the tree of a word, a numeral, or a numeral or fraction before a word, or `None` for any other tokens.
+fn usual_tree(
+    alloc: Global,
+    tokens: &[Token],
+    binder: Option<&[u8]>,
+) -> Result<Option<Tree>, AllocError>
+    ensures { IfOk result (λ found. IfSome found
+        (λ e. tree_of (option_copied binder.entry) (map seen tokens.now) ≡ Some (syntax e))) }
+{
+    match tokens {
+        [only] => match only {
+            Token::Word(word) => Ok(Some(word_tree(alloc, word, binder)?)),
+            Token::Numeral(n) => Ok(Some(Tree::Number(*n))),
+            _ => Ok(None),
+        },
+        [scale, last] => match (scale, last) {
+            (Token::Numeral(n), Token::Word(word)) => {
+                let scale = Tree::Number(*n);
+                Ok(Some(scaled_tree(alloc, scale, word, binder)?))
+            }
+            _ => Ok(None),
+        },
+        [top, bar, bottom, last] => match (top, bar, bottom, last) {
+            (Token::Numeral(n), Token::Bar, Token::Numeral(d), Token::Word(word)) => {
+                let scale = bar_tree(alloc, *n, *d)?;
+                Ok(Some(scaled_tree(alloc, scale, word, binder)?))
+            }
+            _ => Ok(None),
+        },
+        _ => Ok(None),
+    }
+}
+
+// Returns the tree of the tokens by recursive descent.
+fn tree_of_sum(alloc: Global, tokens: &[Token], binder: Option<&[u8]>) -> Result<Tree, AllocError>
     requires { fits WantsOperand 0 (map seen tokens.now) ≡ true }
     ensures { IfOk result (λ e. tree_of (option_copied binder.entry) (map seen tokens.now) ≡ Some (syntax e)) }
 {
@@ -104,7 +151,7 @@ fn juxtaposition_at(
     }
 }
 
-// A juxtaposition without a sign before it.
+// Reads a juxtaposition that has no sign before it.
 #[cycle(rules)]
 fn powers_at(
     alloc: Global,
@@ -215,7 +262,7 @@ fn atom_at(
     }
 }
 
-// The atom of a `~` and what stands at the place after it.
+// Reads the rest of an atom that begins with a `~`, at the place after the `~`.
 #[cycle(rules)]
 fn inverse_at(
     alloc: Global,
@@ -237,7 +284,7 @@ fn inverse_at(
     }
 }
 
-// A sum and the `)` after it.
+// Reads a sum and the `)` after it.
 #[cycle(rules)]
 fn closed_sum_at(
     alloc: Global,

@@ -1,18 +1,17 @@
-//! Why a text is no expression.
+//! Faults of texts that are not expressions.
 
 use std::alloc::{AllocError, AllocFailed};
 
-/// Why a text is no expression.
+/// Why a text is not an expression.
 #[derive(Clone, Copy, Debug, PartialEq, Eq)]
 pub enum ParseFault {
-    /// At this place, in bytes from 0, stands what may not stand there, or the text ends there
-    /// and may not.
+    /// The text has a token that is not allowed at this byte offset, or ends too early at it.
     Syntax(usize),
-    /// A numeral is past its limits.
+    /// A numeral exceeds its limits.
     NumeralTooLong,
-    /// A token is deeper than 64.
+    /// A token is nested deeper than 64.
     NestedTooDeep,
-    /// There is no memory.
+    /// An allocation failed.
     OutOfMemory,
 }
 

@@ -10,54 +10,53 @@ ghost use Rattle.expr_tree.specs.Reading.{TreeOfLaw};
 ghost use Rattle.expr_tree.specs.TextExamples.{TextExamplesLaw};
 ghost use Rattle.expr_tree.specs.Views.{ViewLaw};
 
-/// Tokens give one tree at most, with each binder and without one.
+/// Tokens have at most one tree, with any binder or none.
 pub fn one_tree_law()
     ensures { OneTreeLaw }
 {}
 
-/// Tokens give a tree exactly where each of them may stand and they may end.
+/// Tokens have a tree exactly if each of them is allowed at its place and they may end after the last.
 pub fn complete_law()
     ensures { CompleteLaw }
 {}
 
-/// The function that reads tokens gives a tree exactly where the grammar gives it.
+/// The function `tree_of` returns a tree exactly if the grammar derives it.
 pub fn reading_law()
     ensures { TreeOfLaw }
 {}
 
-/// A text is parsed to the tree that its tokens give where it has no fault, and else to its first
-/// fault.
+/// A text is parsed to the tree of its tokens if it has no fault, and otherwise to its first fault.
 pub fn parsed_law()
     ensures { ParsedLaw }
 {}
 
-/// A few token lists give the trees that were found by hand.
+/// A few token lists have the trees that were worked out by hand.
 pub fn examples_law()
     ensures { ExamplesLaw }
 {}
 
-/// A text is parsed to a tree that is well formed: each list in it has a first member, that of a
-/// product multiplies and that of a sum has a plus.
+/// A text is parsed to a well-formed tree: no list in it is empty, the first member of a product multiplies, and the
+/// first member of a sum has a plus.
 pub fn formed_law()
     ensures { FormedLaw }
 {}
 
-/// A text that is parsed without a binder holds no argument.
+/// The tree of a text that is parsed without a binder contains no argument.
 pub fn free_law()
     ensures { FreeLaw }
 {}
 
-/// What a tree of each kind says, by what its parts say.
+/// The meaning of a tree of each kind follows from the meanings of its parts.
 pub fn view_law()
     ensures { ViewLaw }
 {}
 
-/// A few texts have the tokens and the first faults that were found by hand.
+/// A few texts have the tokens and the first faults that were worked out by hand.
 pub fn text_examples_law()
     ensures { TextExamplesLaw }
 {}
 
-/// What a text is parsed to is a tree or a fault of the text, never want of memory.
+/// The specified result for a text is a tree or a fault of the text, never a lack of memory.
 pub fn told_law()
     ensures { ToldLaw }
 {}

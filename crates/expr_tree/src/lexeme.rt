@@ -1,4 +1,4 @@
-//! Lexemes, and the one at the front of a text.
+//! Lexemes, and reading the one at the front of a text.
 
 ghost use Rattle.std.specs.Prelude.{◌≡◌, ◌<◌, ◌≤◌, ◌+◌, ◌^◌, if◌then◌else◌, IsTrue, length, slice_index, true};
 ghost use Rattle.std.specs.List as lists;
@@ -20,13 +20,13 @@ pub(crate) enum Lexeme<'a> {
     Blank,
     // A token.
     Whole(Token<'a>),
-    // A numeral past its limits.
+    // A numeral that exceeds its limits.
     TooLong,
-    // Bytes that are no token.
+    // Bytes that are not a token.
     Malformed,
 }
 
-// A lexeme at the front of a text, and how many bytes it has.
+// A lexeme at the front of a text, and its length in bytes.
 #[derive(Clone, Copy)]
 pub(crate) struct Piece<'a> {
     pub(crate) lexeme: Lexeme<'a>,
@@ -34,8 +34,7 @@ pub(crate) struct Piece<'a> {
 }
 
 impl<'a> Piece<'a> {
-    // The lexeme at the front of a text that has a byte. Directly after a numeral a point is
-    // malformed.
+    // Returns the lexeme at the front of a non-empty text. A point directly after a numeral is malformed.
     pub(crate) fn first(text: &'a [u8], after_numeral: bool) -> Piece<'a>
         requires { 0 < length text.now }
         ensures is { seen_piece result ≡ spec.front after_numeral text.now }
@@ -78,7 +77,7 @@ impl Lexeme<'_> {
     }
 }
 
-// The numeral at the front.
+// Returns the numeral at the front.
 fn numeral_piece(text: &[u8]) -> Piece<'_>
     requires { 0 < length text.now }
     ensures is { seen_piece result ≡ spec.numeral_piece text.now }
@@ -100,7 +99,7 @@ fn numeral_piece(text: &[u8]) -> Piece<'_>
     Piece { lexeme, len }
 }
 
-// The word at the front.
+// Returns the word at the front.
 #[tactic(auto, using(crate::proofs::Lengths::lengths, crate::proofs::WordFronts::words))]
 fn word_at_front(text: &[u8]) -> Piece<'_>
     requires word { IsTrue (names.is_word_byte (slice_index text.now 0)) }
@@ -114,14 +113,14 @@ fn word_at_front(text: &[u8]) -> Piece<'_>
     word_piece(word, opened)
 }
 
-// How many bytes the word has that the bytes begin with.
+// Returns the length of the word at the front of the bytes.
 fn word_len(bytes: &[u8]) -> usize
     ensures { result ≡ lists.prefix_len names.is_word_byte bytes.now }
 {
     prefix_len(bytes, is_word_byte)
 }
 
-// Whether the byte `(` stands at the front.
+// Whether the first byte is `(`.
 fn is_opened(text: &[u8]) -> bool
     ensures is { result ≡ spec.is_opened text.now }
     ensures some { IsTrue result → 0 < length text.now }
@@ -129,7 +128,7 @@ fn is_opened(text: &[u8]) -> bool
     !text.is_empty() && text[0] == b'('
 }
 
-// What a word is, where a `(` follows or not.
+// Classifies a word; `opened` says whether a `(` follows it.
 fn word_piece(word: &[u8], opened: bool) -> Piece<'_>
     requires whole { lists.list_all names.is_word_byte word.now ≡ true }
     requires some { 0 < length word.now }
@@ -156,7 +155,7 @@ fn word_piece(word: &[u8], opened: bool) -> Piece<'_>
     }
 }
 
-// What a word is that is neither a name nor refused.
+// Classifies a word that is neither a name nor refused.
 fn other_word(word: &[u8]) -> Lexeme<'_>
     requires { lists.list_all names.is_word_byte word.now ≡ true }
     ensures { seen_lexeme result ≡ spec.other_word word.now }
@@ -173,7 +172,7 @@ fn other_word(word: &[u8]) -> Lexeme<'_>
     word_with_power(word)
 }
 
-// A name with one digit from 2 to 9 behind it.
+// Returns the word with power if the word is a name followed by one digit from 2 to 9, or else `Malformed`.
 #[tactic(auto, using(crate::proofs::PowerWords::powers))]
 fn word_with_power(word: &[u8]) -> Lexeme<'_>
     requires { lists.list_all names.is_word_byte word.now ≡ true }
@@ -187,7 +186,7 @@ fn word_with_power(word: &[u8]) -> Lexeme<'_>
     Lexeme::Whole(Token::WordWithPower(&word[..last], digit))
 }
 
-// Two stars, or a byte that is a token by itself.
+// Returns the lexeme of two stars, or of a byte that is a token by itself.
 fn mark_piece(text: &[u8]) -> Piece<'_>
     requires { 0 < length text.now }
     ensures is { seen_piece result ≡ spec.mark_piece text.now }
@@ -206,7 +205,7 @@ fn mark_piece(text: &[u8]) -> Piece<'_>
     }
 }
 
-// A byte that is a token by itself.
+// Returns the token that the byte is by itself, or `Malformed`.
 fn mark(byte: u8) -> Lexeme<'static>
     ensures { seen_lexeme result ≡ spec.mark byte }
 {

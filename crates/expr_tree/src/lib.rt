@@ -1,4 +1,4 @@
-//! Expressions: their tokens, their grammar, their trees, and the parser that is proved against it.
+//! Expressions: their tokens, their grammar, their trees, and a parser that is proved to follow the grammar.
 #![tactic(auto)]
 
 mod ahead;

@@ -1,4 +1,4 @@
-//! Trees made of their parts.
+//! Builds trees from their parts.
 
 ghost use Rattle.std.specs.Prelude.{◌≡◌, IfOk};
 ghost use Rattle.std.specs.Option.{option_copied};
@@ -12,7 +12,7 @@ use frac128::Numeral;
 use std::alloc::{AllocError, Global};
 use units_io::Text;
 
-// A numeral over another.
+// Returns the fraction of two numerals.
 pub(crate) fn bar_tree(alloc: Global, top: Numeral, bottom: Numeral) -> Result<Tree, AllocError>
     ensures { IfOk result (λ e. syntax e ≡ tree.Bar top bottom) }
 {
@@ -29,7 +29,7 @@ fn is_binder(binder: Option<&[u8]>, word: &[u8]) -> bool
     }
 }
 
-// A word, which stands for the argument where it is the binder.
+// Returns the tree of a word: the argument if the word is the binder.
 pub(crate) fn word_tree(
     alloc: Global,
     word: &[u8],
@@ -43,7 +43,25 @@ pub(crate) fn word_tree(
     Ok(Tree::Word(Text::from_bytes(alloc, word)?))
 }
 
-// A word before its operand in parentheses: a product where it is the binder, and else a call.
+// Returns the juxtaposition of a tree and a word.
+pub(crate) fn scaled_tree(
+    alloc: Global,
+    scale: Tree,
+    word: &[u8],
+    binder: Option<&[u8]>,
+) -> Result<Tree, AllocError>
+    ensures { IfOk result (λ e. syntax e
+        ≡ grammar.juxtaposed (syntax scale) (tree.Member (grammar.word (option_copied binder.entry) word.now)
+        tree.NoMember)) }
+{
+    let word = word_tree(alloc, word, binder)?;
+    let mut members = Trees::new(alloc);
+    members.push(alloc, scale)?;
+    members.push(alloc, word)?;
+    Ok(Tree::Juxtaposed(members))
+}
+
+// Returns the tree of a word before an operand in parentheses: a product if the word is the binder, else a call.
 pub(crate) fn call_tree(
     alloc: Global,
     word: &[u8],
@@ -59,7 +77,7 @@ pub(crate) fn call_tree(
     Ok(Tree::Call(word, Box::new(alloc, operand)?))
 }
 
-// The argument times the operand.
+// Returns the argument times the operand.
 fn product_with_argument(alloc: Global, operand: Tree) -> Result<Tree, AllocError>
     ensures { IfOk result (λ e. syntax e ≡ grammar.argument_times (syntax operand)) }
 {
@@ -69,7 +87,7 @@ fn product_with_argument(alloc: Global, operand: Tree) -> Result<Tree, AllocErro
     Ok(Tree::Group(Box::new(alloc, Tree::Juxtaposed(members))?))
 }
 
-// The inverse of a function at its operand.
+// Returns the inverse of a function at its operand.
 pub(crate) fn inverse_tree(alloc: Global, word: &[u8], operand: Tree) -> Result<Tree, AllocError>
     ensures { IfOk result (λ e. syntax e ≡ tree.Inverse word.now (syntax operand)) }
 {
@@ -77,7 +95,7 @@ pub(crate) fn inverse_tree(alloc: Global, word: &[u8], operand: Tree) -> Result<
     Ok(Tree::Inverse(word, Box::new(alloc, operand)?))
 }
 
-// A base and its exponent.
+// Returns the power of a base and an exponent.
 pub(crate) fn power_tree(alloc: Global, base: Tree, exponent: Tree) -> Result<Tree, AllocError>
     ensures { IfOk result (λ e. syntax e ≡ tree.Power (syntax base) (syntax exponent)) }
 {
@@ -85,7 +103,7 @@ pub(crate) fn power_tree(alloc: Global, base: Tree, exponent: Tree) -> Result<Tr
     Ok(Tree::Power(base, Box::new(alloc, exponent)?))
 }
 
-// The tree after a sign.
+// Returns the operand with a sign before it.
 pub(crate) fn signed_tree(alloc: Global, sign: Sign, operand: Tree) -> Result<Tree, AllocError>
     ensures { IfOk result (λ e. syntax e ≡ grammar.signed sign (syntax operand)) }
 {

@@ -4,20 +4,20 @@ ghost use Rattle.std.specs.Prelude.{◌≡◌, true};
 ghost use Rattle.std.specs.List.{list_all};
 ghost use Rattle.expr_tree.specs.Names as spec;
 
-// The most bytes of a name.
+// The maximum length of a name in bytes.
 const LONGEST_NAME: usize = 255;
 
 /// Whether the bytes are a name: 1 to 255 bytes, none of them a blank, a control byte or one of
-/// `+ - * / | ^ ; ~ # ( ) [ ]`. The first is no digit and none of `_ , . !`, the last none of
-/// `_ , .`. Where the last is a digit from 1 to 9, some `_` has only digits, dots and commas
-/// after it. `per`, `sqrt`, `cuberoot` and the refused names are no names.
+/// `+ - * / | ^ ; ~ # ( ) [ ]`. The first is not a digit and none of `_ , . !`, and the last is none of `_ , .`. If the
+/// last is a digit from 1 to 9, some `_` is followed only by digits, dots and commas. `per`, `sqrt`, `cuberoot` and the
+/// refused names are not names.
 pub fn is_name(bytes: &[u8]) -> bool
     ensures { result ≡ spec.is_name bytes.now }
 {
     has_word_bytes(bytes) && is_name_word(bytes)
 }
 
-// Whether a word is a name. Its bytes are not gone through again.
+// Whether a word is a name. The caller has already checked that each byte may be in a word.
 pub(crate) fn is_name_word(word: &[u8]) -> bool
     requires { list_all spec.is_word_byte word.now ≡ true }
     ensures { result ≡ spec.is_name word.now }
@@ -25,7 +25,7 @@ pub(crate) fn is_name_word(word: &[u8]) -> bool
     is_spelled(word) && !ends_in_count(word) && !is_keyword(word) && !is_refused(word)
 }
 
-// Whether the number of bytes of a word, the first and the last are those of a name.
+// Whether a word has the length, the first byte and the last byte of a name.
 fn is_spelled(word: &[u8]) -> bool
     requires { list_all spec.is_word_byte word.now ≡ true }
     ensures { result ≡ spec.is_spelled word.now }
@@ -36,21 +36,21 @@ fn is_spelled(word: &[u8]) -> bool
         && may_end(word[word.len() - 1])
 }
 
-// Whether a word may hold each of the bytes.
+// Whether each of the bytes may be in a word.
 fn has_word_bytes(bytes: &[u8]) -> bool
     ensures { result ≡ list_all spec.is_word_byte bytes.now }
 {
     bytes.iter().all(|byte| is_word_byte(*byte))
 }
 
-// Whether the last byte is a digit from 1 to 9 that belongs to no index.
+// Whether the last byte is a digit from 1 to 9 that is not part of an index.
 fn ends_in_count(bytes: &[u8]) -> bool
     ensures { result ≡ spec.ends_in_count bytes.now }
 {
     !bytes.is_empty() && is_count(bytes[bytes.len() - 1]) && !has_index(bytes)
 }
 
-/// Whether the bytes are the name of a function that is refused.
+/// Whether the bytes are the name of a refused function, such as `sin`.
 pub fn is_refused(bytes: &[u8]) -> bool
     ensures { result ≡ spec.is_refused bytes.now }
 {
@@ -75,7 +75,7 @@ pub fn is_refused(bytes: &[u8]) -> bool
     )
 }
 
-// Whether a word is a name, followed by one digit from 2 to 9.
+// Whether a word is a name followed by one digit from 2 to 9.
 #[tactic(auto, using(crate::proofs::WordFronts::words))]
 pub(crate) fn has_power(word: &[u8]) -> bool
     requires { list_all spec.is_word_byte word.now ≡ true }
@@ -91,14 +91,14 @@ fn is_power_byte(byte: u8) -> bool
     matches!(byte, b'2'..=b'9')
 }
 
-// Whether the bytes are a word that means something of its own.
+// Whether the bytes are a keyword.
 fn is_keyword(bytes: &[u8]) -> bool
     ensures { result ≡ spec.is_among spec.keywords bytes.now }
 {
     matches!(bytes, b"per" | b"sqrt") || bytes == b"cuberoot".as_slice()
 }
 
-// Whether a word may hold the byte. Most are letters, so these are told first.
+// Whether the byte may be in a word. Most bytes are letters, so these are tested first.
 pub(crate) fn is_word_byte(byte: u8) -> bool
     ensures { result ≡ spec.is_word_byte byte }
 {
@@ -151,7 +151,7 @@ fn is_index_byte(byte: u8) -> bool
     matches!(byte, b'0'..=b'9' | b'.' | b',')
 }
 
-// Whether some `_` has nothing but digits, dots and commas after it.
+// Whether some `_` is followed only by digits, dots and commas.
 fn has_index(bytes: &[u8]) -> bool
     ensures { result ≡ spec.has_index bytes.now }
 {

@@ -1,4 +1,4 @@
-//! The operators that stand before the members of a sum or a product, and the roots.
+//! The operators before the members of a sum or a product, and the roots.
 
 ghost use Rattle.std.specs.Prelude.{◌≡◌};
 ghost use Rattle.expr_tree.specs.Syntax.{degree};
@@ -6,18 +6,18 @@ ghost use Rattle.expr_tree.specs.Syntax.{degree};
 /// The sign before a member of a sum.
 #[derive(Clone, Copy, Drop)]
 pub enum Sign {
-    /// It is added.
+    /// The member is added.
     Plus,
-    /// It is subtracted.
+    /// The member is subtracted.
     Minus,
 }
 
 /// Whether a member of a product multiplies or divides.
 #[derive(Clone, Copy, Drop)]
 pub enum Scale {
-    /// It multiplies.
+    /// The member multiplies.
     Multiply,
-    /// It divides.
+    /// The member divides.
     Divide,
 }
 
@@ -31,7 +31,7 @@ pub enum RootKind {
 }
 
 impl RootKind {
-    /// The degree of the root: 2 or 3.
+    /// Returns the degree of the root: 2 or 3.
     pub fn degree(self) -> u32
         ensures { result ≡ degree self }
     {

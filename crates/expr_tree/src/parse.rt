@@ -14,13 +14,13 @@ use crate::scan::scan;
 use crate::tree::Tree;
 use std::alloc::Global;
 
-/// The tree of an expression, in which the binder, if there is one, stands for the argument of a
-/// function. The text is taken as it stands: blanks at its ends count as bytes where the place of
-/// a fault is told, so whoever wants places from the first byte that is no blank trims it before.
+/// Parses an expression. If a binder is given, it names the argument of a function. Blanks at the ends of the text
+/// count in the offset of a fault, so a caller that wants offsets from the first byte that is not a blank trims the
+/// text first.
 ///
-/// The fault is that of the first token that has one. `Syntax` is its place in bytes where it may
-/// not stand, or the length of the text where that ends too early; `NumeralTooLong` a numeral past
-/// its limits; `NestedTooDeep` a token deeper than 64.
+/// The fault is that of the first token that has one. `Syntax` has the byte offset of a token that is not allowed at
+/// its place, or the length of the text if the text ends too early. `NumeralTooLong` is a numeral that exceeds its
+/// limits, and `NestedTooDeep` a token nested deeper than 64. `OutOfMemory` says that an allocation failed.
 pub fn parse_expr(alloc: Global, text: &[u8], binder: Option<&[u8]>) -> Result<Tree, ParseFault>
     ensures exact { MatchResult result
         (λ tree. (first_fault text.now ≡ None)

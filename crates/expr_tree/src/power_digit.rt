@@ -7,7 +7,7 @@ ghost use Rattle.expr_tree.specs.Seen.{power_numeral, seen_digit};
 
 use frac128::{Numeral, read_numeral};
 
-// A digit from 2 to 9. A token with this byte is smaller than one with a numeral behind its word.
+// A digit from 2 to 9. It keeps a token smaller than a numeral after the word would.
 #[derive(Clone, Copy)]
 pub(crate) enum PowerDigit {
     Two,
@@ -21,7 +21,7 @@ pub(crate) enum PowerDigit {
 }
 
 impl PowerDigit {
-    // The digit that the byte is.
+    // Returns the digit of an ASCII byte.
     pub(crate) fn of_byte(byte: u8) -> PowerDigit
         requires { IsTrue (is_power_byte byte) }
         ensures { seen_digit result ≡ byte - 48 }
@@ -39,7 +39,7 @@ impl PowerDigit {
         }
     }
 
-    // The digit as a numeral.
+    // Returns the digit as a numeral.
     pub(crate) fn numeral(self) -> Numeral
         ensures { result ≡ power_numeral self }
     {
@@ -49,7 +49,7 @@ impl PowerDigit {
         }
     }
 
-    // The digit in writing.
+    // Returns the digit as text.
     fn text(self) -> &'static [u8]
         ensures { read result.now ≡ Ok (power_numeral self) }
     {

@@ -1,4 +1,4 @@
-//! Which token may stand after which.
+//! Rules for which token may follow which.
 
 ghost use Rattle.std.specs.Prelude.{◌≡◌};
 ghost use Rattle.expr_tree.specs.Rules as spec;
@@ -7,25 +7,25 @@ ghost use Rattle.expr_tree.specs.Seen.{seen};
 
 use crate::token::Token;
 
-// What tokens leave to the one after them.
+// The state after some tokens, which decides what the next token may be.
 #[derive(Clone, Copy)]
 pub(crate) enum After {
-    // Nothing, or last an operator, a `(` or a head.
+    // There is no token yet, or the last is an operator, a `(` or a head.
     WantsOperand,
-    // Last a `~`.
+    // The last token is a `~`.
     WantsHead,
-    // Last a `sqrt` or `cuberoot`.
+    // The last token is `sqrt` or `cuberoot`.
     WantsOpen,
-    // Last a `|`.
+    // The last token is a `|`.
     WantsNumeral,
-    // Last a numeral, with no `|` before it.
+    // The last token is a numeral with no `|` before it.
     EndsNumeral,
-    // Last another token that ends an operand.
+    // The last token is another one that ends an operand.
     EndsOperand,
 }
 
 impl After {
-    // What a token leaves.
+    // Returns the state after one more token.
     pub(crate) fn then(self, token: &Token) -> After
         ensures { result ≡ spec.after (seen token.now) self }
     {
@@ -48,7 +48,7 @@ impl After {
         }
     }
 
-    // Whether a token may stand where so many parentheses are open.
+    // Whether a token may follow if `opened` parentheses are open.
     pub(crate) fn may(self, opened: usize, token: &Token) -> bool
         ensures { result ≡ spec.may self opened (seen token.now) }
     {
@@ -66,7 +66,7 @@ impl After {
         }
     }
 
-    // Whether a numeral may stand.
+    // Whether a numeral may follow.
     pub(crate) fn may_take_numeral(self) -> bool
         ensures { result ≡ takes_numeral self }
     {
@@ -80,7 +80,7 @@ impl After {
         matches!(self, After::EndsNumeral | After::EndsOperand)
     }
 
-    // Whether a token nests what follows it deeper.
+    // Whether the tokens after `token` are nested one level deeper than it.
     pub(crate) fn deepens(self, token: &Token) -> bool
         ensures { result ≡ spec.deepens (seen token.now) self }
     {

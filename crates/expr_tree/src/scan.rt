@@ -1,4 +1,4 @@
-//! The tokens of a text, or its first fault.
+//! Scans a text into tokens, or finds its first fault.
 
 ghost use Rattle.std.specs.Prelude.{◌≡◌, ◌⊎◌, IfOk, IfErr, None, Some, map, true};
 ghost use Rattle.expr_tree.specs.Faults.{first_fault};
@@ -12,11 +12,10 @@ use crate::standing::Standing;
 use crate::token::Token;
 use std::alloc::Global;
 
-// The room for tokens at first: most expressions have fewer.
+// The initial capacity for tokens. Most expressions have fewer.
 const USUAL_TOKENS: usize = 8;
 
-// The tokens of a text that has no fault, each of which may stand where it stands, or its first
-// fault.
+// Returns the tokens of a text, each of which is allowed at its place, or the first fault of the text.
 pub(crate) fn scan(alloc: Global, text: &[u8]) -> Result<Vec<Token<'_>>, ParseFault>
     ensures tokens { IfOk result (λ tokens. map seen tokens.items ≡ spec.tokens text.now) }
     ensures faultless { IfOk result (λ tokens. first_fault text.now ≡ None) }

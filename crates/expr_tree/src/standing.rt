@@ -1,4 +1,4 @@
-//! What the tokens so far leave to the next one, and its fault where it may not stand.
+//! The state after the tokens so far, and the fault of a next token that is not allowed.
 
 ghost use Rattle.std.specs.Prelude.{◌≡◌, ◌<◌, ◌^◌};
 ghost use Rattle.expr_tree.specs.Faults.{fault_at};
@@ -13,8 +13,7 @@ use crate::token::Token;
 // The greatest depth of a token.
 const DEEPEST: usize = 64;
 
-// What the tokens so far leave to the next one, how many parentheses are open, and how deep the
-// next one is.
+// The state after the tokens so far, how many parentheses are open, and how deep the next token is nested.
 #[derive(Clone, Copy)]
 pub(crate) struct Standing {
     pub(crate) last: After,
@@ -23,7 +22,7 @@ pub(crate) struct Standing {
 }
 
 impl Standing {
-    // Before the first token.
+    // Returns the state before the first token.
     pub(crate) fn new() -> Standing
         ensures { result ≡ record { last = After.WantsOperand; opened = 0; depth = 0 } }
     {
@@ -34,7 +33,7 @@ impl Standing {
         }
     }
 
-    // The fault of the lexeme at a place, if it has one there.
+    // Returns the fault of the next lexeme, if it has one. `place` is its byte offset.
     pub(crate) fn fault(&self, lexeme: &Lexeme, place: usize) -> Option<ParseFault>
         ensures { result ≡ fault_at self.now.last self.now.opened self.now.depth place (seen_lexeme lexeme.now) }
     {
@@ -60,7 +59,7 @@ impl Standing {
         }
     }
 
-    // What is left once one more token stands.
+    // Returns the state after one more token.
     pub(crate) fn then(&self, token: &Token) -> Standing
         requires opened { self.now.opened < 2 ^ 32 }
         requires depth { self.now.depth < 2 ^ 32 }
@@ -86,7 +85,7 @@ impl Standing {
     }
 }
 
-// One more, one less, or the same.
+// Returns `n + 1` for more, `n - 1` (at least 0) for less, and otherwise `n`.
 fn counted(more: bool, less: bool, n: usize) -> usize
     requires { n < 2 ^ 32 }
     ensures { result ≡ spec.counted more less n }

@@ -1,4 +1,4 @@
-//! Tokens of expressions.
+//! The tokens of expressions.
 
 ghost use Rattle.std.specs.Prelude.{◌≡◌};
 ghost use Rattle.expr_tree.specs.Lexemes.{is_numeral_token};
@@ -9,7 +9,7 @@ use crate::operator::RootKind;
 use crate::power_digit::PowerDigit;
 use frac128::Numeral;
 
-// A token, whose words are slices of the text.
+// A token. Its word, if it has one, borrows from the text.
 #[derive(Clone, Copy)]
 pub(crate) enum Token<'a> {
     Numeral(Numeral),
@@ -29,7 +29,7 @@ pub(crate) enum Token<'a> {
 }
 
 impl Token<'_> {
-    // Whether an operand may begin with it.
+    // Whether an operand may begin with the token.
     pub(crate) fn begins_operand(&self) -> bool
         ensures { result ≡ begins_operand (seen self.now) }
     {
@@ -45,7 +45,7 @@ impl Token<'_> {
         )
     }
 
-    // Whether it is a numeral.
+    // Whether the token is a numeral.
     pub(crate) fn is_numeral(&self) -> bool
         ensures { result ≡ is_numeral_token (seen self.now) }
     {

@@ -9,31 +9,31 @@ use frac128::Numeral;
 use std::alloc::{AllocError, Global};
 use units_io::Text;
 
-// The room of a list at its first member: most lists have two.
+// The capacity reserved for the first member of a list. Most lists have two members.
 const USUAL_MEMBERS: usize = 2;
 
-/// What an expression says.
-// What is rare is boxed, so that each tree is as small as a word.
+/// The tree of an expression.
+// Rare variants are boxed, which keeps a tree as small as its `Word` variant.
 #[cycle(tree)]
 #[derive(Drop)]
 pub enum Tree {
     /// A numeral.
     Number(Numeral),
-    /// A numeral over another.
+    /// A fraction of two numerals.
     Bar(Box<Quotient>),
     /// A word.
     Word(Text),
-    /// What the function is applied to whose definition the expression is.
+    /// The argument of the function that the expression defines.
     Argument,
     /// A word directly before an operand in parentheses.
     Call(Box<Text>, Box<Tree>),
     /// The inverse of a function, and the operand in parentheses.
     Inverse(Box<Text>, Box<Tree>),
-    /// A root of what stands in parentheses.
+    /// A root of an expression in parentheses.
     Root(RootKind, Box<Tree>),
-    /// What stands in parentheses.
+    /// An expression in parentheses.
     Group(Box<Tree>),
-    /// What stands after a minus that is a sign.
+    /// An operand after a minus that is a sign.
     Negate(Box<Tree>),
     /// A base and its exponent.
     Power(Box<Tree>, Box<Tree>),
@@ -45,12 +45,12 @@ pub enum Tree {
     Sum(Terms),
 }
 
-/// Two numerals, one over the other.
+/// A fraction of two numerals.
 #[derive(Clone, Copy, Drop)]
 pub struct Quotient {
-    /// The one before the bar.
+    /// The numeral before the bar.
     pub top: Numeral,
-    /// The one behind the bar.
+    /// The numeral after the bar.
     pub bottom: Numeral,
 }
 
@@ -61,14 +61,14 @@ pub struct Trees {
     pub(crate) items: Vec<Tree>,
 }
 
-/// The members of a product, in order: each with whether it multiplies or divides.
+/// The members of a product, in order. Each multiplies or divides.
 #[cycle(tree)]
 #[derive(Drop)]
 pub struct Factors {
     pub(crate) items: Vec<(Scale, Tree)>,
 }
 
-/// The members of a sum, in order: each with its sign.
+/// The members of a sum, in order, each with its sign.
 #[cycle(tree)]
 #[derive(Drop)]
 pub struct Terms {
@@ -76,7 +76,7 @@ pub struct Terms {
 }
 
 impl Trees {
-    /// The empty list.
+    /// Returns an empty list.
     pub fn new(alloc: Global) -> Trees
         ensures { trees_of result ≡ [] }
     {
@@ -85,7 +85,7 @@ impl Trees {
         }
     }
 
-    /// Puts a tree at the end. A refusal changes nothing.
+    /// Appends a tree. If that fails, the list is unchanged.
     pub fn push(&mut self, _alloc: Global, item: Tree) -> Result<(), AllocError>
         ensures ok { OnOk result (trees_of self.new ≡ trees_of self.old ++ syntax item ∷ []) }
         ensures err { OnErr result (trees_of self.new ≡ trees_of self.old) }
@@ -97,21 +97,21 @@ impl Trees {
         Ok(())
     }
 
-    /// How many trees there are.
+    /// Returns the number of trees.
     pub fn len(&self) -> usize
         ensures { result ≡ length (trees_of self.now) }
     {
         self.items.len()
     }
 
-    /// The trees.
+    /// Returns the trees as a slice.
     pub fn as_slice(&self) -> &[Tree]
         ensures { map syntax result.now ≡ trees_of self.now }
     {
         self.items.as_slice()
     }
 
-    /// The tree at place `i`, from 0, or `None` from the length on.
+    /// Returns the tree at index `i`, or `None` if `i` is out of bounds.
     pub fn get(&self, i: usize) -> Option<&Tree>
         ensures { option_map syntax (option_copied result) ≡ slice_get (trees_of self.now) i }
     {
@@ -120,7 +120,7 @@ impl Trees {
 }
 
 impl Factors {
-    /// The empty list.
+    /// Returns an empty list.
     pub fn new(alloc: Global) -> Factors
         ensures { factors_of result ≡ [] }
     {
@@ -129,7 +129,7 @@ impl Factors {
         }
     }
 
-    /// Puts a member at the end. A refusal changes nothing.
+    /// Appends a member. If that fails, the list is unchanged.
     pub fn push(&mut self, _alloc: Global, item: (Scale, Tree)) -> Result<(), AllocError>
         ensures ok { OnOk result (factors_of self.new ≡ factors_of self.old ++ factor item ∷ []) }
         ensures err { OnErr result (factors_of self.new ≡ factors_of self.old) }
@@ -141,21 +141,21 @@ impl Factors {
         Ok(())
     }
 
-    /// How many members there are.
+    /// Returns the number of members.
     pub fn len(&self) -> usize
         ensures { result ≡ length (factors_of self.now) }
     {
         self.items.len()
     }
 
-    /// The members.
+    /// Returns the members as a slice.
     pub fn as_slice(&self) -> &[(Scale, Tree)]
         ensures { map factor result.now ≡ factors_of self.now }
     {
         self.items.as_slice()
     }
 
-    /// The member at place `i`, from 0, or `None` from the length on.
+    /// Returns the member at index `i`, or `None` if `i` is out of bounds.
     pub fn get(&self, i: usize) -> Option<&(Scale, Tree)>
         ensures { option_map factor (option_copied result) ≡ slice_get (factors_of self.now) i }
     {
@@ -164,7 +164,7 @@ impl Factors {
 }
 
 impl Terms {
-    /// The empty list.
+    /// Returns an empty list.
     pub fn new(alloc: Global) -> Terms
         ensures { terms_of result ≡ [] }
     {
@@ -173,7 +173,7 @@ impl Terms {
         }
     }
 
-    /// Puts a member at the end. A refusal changes nothing.
+    /// Appends a member. If that fails, the list is unchanged.
     pub fn push(&mut self, _alloc: Global, item: (Sign, Tree)) -> Result<(), AllocError>
         ensures ok { OnOk result (terms_of self.new ≡ terms_of self.old ++ term item ∷ []) }
         ensures err { OnErr result (terms_of self.new ≡ terms_of self.old) }
@@ -185,21 +185,21 @@ impl Terms {
         Ok(())
     }
 
-    /// How many members there are.
+    /// Returns the number of members.
     pub fn len(&self) -> usize
         ensures { result ≡ length (terms_of self.now) }
     {
         self.items.len()
     }
 
-    /// The members.
+    /// Returns the members as a slice.
     pub fn as_slice(&self) -> &[(Sign, Tree)]
         ensures { map term result.now ≡ terms_of self.now }
     {
         self.items.as_slice()
     }
 
-    /// The member at place `i`, from 0, or `None` from the length on.
+    /// Returns the member at index `i`, or `None` if `i` is out of bounds.
     pub fn get(&self, i: usize) -> Option<&(Sign, Tree)>
         ensures { option_map term (option_copied result) ≡ slice_get (terms_of self.now) i }
     {

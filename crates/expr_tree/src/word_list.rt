@@ -1,22 +1,22 @@
-//! Words with how they stand in an expression.
+//! The words of an expression, each with the way it is used.
 
 ghost use Rattle.std.specs.Prelude.{◌≡◌};
 
 use std::marker::Model;
 use units_io::List;
 
-/// How a word stands in an expression.
+/// How a word is used in an expression.
 #[derive(Clone, Copy, Drop)]
 pub enum WordKind {
-    /// Alone.
+    /// By itself.
     Plain,
     /// Directly before an operand in parentheses.
     Call,
-    /// Behind a `~`, directly before an operand in parentheses.
+    /// After a `~` and directly before an operand in parentheses.
     Inverse,
 }
 
-/// A word of an expression, whose bytes are lent.
+/// A word of an expression. It borrows its bytes.
 #[derive(Drop)]
 pub struct WordUse<'a> {
     text: &'a [u8],
@@ -32,21 +32,21 @@ impl<'a> Model for WordUse<'a> {
 }
 
 impl<'a> WordUse<'a> {
-    /// The word of these bytes that stands so.
+    /// Returns the word with these bytes and this use.
     pub fn new(text: &'a [u8], kind: WordKind) -> WordUse<'a>
         ensures { result ≡ record { text = text.now; kind = kind } }
     {
         WordUse { text, kind }
     }
 
-    /// Its bytes.
+    /// Returns the bytes of the word.
     pub fn text(&self) -> &'a [u8]
         ensures { result.now ≡ self.now.text }
     {
         self.text
     }
 
-    /// How it stands there.
+    /// Returns how the word is used.
     pub fn kind(&self) -> WordKind
         ensures { result ≡ self.now.kind }
     {

@@ -13,7 +13,7 @@ use Rattle.def_entry.specs.Views.{said_by, what_view}
 use Rattle.def_entry.proofs.WrittenEntries.{entries}
 use Rattle.def_entry.proofs.reading.read_entry.Goals as goal
 
--- what is computed is what is written
+-- the computed entry is the one that is written
 as_written : (line : List ℕ) (r : Result (Key × MadeWhat) EntryFault) → has_entry (kind_of line) ≡ true
     → Gives (seen_entry line) r (entry_of line)
     → MatchResult r (λ made. IsEntry line made.0 (said_by line made.1))
