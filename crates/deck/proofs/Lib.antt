@@ -28,7 +28,9 @@ mod PlacedKeys
 mod Placing
 mod Pushing
 mod Sameness
+mod Renumbered
 mod Searching
+mod SettingChanges
 mod Splicing
 mod TableLines
 mod Telling

@@ -1,4 +1,4 @@
--- The active lines of small decks with blocks, by hand.
+-- The active lines of small decks with blocks, worked out by hand.
 use Rattle.std.specs.Prelude.{◌≡◌, ◌∷◌, ℕ, List, [], true, false, codes, map}
 use Rattle.deck_lines.specs.Marks.{marked_line, plain_line}
 use Rattle.deck_lines.specs.declared.line.DeckLine.{DeckLine}
@@ -26,8 +26,8 @@ abbrev pub nested : List DeckLine
 nested = lines (codes "!var SIZE big" ∷ codes "!varnot SIZE big" ∷ codes "a !" ∷ codes "!endvar" ∷ codes "b !"
     ∷ codes "!endvar" ∷ codes "c !" ∷ [])
 
--- a `!set` in a block that does not hold sets nothing, one after the block does, and a second one of the same variable
--- changes nothing
+-- a `!set` in a block that does not hold sets nothing; one after the block sets the variable, and a second one for the
+-- same variable changes nothing
 abbrev pub set_within : List DeckLine
 set_within = lines (codes "!var SIZE big" ∷ codes "!set COLOUR red" ∷ codes "!endvar" ∷ codes "!set COLOUR blue"
     ∷ codes "!set COLOUR red" ∷ codes "!var COLOUR red" ∷ codes "a !" ∷ codes "!endvar" ∷ codes "!var COLOUR blue"
@@ -41,12 +41,12 @@ pub record BlockExamplesLaw : Type 0 where
   -- if the outer block holds, the inner one does not; if it does not hold, no line in it is active
   pub inner : active_lines big nested ≡ true ∷ true ∷ false ∷ false ∷ true ∷ true ∷ true ∷ []
   pub outer : active_lines bare nested ≡ true ∷ false ∷ false ∷ false ∷ false ∷ false ∷ true ∷ []
-  -- the first `!set` that is active counts
+  -- only the first active `!set` of a variable has an effect
   pub set_first : active_lines bare set_within
       ≡ true ∷ false ∷ false ∷ true ∷ true ∷ true ∷ false ∷ false ∷ true ∷ true ∷ true ∷ []
   pub set_outside : active_lines big set_within
       ≡ true ∷ true ∷ true ∷ true ∷ true ∷ true ∷ true ∷ true ∷ true ∷ false ∷ false ∷ []
-  -- `!utf8` holds always
+  -- `!utf8` always holds
   pub utf8 : active_lines bare (lines (codes "!utf8" ∷ codes "a !" ∷ codes "!endutf8" ∷ []))
       ≡ true ∷ true ∷ true ∷ []
   -- a line with a mark begins no block

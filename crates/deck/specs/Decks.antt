@@ -1,9 +1,9 @@
--- What contracts see of a deck.
+-- The view of a deck.
 use Rattle.std.specs.Prelude.{ℕ, List}
 use Rattle.deck_lines.specs.declared.line.DeckLine.{DeckLine}
 use Rattle.deck.specs.declared.settings.Settings.{Settings}
 
--- its lines, its settings, and the notices of the last load or append
+-- the lines and settings of a deck, and the notices of the last load or append
 pub record Contents : Type 0 where
   pub lines : List DeckLine
   pub settings : Settings

@@ -1,4 +1,4 @@
--- What edits make of a deck, and why they are refused.
+-- The outcomes of edits of a deck, and the reasons why edits are refused.
 use Rattle.std.specs.Prelude.{◌≡◌, ◌⊎◌, ◌+◌, ◌++◌, ℕ, List, [], ◌∷◌, take, drop, if◌then◌else◌, Option, Some, None}
 use Rattle.std.specs.Prelude.{Result, Ok, Err}
 use Rattle.def_lines.specs.Kinds.{kind_of}
@@ -17,47 +17,47 @@ use Rattle.deck.specs.declared.fault.DeckFault.{DeckFault}
 use Rattle.deck.specs.declared.fault.DeckFault.TheVariants.{BadLine, NoSuchKey, DeckFull, OutOfMemory}
 use Rattle.deck.specs.declared.settings.Settings.{Settings}
 
--- the deck, unless its lines pass a limit
+-- the deck, or `DeckFull` if its lines pass a limit
 abbrev pub within : Contents → Result Contents DeckFault
 within d = if pass_limit d.lines then Err DeckFull else Ok d
 
--- with a line at the end
+-- the deck with a line appended
 abbrev pub with_line : List ℕ → Contents → Contents
 with_line text d = record d { lines = d.lines ++ plain_line 0 text ∷ [] }
 
--- a deck with a line more, by how that is read as an entry
+-- the outcome for a deck with one more line, given how that line is read as an entry
 abbrev pub by_entry : Result (Key × Entry) EntryFault → Contents → Result Contents DeckFault
 by_entry (Err fault) d = Err (BadLine fault)
 by_entry (Ok entry) d = within d
 
--- with a line that defines a key at the end
+-- the outcome of appending a line that defines a key
 abbrev pub after_define : List ℕ → Contents → Result Contents DeckFault
 after_define text d =
     if has_entry (kind_of text) then by_entry (entry_of text) (with_line text d) else Err (BadLine BadForm)
 
--- without the line at a place
+-- the deck without the line at a place
 abbrev pub without : ℕ → Contents → Contents
 without place d = record d { lines = take place d.lines ++ drop (place + 1) d.lines }
 
--- the same, where there is such a place
+-- the deck without the line at a place, or `NoSuchKey` if there is no place
 abbrev pub without_some : Option ℕ → Contents → Result Contents DeckFault
 without_some None d = Err NoSuchKey
 without_some (Some place) d = Ok (without place d)
 
--- without the last active line of a key
+-- the outcome of removing the last active line of a key
 abbrev pub after_drop : Key → Contents → Result Contents DeckFault
 after_drop k d = without_some (last_place d.settings d.lines k) d
 
--- under other settings
+-- the deck with other settings
 abbrev pub after_switch : Settings → Contents → Contents
 after_switch settings d = record d { settings = settings }
 
--- with the deck of a file at the end
+-- the deck with the deck of a file appended
 abbrev pub with_excerpt : Excerpt → Contents → Contents
 with_excerpt excerpt d = record d { lines = d.lines ++ excerpt.lines; notices = excerpt.notices }
 
--- an edit with this outcome gives its deck and answers the keys that it changes; or it is refused for
--- the outcome's reason or for want of memory, and the deck is as it was
+-- an edit with this outcome yields its deck and returns the keys that it changes; or it fails with the error of the
+-- outcome or with `OutOfMemory`, and the deck is unchanged
 abbrev pub IsEdit : Result Contents DeckFault → Contents → Contents → Result (List Key) DeckFault → Type 0
 IsEdit outcome old new (Ok keys) = (outcome ≡ Ok new) × IsChange old new keys
 IsEdit outcome old new (Err fault) = (new ≡ old) × ((fault ≡ OutOfMemory) ⊎ (outcome ≡ Err fault))

@@ -1,4 +1,4 @@
--- Which lines are active, by the blocks that enclose them.
+-- The active lines, defined by the blocks that enclose them.
 use Rattle.std.specs.Prelude.{◌≡◌, ◌↔◌, ◌&&◌, ℕ, zero, suc, List, [], ◌∷◌, ◌++◌, Bool, true, false, not, if◌then◌else◌}
 use Rattle.std.specs.Prelude.{Option, Some, None, length, slice_get, reverse}
 use Rattle.std.specs.List.{list_all}
@@ -9,8 +9,8 @@ use Rattle.deck_lines.specs.declared.line.DeckLine.{DeckLine}
 use Rattle.deck.specs.Active.{active_lines, is_value_listed}
 use Rattle.deck.specs.declared.settings.Settings.{Settings}
 
--- the block that a line of this kind begins, if it begins one, by whether it holds: `!locale` holds in that locale,
--- `!var` if the variable has one of the values, `!varnot` if it has none of them, `!utf8` always
+-- whether the block that a line of this kind begins holds, or `None` if it begins no block: `!locale` holds in that
+-- locale, `!var` if the variable has one of the values, `!varnot` if it has none of them, `!utf8` always
 abbrev pub block_begun : (locale : List ℕ) (vars : Pairs) → Kind → Option Bool
 block_begun locale vars (Locale l) = Some (bytes_eq l locale)
 block_begun locale vars (Var name values) = Some (is_value_listed values (value_of vars name))
@@ -26,7 +26,7 @@ begins_block (VarNot name values) = true
 begins_block Utf8 = true
 begins_block _ = false
 
--- a line of this kind ends one
+-- a line of this kind ends a block
 abbrev pub ends_block : Kind → Bool
 ends_block EndLocale = true
 ends_block EndVar = true
@@ -38,12 +38,12 @@ abbrev pub pair_set : Kind → Pairs
 pair_set (Set name value) = (name, value) ∷ []
 pair_set _ = []
 
--- a line in blocks that hold or not is active if it has no mark and all of them hold
+-- a line in these blocks, each of which holds or not, is active: it has no mark and all of the blocks hold
 abbrev pub is_active_in : (blocks : List Bool) → DeckLine → Bool
 is_active_in blocks line = not line.mark && list_all (λ holds. holds) blocks
 
--- The blocks that enclose a line are found by going back from it over the lines before it. An end of a block closes the
--- nearest beginning before it, so that each end skips one beginning. A beginning that no end skips encloses the line.
+-- The blocks that enclose a line are found by going back from it over the lines before it. The end of a block closes
+-- the nearest beginning before it, so each end skips one beginning. A beginning that no end skips encloses the line.
 
 -- the blocks that enclose a line by one line before it, which begins a block or ends one or neither; `earlier` gives
 -- those of the lines before that one, for each number of beginnings still to skip
@@ -55,8 +55,8 @@ blocks_with None false earlier skip = earlier skip
 
 module _ (settings : Settings) where
   abbrev mutual
-    -- the blocks that enclose a line after these, of which the last comes first, by whether each holds; so many
-    -- beginnings are skipped
+    -- the blocks that enclose a line after these lines, of which the last comes first, each given by whether it holds,
+    -- if `skip` beginnings are skipped
     pub enclosing_blocks : List DeckLine → (skip : ℕ) → List Bool
     enclosing_blocks [] skip = []
     enclosing_blocks (line ∷ earlier) skip =
@@ -64,26 +64,26 @@ module _ (settings : Settings) where
         else blocks_with (block_begun settings.locale (vars_after earlier) (kind_of line.text))
         (ends_block (kind_of line.text)) (enclosing_blocks earlier) skip
 
-    -- the variables after these lines: those of the settings, and then those that active lines set; the first of a name
-    -- counts
+    -- the variables after these lines: those of the settings, and then those that active lines set; the first value of
+    -- a variable counts
     pub vars_after : List DeckLine → Pairs
     vars_after [] = settings.vars
     vars_after (line ∷ earlier) =
         if is_active_in (enclosing_blocks earlier 0) line then vars_after earlier ++ pair_set (kind_of line.text)
         else vars_after earlier
 
-  -- a line after these, of which the last comes first, is active
+  -- a line after these lines, of which the last comes first, is active
   abbrev pub is_active_after : List DeckLine → DeckLine → Bool
   is_active_after earlier line = is_active_in (enclosing_blocks earlier 0) line
 
--- how many beginnings there are to skip before a line that begins a block or ends one
+-- the number of beginnings to skip before a line that begins or ends a block, or does neither
 abbrev pub skip_before : (begins ends : Bool) (skip : ℕ) → ℕ
 skip_before true ends zero = zero
 skip_before true ends (suc skip) = skip
 skip_before false true skip = suc skip
 skip_before false false skip = skip
 
--- how many beginnings there are to skip before all of these lines, of which the last comes first
+-- the number of beginnings to skip before all of these lines, of which the last comes first
 abbrev pub skip_before_all : List DeckLine → (skip : ℕ) → ℕ
 skip_before_all [] skip = skip
 skip_before_all (line ∷ earlier) skip =

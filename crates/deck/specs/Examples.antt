@@ -1,4 +1,4 @@
--- A small deck, and what edits make of it, by hand.
+-- A small deck and the results of edits of it, worked out by hand.
 use Rattle.std.specs.Prelude.{◌≡◌, ◌++◌, ◌∷◌, ℕ, List, [], true, false, Some, None, Ok, Err, codes}
 use Rattle.expr_tree.specs.declared.fault.ParseFault.TheVariants.{Syntax}
 use Rattle.def_entry.specs.declared.fault.EntryFault.TheVariants.{BadForm, Parse}
@@ -15,7 +15,8 @@ use Rattle.deck.specs.Tables.{last_place, table}
 use Rattle.deck.specs.declared.fault.DeckFault.TheVariants.{BadLine, NoSuchKey}
 use Rattle.deck.specs.declared.settings.Settings.{Settings}
 
--- up to the line that defines `g` for the second time, where a variable has one of two values
+-- the lines before the one that defines `g` for the second time, in a block that holds if a variable has one of two
+-- values
 abbrev pub first_lines : List DeckLine
 first_lines =
     plain_line 1 (codes "m !")
@@ -26,7 +27,7 @@ first_lines =
     ∷ plain_line 6 (codes "!var SIZE big large")
     ∷ []
 
--- behind that line; the last one has a notice
+-- the lines after that line; the last one has a notice
 abbrev pub rest_lines : List DeckLine
 rest_lines = plain_line 8 (codes "!endvar") ∷ marked_line 9 (codes "h 2 +") ∷ []
 
@@ -38,7 +39,7 @@ all_lines = first_lines ++ plain_line 7 (codes "g 5 m") ∷ rest_lines
 abbrev pub in_locale : List ℕ → Settings
 in_locale locale = record { locale = locale; vars = [] }
 
--- settings with this locale, where the variable has this value
+-- settings with this locale and this value of the variable
 abbrev pub with_size : List ℕ → List ℕ → Settings
 with_size locale size = record { locale = locale; vars = (codes "SIZE", size) ∷ [] }
 
@@ -50,31 +51,31 @@ deck settings these = record { lines = these; settings = settings; notices = [] 
 abbrev pub unit : List ℕ → Key
 unit name = key kind.Unit name
 
--- law: which lines are active, where keys are defined last, what edits make of the deck, and which keys other settings
+-- law: the active lines of the deck, the last places of keys, the results of edits, and the keys that other settings
 -- change
 pub record ExamplesLaw : Type 0 where
   -- both blocks hold
   pub both : active_lines (in_locale (codes "en_US")) all_lines
       ≡ true ∷ true ∷ true ∷ true ∷ true ∷ true ∷ true ∷ true ∷ false ∷ []
-  -- a block of another locale
+  -- the block of another locale does not hold
   pub elsewhere : active_lines (in_locale (codes "en_GB")) all_lines
       ≡ true ∷ true ∷ false ∷ false ∷ true ∷ true ∷ true ∷ true ∷ false ∷ []
   -- a variable that has a value keeps it
   pub neither : active_lines (with_size (codes "en_GB") (codes "small")) all_lines
       ≡ true ∷ true ∷ false ∷ false ∷ true ∷ true ∷ false ∷ false ∷ false ∷ []
-  -- the places of `g`, from 0, and of a key that only a line with a notice would define
+  -- the places of `g`, counted from 0, and of a key that only a line with a notice would define
   pub last : last_place (in_locale (codes "en_US")) all_lines (unit (codes "g")) ≡ Some 6
   pub first : last_place (with_size (codes "en_US") (codes "small")) all_lines (unit (codes "g")) ≡ Some 2
   pub nowhere : last_place (with_size (codes "en_GB") (codes "small")) all_lines (unit (codes "g")) ≡ None
   pub untold : last_place (in_locale (codes "en_US")) all_lines (unit (codes "h")) ≡ None
-  -- a line that is put at the end, and two that are refused
+  -- a line that is appended, and two lines that are refused
   pub defined : after_define (codes "h 2 g") (deck (in_locale (codes "en_US")) all_lines)
       ≡ Ok (deck (in_locale (codes "en_US")) (all_lines ++ plain_line 0 (codes "h 2 g") ∷ []))
   pub unread : after_define (codes "h 2 +") (deck (in_locale (codes "en_US")) all_lines)
       ≡ Err (BadLine (Parse (Syntax 3)))
   pub directive : after_define (codes "!set SIZE small") (deck (in_locale (codes "en_US")) all_lines)
       ≡ Err (BadLine BadForm)
-  -- the last active line of `g` is taken out, and the one before stays; `h` has no line
+  -- the last active line of `g` is removed, and the earlier one stays; `h` has no line
   pub dropped : after_drop (unit (codes "g")) (deck (in_locale (codes "en_US")) all_lines)
       ≡ Ok (deck (in_locale (codes "en_US")) (first_lines ++ rest_lines))
   pub undefined : after_drop (unit (codes "h")) (deck (in_locale (codes "en_US")) all_lines) ≡ Err NoSuchKey

@@ -15,27 +15,27 @@ pub record AreKeys (table : Table) (keys : List Key) : Type 0 where
   pub each : (k : Key) → is_among keys k ≡ is_present table k
   pub order : IsStrictlySortedBy key_cmp keys
 
--- the keys of the table, as a finite map has them
+-- the keys of the table, in the order of a finite map
 abbrev pub table_keys : Table → List Key
 table_keys table = map_of.keys (map_of.from_entries {R = key_cmp} table)
 
--- law: there is one such list
+-- law: `table_keys` is the only list of all keys in order
 abbrev pub KeyListLaw : Type 0
 KeyListLaw = (table : Table) (keys : List Key) → AreKeys table keys → keys ≡ table_keys table
 
--- those of a kind
+-- the keys of a kind
 abbrev pub of_kind : Kind → List Key → List Key
 of_kind kind keys = filter (λ key. is_same_kind kind key.kind) keys
 
--- how many keys of a kind have an entry
+-- the number of keys of a kind that have an entry
 abbrev pub key_count : Table → Kind → ℕ
 key_count table kind = length (of_kind kind (each_once (keys_of table)))
 
--- a list of all keys, with as many of each kind as there are
+-- a list of all keys in order, in which the number of keys of each kind is `key_count`
 pub record IsWhole (table : Table) (keys : List Key) : Type 0 where
   pub all : AreKeys table keys
   pub count : (kind : Kind) → length (of_kind kind keys) ≡ key_count table kind
 
--- law: the keys of a table are such a list
+-- law: `table_keys` is such a list
 abbrev pub WholeLaw : Type 0
 WholeLaw = (table : Table) → IsWhole table (table_keys table)

@@ -1,4 +1,4 @@
--- The last places of keys, by the numbers of the keys.
+-- The last places of keys, indexed by the numbers of the keys.
 use Rattle.std.specs.Prelude.{◌≡◌, ◌<◌, ℕ, List, length, nat_lt, if◌then◌else◌, Option, option_map}
 use Rattle.std.specs.Option.{option_and_then}
 use Rattle.def_entry.specs.declared.key.Kind.{Kind}
@@ -23,25 +23,25 @@ places_of last kind.List = last.lists
 abbrev pub place_at : LastPlaces → KeyNumber → Option ℕ
 place_at last n = place_in (places_of last n.kind) n.number
 
--- there is room for a place of each key that has a number
+-- there is room for the place of each key that has a number
 abbrev pub HasRoom : Names → LastPlaces → Type 0
 HasRoom names last = (kind : Kind) → length (names_of names kind) < length (places_of last kind)
 
--- at the number of each key stands the place of the last of its definitions, if there is one
+-- the entry at the number of each key is the place of the last definition of the key, if there is one
 pub record AreLast (names : Names) (ds : Definitions) (last : LastPlaces) : Type 0 where
   pub place : (n : KeyNumber) → place_at last n ≡ option_and_then (place_of ds) (key_at names n)
   pub count : (kind : Kind) → place_count (places_of last kind) ≡ key_count (table_of ds) kind
 
--- a place, when those between a gap and this end have moved one back
+-- a place, after the places between `gap` and `end` are decremented
 abbrev pub moved_to : (gap end place : ℕ) → ℕ
 moved_to gap end place = if nat_lt place end then without_gap gap place else place
 
--- the last places, when those between a gap and this end have moved one back
+-- the last places, after the places between `gap` and `end` are decremented
 pub record IsMovedTo (gap end : ℕ) (old now : LastPlaces) : Type 0 where
   pub place : (n : KeyNumber) → place_at now n ≡ option_map (moved_to gap end) (place_at old n)
   pub room : (kind : Kind) → length (places_of now kind) ≡ length (places_of old kind)
 
--- the lines are closed, and these are the last places of their keys
+-- the lines are closed, and `last` has the last places of their keys
 pub record IsIndexed (store : Store) (settings : Settings) (last : LastPlaces) : Type 0 where
   pub closed : IsClosed store.lines
   pub places : AreLast store.names (definitions settings store.lines) last

@@ -7,6 +7,7 @@ pub mod Enclosing
 pub mod Examples
 pub mod Failing
 pub mod Holding
+pub mod InForce
 pub mod KeyLists
 pub mod KindPlaces
 pub mod LastPlaces
@@ -14,6 +15,7 @@ pub mod Loading
 pub mod Messages
 pub mod Numbers
 pub mod PlacedKeys
+pub mod SettingChanges
 pub mod Splices
 pub mod Tables
 pub mod Undefining

@@ -1,4 +1,4 @@
--- What loading a file gives.
+-- The outcomes of loading a file.
 use Rattle.std.specs.Prelude.{◌≡◌, ◌⊎◌, ℕ, List, [], Bool, true, false, Option, Result, Ok, Err, MatchResult, ⊤}
 use Rattle.units_io.specs.Faults.{next}
 use Rattle.units_io.specs.FileMap.{FileMap, file_of}
@@ -20,69 +20,69 @@ use Rattle.deck.specs.declared.fault.DeckFault.TheVariants.{BadLine, NoSuchKey, 
 use Rattle.deck.specs.declared.fault.DeckFault.TheVariants.{OutOfMemory}
 use Rattle.deck.specs.declared.settings.Settings.{Settings}
 
--- why a deck has no first file
+-- the error of a load whose first file is not read
 abbrev pub fault_of : FetchFault → DeckFault
 fault_of fetch.Absent = Absent
 fault_of fetch.TooLong = TooLong
 fault_of fetch.Failed = ReadFailed
 fault_of fetch.OutOfMemory = OutOfMemory
 
--- why the deck of a file has no place in a deck
+-- the error of a load that ends with this fault
 abbrev pub fault_of_load : LoadFault → DeckFault
 fault_of_load load.DeckFull = DeckFull
 fault_of_load load.ReadFailed = ReadFailed
 fault_of_load load.OutOfMemory = OutOfMemory
 
--- with the deck of the file that a fetch answers at the end
+-- the outcome of appending the deck of a file, given the answer of its fetch
 abbrev pub with_answer : FileMap → List ℕ → Result (List ℕ) FetchFault → Contents → Result Contents DeckFault
 with_answer files name (Ok bytes) d = within (with_excerpt (deck_of files name bytes) d)
 with_answer files name (Err fault) d = Err (fault_of fault)
 
--- with the deck of the file of this name at the end
+-- the outcome of appending the deck of the file with this name
 abbrev pub after_append : FileMap → List ℕ → Contents → Result Contents DeckFault
 after_append files name d = with_answer files name (answer_of (file_of files name)) d
 
--- a deck with no line
+-- a deck without lines
 abbrev pub empty_deck : Settings → Contents
 empty_deck settings = record { lines = []; settings = settings; notices = [] }
 
--- the deck of the file of this name
+-- the outcome of loading the file with this name
 abbrev pub after_load : FileMap → List ℕ → Settings → Result Contents DeckFault
 after_load files name settings = after_append files name (empty_deck settings)
 
--- the deck of a text without files
+-- the outcome of loading a text if all files are absent
 abbrev pub after_text : List ℕ → List ℕ → Settings → Result Contents DeckFault
 after_text text name settings = within (with_excerpt (lone_deck_of name text) (empty_deck settings))
 
--- a deck is the one of this outcome, or there is none for the outcome's reason or for want of memory
+-- the result is the deck or the error of this outcome, or `OutOfMemory`
 abbrev pub IsMade : Result Contents DeckFault → Result Contents DeckFault → Type 0
 IsMade outcome result =
     MatchResult result (λ d. outcome ≡ Ok d) (λ fault. (fault ≡ OutOfMemory) ⊎ (outcome ≡ Err fault))
 
--- a fetch failed, or there is no memory
+-- the fault is a failed fetch or a failed allocation
 abbrev pub MayFail : DeckFault → Type 0
 MayFail fault = (fault ≡ OutOfMemory) ⊎ (fault ≡ ReadFailed)
 
--- what a load or an append answers where there is no deck
+-- a load or an append may fail with this fault
 abbrev pub is_load_fault : DeckFault → Bool
 is_load_fault (BadLine fault) = false
 is_load_fault NoSuchKey = false
 is_load_fault _ = true
 
--- a load gives the deck of this outcome or its reason, or fails
+-- the result of a load is the deck or the error of this outcome, or a failed fetch or allocation
 abbrev pub IsLoaded : Result Contents DeckFault → Result Contents DeckFault → Type 0
 IsLoaded outcome result =
     MatchResult result (λ d. outcome ≡ Ok d) (λ fault. MayFail fault ⊎ (outcome ≡ Err fault))
 
--- the lines and the notices of the deck of this outcome were put behind the lines of a deck, if they
--- are within the limits; or there is its reason, or a failure
+-- these are the lines and notices of the deck of this outcome, if the lines are within the limits; or the result is the
+-- error of the outcome, or a failed fetch or allocation
 abbrev pub IsRead : {T : Type 0} → Result Contents DeckFault → Contents → List DeckLine → List (List ℕ)
     → Result T DeckFault → Type 0
 IsRead outcome d lines notices (Ok _) = pass_limit lines ≡ false
     → outcome ≡ Ok (record d { lines = lines; notices = notices })
 IsRead outcome d lines notices (Err fault) = MayFail fault ⊎ (outcome ≡ Err fault)
 
--- an edit that reads files gives the deck of this outcome or its reason, or fails
+-- an append yields the deck or the error of this outcome, or a failed fetch or allocation
 abbrev pub IsAppended : Result Contents DeckFault → Contents → Result (List Key) DeckFault → Type 0
 IsAppended outcome new result =
     MatchResult result (λ _. outcome ≡ Ok new) (λ fault. MayFail fault ⊎ (outcome ≡ Err fault))
@@ -91,38 +91,39 @@ IsAppended outcome new result =
 abbrev pub excerpt_of : Contents → Excerpt
 excerpt_of d = record { lines = d.lines; notices = d.notices }
 
--- lines with no notice, behind which a load reads
+-- lines without notices, to which a load appends
 abbrev pub lines_alone : List DeckLine → Excerpt
 lines_alone lines = record { lines = lines; notices = [] }
 
--- what the steps of a load come to
+-- the outcome of a load, given the outcome of its steps
 abbrev pub of_load : Result Excerpt LoadFault → Result Excerpt DeckFault
 of_load (Ok excerpt) = Ok excerpt
 of_load (Err fault) = Err (fault_of_load fault)
 
--- a load behind what stands before comes to this where the file of this name is fetched with this answer
+-- a load that appends to `before` may have this outcome if the fetch of the file with this name has this answer
 abbrev pub ComesTo : Option FileMap → List ℕ → Excerpt → Result (List ℕ) FetchFault → Result Excerpt DeckFault → Type 0
 ComesTo files name before (Ok bytes) outcome =
     (steps : List Step) × AreStepsAbove files most_depth name bytes steps
     × (outcome ≡ of_load (outcome_of before steps))
 ComesTo files name before (Err fault) outcome = outcome ≡ Err (fault_of fault)
 
--- a load comes to this by what fetches may answer: it ends with the first thing in the order of reading that ends it
+-- a load may have this outcome for some answers of the fetches: it ends with the first fault in the order of reading
 abbrev pub MayComeTo : Option FileMap → List ℕ → Excerpt → Result Excerpt DeckFault → Type 0
 MayComeTo files name before outcome =
     (answer : Result (List ℕ) FetchFault) × MayAnswer files name answer × ComesTo files name before answer outcome
 
--- the same of a load that fails, which may find no memory
+-- a load may fail with this fault: it runs out of memory, or the fault is a possible outcome
 abbrev pub MayFailBy : Option FileMap → List ℕ → Excerpt → DeckFault → Type 0
 MayFailBy files name before OutOfMemory = ⊤
 MayFailBy files name before fault = MayComeTo files name before (Err fault)
 
--- a load comes to its result by what fetches may answer, with what it leaves where it does not fail
+-- the result of a load is possible for some answers of the fetches; `left` gives the excerpt that a load without a
+-- fault leaves
 abbrev pub IsEnd : {T : Type 0} → Option FileMap → List ℕ → Excerpt → (T → Excerpt) → Result T DeckFault → Type 0
 IsEnd files name before left result =
     MatchResult result (λ end. MayComeTo files name before (Ok (left end))) (MayFailBy files name before)
 
--- the count of failed fetches after a load, which ends with the first that fails
+-- the count of failed fetches after a load, which ends with the first failed fetch
 abbrev pub faults_after_load : {T : Type 0} → ℕ → Result T DeckFault → ℕ
 faults_after_load faults (Err ReadFailed) = next faults
 faults_after_load faults _ = faults

@@ -1,4 +1,4 @@
--- What the active lines of a deck say.
+-- The messages and definitions in the active lines of a deck.
 use Rattle.std.specs.Prelude.{◌++◌, ℕ, List, [], ◌∷◌, Bool, if◌then◌else◌, is_some}
 use Rattle.def_lines.specs.Kinds.{Kind, kind_of, Message}
 use Rattle.deck_lines.specs.Readings.{entry_in}
@@ -6,7 +6,7 @@ use Rattle.deck_lines.specs.declared.line.DeckLine.{DeckLine}
 use Rattle.deck.specs.Active.{active_lines}
 use Rattle.deck.specs.Decks.{Contents}
 
--- those of some lines whose flag is true
+-- the lines whose flag is true
 abbrev pub where_true : List Bool → List DeckLine → List DeckLine
 where_true (flag ∷ flags) (line ∷ lines) = if flag then line ∷ where_true flags lines else where_true flags lines
 where_true _ _ = []
@@ -14,7 +14,7 @@ where_true _ _ = []
 abbrev pub lines_in_force : Contents → List DeckLine
 lines_in_force d = where_true (active_lines d.settings d.lines) d.lines
 
--- what lines say one after another
+-- the texts of lines, one line after another
 abbrev pub in_turn : (DeckLine → List (List ℕ)) → List DeckLine → List (List ℕ)
 in_turn texts [] = []
 in_turn texts (line ∷ lines) = texts line ++ in_turn texts lines
@@ -31,10 +31,10 @@ message_in line = message_of (kind_of line.text)
 abbrev pub definition_in : DeckLine → List (List ℕ)
 definition_in line = if is_some (entry_in line) then line.text ∷ [] else []
 
--- the messages of a deck
+-- the messages of the active lines of a deck
 abbrev pub messages : Contents → List (List ℕ)
 messages d = in_turn message_in (lines_in_force d)
 
--- the definitions of a deck
+-- the texts of the active lines of a deck that define a key
 abbrev pub defining : Contents → List (List ℕ)
 defining d = in_turn definition_in (lines_in_force d)

@@ -1,4 +1,4 @@
--- Keys by their numbers, and what differs between two tables.
+-- Keys by their numbers, and the differences between two tables.
 use Rattle.std.specs.Prelude.{◌≡◌, ◌+◌, ◌++◌, ℕ, List, [], ◌∷◌, Bool, true, not, Option, Some, option_map}
 use Rattle.std.specs.Map.{lookup}
 use Rattle.std.specs.Option.{option_and_then}
@@ -16,7 +16,7 @@ use Rattle.deck.specs.LastPlaces.{place_at}
 use Rattle.deck.specs.Tables.{Definitions}
 use Rattle.deck.specs.declared.places.last_places.LastPlaces.{LastPlaces}
 
--- each of these that is found by its key stands at its place in the lines
+-- each definition that is found by its key is that of the line at its place
 abbrev pub AreInPlace : List DeckLine → Definitions → Type 0
 AreInPlace lines ds =
     (k : Key) (d : ℕ × Entry) → lookup (is_same k) ds ≡ Some d → definition_at lines d.0 ≡ Some (k, d.1)
@@ -25,17 +25,17 @@ AreInPlace lines ds =
 abbrev pub entry_there : List DeckLine → Option ℕ → Option Entry
 entry_there lines place = option_and_then (λ p. option_map (λ d. d.1) (definition_at lines p)) place
 
--- the entries of a key before an edit and after it differ, by their texts
+-- the entries of a key before and after an edit have different texts
 abbrev pub differs : Edited → LastPlaces → LastPlaces → KeyNumber → Bool
 differs edited before after n =
     not (is_same_entry (entry_there edited.before (place_at before n)) (entry_there edited.after (place_at after n)))
 
--- a key, where a test is passed
+-- the list of a key if a test is passed, or else the empty list
 abbrev pub key_if : Bool → Option Key → List Key
 key_if true (Some k) = k ∷ []
 key_if _ _ = []
 
--- the keys of a kind whose numbers pass a test, of which the first name has this number
+-- the keys of a kind whose numbers pass a test; the first of the names has this number
 abbrev pub keys_where : (KeyNumber → Bool) → Kind → ℕ → List (List ℕ) → List Key
 keys_where test kind number [] = []
 keys_where test kind number (name ∷ names) =

@@ -21,15 +21,15 @@ key_there lines place = option_map (λ d. d.0) (definition_at lines place)
 abbrev pub keys_there : List DeckLine → (places : List ℕ) → List Key
 keys_there lines places = filter_map (key_there lines) places
 
--- a key whose name is lent
+-- the view of a key with a borrowed name
 abbrev pub lent_key : BorrowedKey → Key
 lent_key k = key k.kind k.name.now
 
--- the same of one with a place
+-- the view of a key with a place
 abbrev pub placed_key : PlacedKey → Key
 placed_key k = key k.kind k.name.now
 
--- the line at its place defines it
+-- the line at the place of a key defines the key
 abbrev pub IsInPlace : List DeckLine → PlacedKey → Type 0
 IsInPlace lines k = key_there lines k.place ≡ Some (placed_key k)
 
@@ -38,7 +38,7 @@ abbrev pub ArePlaced : Store → LastPlaces → Type 0
 ArePlaced store last =
     (n : KeyNumber) (place : ℕ) → place_at last n ≡ Some place → key_there store.lines place ≡ key_at store.names n
 
--- the line at the last place of each number defines the key that has this number
+-- the line at the last place of each number defines the key with this number
 abbrev pub AreDefined : Store → LastPlaces → Type 0
 AreDefined store last =
     (n : KeyNumber) (place : ℕ) → place_at last n ≡ Some place

@@ -17,22 +17,22 @@ use Rattle.deck.specs.declared.settings.Settings.{Settings}
 abbrev pub Definitions : Type 0
 Definitions = List (Key × (ℕ × Entry))
 
--- what a line at a place defines, where it is active
+-- the definition of a line at a place, if the line is active
 abbrev pub definition_by : ℕ → Bool → Option (Key × Entry) → Definitions
 definition_by place active None = []
 definition_by place active (Some e) = if active then (e.0, (place, e.1)) ∷ [] else []
 
--- what the active ones of some lines define, of which the first has this place
+-- the definitions of the active lines among some lines, of which the first has this place
 abbrev pub definitions_from : ℕ → List Bool → List DeckLine → Definitions
 definitions_from place (active ∷ flags) (line ∷ lines) =
     definition_by place active (entry_in line) ++ definitions_from (place + 1) flags lines
 definitions_from place _ _ = []
 
--- what the active ones of all lines define, the last one first
+-- the definitions of the active lines among all lines, the last one first
 abbrev pub definitions_by : List Bool → List DeckLine → Definitions
 definitions_by flags lines = reverse (definitions_from 0 flags lines)
 
--- what the active lines of a deck define, the last one first
+-- the definitions of the active lines of a deck, the last one first
 unfoldable pub definitions : Settings → List DeckLine → Definitions
 definitions settings lines = definitions_by (active_lines settings lines) lines
 
@@ -51,7 +51,7 @@ table_of definitions = map (λ p. (p.0, p.1.1)) definitions
 abbrev pub table : Contents → Table
 table d = table_of (definitions d.settings d.lines)
 
--- law: a table has no more entries than there are lines, and each is what a line defines
+-- law: a table has at most as many entries as there are lines, and each entry is defined by a line
 pub record TableLaw : Type 0 where
   pub short : (d : Contents) → length (table d) ≤ length d.lines
   pub given : (d : Contents) (k : Key) (e : Entry) → entry_at (table d) k ≡ Some e

@@ -1,4 +1,4 @@
-//! A deck, with its entries by key.
+//! A deck with its entries, indexed by key.
 
 ghost use Rattle.std.specs.Prelude.{◌≡◌, ◌≤◌, false, length, map, option_map, IfOk, OnOk};
 ghost use Rattle.def_entry.specs.Keys as key_spec;
@@ -18,6 +18,8 @@ mod lines_from;
 mod loading;
 mod near;
 mod placed_keys;
+mod renumbering;
+mod setting;
 mod snapshot;
 mod splice;
 mod switch;
@@ -34,7 +36,7 @@ use std::alloc::{AllocError, Global};
 use std::marker::Model;
 use units_io::Texts;
 
-/// Lines with the settings under which they hold.
+/// The lines of a deck, with the settings that decide which of them are active.
 pub struct Deck {
     store: LineStore,
     last: LastPlaces,
@@ -42,7 +44,7 @@ pub struct Deck {
     notices: Texts,
 }
 
-// By hand, so that who drops a deck proves nothing of what it holds.
+// Written by hand, so that code that drops a deck need not prove anything about its fields.
 impl Drop for Deck {
     fn drop(self) {
         let Deck {
@@ -66,7 +68,7 @@ impl Model for Deck {
 }
 
 impl Deck {
-    /// The deck of these lines under these settings.
+    /// Builds the deck of these lines under these settings. The only error is running out of memory.
     pub(crate) fn from_parts(
         alloc: Global,
         store: LineStore,
@@ -86,7 +88,7 @@ impl Deck {
         })
     }
 
-    /// The entry of the last active line of a key. It takes no memory.
+    /// Returns the entry of the last active line of a key, or `None` if no active line defines it. Allocates no memory.
     pub fn entry(&self, kind: Kind, name: &[u8]) -> Option<Entry<'_>>
         ensures { option_map entry_view result
             ≡ tables.entry_at (tables.table self.now) (key_spec.key kind name.now) }
@@ -97,28 +99,28 @@ impl Deck {
         self.store.entry(place)
     }
 
-    /// How many keys of this kind have an entry.
+    /// Returns the number of keys of this kind that have an entry.
     pub fn key_count(&self, kind: Kind) -> usize
         ensures { result ≡ lists.key_count (tables.table self.now) kind }
     {
         self.last.count(kind)
     }
 
-    /// The place in `lines`, from 0, of the last active line of a key, or `None` where there is none.
+    /// Returns the place in `lines`, counted from 0, of the last active line of a key, or `None` if there is none.
     pub fn last_place(&self, key: &Key) -> Option<usize>
         ensures { result ≡ tables.last_place self.now.settings self.now.lines key.now }
     {
         self.place_of(key.kind, key.name.as_bytes())
     }
 
-    /// A law of each deck: it has at most 100,000 lines.
+    /// A lemma: a deck has at most 100,000 lines.
     pub fn lines_few(&self)
         ensures { length self.now.lines ≤ most_lines }
     {
         self.store.lines_few();
     }
 
-    /// A law of each deck: its lines are closed and within the limits.
+    /// A lemma: the lines of a deck are closed and within the limits.
     pub fn lines_closed(&self)
         ensures closed { IsClosed self.now.lines }
         ensures within { pass_limit self.now.lines ≡ false }
@@ -126,7 +128,7 @@ impl Deck {
         let _ = self.lines();
     }
 
-    /// The lines, without their marks.
+    /// Returns the lines without their marks.
     pub fn lines(&self) -> &Lines
         ensures is { result.now ≡ map unmarked self.now.lines }
         ensures closed { IsClosed self.now.lines }
@@ -135,22 +137,22 @@ impl Deck {
         self.store.lines()
     }
 
-    /// The notices of the last load or append.
+    /// Returns the notices of the last load or append.
     pub fn notices(&self) -> &Texts
         ensures { result.now ≡ self.now.notices }
     {
         &self.notices
     }
 
-    /// The settings.
+    /// Returns the settings.
     pub fn settings(&self) -> &Settings
         ensures { result.now ≡ self.now.settings }
     {
         &self.settings
     }
 
-    /// The place in `lines`, from 0, of the last active line of a key, or `None` where there is
-    /// none. It takes no memory.
+    /// Returns the place in `lines`, counted from 0, of the last active line of a key, or `None` if there is none.
+    /// Allocates no memory.
     pub fn place_of(&self, kind: Kind, name: &[u8]) -> Option<usize>
         ensures { result ≡ tables.last_place self.now.settings self.now.lines (key_spec.key kind name.now) }
     {

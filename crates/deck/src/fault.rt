@@ -1,11 +1,11 @@
-//! Why a deck is not loaded, or an edit is refused.
+//! The errors of loads and edits of decks.
 
 use deck_lines::LoadFault;
 use def_entry::EntryFault;
 use std::alloc::{AllocError, AllocFailed};
 use units_io::FetchFault;
 
-/// Why a deck is not loaded, or an edit is refused. After each, the deck is as before.
+/// The reason why a deck is not loaded or an edit is refused. After an error the deck is unchanged.
 #[derive(Drop)]
 pub enum DeckFault {
     /// The line defines no key, for this reason.
@@ -18,9 +18,9 @@ pub enum DeckFault {
     Absent,
     /// The file is longer than the limit.
     TooLong,
-    /// A file could not be read, and the files have counted it.
+    /// A file could not be read. The files have counted this failure.
     ReadFailed,
-    /// There is no memory.
+    /// An allocation failed.
     OutOfMemory,
 }
 

@@ -1,11 +1,11 @@
-//! Texts within other texts.
+//! Substring search.
 
 ghost use Rattle.std.specs.Prelude.{◌≡◌};
 ghost use Rattle.deck.specs.Holding as spec;
 
 use memchr::memmem::Finder;
 
-/// Whether the bytes hold the text of a finder.
+/// Reports whether the bytes contain the text of a finder.
 pub(crate) fn holds(bytes: &[u8], finder: &Finder<'_>) -> bool
     ensures { result ≡ spec.holds bytes.now finder.now }
 {

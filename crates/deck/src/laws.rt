@@ -5,39 +5,46 @@ ghost use Rattle.deck.specs.Changes.{ChangedLaw};
 ghost use Rattle.deck.specs.Enclosing.{EnclosingLaw};
 ghost use Rattle.deck.specs.Examples.{ExamplesLaw};
 ghost use Rattle.deck.specs.KeyLists.{KeyListLaw, WholeLaw};
+ghost use Rattle.deck.specs.SettingChanges.{SettingLaw};
 ghost use Rattle.deck.specs.Splices.{InverseLaw};
 ghost use Rattle.deck.specs.Tables.{TableLaw};
 
 use def_entry::same_text_law;
 
-/// The inverse of a splice gives back the deck.
+/// The inverse of a splice restores the deck.
 pub fn splices_are_undone()
     ensures { InverseLaw }
 {}
 
-/// The keys that an edit changes are those whose entries have other texts.
+/// A change of one setting is undone by restoring its previous value.
+pub fn settings_are_undone()
+    ensures { SettingLaw }
+{}
+
+/// The keys that an edit changes are those whose entries have different texts before and after it.
 pub fn changes_are_computed()
     ensures { ChangedLaw }
 {
     same_text_law();
 }
 
-/// A list of all keys in order is the only one.
+/// There is only one list of all keys in order.
 pub fn key_lists_are_one()
     ensures { KeyListLaw }
 {}
 
-/// The keys of a table are all that have an entry, and as many of each kind as there are.
+/// The keys of a table are exactly those that have an entry, and the count of each kind is the number of them.
 pub fn table_keys_are_whole()
     ensures { WholeLaw }
 {}
 
-/// A table has no more entries than there are lines, and each of its entries is that of a line.
+/// A table has at most as many entries as the deck has lines, and each entry is defined by a line.
 pub fn tables_are_of_lines()
     ensures { TableLaw }
 {}
 
-/// A small deck has the active lines and the last places, and edits make of it the decks, that were found by hand.
+/// The examples hold: a small deck has the active lines and last places, and edits have the results, that were worked
+/// out by hand.
 pub fn examples_law()
     ensures { ExamplesLaw }
 {}
@@ -47,7 +54,7 @@ pub fn enclosing_law()
     ensures { EnclosingLaw }
 {}
 
-/// Small decks with blocks have the active lines that were found by hand.
+/// The examples with blocks hold: small decks have the active lines that were worked out by hand.
 pub fn block_examples_law()
     ensures { BlockExamplesLaw }
 {}

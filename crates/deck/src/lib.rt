@@ -1,4 +1,4 @@
-//! Whole definition files: their lines, what is in force of them, and edits.
+//! Decks, that is, whole definition files: their lines, which of these are active, and edits.
 #![tactic(auto)]
 
 mod deck;
@@ -15,7 +15,7 @@ pub use deck::{BorrowedKey, Deck};
 pub use fault::DeckFault;
 pub use laws::{
     block_examples_law, changes_are_computed, enclosing_law, examples_law, key_lists_are_one,
-    splices_are_undone, table_keys_are_whole, tables_are_of_lines,
+    settings_are_undone, splices_are_undone, table_keys_are_whole, tables_are_of_lines,
 };
 pub use no_files::NoFiles;
 pub use settings::Settings;

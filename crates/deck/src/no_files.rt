@@ -1,18 +1,18 @@
-//! No files at all.
+//! A file system without files.
 
 ghost use Rattle.std.specs.Prelude.{◌≡◌};
 
 use std::alloc::Global;
 use units_io::{FetchFault, Files, StoreFault, Text};
 
-/// Files of which there is none. None can be stored, and each store that fails is counted.
+/// A file system without files. Storing a file always fails, and each failure is counted.
 #[derive(Drop)]
 pub struct NoFiles {
     store_faults: u64,
 }
 
 impl NoFiles {
-    /// No file, and no fault.
+    /// Returns a file system without files, whose count of failures is 0.
     pub fn new() -> NoFiles
         ensures { result.store_faults ≡ 0 }
     {

@@ -1,8 +1,8 @@
-//! Splices.
+//! Splices: edits that replace lines and settings.
 use crate::settings::Settings;
 use deck_lines::DeckLines;
 
-/// Puts `put` in the place of the `cut` lines from `at` on, and other settings.
+/// An edit that replaces the `cut` lines from `at` on by `put`, and the settings by `settings`.
 #[derive(Drop)]
 pub struct Splice {
     pub at: usize,

@@ -31,13 +31,13 @@ use Rattle.deck_lines.specs.declared.line.Ending.TheVariants.{ByLocale, ByVar, B
 use Rattle.deck_lines.specs.declared.line.Role.{Role}
 use Rattle.deck_lines.specs.declared.line.Role.TheVariants.{Opens, Closes, Inside}
 
--- a step that gives something had something to go on with
+-- if `option_and_then` has a value, its option has one
 pub and_then_pair : {A B : Type 0} (f : A → Option B) (o : Option A) (y : B) → option_and_then f o ≡ Some y
     → (x : A) × (o ≡ Some x) × (f x ≡ Some y)
 and_then_pair f None y e = cc
 and_then_pair f (Some x) y e = (x, refl, e)
 
--- an end line closes the same block where others are open around it
+-- an end line closes the same block if more blocks are open around it
 closed_more : (e : Ending) (bs cs ds : List Ending) → blocks_without e bs ≡ Some cs
     → blocks_without e (bs ++ ds) ≡ Some (cs ++ ds)
 closed_more e [] cs ds h = cc
@@ -47,14 +47,14 @@ closed_more e (b ∷ bs) cs ds h = by (same_ending e b) h
     by true g = ap (λ x. Some (x ++ ds)) (same_Some bs cs g)
     by false g = cc
 
--- so each role does what it does
+-- a role has the same effect if more blocks are open around
 by_more : (bs cs ds : List Ending) (role : Role) → blocks_past_role bs role ≡ Some cs
     → blocks_past_role (bs ++ ds) role ≡ Some (cs ++ ds)
 by_more bs cs ds (Opens e) h = ap (λ x. Some (x ++ ds)) (same_Some (e ∷ bs) cs h)
 by_more bs cs ds (Closes e) h = closed_more e bs cs ds h
 by_more bs cs ds Inside h = ap (λ y. Some (y ++ ds)) (same_Some bs cs h)
 
--- so does each line
+-- a line has the same effect if more blocks are open around it
 past_more : (bs cs ds : List Ending) (line : DeckLine) → blocks_past bs line ≡ Some cs
     → blocks_past (bs ++ ds) line ≡ Some (cs ++ ds)
 unfolding blocks_past
@@ -65,7 +65,7 @@ past_more bs cs ds line h = by line.mark h
     by true g = ap (λ y. Some (y ++ ds)) (same_Some bs cs g)
     by false g = by_more bs cs ds (role_of (kind_of line.text)) g
 
--- what is closed is so in other blocks too
+-- lines have the same effect if more blocks are open around them
 pub after_more : (xs : List DeckLine) (bs cs ds : List Ending) → blocks_after bs xs ≡ Some cs
     → blocks_after (bs ++ ds) xs ≡ Some (cs ++ ds)
 after_more [] bs cs ds h = ap (λ y. Some (y ++ ds)) (same_Some bs cs h)
@@ -73,7 +73,7 @@ after_more (x ∷ xs) bs cs ds h =
     let p = and_then_pair (λ now. blocks_after now xs) (blocks_past bs x) cs h in
     ap (option_and_then (λ now. blocks_after now xs)) (past_more bs p.0 ds x p.1) ∙ after_more xs p.0 cs ds p.2
 
--- the blocks behind two lists of lines are those of the second behind the first
+-- the blocks after two lists of lines are those after the second list, starting with the blocks after the first
 pub after-append : (xs ys : List DeckLine) (bs cs : List Ending) → blocks_after bs xs ≡ Some cs
     → blocks_after bs (xs ++ ys) ≡ blocks_after cs ys
 after-append [] ys bs cs e = ap (λ b. blocks_after b ys) (same_Some bs cs e)
@@ -81,12 +81,12 @@ after-append (x ∷ xs) ys bs cs e =
     let p = and_then_pair (λ now. blocks_after now xs) (blocks_past bs x) cs e in
     ap (option_and_then (λ now. blocks_after now (xs ++ ys))) p.1 ∙ after-append xs ys p.0 cs p.2
 
--- one line with the mark, or without
+-- one line with the mark leaves the open blocks unchanged
 pub marked_one : (bs : List Ending) (x : Line) → blocks_after bs (marked_line x.number x.text ∷ []) ≡ Some bs
 unfolding blocks_past
 marked_one bs x = refl
 
--- one line without a mark does what its role does
+-- one line without a mark has the effect of its role
 pub plain_one : (bs : List Ending) (x : Line) (kind : Kind) → kind_of x.text ≡ kind
     → blocks_after bs (plain_line x.number x.text ∷ [])
     ≡ option_and_then (λ now. Some now) (blocks_past_role bs (role_of kind))
@@ -98,7 +98,7 @@ abbrev pub IsClosedInclude : Included → Type 0
 IsClosedInclude (Read w) = IsClosed w.lines
 IsClosedInclude (NotRead text) = ⊤
 
--- the lines of a closed include leave the blocks as they are
+-- the lines of a closed include leave the open blocks unchanged
 include_closed : (bs : List Ending) (file n : List ℕ) (x : Line) (inc : Included) → kind_of x.text ≡ line.Include n
     → IsClosedInclude inc → blocks_after bs (include_excerpt file x inc).lines ≡ Some bs
 include_closed bs file n x (Read w) e h =
@@ -106,12 +106,12 @@ include_closed bs file n x (Read w) e h =
     ∙ after_more w.lines [] [] bs h
 include_closed bs file n x (NotRead text) e h = marked_one bs x
 
--- what one line gives leaves the blocks that are open behind it
+-- the excerpt of one line leads to the blocks that are open after the line
 abbrev pub Leaves : (List ℕ → Included) → List ℕ → List Block → Line → Reading → Type 0
 Leaves inc file blocks x reading = blocks_after (endings blocks) (line_excerpt inc file blocks x reading).lines
     ≡ Some (endings (blocks_behind_line blocks x reading))
 
--- an end line leaves the blocks as is said
+-- an end line leads to the blocks that are open after it
 end_closed : (inc : List ℕ → Included) (file : List ℕ) (blocks : List Block) (x : Line) (ending : Ending) (kind : Kind)
     → kind_of x.text ≡ kind → role_of kind ≡ Closes ending → Leaves inc file blocks x (Stands (Closes ending))
 end_closed inc file [] x ending kind e k = marked_one [] x
@@ -126,7 +126,7 @@ end_closed inc file (b ∷ blocks) x ending kind e k = by (same_ending ending b.
         ∙ ap (λ t. option_and_then (λ now. Some now) (cond t (Some (endings blocks)) None)) h
     by false h = marked_one (b.ending ∷ endings blocks) x
 
--- so does a line of each role
+-- a line of each role leads to the blocks that are open after it
 role_closed : (inc : List ℕ → Included) (file : List ℕ) (blocks : List Block) (x : Line) (kind : Kind) (role : Role)
     → kind_of x.text ≡ kind → role_of kind ≡ role → Leaves inc file blocks x (Stands role)
 role_closed inc file blocks x kind (Opens ending) e k = plain_one (endings blocks) x kind e
@@ -135,7 +135,7 @@ role_closed inc file blocks x kind (Closes ending) e k = end_closed inc file blo
 role_closed inc file blocks x kind Inside e k = plain_one (endings blocks) x kind e
     ∙ ap (λ r. option_and_then (λ now. Some now) (blocks_past_role (endings blocks) r)) k
 
--- so does a line that defines a key
+-- a line that defines a key leads to the blocks that are open after it
 entry_closed : (inc : List ℕ → Included) (file : List ℕ) (blocks : List Block) (x : Line) (kind : Kind)
     (entry : Result (Key × Entry) EntryFault) → kind_of x.text ≡ kind → role_of kind ≡ Inside
     → Leaves inc file blocks x (of_entry entry)
@@ -143,7 +143,7 @@ entry_closed inc file blocks x kind (Ok entry) e k = plain_one (endings blocks) 
     ∙ ap (λ r. option_and_then (λ now. Some now) (blocks_past_role (endings blocks) r)) k
 entry_closed inc file blocks x kind (Err fault) e k = marked_one (endings blocks) x
 
--- so does each line, where includes are closed
+-- each line leads to the blocks that are open after it, if includes are closed
 pub line_closed : (inc : List ℕ → Included) → ((n : List ℕ) → IsClosedInclude (inc n))
     → (file : List ℕ) (blocks : List Block) (x : Line) (kind : Kind) → kind_of x.text ≡ kind
     → Leaves inc file blocks x (reading_by x.text kind)
@@ -169,14 +169,14 @@ line_closed inc all file blocks x (line.Set v vs) e = role_closed inc file block
 line_closed inc all file blocks x (line.Message t) e = role_closed inc file blocks x (line.Message t) Inside e refl
 line_closed inc all file blocks x line.Prompt e = role_closed inc file blocks x line.Prompt Inside e refl
 
--- the text of an end closes its block
+-- the text of an end line closes its block
 end_kind : (e : Ending) (bs : List Ending) → blocks_past_role (e ∷ bs) (role_of (kind_of (end_text e))) ≡ Some bs
 unfolding kind_of
 end_kind ByLocale bs = refl
 end_kind ByVar bs = refl
 end_kind ByUtf8 bs = refl
 
--- the missing ends close all blocks that are open
+-- the missing end lines close all open blocks
 pub ends_closed : (blocks : List Block) → blocks_after (endings blocks) (map missing_end blocks) ≡ Some []
 unfolding blocks_past
 ends_closed [] = refl
@@ -184,7 +184,7 @@ ends_closed (b ∷ blocks) =
     ap (option_and_then (λ now. blocks_after now (map missing_end blocks))) (end_kind b.ending (endings blocks))
     ∙ ends_closed blocks
 
--- so the rest of a file closes them
+-- the rest of a file closes all open blocks
 rest_closed : (inc : List ℕ → Included) → ((file : List ℕ) → IsClosedInclude (inc file))
     → (name : List ℕ) (lines : List Line) (blocks : List Block)
     → blocks_after (endings blocks) (rest_excerpt inc name blocks lines).lines ≡ Some []
@@ -195,7 +195,7 @@ rest_closed inc all name (x ∷ lines) blocks =
     (line_closed inc all name blocks x (kind_of x.text) refl)
     ∙ rest_closed inc all name lines (blocks_behind_line blocks x (reading_by x.text (kind_of x.text)))
 
--- what a fetch answers is a closed include
+-- the result of a fetch is a closed include
 answer_closed : (inc : List ℕ → Included) → ((file : List ℕ) → IsClosedInclude (inc file))
     → (name : List ℕ) (r : Result (List ℕ) FetchFault) → IsClosedInclude (of_answer inc name r)
 answer_closed inc all name (Ok bytes) = rest_closed inc all name (shown (logical_lines bytes)) []
@@ -204,7 +204,7 @@ answer_closed inc all name (Err TooLong) = tt
 answer_closed inc all name (Err Failed) = tt
 answer_closed inc all name (Err OutOfMemory) = tt
 
--- so are the includes of each depth
+-- the includes at each depth are closed
 below_closed : (files : FileMap) (n : ℕ) (file : List ℕ) → IsClosedInclude (included_below files n file)
 unfolding included_below
 below_closed files zero file = tt

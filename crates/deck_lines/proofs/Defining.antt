@@ -1,4 +1,4 @@
--- What lines define, by the numbers of keys.
+-- The definitions of lines, by the numbers of keys.
 use Rattle.std.proofs.Common.{◌≡◌, ◌++◌, ◌∷◌, ◌+◌, ◌<◌, [], ℕ, List, map, take, drop, get_or, length, refl, sym, ap}
 use Rattle.std.proofs.Common.{subst, ◌∙◌, Option, Some, None, option_map, slice_get}
 use Rattle.std.specs.Option.{option_and_then}
@@ -31,7 +31,7 @@ module _ (names more : Names) (extended : IsExtended names more) where
       ap (λ k. Some (k, what_view d.what)) (extended d.key said.0 at)
       ∙ ap (λ (p : Option Key × What). Some (Some said.0, p.1)) same
 
-  -- lines define the same where more keys have numbers
+  -- the definitions of lines are the same if more keys have numbers
   pub grown : (ds : List (Option Definition)) (said : List (Option (Key × Entry))) → IsDefined names ds said
       → IsDefined more ds said
   grown [] [] e = refl
@@ -43,7 +43,7 @@ module _ (names more : Names) (extended : IsExtended names more) where
       ap (λ t. t ∷ map (option_map (seen_definition more)) ds) (grown_one d s head)
       ∙ ap (λ t. option_map keyed_definition s ∷ t) (grown ds said tail)
 
-  -- and one line more what it defines
+  -- appending the definition of one more line
   pub defined_put : (ds : List (Option Definition)) (said : List (Option (Key × Entry))) (d : Option Definition)
       (s : Option (Key × Entry)) →
       option_map (seen_definition more) d ≡ option_map keyed_definition s → IsDefined names ds said
@@ -68,21 +68,21 @@ key_put names more k what n made line ds after said is grows at put are =
     (ap (λ key. Some (key, what_view what)) at) are
     ∙ ap (λ o. map (option_map keyed_definition) (said ++ option_map (seen_entry line) o ∷ [])) (sym is)
 
--- the first lines alone
+-- the definitions of the first lines
 pub defined_take : (names : Names) (ds : List (Option Definition)) (said : List (Option (Key × Entry))) (n : ℕ)
     → IsDefined names ds said → IsDefined names (take n ds) (take n said)
 defined_take names ds said n are =
     sym (take-map (option_map (seen_definition names)) n ds) ∙ ap (take n) are
     ∙ take-map (option_map keyed_definition) n said
 
--- the lines behind them
+-- the definitions of the lines after the first lines
 pub defined_drop : (names : Names) (ds : List (Option Definition)) (said : List (Option (Key × Entry))) (n : ℕ)
     → IsDefined names ds said → IsDefined names (drop n ds) (drop n said)
 defined_drop names ds said n are =
     sym (drop-map (option_map (seen_definition names)) n ds) ∙ ap (drop n) are
     ∙ drop-map (option_map keyed_definition) n said
 
--- one list of lines behind another
+-- the definitions of two lists of lines, one after the other
 pub defined_append : (names : Names) (ds more : List (Option Definition)) (said behind : List (Option (Key × Entry)))
     → IsDefined names ds said → IsDefined names more behind → IsDefined names (ds ++ more) (said ++ behind)
 defined_append names ds more said behind are too =
@@ -91,7 +91,7 @@ defined_append names ds more said behind are too =
     ∙ ap (λ t. map (option_map keyed_definition) said ++ t) too
     ∙ sym (map-append (option_map keyed_definition) said behind)
 
--- other lines in the place of some
+-- the definitions of lines of which some are replaced by others
 pub defined_exchange : (names : Names) (ds put : List (Option Definition)) (said by : List (Option (Key × Entry)))
     (at cut : ℕ) → IsDefined names ds said → IsDefined names put by →
     IsDefined names (take at ds ++ (put ++ drop (at + cut) ds)) (take at said ++ (by ++ drop (at + cut) said))
@@ -111,7 +111,7 @@ module _ (names : Names) (ds : List (Option Definition)) (lines : List DeckLine)
       ∙ slice_get-map (option_map keyed_definition) (map entry_in lines) place
       ∙ ap (option_map (option_map keyed_definition)) (slice_get-map entry_in lines place)
 
-  -- what the line at a place defines
+  -- the definition of the line at a place
   pub defined_at : (d : Option Definition) → slice_get ds place ≡ Some d
       → option_map (seen_definition names) d ≡ option_map keyed_definition (definition_at lines place)
   defined_at d at = by (slice_get lines place) (sym (ap (option_map (option_map (seen_definition names))) at) ∙ there)
@@ -123,7 +123,7 @@ module _ (names : Names) (ds : List (Option Definition)) (lines : List DeckLine)
       by None e = absurd (cc)
       by (Some line) e = cc
 
-  -- and where there is no line
+  -- there is no definition at a place without a line
   pub undefined_at : slice_get ds place ≡ None → definition_at lines place ≡ None
   undefined_at at = by (slice_get lines place) (sym (ap (option_map (option_map (seen_definition names))) at) ∙ there)
     where
@@ -138,7 +138,7 @@ pub keyed_key : (d : Option (Key × Entry)) → option_map (λ (p : Option Key �
 keyed_key None = refl
 keyed_key (Some d) = refl
 
--- what the first lines define, with one line more
+-- the definitions of the first lines, with one more line
 pub defined_more : (names more : Names) → IsExtended names more → (ds after : List (Option Definition))
     (d : Option Definition) (lines : List DeckLine) (i : ℕ) (line : DeckLine) →
     i < length lines → line ≡ get_or lines i line → after ≡ ds ++ d ∷ []

@@ -1,4 +1,4 @@
--- Drafts, one excerpt behind another.
+-- Drafts, to which one excerpt after another is appended.
 use Rattle.std.proofs.Common.{◌≡◌, ◌++◌, ◌∷◌, [], ℕ, List, true, refl, sym, ap, subst, ◌∙◌, arith, length, append_assoc}
 use Rattle.std.proofs.Common.{length-append, Result, Ok, Err, Some, OnOk, OnErr}
 use Rattle.std.proofs.lemmas.Bool.Decides.{nat_tests}
@@ -17,13 +17,13 @@ use Rattle.deck_lines.specs.declared.line.DeckLine.{DeckLine}
 use Rattle.deck_lines.specs.declared.line.Ending.{Ending}
 use Rattle.deck_lines.proofs.Closing.{after-append, after_more}
 
--- nothing behind a list changes nothing
+-- appending the empty list does not change a list
 append_nil : {A : Type 0} (xs : List A) → xs ++ [] ≡ xs
 append_nil [] = refl
 append_nil (x ∷ xs) = ap (λ t. x ∷ t) (append_nil xs)
 
--- the names of two lists of lines are those of the second behind the first
-with_definitions-append : (xs ys : List DeckLine) (names : Names)
+-- the names after two lists of lines are those after the second list, starting with the names after the first
+pub with_definitions-append : (xs ys : List DeckLine) (names : Names)
     → with_definitions names (xs ++ ys) ≡ with_definitions (with_definitions names xs) ys
 with_definitions-append [] ys names = refl
 with_definitions-append (x ∷ xs) ys names = with_definitions-append xs ys (with_definition names (entry_in x))
@@ -36,11 +36,11 @@ with_lines-append store xs ys =
     ap (λ lines. made lines (with_definitions (with_definitions store.names xs) ys)) (append_assoc store.lines xs ys)
     ∙ ap (made (store.lines ++ (xs ++ ys))) (sym (with_definitions-append xs ys store.names))
 
--- no line behind lines
+-- appending no lines does not change a store
 pub with_lines-nil : (store : Store) → with_lines store [] ≡ store
 with_lines-nil store = ap (λ lines. record { lines = lines; names = store.names }) (append_nil store.lines)
 
--- an excerpt behind an excerpt
+-- appending two excerpts in turn
 pub with_excerpt-in_turn : (draft : Draft) (a b : Excerpt)
     → with_excerpt (with_excerpt draft a) b ≡ with_excerpt draft (in_turn a b)
 with_excerpt-in_turn draft a b =
@@ -48,13 +48,13 @@ with_excerpt-in_turn draft a b =
     ap (λ store. made store ((draft.notices ++ a.notices) ++ b.notices)) (with_lines-append draft.store a.lines b.lines)
     ∙ ap (made (with_lines draft.store (a.lines ++ b.lines))) (append_assoc draft.notices a.notices b.notices)
 
--- lines that pass a limit still pass it with more behind them
+-- lines that pass a limit still pass it with more lines appended
 pub passes_more : (xs ys : List DeckLine) → pass_limit xs ≡ true → pass_limit (xs ++ ys) ≡ true
 unfolding pass_limit
 passes_more xs ys h =
     grind (arith, nat_tests, length-append {A = DeckLine} xs ys, sum_by-append (λ line. length line.text) xs ys)
 
--- a part that failed fails the whole
+-- a fault that may end a part of a load may end the whole load
 pub failed : (mid part more whole : List DeckLine) (fault : LoadFault) → MayEnd (mid ++ part) fault
     → mid ++ (part ++ more) ≡ whole → MayEnd whole fault
 failed mid part more whole DeckFull h e = sym (ap pass_limit (append_assoc mid part more ∙ e))
@@ -72,7 +72,7 @@ then_load before mid after first second (Err fault) e h =
     ap (λ (d : Draft). d.store.lines ++ second.lines) e ∙ append_assoc before.store.lines first.lines second.lines in
     subst (λ ls. MayEnd ls fault) lines h
 
--- a store that stayed
+-- an unchanged store extends the store
 pub same_extends : (before after : Store) → after ≡ before → Extends before after
 same_extends before after e = record { lines = []; put = e ∙ sym (with_lines-nil before) }
 
@@ -133,7 +133,7 @@ leads_inside blocks before after (Ok u) h =
     record { lines = h.lines; put = h.put; leads = after_more h.lines [] [] blocks h.leads }
 leads_inside blocks before after (Err fault) h = record { lines = h.lines; put = h.put; leads = tt }
 
--- lines that are closed behind lines that are closed
+-- closed lines with closed lines appended are closed
 pub closed_behind : (before after : Store) (r : Result (Unit {0}) LoadFault) → Leads [] [] before after r
     → OnOk r (IsClosed before.lines → IsClosed after.lines)
 closed_behind before after (Ok u) h = λ closed.

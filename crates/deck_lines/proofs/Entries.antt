@@ -1,4 +1,4 @@
--- The entries of lines, by what is kept of them beside their texts.
+-- The entries of lines, by what is stored about them in addition to their texts.
 use Rattle.std.proofs.Common.{◌≡◌, ◌<◌, ℕ, List, Bool, true, false, cond, length, refl, sym, ap, ◌∙◌, Option, Some}
 use Rattle.std.proofs.Common.{None, option_map, slice_get, Result, Ok, Err}
 use Rattle.std.specs.Option.{option_and_then}
@@ -19,12 +19,12 @@ use Rattle.deck_lines.specs.Stores.{definition_at}
 use Rattle.deck_lines.specs.declared.line.DeckLine.{DeckLine}
 use Rattle.deck_lines.specs.declared.store.definitions.Definition.{Definition}
 
--- a reading that defines an entry is of a line that gives it
+-- if a reading defines an entry, the line has that entry
 of_definition : (e : Key × Entry) (r : Result (Key × Entry) EntryFault) → defined_by (of_entry r) ≡ Some e → r ≡ Ok e
 of_definition e (Ok x) h = ap Ok (same_Some x e h)
 of_definition e (Err f) h = cc
 
--- a line that defines an entry is read so
+-- if the reading of a line defines an entry, the line has that entry
 reads_by : (text : List ℕ) (e : Key × Entry) (kind : LineKind) → defined_by (reading_by text kind) ≡ Some e
     → entry_of text ≡ Ok e
 reads_by text e line.Definition h = of_definition e (entry_of text) h
@@ -57,7 +57,7 @@ reads x e h = by x.mark h
 pub text_in : (x : DeckLine) (e : Key × Entry) → entry_in x ≡ Some e → e.1.text ≡ entry_text x.text
 text_in x e h = entry_text_is x.text e.0 e.1 (reads x e h)
 
--- the entry of a line, by what is kept of it
+-- the entry of a line, by what is stored about it
 said_in : (x : DeckLine) (names : Names) (kept : Definition) (o : Option (Key × Entry)) → entry_in x ≡ o
     → Some (seen_definition names kept) ≡ option_map keyed_definition o →
     Some (said_by x.text kept.what) ≡ option_map (λ (d : Key × Entry). d.1) o
@@ -70,7 +70,7 @@ said_in x names kept (Some d) from are =
 
 module _ (lines : List DeckLine) (place : ℕ) (names : Names) (kept : Definition)
     (are : Some (seen_definition names kept) ≡ option_map keyed_definition (definition_at lines place)) where
-  -- what is kept of a line is kept of one that is there
+  -- if something is stored about a line, the line exists
   pub is_there : place < length lines
   is_there = by (slice_get lines place) refl are
     where
@@ -80,7 +80,7 @@ module _ (lines : List DeckLine) (place : ℕ) (names : Names) (kept : Definitio
       by None at e = absurd (cc)
       by (Some x) at e = slice_get_within lines place x at
 
-  -- and the entry of the line at its place
+  -- the stored definition is the entry of the line at its place
   pub said_there : (x : DeckLine) → slice_get lines place ≡ Some x → Some (said_by x.text kept.what) ≡ option_map
       (λ (d : Key × Entry). d.1) (definition_at lines place)
   said_there x at =
@@ -88,7 +88,7 @@ module _ (lines : List DeckLine) (place : ℕ) (names : Names) (kept : Definitio
       said_in x names kept (entry_in x) refl (are ∙ ap (option_map keyed_definition) here)
       ∙ ap (option_map (λ (d : Key × Entry). d.1)) (sym here)
 
--- no entry where nothing is kept
+-- a line about which nothing is stored has no entry
 pub none_there : (d : Option (Key × Entry)) → None ≡ option_map keyed_definition d
     → None ≡ option_map (λ (p : Key × Entry). p.1) d
 none_there None e = refl

@@ -1,4 +1,4 @@
--- Lines that may be put in the place of others.
+-- Lines that may replace others.
 use Rattle.std.proofs.Common.{◌≡◌, ◌∷◌, ◌+◌, ◌-◌, ◌<◌, ◌≤◌, ◌↔◌, [], ℕ, Bool, true, false, List, length, reverse, eqb}
 use Rattle.std.proofs.Common.{eq-eqb, refl, sym, ap, ◌∙◌, arith, Some, None, Result, Ok, Err}
 use Rattle.std.specs.Prelude.{IfOk}
@@ -56,7 +56,7 @@ no_items : (items : List Ending) → length items ≡ 0 → items ≡ []
 no_items [] e = refl
 no_items (i ∷ items) e = absurd (omega (arith, e))
 
--- behind all lines
+-- the state after all lines
 pub at_end : (all : List DeckLine) (items : List Ending) (count room : ℕ) (empty : Bool) → empty ≡ eqb count 0
     → count ≡ length items →
     blocks_after (reverse items) [] ≡ blocks_after [] all → text_len [] + most_bytes ≡ text_len all + room →
@@ -66,7 +66,7 @@ at_end all items count room empty e c h t = (
   λ r. e ∙ eq-eqb count 0 (c ∙ ap length (none_open items (h ∙ r.0))),
 )
 
--- lines are within the limits where they are few and their texts are
+-- lines are within the limits if their number and the length of their texts are
 pub few_and_small : (lines : List DeckLine) → length lines ≤ most_lines → text_len lines ≤ most_bytes
     → pass_limit lines ≡ false
 unfolding pass_limit

@@ -1,4 +1,4 @@
--- Parts of lists exchanged.
+-- Replacement of a part of a list.
 use Rattle.std.proofs.Common.{◌≡◌, ◌++◌, ◌∷◌, ◌+◌, ◌-◌, ◌<◌, ◌≤◌, [], ℕ, zero, suc, List, Bool, length, take, drop}
 use Rattle.std.proofs.Common.{refl, ap, ◌∙◌, arith, length-append, length-drop, length-take, Some, slice_get}
 use Rattle.std.proofs.lemmas.List.Sums.{sum_by-append}
@@ -26,7 +26,7 @@ parts_of (suc at) cut (x ∷ xs) h =
     ap (λ n. x ∷ (take at xs ++ (take cut (drop at xs) ++ drop n (x ∷ xs)))) next
     ∙ ap (λ t. x ∷ t) (parts_of at cut xs (omega arith))
 
--- the item at a place alone
+-- the list of the item at a place
 pub one_at : {A : Type 0} (place : ℕ) (xs : List A) (x : A) → slice_get xs place ≡ Some x
     → take 1 (drop place xs) ≡ x ∷ []
 one_at place [] x e = absurd (cc)
@@ -35,7 +35,7 @@ one_at zero (y ∷ ys) x e =
     ap (λ t. t ∷ []) same
 one_at (suc n) (y ∷ ys) x e = one_at n ys x e
 
--- all items of a list
+-- taking at least as many items as a list has gives the list
 pub all_of : {A : Type 0} (n : ℕ) (xs : List A) → length xs ≤ n → take n xs ≡ xs
 all_of zero [] h = refl
 all_of zero (x ∷ xs) h = absurd (omega arith)
@@ -44,7 +44,7 @@ all_of (suc n) (x ∷ xs) h = ap (λ t. x ∷ t) (all_of n xs (omega arith))
 
 module _ (ls put : List Line) (ms more : List Bool) (at cut : ℕ) (each : length ms ≡ length ls)
     (with : length more ≡ length put) where
-  -- lines with their marks, others in the place of some
+  -- lines with their marks, of which some are replaced by others
   pub marks_exchange : with_marks (take at ls ++ (put ++ drop (at + cut) ls))
       (take at ms ++ (more ++ drop (at + cut) ms))
       ≡ take at (with_marks ls ms) ++ (with_marks put more ++ drop (at + cut) (with_marks ls ms))
@@ -84,7 +84,7 @@ module _ (ls put : List Line) (ms more : List Bool) (at cut : ℕ) (each : lengt
         sum_by-append (λ (l : Line). length l.text) (take cut (drop at ls)) (drop (at + cut) ls),
       )
 
-  -- are within the limits where these are not passed
+  -- lines after a replacement are within the limits if these are not passed
   pub within_exchange : (bytes less : ℕ) → IsWithin ls ms bytes → at + cut ≤ length ls
       → less + bytes_in (take cut (drop at ls)) ≡ bytes + bytes_in put →
       length (take at ls ++ (put ++ drop (at + cut) ls)) ≤ most_lines → less ≤ most_bytes →

@@ -1,4 +1,4 @@
--- Items of lists of which parts are exchanged.
+-- Items of lists in which a part is replaced.
 use Rattle.std.proofs.Common.{◌≡◌, ◌++◌, ◌∷◌, ◌+◌, ◌-◌, ◌<◌, ◌≤◌, ◌⊎◌, [], ℕ, zero, suc, List, length, take, drop, inl}
 use Rattle.std.proofs.Common.{inr, refl, sym, ap, ◌∙◌, arith, length-append, length-drop, length-take, Some, None}
 use Rattle.std.proofs.Common.{slice_get}
@@ -6,14 +6,14 @@ use Rattle.std.proofs.lemmas.List.{append-nil, drop_all}
 use Rattle.std.proofs.lemmas.Option.{same_Some, slice_get_past}
 use Rattle.deck_lines.proofs.Exchanging.{all_of}
 
--- an item of two lists is one of the first or of the second
+-- an item of two joined lists is an item of the first or of the second
 pub get_append : {A : Type 0} (xs ys : List A) (i : ℕ) (x : A) → slice_get (xs ++ ys) i ≡ Some x
     → (slice_get xs i ≡ Some x) ⊎ ((j : ℕ) × (slice_get ys j ≡ Some x))
 get_append [] ys i x e = inr (i, e)
 get_append (y ∷ xs) ys zero x e = inl e
 get_append (y ∷ xs) ys (suc i) x e = get_append xs ys i x e
 
--- what stands at a place of a front stands there in the whole
+-- the item at a place of the front of a list is the item at that place of the list
 pub get_take : {A : Type 0} (n : ℕ) (xs : List A) (i : ℕ) (x : A) → slice_get (take n xs) i ≡ Some x
     → slice_get xs i ≡ Some x
 get_take zero xs i x e = cc
@@ -34,7 +34,7 @@ found_inside [] ys i j h e = absurd (omega arith)
 found_inside (x ∷ xs) ys zero j h e = inside_got ys j x (sym e)
 found_inside (x ∷ xs) ys (suc i) j h e = found_inside xs ys i j (omega arith) e
 
--- an item stands at each place of a list
+-- there is an item at each place of a list
 pub never_none : {A : Type 0} (xs : List A) (i : ℕ) → i < length xs → slice_get xs i ≡ None → ⊥
 never_none [] i h e = omega arith
 never_none (x ∷ xs) zero h e = cc
@@ -52,7 +52,7 @@ at_drop (suc n) (y ∷ xs) i = at_drop n xs i ∙ ap (slice_get (y ∷ xs)) (nex
     next : (m j : ℕ) → suc (m + j) ≡ suc m + j
     next m j = omega arith
 
--- what stands in the rest stands as much farther in the whole
+-- the item at a place of the rest of a list is the item that many places further in the list
 pub get_drop : {A : Type 0} (n : ℕ) (xs : List A) (i : ℕ) (x : A) → slice_get (drop n xs) i ≡ Some x
     → slice_get xs (n + i) ≡ Some x
 get_drop n xs i x e = sym (at_drop n xs i) ∙ e
@@ -63,7 +63,7 @@ at_first [] ys i h = absurd (omega arith)
 at_first (x ∷ xs) ys zero h = refl
 at_first (x ∷ xs) ys (suc i) h = at_first xs ys i (omega arith)
 
--- behind the first of two lists stands what stands in the second
+-- after the first of two joined lists follow the items of the second
 pub at_second : {A : Type 0} (xs ys : List A) (i : ℕ) → slice_get (xs ++ ys) (length xs + i) ≡ slice_get ys i
 at_second [] ys i = ap (slice_get ys) (zero_plus i)
   where
@@ -74,7 +74,7 @@ at_second (x ∷ xs) ys i = ap (slice_get (x ∷ (xs ++ ys))) (next (length xs) 
     next : (m j : ℕ) → suc m + j ≡ suc (m + j)
     next m j = omega arith
 
--- a place within a front has the same there
+-- the front of a list has the same items at its places
 pub at_front : {A : Type 0} (n : ℕ) (xs : List A) (i : ℕ) → i < n → slice_get (take n xs) i ≡ slice_get xs i
 at_front zero xs i h = absurd (omega arith)
 at_front (suc n) [] i h = refl
@@ -122,7 +122,7 @@ module _ {A : Type 0} (xs ys : List A) (at cut : ℕ) (h : at + cut ≤ length x
         length-drop (at + cut) xs,
       )
 
--- the item at a place, and those behind it
+-- the rest of a list from a place on is the item there followed by the items after it
 pub drop_found : {A : Type 0} (xs : List A) (i : ℕ) (x : A) → slice_get xs i ≡ Some x → drop i xs ≡ x ∷ drop (i + 1) xs
 drop_found [] i x e = absurd (cc)
 drop_found (y ∷ xs) zero x e = ap (λ z. z ∷ xs) (same_Some y x e)
@@ -130,7 +130,7 @@ drop_found (y ∷ xs) (suc i) x e =
     let next : suc (i + 1) ≡ suc i + 1 = omega arith in
     drop_found xs i x e ∙ ap (λ j. x ∷ drop j (y ∷ xs)) next
 
--- nothing put behind all
+-- inserting nothing at the end does not change a list
 pub exchanged_nothing : {A : Type 0} (xs : List A) (n : ℕ) → n ≡ length xs → take n xs ++ ([] ++ drop (n + 0) xs) ≡ xs
 exchanged_nothing xs n e =
     ap (λ t. t ++ ([] ++ drop (n + 0) xs)) (all_of n xs (omega (arith, e)))

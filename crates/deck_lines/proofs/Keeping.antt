@@ -20,19 +20,19 @@ marks_push [] (n ∷ ms) l m h = absurd (omega arith)
 marks_push (k ∷ ls) [] l m h = absurd (omega arith)
 marks_push (k ∷ ls) (n ∷ ms) l m h = ap (λ t. with_mark n k ∷ t) (marks_push ls ms l m (omega arith))
 
--- as many lines with their marks as without
+-- there are as many lines with marks as without
 pub marks_len : (ls : List Line) (ms : List Bool) → length ms ≡ length ls → length (with_marks ls ms) ≡ length ls
 marks_len [] ms h = refl
 marks_len (k ∷ ls) [] h = absurd (omega arith)
 marks_len (k ∷ ls) (n ∷ ms) h = ap suc (marks_len ls ms (omega arith))
 
--- the lines without their marks again
+-- removing the marks gives the lines again
 pub marks_off : (ls : List Line) (ms : List Bool) → length ms ≡ length ls → map unmarked (with_marks ls ms) ≡ ls
 marks_off [] ms h = refl
 marks_off (k ∷ ls) [] h = absurd (omega arith)
 marks_off (k ∷ ls) (n ∷ ms) h = ap (λ t. k ∷ t) (marks_off ls ms (omega arith))
 
--- as many bytes
+-- lines with marks have as many bytes as without
 pub marks_bytes : (ls : List Line) (ms : List Bool) → length ms ≡ length ls → text_len (with_marks ls ms) ≡ bytes_in ls
 marks_bytes [] ms h = refl
 marks_bytes (k ∷ ls) [] h = absurd (omega arith)
@@ -58,7 +58,7 @@ marks_drop (suc n) [] (m ∷ ms) h = absurd (omega arith)
 marks_drop (suc n) (k ∷ ls) [] h = absurd (omega arith)
 marks_drop (suc n) (k ∷ ls) (m ∷ ms) h = marks_drop n ls ms (omega arith)
 
--- one list of lines behind another
+-- the lines with marks of two lists, one after the other
 pub marks_append : (ls rest : List Line) (ms more : List Bool) → length ms ≡ length ls
     → with_marks (ls ++ rest) (ms ++ more) ≡ with_marks ls ms ++ with_marks rest more
 marks_append [] rest [] more h = refl

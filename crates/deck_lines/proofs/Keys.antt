@@ -11,7 +11,7 @@ use Rattle.deck_lines.specs.Stores.{with_definition}
 use Rattle.deck_lines.specs.declared.key_number.KeyNumber.{KeyNumber}
 use Rattle.deck_lines.proofs.Numbering.{IsDistinct, distinct_put, kept_at}
 
--- the names of a kind, where those of one kind are replaced
+-- the names of a kind after those of one kind are replaced
 kinds : (names : Names) (a b : Kind) (these : List (List ℕ))
     → ((a ≡ b) × (names_of (with_names names a these) b ≡ these))
     ⊎ (names_of (with_names names a these) b ≡ names_of names b)
@@ -40,7 +40,7 @@ found_key a (Some name) k e =
     let same : key a name ≡ k = cc in
     (ap (λ (x : Key). x.kind) same, ap (λ (x : Key). Some x.name) same)
 
--- no key has two numbers where no name of a kind has
+-- no key has two numbers if no name of a kind has two numbers
 one_each : (names : Names) → ((a : Kind) → IsDistinct (names_of names a)) → IsOneToOne names
 one_each names each m n k p q =
     let at = found_key m.kind (slice_get (names_of names m.kind) m.number) k p in
@@ -50,14 +50,14 @@ one_each names each m n k p q =
     (subst (λ a. slice_get (names_of names a) n.number ≡ Some k.name) too.0 too.1) in
     λ i. record { kind = (at.0 ∙ sym too.0) i; number = one i }
 
--- where no key has two numbers, the names of each kind are different
+-- if no key has two numbers, the names of each kind are distinct
 distinct_each : (names : Names) → IsOneToOne names → (a : Kind) → IsDistinct (names_of names a)
 distinct_each names one a i j x p q =
     ap (λ (n : KeyNumber). n.number)
     (one (record { kind = a; number = i }) (record { kind = a; number = j }) (key a x) (ap (option_map (key a)) p)
     (ap (option_map (key a)) q))
 
--- no key has two numbers where one more has one
+-- no key has two numbers after one more key is numbered
 pub one_to_one : (names : Names) (d : Option (Key × Entry)) → IsOneToOne names → IsOneToOne (with_definition names d)
 one_to_one names None one = one
 one_to_one names (Some d) one = one_each (with_key names d.0) each
@@ -72,7 +72,7 @@ one_to_one names (Some d) one = one_each (with_key names d.0) each
       | inr h ↦ subst IsDistinct (sym h) (distinct_each names one a)
     ]
 
--- keys keep their numbers where one more has one
+-- keys keep their numbers when one more key is numbered
 pub extended : (names : Names) (d : Option (Key × Entry)) → IsExtended names (with_definition names d)
 extended names None n k e = e
 extended names (Some d) n k e = ap (option_map (key n.kind)) stays ∙ sym (ap (option_map (key n.kind)) at) ∙ e
@@ -92,13 +92,13 @@ extended names (Some d) n k e = ap (option_map (key n.kind)) stays ∙ sym (ap (
       | inr h ↦ ap (λ these. slice_get these n.number) h ∙ at
     ]
 
--- the same, for one key
+-- keys keep their numbers when a number is given to one key
 pub key_extended : (names room more : Names) (k : Key) → room ≡ names → more ≡ with_key room k → IsExtended names more
 key_extended names room more k p q n l e =
     ap (λ (t : Names). key_at t n) q
     ∙ extended room (Some (k, record { text = []; what = Primitive })) n l (ap (λ (t : Names). key_at t n) p ∙ e)
 
--- a key more leaves it so that no key has two numbers
+-- after one more key is numbered, still no key has two numbers
 pub key_one_to_one : (names room more : Names) (k : Key) → room ≡ names → more ≡ with_key room k → IsOneToOne names
     → IsOneToOne more
 key_one_to_one names room more k p q one =

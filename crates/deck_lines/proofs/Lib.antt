@@ -9,6 +9,7 @@ pub mod Keeping
 mod Keys
 mod Loading
 mod Numbering
+mod Renumbered
 pub mod Replacing
 mod Stepping
 mod Storing

@@ -31,7 +31,7 @@ use Rattle.deck_lines.proofs.Closing.{ends_closed, line_closed, marked_one, plai
 use Rattle.deck_lines.proofs.Drafting.{failed, leads_inside, load_leads, one_leads, passes_more, then_leads, then_load}
 use Rattle.deck_lines.proofs.Drafting.{with_excerpt-in_turn}
 
--- what is told of some files
+-- the facts known about files hold for files that are known
 pub told_of : (o : Option FileMap) (P : FileMap → Type 0) (m : FileMap) → o ≡ Some m → IfSome o P → P m
 told_of o P m e h = rw e at h
 
@@ -41,14 +41,14 @@ pub too_deep : (m : FileMap) (depth : ℕ) (file : List ℕ) → depth ≡ 0
 unfolding included_below
 too_deep m depth file e = rw e refl
 
--- what an include gives is by what the fetch of its file answers
+-- the result of an include, given the answer of the fetch of its file
 below_answer : (m : FileMap) (depth : ℕ) (file : List ℕ) (answer : Result (List ℕ) FetchFault)
     → answer_of (file_of m file) ≡ answer
     → included_below m (suc depth) file ≡ of_answer (included_by m depth file) file answer
 unfolding included_below
 below_answer m depth file answer a = ap (of_answer (included_by m depth file) file) a
 
--- an include by what is answered of its file
+-- an include within the maximum depth, given the answer of the fetch of its file
 by_answer : (m : FileMap) (depth : ℕ) (file : List ℕ) (answer : Result (List ℕ) FetchFault) → (depth ≡ 0 → ⊥)
     → answer_of (file_of m file) ≡ answer
     → included_below m depth file ≡ of_answer (included_by m (depth - 1) file) file answer
@@ -105,7 +105,7 @@ no_room lines name line (Read excerpt) n room h same e =
     (h (plain_line line.number line.text) (sym same) ∙ ap not e)
 no_room lines name line (NotRead text) n room h same e = h (marked_line line.number line.text) (sym same) ∙ ap not e
 
--- a line that includes a file stands inside of the blocks
+-- a line that includes a file neither opens nor closes a block
 inside_by : (text word : List ℕ) (kind : Kind) → reading_by text kind ≡ Includes word → role_of kind ≡ Inside
 inside_by text word (line.Locale l) e = cc
 inside_by text word (line.Var v vs) e = cc
@@ -121,7 +121,7 @@ pub include_inside : (text word : List ℕ) → Includes word ≡ reading_of tex
 unfolding reading_of
 include_inside text word e = inside_by text word (kind_of text) (sym e)
 
--- a line by itself, or after which the store stayed
+-- a line that was put, or after which the store is unchanged
 pub line_leads : (file : List ℕ) (blocks : List Block) (x : Line) (reading : Reading) (before after : Draft)
     (r : Result (Unit {0}) LoadFault) → reading ≡ reading_of x.text →
     IsLoad before (line_excerpt (λ word. NotRead []) file blocks x reading) r after
@@ -143,7 +143,7 @@ include_leads blocks x word before after r e h =
     subst (λ t. Leads (endings blocks) (endings (blocks_behind_line blocks x t)) before after r) e
     (leads_inside (endings blocks) before after r h)
 
--- an include line that is put, and lines behind it
+-- an include line that is put, and lines after it
 pub plain_leads : (x : Line) (before mid : Draft) (after : Store) (r : Result (Unit {0}) LoadFault)
     → role_of (kind_of x.text) ≡ Inside → mid ≡ with_excerpt before (line_without_notice x) →
     Leads [] [] mid.store after r → Leads [] [] before.store after r
@@ -222,11 +222,11 @@ pub leads_on : (a b to : List Ending) (before after : Store) (fault : LoadFault)
     → Leads a to before after (Err fault)
 leads_on a b to before after fault h = record { lines = h.lines; put = h.put; leads = tt }
 
--- a line that was taken from those that are left, and the lines behind it
+-- the line that was taken is the first of the remaining lines, and the rest follow it
 pub line_taken : (lines rest : List Line) (o : Option Line) (l x : Line) → TakesFirst (λ y. y) lines o rest → o ≡ Some l
     → x ≡ l → lines ≡ x ∷ rest
 line_taken lines rest o l x h e same = (rw e at h) ∙ ap (λ y. y ∷ rest) (sym same)
 
--- no line is left
+-- if no line was taken, no line is left
 pub none_taken : (lines rest : List Line) (o : Option Line) → TakesFirst (λ y. y) lines o rest → o ≡ None → lines ≡ []
 none_taken lines rest o h e = (rw e at h).0

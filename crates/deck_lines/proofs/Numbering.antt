@@ -1,7 +1,7 @@
 -- Names and their numbers.
 use Rattle.std.proofs.Common.{◌≡◌, ◌++◌, ◌∷◌, ◌+◌, ◌||◌, [], ℕ, zero, suc, List, Bool, true, false, true≢false, not}
 use Rattle.std.proofs.Common.{cond, length, map, refl, sym, ap, subst, ◌∙◌, inl, inr, ◌⊎◌, arith, Option, Some, None}
-use Rattle.std.proofs.Common.{option_map, slice_get, get_or}
+use Rattle.std.proofs.Common.{option_map, slice_get, get_or, ◌<◌, ◌≤◌}
 use Rattle.std.specs.Prelude.{MatchOption, is_some}
 use Rattle.std.specs.List.{list_any, position, position_or_len}
 use Rattle.std.specs.Str.{bytes_eq}
@@ -11,13 +11,14 @@ use Rattle.std.proofs.lemmas.List.Quantifiers.{position-Some}
 use Rattle.std.proofs.lemmas.Option.{same_Some, slice_get-get_or, slice_get-map}
 use Rattle.indexmap.specs.IndexSet.{insert_key}
 use Rattle.deck_lines.specs.Names.{with_name}
+use Rattle.deck_lines.specs.NumberedNames.{AreUpTo}
 
--- names that are told to be equal are one
+-- names that are tested as equal are equal
 pub same_name : (a b : List ℕ) → bytes_eq a b ≡ true → a ≡ b
 same_name a b h = (bytes_decides a b).0 h
 
 module _ {K : Type 0} (items : K → List ℕ) (name : List ℕ) where
-  -- a name is among those that keys hold
+  -- a name is among the names of keys exactly if a key has it
   pub any_seen : (ks : List K) → list_any (bytes_eq name) (map items ks) ≡ list_any (λ k. bytes_eq name (items k)) ks
   any_seen [] = refl
   any_seen (k ∷ ks) = ap (λ b. bytes_eq name (items k) || b) (any_seen ks)
@@ -28,7 +29,7 @@ module _ {K : Type 0} (items : K → List ℕ) (name : List ℕ) where
   place_seen [] = refl
   place_seen (k ∷ ks) = ap (λ n. cond (not (bytes_eq name (items k))) (1 + n) 0) (place_seen ks)
 
--- the names that keys hold, where one key more was put
+-- the names of keys after one more key was put
 pub put_seen : {K : Type 0} (items : K → List ℕ) (k : K) (ks : List K) →
     map items (insert_key (λ a b. bytes_eq (items a) (items b)) ks k) ≡ with_name (items k) (map items ks)
 put_seen items k ks =
@@ -48,7 +49,7 @@ name_found items name (k ∷ ks) i e =
     slice_get-map items (k ∷ ks) i ∙ ap (option_map items) (slice_get-get_or (k ∷ ks) i k at.0)
     ∙ ap Some (sym (same_name name (items (get_or (k ∷ ks) i k)) at.1))
 
--- what a look-up of a name tells
+-- the result of a lookup of a name
 pub number_seen : {K : Type 0} (items : K → List ℕ) (name : List ℕ) (ks : List K) (r : Option ℕ) (names : List (List ℕ))
     → map items ks ≡ names →
     r ≡ position (λ k. bytes_eq name (items k)) ks → is_some r ≡ list_any (λ k. bytes_eq name (items k)) ks →
@@ -57,6 +58,37 @@ number_seen items name ks None names e at found = ap (list_any (bytes_eq name)) 
     ∙ sym found
 number_seen items name ks (Some n) names e at found = ap (λ l. slice_get l n) (sym e)
     ∙ name_found items name ks n (sym at)
+
+-- a name that is longer than all names of a list is not among them
+pub longer_is_absent : (name : List ℕ) (most : ℕ) (names : List (List ℕ)) → AreUpTo most names → most < length name
+    → list_any (bytes_eq name) names ≡ false
+longer_is_absent name most [] short longer = refl
+longer_is_absent name most (x ∷ xs) short longer = by _ refl (longer_is_absent name most xs short.1 longer)
+  where
+    by : (b : Bool) → bytes_eq name x ≡ b → list_any (bytes_eq name) xs ≡ false
+        → (bytes_eq name x || list_any (bytes_eq name) xs) ≡ false
+    by true e rest =
+        let fits : length name ≤ most = subst (λ (n : List ℕ). length n ≤ most) (sym (same_name name x e)) short.0 in
+        absurd (omega arith)
+    by false e rest = rw e rest
+
+-- names up to a length are names up to each greater length
+pub AreUpTo-more : (most more : ℕ) (names : List (List ℕ)) → most ≤ more → AreUpTo most names → AreUpTo more names
+AreUpTo-more most more [] fits short = tt
+AreUpTo-more most more (x ∷ xs) fits short = (omega arith, AreUpTo-more most more xs fits short.1)
+
+-- names up to a length, with one more name up to that length
+pub AreUpTo-with_name : (most : ℕ) (name : List ℕ) (names : List (List ℕ)) → length name ≤ most → AreUpTo most names
+    → AreUpTo most (with_name name names)
+AreUpTo-with_name most name names fits short = by (list_any (bytes_eq name) names)
+  where
+    more : (xs : List (List ℕ)) → AreUpTo most xs → AreUpTo most (xs ++ name ∷ [])
+    more [] all = (fits, tt)
+    more (x ∷ xs) all = (all.0, more xs all.1)
+
+    by : (b : Bool) → AreUpTo most (cond b names (names ++ name ∷ []))
+    by true = short
+    by false = more names short
 
 -- a name is at its place where it was absent, and else where it was
 abbrev At : List ℕ → List ℕ → List (List ℕ) → Bool → Type 0
@@ -88,7 +120,7 @@ put_at name (x ∷ xs) = by (bytes_eq name x) refl (put_at name xs)
         ∙ behind (list_any (bytes_eq name) xs) (xs ++ name ∷ []) (position_or_len (bytes_eq name) xs)
         ∙ rest)
 
--- a name that stands somewhere is among them
+-- a name at a place of a list is among the names
 pub found_is_any : (name : List ℕ) (names : List (List ℕ)) (i : ℕ) → slice_get names i ≡ Some name
     → list_any (bytes_eq name) names ≡ true
 found_is_any name [] i e = absurd (cc)
@@ -102,7 +134,7 @@ found_is_any name (x ∷ xs) (suc i) e = ap (λ b. bytes_eq name x || b) (found_
     either true = refl
     either false = refl
 
--- names keep their numbers where one more is put
+-- names keep their numbers when one more name is put
 pub kept_at : (name : List ℕ) (names : List (List ℕ)) (i : ℕ) (x : List ℕ) → slice_get names i ≡ Some x
     → slice_get (with_name name names) i ≡ Some x
 kept_at name names i x e = by (list_any (bytes_eq name) names)
@@ -116,11 +148,11 @@ kept_at name names i x e = by (list_any (bytes_eq name) names)
     by true = e
     by false = front names i e
 
--- no name stands at two places
+-- no name is at two places
 abbrev pub IsDistinct : List (List ℕ) → Type 0
 IsDistinct names = (i j : ℕ) (x : List ℕ) → slice_get names i ≡ Some x → slice_get names j ≡ Some x → i ≡ j
 
--- what stands at a place with a name more: one of the others, or it
+-- the name at a place of names with one more appended is one of the others, or the new name
 behind_all : (xs : List (List ℕ)) (y : List ℕ) (i : ℕ) (x : List ℕ) → slice_get (xs ++ y ∷ []) i ≡ Some x
     → (slice_get xs i ≡ Some x) ⊎ ((i ≡ length xs) × (y ≡ x))
 behind_all [] y zero x e = inr (refl, same_Some y x e)
@@ -128,7 +160,7 @@ behind_all [] y (suc i) x e = absurd (cc)
 behind_all (z ∷ xs) y zero x e = inl e
 behind_all (z ∷ xs) y (suc i) x e = elim (behind_all xs y i x e) [ inl h ↦ inl h | inr h ↦ inr (ap suc h.0, h.1) ]
 
--- nor where one more is put
+-- no name is at two places after one more name is put
 pub distinct_put : (name : List ℕ) (names : List (List ℕ)) → IsDistinct names → IsDistinct (with_name name names)
 distinct_put name names once = by (list_any (bytes_eq name) names) refl
   where

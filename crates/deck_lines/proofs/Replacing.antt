@@ -1,4 +1,4 @@
--- Lines with their marks exchanged, within the limits.
+-- Replacement of lines with their marks, within the limits.
 use Rattle.std.proofs.Common.{◌≡◌, ◌++◌, ◌+◌, ◌-◌, ◌≤◌, ℕ, List, Bool, false, length, map, take, drop, sym, ap, ◌∙◌}
 use Rattle.std.proofs.Common.{arith, subst}
 use Rattle.std.proofs.lemmas.Bool.Decides.{nat_tests}
@@ -17,12 +17,12 @@ pub few_lines : (lines : List DeckLine) → pass_limit lines ≡ false → lengt
 unfolding pass_limit
 few_lines lines e = grind (arith, nat_tests, e)
 
--- and have at most 67,108,864 bytes
+-- lines within the limits have at most 67,108,864 bytes
 pub few_bytes : (lines : List DeckLine) → pass_limit lines ≡ false → text_len lines ≤ 67108864
 unfolding pass_limit
 few_bytes lines e = grind (arith, nat_tests, e)
 
--- the bytes of lines, others in the place of some
+-- the number of bytes of lines of which some are replaced by others
 bytes_exchange : (lines put : List DeckLine) (at cut : ℕ) → at + cut ≤ length lines →
     text_len (take at lines ++ (put ++ drop (at + cut) lines)) + text_len (take cut (drop at lines))
     ≡ text_len lines + text_len put
@@ -37,7 +37,7 @@ bytes_exchange lines put at cut h =
       sum_by-append (λ (l : DeckLine). length l.text) (take cut (drop at lines)) (drop (at + cut) lines),
     )
 
--- no more bytes than in all
+-- a part of lines has at most as many bytes as all lines
 bytes_of_part : (lines put : List DeckLine) (at cut : ℕ)
     → text_len put ≤ text_len (take at lines ++ (put ++ drop (at + cut) lines))
 bytes_of_part lines put at cut =
@@ -47,7 +47,7 @@ bytes_of_part lines put at cut =
       sum_by-append (λ (l : DeckLine). length l.text) put (drop (at + cut) lines),
     )
 
--- lines that are put among others within the limits are within them
+-- lines that are put among others are within the limits if the result is
 pub put_fits : (lines put : List DeckLine) (at cut : ℕ) → pass_limit (take at lines ++ (put ++ drop (at + cut) lines))
     ≡ false → text_len put ≤ 67108864
 put_fits lines put at cut within =
@@ -127,7 +127,7 @@ module _ (ls : List Line) (ms : List Bool) (bytes : ℕ) (kept : IsWithin ls ms 
   told_within : pass_limit (take at (with_marks ls ms) ++ (put ++ drop (at + cut) (with_marks ls ms))) ≡ false
   told_within = ap (λ (t : List DeckLine). pass_limit (take at t ++ (put ++ drop (at + cut) t))) are ∙ within
 
-  -- the lines that go
+  -- the replaced lines
   pub told_gone : (gone : List DeckLine) → gone ≡ with_marks (take cut (drop at ls)) (take cut (drop at ms))
       → gone ≡ take cut (drop at lines)
   told_gone gone is =
@@ -139,7 +139,7 @@ module _ (ls : List Line) (ms : List Bool) (bytes : ℕ) (kept : IsWithin ls ms 
       subst (λ (t : List DeckLine). text_len (take cut (drop at t)) ≤ bytes) are
       (gone_small ls ms bytes kept put at cut told_places told_within)
 
-  -- the lines that are there afterwards
+  -- the lines after the replacement
   pub told_exchanged : (ls' : List Line) (ms' : List Bool)
       → ls' ≡ take at ls ++ (map unmarked put ++ drop (at + cut) ls)
       → ms' ≡ take at ms ++ (map mark_of put ++ drop (at + cut) ms) →
@@ -148,7 +148,7 @@ module _ (ls : List Line) (ms : List Bool) (bytes : ℕ) (kept : IsWithin ls ms 
       exchanged ls ms bytes kept put at cut told_places told_within ls' ms' p q
       ∙ ap (λ (t : List DeckLine). take at t ++ (put ++ drop (at + cut) t)) are
 
-  -- which are within the limits
+  -- the lines after the replacement are within the limits
   pub told_kept : (ls' : List Line) (ms' : List Bool) (len some : ℕ) (gone : List DeckLine)
       → ls' ≡ take at ls ++ (map unmarked put ++ drop (at + cut) ls)
       → ms' ≡ take at ms ++ (map mark_of put ++ drop (at + cut) ms) →

@@ -21,7 +21,7 @@ use Rattle.deck_lines.specs.declared.draft.LoadFault.TheVariants.{DeckFull, Read
 use Rattle.deck_lines.specs.declared.line.Block.{Block}
 use Rattle.deck_lines.specs.declared.line.DeckLine.{DeckLine}
 
--- steps behind steps
+-- the outcome of steps followed by other steps
 pub then_outcome : (first rest : List Step) (before : Excerpt)
     → outcome_of before (first ++ rest) ≡ (outcome_of before first >>= λ now. outcome_of now rest)
 unfolding outcome_of
@@ -42,12 +42,12 @@ then_outcome (Fails line ∷ first) rest before = by (pass_limit (before.lines +
     by true = refl
     by false = refl
 
--- what the first steps lead to is where the others begin
+-- the other steps begin with the result of the first steps
 put_first : (first rest : List Step) (before now : Excerpt) → outcome_of before first ≡ Ok now
     → outcome_of before (first ++ rest) ≡ outcome_of now rest
 put_first first rest before now e = then_outcome first rest before ∙ ap (λ r. r >>= λ now. outcome_of now rest) e
 
--- a fault of the first steps is one of all
+-- a fault of the first steps is the outcome of all steps
 fail_first : (first rest : List Step) (before : Excerpt) (fault : LoadFault) → outcome_of before first ≡ Err fault
     → outcome_of before (first ++ rest) ≡ Err fault
 fail_first first rest before fault e = then_outcome first rest before ∙ ap (λ r. r >>= λ now. outcome_of now rest) e

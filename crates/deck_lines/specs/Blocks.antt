@@ -6,7 +6,7 @@ use Rattle.deck_lines.specs.declared.line.Ending.TheVariants.{ByLocale, ByVar, B
 use Rattle.deck_lines.specs.declared.line.Role.{Role}
 use Rattle.deck_lines.specs.declared.line.Role.TheVariants.{Opens, Closes, Inside}
 
--- the end line of a block
+-- the text of the end line of a block
 abbrev pub end_text : Ending → List ℕ
 end_text ByLocale = codes "!endlocale"
 end_text ByVar = codes "!endvar"
@@ -18,7 +18,7 @@ same_ending ByVar ByVar = true
 same_ending ByUtf8 ByUtf8 = true
 same_ending _ _ = false
 
--- whether a line of this kind opens a block, closes one, or stands inside of what is open
+-- whether a line of this kind opens a block, closes one, or does neither
 abbrev pub role_of : Kind → Role
 role_of (Locale locale) = Opens ByLocale
 role_of (Var name values) = Opens ByVar

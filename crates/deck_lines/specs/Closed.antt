@@ -10,28 +10,27 @@ use Rattle.deck_lines.specs.declared.line.Ending.{Ending}
 use Rattle.deck_lines.specs.declared.line.Role.{Role}
 use Rattle.deck_lines.specs.declared.line.Role.TheVariants.{Opens, Closes, Inside}
 
--- the open blocks without the innermost, which stands first; none are told where it has another end
+-- the open blocks without the innermost one, which comes first, or `None` if it has another ending or no block is open
 abbrev pub blocks_without : Ending → List Ending → Option (List Ending)
 blocks_without ending [] = None
 blocks_without ending (block ∷ blocks) = if same_ending ending block then Some blocks else None
 
--- the open blocks behind a line of this role
+-- the open blocks after a line of this role
 abbrev pub blocks_past_role : List Ending → Role → Option (List Ending)
 blocks_past_role blocks (Opens ending) = Some (ending ∷ blocks)
 blocks_past_role blocks (Closes ending) = blocks_without ending blocks
 blocks_past_role blocks Inside = Some blocks
 
--- the open blocks behind a line; one with the mark opens and closes none
+-- the open blocks after a line; a line with the mark opens and closes no block
 unfoldable pub blocks_past : List Ending → DeckLine → Option (List Ending)
 blocks_past blocks line = if line.mark then Some blocks else blocks_past_role blocks (role_of (kind_of line.text))
 
--- the open blocks behind lines, where each end line closes the innermost
+-- the open blocks after some lines, or `None` if an end line does not close the innermost block
 abbrev pub blocks_after : List Ending → List DeckLine → Option (List Ending)
 blocks_after blocks [] = Some blocks
 blocks_after blocks (line ∷ lines) = option_and_then (λ now. blocks_after now lines) (blocks_past blocks line)
 
--- every block is closed by its own end line, and every end line without the mark closes the
--- innermost open block
+-- every block is closed by its own end line, and every end line without the mark closes the innermost open block
 abbrev pub IsClosed : List DeckLine → Type 0
 IsClosed lines = blocks_after [] lines ≡ Some []
 

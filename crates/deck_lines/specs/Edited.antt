@@ -1,4 +1,4 @@
--- The lines of a store, before an edit and after it.
+-- The lines of a store before and after an edit.
 use Rattle.std.specs.Prelude.{◌≤◌, ◌+◌, ℕ, List, length, map, Option}
 use Rattle.deck_lines.specs.Kept.{IsDefined}
 use Rattle.deck_lines.specs.Names.{Names}
@@ -7,24 +7,25 @@ use Rattle.deck_lines.specs.Stores.{Store}
 use Rattle.deck_lines.specs.declared.line.DeckLine.{DeckLine}
 use Rattle.deck_lines.specs.declared.store.definitions.Definition.{Definition}
 
--- both, and the numbers of keys, which stay
+-- the lines before and after an edit, and the numbers of keys, which do not change
 pub record Edited : Type 0 where
   pub before : List DeckLine
   pub after : List DeckLine
   pub names : Names
 
--- the store before the edit, and after it
+-- the stores before and after the edit
 abbrev pub store_before : Edited → Store
 store_before edited = record { lines = edited.before; names = edited.names }
 
 abbrev pub store_after : Edited → Store
 store_after edited = record { lines = edited.after; names = edited.names }
 
--- no edit of a store
+-- the edit of a store that changes nothing
 abbrev pub unedited : Store → Edited
 unedited store = record { before = store.lines; after = store.lines; names = store.names }
 
--- the lines to go are there, and these are what the lines to be put define, of which each key has a number
+-- the store has the lines to be replaced, and these are the definitions of the lines to be put, whose keys all have
+-- numbers
 pub record ArePut (store : Store) (at cut : ℕ) (put : List DeckLine)
     (definitions : List (Option Definition)) : Type 0 where
   pub places : at + cut ≤ length store.lines

@@ -1,15 +1,15 @@
--- The decks of a few texts, found by hand.
+-- The decks of a few texts, worked out by hand.
 use Rattle.std.specs.Prelude.{◌≡◌, ◌∷◌, [], Some, codes}
 use Rattle.units_io.specs.FileMap.{FileMap, file_of}
 use Rattle.deck_lines.specs.Includes.{deck_of, lone_deck_of}
 use Rattle.deck_lines.specs.Marks.{marked_line, plain_line}
 
--- law: what a few texts give as the file `sub/a.units`, alone and beside other files
+-- law: the decks of a few texts as the file `sub/a.units`, alone and with other files
 pub record ExamplesLaw : Type 0 where
-  -- blank lines and comments are no lines of a deck, and the others have the numbers that they have in the file
+  -- blank lines and comments are not lines of a deck, and the other lines have their numbers in the file
   pub plain : lone_deck_of (codes "sub/a.units") (codes "# lengths\n\nm !\n  ft 12 in # feet\n")
       ≡ record { lines = plain_line 3 (codes "m !") ∷ plain_line 4 (codes "ft 12 in") ∷ []; notices = [] }
-  -- a line that gives no entry, a directive that is none and an end that closes nothing stay without effect
+  -- a line without an entry, an unknown directive and an end line that closes nothing have no effect
   pub faulty : lone_deck_of (codes "sub/a.units") (codes "h 2 +\n!units\n!endvar\n")
       ≡ record {
         lines = marked_line 1 (codes "h 2 +") ∷ marked_line 2 (codes "!units") ∷ marked_line 3 (codes "!endvar") ∷ [];
@@ -19,8 +19,8 @@ pub record ExamplesLaw : Type 0 where
             ∷ codes "sub/a.units:3: stray end"
             ∷ [];
       }
-  -- an end closes the innermost block alone; blocks that are left open are closed at the end of the file, the
-  -- innermost first, and told in the order of their lines
+  -- an end line can close only the innermost block; blocks that are left open are closed at the end of the file,
+  -- innermost first, and reported in the order of their lines
   pub unclosed : lone_deck_of (codes "sub/a.units") (codes "!locale en_US\n!var SIZE big\n!endlocale\ng 3 m\n")
       ≡ record {
         lines =
@@ -37,13 +37,13 @@ pub record ExamplesLaw : Type 0 where
             ∷ codes "sub/a.units:2: unclosed block"
             ∷ [];
       }
-  -- an include of a file that is absent, which is looked for beside its includer
+  -- an include of an absent file, whose name is relative to the folder of the including file
   pub absent : lone_deck_of (codes "sub/a.units") (codes "!include b.units\n")
       ≡ record {
         lines = marked_line 1 (codes "!include b.units") ∷ [];
         notices = codes "sub/a.units:1: no file: sub/b.units" ∷ [];
       }
-  -- the lines of a file that is included stand behind the include line, and its blocks end with it
+  -- the lines of an included file follow the include line, and its blocks end with it
   pub included : (files : FileMap) → file_of files (codes "sub/b.units") ≡ Some (codes "!utf8\ns !") →
       deck_of files (codes "sub/a.units") (codes "m !\n!include b.units\n!endutf8\n")
       ≡ record {

@@ -1,11 +1,11 @@
--- When lines may be put in the place of others.
+-- When lines may be replaced by others.
 use Rattle.std.specs.Prelude.{◌≡◌, ◌≤◌, ◌+◌, ℕ, List, length, false}
 use Rattle.deck_lines.specs.Closed.{IsClosed}
 use Rattle.deck_lines.specs.Limits.{pass_limit}
 use Rattle.deck_lines.specs.Origins.{exchanged_lines}
 use Rattle.deck_lines.specs.declared.line.DeckLine.{DeckLine}
 
--- so many lines are there, and what comes of it is closed and within the limits
+-- there are `cut` lines from `at` on, and the resulting lines are closed and within the limits
 pub record CanExchange (at cut : ℕ) (put lines : List DeckLine) : Type 0 where
   pub places : at + cut ≤ length lines
   pub closed : IsClosed (exchanged_lines at cut put lines)

@@ -1,4 +1,4 @@
--- The deck of a file with the files that it includes.
+-- The deck of a file and of the files that it includes.
 use Rattle.std.specs.Prelude.{◌==◌, ◌++◌, ℕ, zero, suc, List, [], ◌∷◌, if◌then◌else◌, codes, reverse, Result, Ok, Err}
 use Rattle.units_io.specs.FileMap.{FileMap, file_of, no_files}
 use Rattle.units_io.specs.Fetching.{answer_of}
@@ -7,7 +7,7 @@ use Rattle.units_io.specs.declared.files.FetchFault.TheVariants.{Absent, TooLong
 use Rattle.def_lines.specs.Lines.{begins_with}
 use Rattle.deck_lines.specs.Excerpts.{Excerpt, Included, Read, NotRead, file_excerpt}
 
--- what stands from the first `/` on
+-- the part of a name from its first `/` on
 abbrev pub from_slash : List ℕ → List ℕ
 from_slash [] = []
 from_slash (b ∷ name) = if b == 47 then b ∷ name else from_slash name
@@ -16,46 +16,44 @@ from_slash (b ∷ name) = if b == 47 then b ∷ name else from_slash name
 abbrev pub folder_of : List ℕ → List ℕ
 folder_of name = reverse (from_slash (reverse name))
 
--- the name of a file that the file `includer` includes by the word `name`, as it is looked for
+-- the full name under which the file `name` is looked up if the file `includer` includes it
 abbrev pub beside : List ℕ → List ℕ → List ℕ
 beside includer name = if begins_with 47 name then name else folder_of includer ++ name
 
--- what is told of the file of this name, which is not read
+-- the result of an include of a file that is not read
 abbrev pub not_read : List ℕ → FetchFault → Included
 not_read name Absent = NotRead (codes "no file: " ++ name)
 not_read name TooLong = NotRead (codes "file too long: " ++ name)
 not_read name Failed = NotRead []
 not_read name OutOfMemory = NotRead []
 
--- what the file of this name gives as the files answer, where it is told what its includes give
+-- the result of an include of this file, given the answer of its fetch and the results of its own includes
 abbrev pub of_answer : (List ℕ → Included) → List ℕ → Result (List ℕ) FetchFault → Included
 of_answer included name (Ok bytes) = Read (file_excerpt included name bytes)
 of_answer included name (Err fault) = not_read name fault
 
--- what an include of the file of this name gives, where so many files may stand one in another,
--- this one included
+-- the result of an include of the file with this name, if files may be nested this deep, counting this file
 unfoldable pub included_below : FileMap → ℕ → List ℕ → Included
 included_below files zero name = NotRead (codes "include too deep: " ++ name)
 included_below files (suc depth) name =
     of_answer (λ word. included_below files depth (beside name word)) name (answer_of (file_of files name))
 
--- what an include in the file `includer` gives, by its word
+-- the result of an include in the file `includer`, by the word of the include
 abbrev pub included_by : FileMap → ℕ → List ℕ → List ℕ → Included
 included_by files depth includer word = included_below files depth (beside includer word)
 
--- the deck of a file of this name and these bytes, where so many files may stand one in another
--- below it
+-- the deck of a file with this name and these bytes, if files may be nested this deep below it
 abbrev pub deck_above : FileMap → ℕ → List ℕ → List ℕ → Excerpt
 deck_above files depth name bytes = file_excerpt (included_by files depth name) name bytes
 
--- how deep files are included below the first one
+-- the maximum depth of included files below the first file
 abbrev pub most_depth : ℕ
 most_depth = 16
 
--- the deck of a file of this name and these bytes
+-- the deck of a file with this name and these bytes
 unfoldable pub deck_of : FileMap → List ℕ → List ℕ → Excerpt
 deck_of files name bytes = deck_above files most_depth name bytes
 
--- the same without files, where each include is of an absent one
+-- the deck of a file with this name and these bytes if all other files are absent
 abbrev pub lone_deck_of : List ℕ → List ℕ → Excerpt
 lone_deck_of name bytes = deck_of no_files name bytes

@@ -16,6 +16,7 @@ pub mod NumberedNames
 pub mod Numbering
 pub mod Origins
 pub mod Readings
+pub mod Renumberings
 pub mod StepLaws
 pub mod Steps
 pub mod Stores

@@ -1,4 +1,4 @@
--- How much a deck holds.
+-- The limits of a deck.
 use Rattle.std.specs.Prelude.{◌||◌, ℕ, List, Bool, length, nat_lt}
 use Rattle.std.specs.List.{sum_by}
 use Rattle.def_lines.specs.declared.line.Line.{Line}
@@ -10,11 +10,11 @@ most_lines = 100000
 abbrev pub most_bytes : ℕ
 most_bytes = 67108864
 
--- the bytes of the texts of lines
+-- the total number of bytes in the texts of lines
 abbrev pub text_len : List DeckLine → ℕ
 text_len lines = sum_by (λ line. length line.text) lines
 
--- the same of lines without marks
+-- the total number of bytes in the texts of lines without marks
 abbrev pub bytes_in : List Line → ℕ
 bytes_in lines = sum_by (λ line. length line.text) lines
 

@@ -1,4 +1,4 @@
--- What a load leaves.
+-- The result of a load.
 use Rattle.std.specs.Prelude.{◌≡◌, ◌++◌, List, [], ◌∷◌, true, map, Some, Result, Ok, Err, OnOk, IsErrOf, ⊤}
 use Rattle.deck_lines.specs.Closed.{blocks_after}
 use Rattle.deck_lines.specs.Excerpts.{Excerpt}
@@ -13,47 +13,47 @@ use Rattle.deck_lines.specs.declared.line.Block.{Block}
 use Rattle.deck_lines.specs.declared.line.DeckLine.{DeckLine}
 use Rattle.deck_lines.specs.declared.line.Ending.{Ending}
 
--- names, with numbers for the keys that lines define
+-- names extended by numbers for the keys that lines define
 abbrev pub with_definitions : Names → List DeckLine → Names
 with_definitions names [] = names
 with_definitions names (line ∷ lines) = with_definitions (with_definition names (entry_in line)) lines
 
--- a store with more lines at its end
+-- a store with more lines appended
 abbrev pub with_lines : Store → List DeckLine → Store
 with_lines store lines =
     record { lines = store.lines ++ lines; names = with_definitions store.names lines }
 
--- a draft with more lines and notices at its end
+-- a draft with more lines and notices appended
 abbrev pub with_excerpt : Draft → Excerpt → Draft
 with_excerpt draft excerpt =
     record { store = with_lines draft.store excerpt.lines; notices = draft.notices ++ excerpt.notices }
 
--- this fault may end a load of which these are all lines
+-- this fault may end a load whose complete lines would be these
 abbrev pub MayEnd : List DeckLine → LoadFault → Type 0
 MayEnd lines DeckFull = pass_limit lines ≡ true
 MayEnd lines ReadFailed = ⊤
 MayEnd lines OutOfMemory = ⊤
 
--- the lines and the notices of an excerpt were put at the end of those before; or the lines before
--- and those of the excerpt pass a limit
+-- a load succeeded and appended the lines and notices of the excerpt, or it failed with a fault that may end it, which
+-- is `DeckFull` only if the lines before and those of the excerpt pass a limit
 abbrev pub IsLoad : Draft → Excerpt → Result (Unit {0}) LoadFault → Draft → Type 0
 IsLoad before excerpt (Ok _) after = after ≡ with_excerpt before excerpt
 IsLoad before excerpt (Err fault) after = MayEnd (before.store.lines ++ excerpt.lines) fault
 
--- no file is read, so that no read fails
+-- the result is not `ReadFailed`, as no file is read
 abbrev pub ReadsNone : Result (Unit {0}) LoadFault → Type 0
 ReadsNone result = IsErrOf result ReadFailed → ⊥
 
--- which lines close open blocks
+-- the endings of open blocks
 abbrev pub endings : List Block → List Ending
 endings blocks = map (λ block. block.ending) blocks
 
--- lines were put at the end of a store
+-- lines were appended to a store
 pub record Extends (before after : Store) : Type 0 where
   pub lines : List DeckLine
   pub put : after ≡ with_lines before lines
 
--- lines were put at the end of a store; where nothing failed they lead from some open blocks to others
+-- lines were appended to a store; if nothing failed, they lead from some open blocks to others
 pub record Leads (from to : List Ending) (before after : Store) (result : Result (Unit {0}) LoadFault) : Type 0 where
   pub lines : List DeckLine
   pub put : after ≡ with_lines before lines

@@ -1,4 +1,4 @@
--- Lines of a deck, with and without their marks.
+-- Lines of a deck with and without their marks.
 use Rattle.std.specs.Prelude.{ℕ, List, [], ◌∷◌, Bool, true, false}
 use Rattle.def_lines.specs.declared.line.Line.{Line}
 use Rattle.deck_lines.specs.declared.line.DeckLine.{DeckLine}
@@ -7,11 +7,11 @@ use Rattle.deck_lines.specs.declared.line.DeckLine.{DeckLine}
 abbrev pub plain_line : ℕ → List ℕ → DeckLine
 plain_line number text = record { number = number; text = text; mark = false }
 
--- a line that a notice leaves without effect
+-- a line that has no effect, as its notice says
 abbrev pub marked_line : ℕ → List ℕ → DeckLine
 marked_line number text = record { number = number; text = text; mark = true }
 
--- a line of a file, with a mark or without
+-- a line of a file with this mark
 abbrev pub with_mark : Bool → Line → DeckLine
 with_mark mark line = record { number = line.number; text = line.text; mark = mark }
 

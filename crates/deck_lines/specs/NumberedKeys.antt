@@ -1,4 +1,4 @@
--- What contracts see of the sets of names, kind by kind.
+-- The views of the sets of names, by kind.
 use Rattle.std.specs.Prelude.{ℕ}
 use Rattle.def_entry.specs.declared.key.Kind.{Kind}
 use Rattle.def_entry.specs.declared.key.Kind.TheVariants as kind
@@ -13,7 +13,7 @@ names_in keys = record {
   lists = keys.lists.names;
 }
 
--- how many more names of a kind need no memory
+-- the number of names of a kind that can be added without an allocation
 abbrev pub spare_of : KeyNumbers → Kind → ℕ
 spare_of keys kind.Unit = keys.units.spare
 spare_of keys kind.Prefix = keys.prefixes.spare

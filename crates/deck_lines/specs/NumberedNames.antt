@@ -1,7 +1,12 @@
--- What contracts see of a set of names: they stand at the places of their numbers.
-use Rattle.std.specs.Prelude.{ℕ, List}
+-- The view of a set of names: each name is at the place of its number.
+use Rattle.std.specs.Prelude.{◌≤◌, ℕ, List, [], ◌∷◌, length, ⊤}
 
--- the names, and how many more of them need no memory
+-- the names, and the number of names that can be added without an allocation
 pub record NumberedNames : Type 0 where
   pub names : List (List ℕ)
   pub spare : ℕ
+
+-- no name is longer than `most` bytes
+abbrev pub AreUpTo : ℕ → List (List ℕ) → Type 0
+AreUpTo most [] = ⊤
+AreUpTo most (name ∷ names) = (length name ≤ most) × AreUpTo most names

@@ -1,11 +1,11 @@
--- What holds of the numbers of keys in every store of lines.
+-- The invariant of the numbers of keys in every store of lines.
 use Rattle.std.specs.Prelude.{◌≡◌, ℕ, true, Some}
 use Rattle.def_entry.specs.declared.key.Key.{Key}
 use Rattle.def_entry.specs.Entries.{Entry}
 use Rattle.deck_lines.specs.Names.{IsOneToOne, is_numbered}
 use Rattle.deck_lines.specs.Stores.{Store, definition_at}
 
--- each key that a line defines has a number, and no key has two
+-- each key that a line defines has a number, and no key has two numbers
 pub record IsNumbering (store : Store) : Type 0 where
   pub each : (place : ℕ) (d : Key × Entry) → definition_at store.lines place ≡ Some d
       → is_numbered store.names d.0 ≡ true

@@ -1,4 +1,4 @@
--- What a line means.
+-- The meaning of a line.
 use Rattle.std.specs.Prelude.{ℕ, List, codes, if◌then◌else◌, Option, Some, None, Result, Ok, Err}
 use Rattle.def_lines.specs.Kinds.{Kind, kind_of, Definition, Include, UnitList, UnknownDirective, BadDirective}
 use Rattle.def_entry.specs.declared.key.Key.{Key}
@@ -10,20 +10,20 @@ use Rattle.deck_lines.specs.Blocks.{role_of}
 use Rattle.deck_lines.specs.declared.line.DeckLine.{DeckLine}
 use Rattle.deck_lines.specs.declared.line.Role.{Role}
 
--- it opens, closes or says something of the blocks; it defines a key; it includes the file of a
--- name; or this is told of it
+-- a line opens or closes a block or does neither, defines a key, includes the file of a name, or has the fault that a
+-- text describes
 pub data Reading : Type 0 where
   Stands : Role → Reading
   Defines : Key × Entry → Reading
   Includes : List ℕ → Reading
   Faulty : List ℕ → Reading
 
--- of a line that should define a key
+-- the meaning of a line that should define a key
 abbrev pub of_entry : Result (Key × Entry) EntryFault → Reading
 of_entry (Ok entry) = Defines entry
 of_entry (Err fault) = Faulty (entry_fault_text fault)
 
--- of a line of this kind
+-- the meaning of a line of this kind
 abbrev pub reading_by : List ℕ → Kind → Reading
 reading_by text Definition = of_entry (entry_of text)
 reading_by text UnitList = of_entry (entry_of text)
@@ -39,6 +39,6 @@ abbrev pub defined_by : Reading → Option (Key × Entry)
 defined_by (Defines entry) = Some entry
 defined_by _ = None
 
--- what a line defines; one with the mark defines nothing
+-- the definition of a line, if it has one; a line with the mark defines nothing
 unfoldable pub entry_in : DeckLine → Option (Key × Entry)
 entry_in line = if line.mark then None else defined_by (reading_of line.text)

@@ -1,4 +1,4 @@
--- Laws of what a load reads.
+-- Laws of the steps of a load.
 use Rattle.std.specs.Prelude.{◌≡◌, ◌++◌, ℕ, List, [], ◌∷◌, false, if◌then◌else◌, Some, Result, Ok, Err, ⊤}
 use Rattle.units_io.specs.FileMap.{FileMap}
 use Rattle.units_io.specs.Outcomes.{◌>>=◌}
@@ -10,30 +10,32 @@ use Rattle.deck_lines.specs.declared.draft.LoadFault.{LoadFault}
 use Rattle.deck_lines.specs.declared.draft.LoadFault.TheVariants.{DeckFull, ReadFailed}
 use Rattle.deck_lines.specs.declared.line.DeckLine.{DeckLine}
 
--- no fetch fails in these steps
+-- no step is a fetch that fails
 abbrev pub AreAllGiven : List Step → Type 0
 AreAllGiven [] = ⊤
 AreAllGiven (Gives excerpt ∷ steps) = AreAllGiven steps
 AreAllGiven (Fails line ∷ steps) = ⊥
 
--- an excerpt, unless its lines pass a limit
+-- an excerpt, or `DeckFull` if its lines pass a limit
 abbrev pub within : Excerpt → Result Excerpt LoadFault
 within excerpt = if pass_limit excerpt.lines then Err DeckFull else Ok excerpt
 
--- law: what ends the first steps ends all of them, whatever stands behind
+-- law: a fault of the first steps is the outcome of all steps, whatever follows; otherwise the rest continues from
+-- their result
 abbrev pub FirstLaw : Type 0
 FirstLaw =
     (before : Excerpt) (first rest : List Step)
     → outcome_of before (first ++ rest) ≡ (outcome_of before first >>= λ now. outcome_of now rest)
 
--- law: where the files are told and no fetch fails, a load leads to the deck of its file
+-- law: if the files are known and no fetch fails, a load yields the deck of its file, or `DeckFull` if the deck passes
+-- a limit
 abbrev pub ToldLaw : Type 0
 ToldLaw =
     (files : FileMap) (name bytes : List ℕ) (steps : List Step) (before : Excerpt)
     → AreStepsAbove (Some files) most_depth name bytes steps → AreAllGiven steps → pass_limit before.lines ≡ false
     → outcome_of before steps ≡ within (in_turn before (deck_of files name bytes))
 
--- law: an include line whose fetch fails ends a load where it has room, and what stands behind it is not looked at
+-- law: an include line whose fetch fails ends a load if the line has room, and later steps are not looked at
 abbrev pub FailLaw : Type 0
 FailLaw =
     (before now : Excerpt) (first rest : List Step) (line : DeckLine) → outcome_of before first ≡ Ok now

@@ -1,4 +1,4 @@
--- What a load reads step by step, and which step ends it.
+-- The steps of a load, and the step that ends it.
 use Rattle.std.specs.Prelude.{◌≡◌, ◌++◌, ℕ, zero, suc, List, [], ◌∷◌, codes, if◌then◌else◌, Option, IfSome, Result, Ok}
 use Rattle.std.specs.Prelude.{Err, ⊤}
 use Rattle.units_io.specs.Faults.{next}
@@ -19,23 +19,23 @@ use Rattle.deck_lines.specs.declared.draft.LoadFault.TheVariants.{DeckFull, Read
 use Rattle.deck_lines.specs.declared.line.Block.{Block}
 use Rattle.deck_lines.specs.declared.line.DeckLine.{DeckLine}
 
--- a line or the end of a file, with what it gives; or an include line whose file cannot be read
+-- a step: a line or the end of a file, with its excerpt, or an include line whose file cannot be read
 pub data Step : Type 0 where
   Gives : Excerpt → Step
   Fails : DeckLine → Step
 
--- where steps lead from what stands before: the first in their order that has no room, or that fails, ends them
+-- the outcome of steps after some lines and notices: the first step that has no room, or that fails, ends them
 unfoldable pub outcome_of : Excerpt → List Step → Result Excerpt LoadFault
 outcome_of before [] = Ok before
 outcome_of before (Gives excerpt ∷ steps) =
     if pass_limit (before.lines ++ excerpt.lines) then Err DeckFull else outcome_of (in_turn before excerpt) steps
 outcome_of before (Fails line ∷ steps) = if pass_limit (before.lines ++ line ∷ []) then Err DeckFull else Err ReadFailed
 
--- what the fetch of a file may answer, where the files are told and where they are not
+-- the fetch of a file may have this answer: it is that of the files if they are known, or else any answer
 abbrev pub MayAnswer : Option FileMap → List ℕ → Result (List ℕ) FetchFault → Type 0
 MayAnswer files name answer = IfSome files (λ m. IsFetched m name answer)
 
--- the steps of a line whose file is fetched with this answer, where it is told which steps a file has that is read
+-- the steps of an include line whose fetch has this answer, given the steps of a file that is read
 abbrev pub AreStepsOfAnswer : (List ℕ → List Step → Type 0) → List ℕ → List ℕ → Line → Result (List ℕ) FetchFault
     → List Step → Type 0
 AreStepsOfAnswer reads file name line (Ok bytes) steps =
@@ -45,14 +45,14 @@ AreStepsOfAnswer reads file name line (Err fetch.OutOfMemory) steps = ⊥
 AreStepsOfAnswer reads file name line (Err fault) steps =
     steps ≡ Gives (include_excerpt file line (not_read name fault)) ∷ []
 
--- the steps of a line of a file, where it is told which steps an include line has with its word
+-- the steps of a line of a file, given the steps of an include line with its word
 abbrev pub AreStepsOfLine : (List ℕ → Line → List Step → Type 0) → List ℕ → List Block → Line → Reading → List Step
     → Type 0
 AreStepsOfLine includes file blocks line (Includes word) steps = includes word line steps
 AreStepsOfLine includes file blocks line reading steps =
     steps ≡ Gives (line_excerpt (λ word. NotRead []) file blocks line reading) ∷ []
 
--- the steps of the rest of a file, where these blocks of it are open: those of each line in turn, and its end
+-- the steps of the rest of a file in which these blocks are open: those of each line in turn, and that of its end
 unfoldable pub AreStepsOfRest : (List ℕ → Line → List Step → Type 0) → List ℕ → List Block → List Line → List Step
     → Type 0
 AreStepsOfRest includes file blocks [] steps = steps ≡ Gives (file_end file blocks) ∷ []
@@ -61,12 +61,12 @@ AreStepsOfRest includes file blocks (line ∷ lines) steps =
     × AreStepsOfRest includes file (blocks_behind_line blocks line (reading_of line.text)) lines rest
     × (steps ≡ first ++ rest)
 
--- the steps of a file of this name and these bytes
+-- the steps of a file with this name and these bytes
 abbrev pub AreStepsBy : (List ℕ → Line → List Step → Type 0) → List ℕ → List ℕ → List Step → Type 0
 AreStepsBy includes name bytes steps = AreStepsOfRest includes name [] (shown (logical_lines bytes)) steps
 
--- the steps of a line of the file `includer` that includes the file of this name, where so many files
--- may stand one in another, this one included
+-- the steps of a line of the file `includer` that includes the file with this name, if files may be nested this deep,
+-- counting this file
 unfoldable pub AreStepsBelow : Option FileMap → ℕ → List ℕ → List ℕ → Line → List Step → Type 0
 AreStepsBelow files zero includer name line steps =
     steps ≡ Gives (line_with_notice includer line (codes "include too deep: " ++ name)) ∷ []
@@ -75,7 +75,7 @@ AreStepsBelow files (suc depth) includer name line steps =
     × AreStepsOfAnswer (AreStepsBy (λ word. AreStepsBelow files depth name (beside name word)) name) includer name line
     answer steps
 
--- the steps of a file, where so many files may stand one in another below it
+-- the steps of a file, if files may be nested this deep below it
 abbrev pub AreStepsAbove : Option FileMap → ℕ → List ℕ → List ℕ → List Step → Type 0
 AreStepsAbove files depth name bytes steps = AreStepsBy (λ word. AreStepsBelow files depth name (beside name word)) name
     bytes steps
@@ -84,7 +84,7 @@ AreStepsAbove files depth name bytes steps = AreStepsBy (λ word. AreStepsBelow 
 abbrev pub excerpt_in : Draft → Excerpt
 excerpt_in draft = record { lines = draft.store.lines; notices = draft.notices }
 
--- a load from a draft ends where some such steps lead, or for want of memory
+-- a load from a draft has the outcome of some steps that it may read, or runs out of memory
 abbrev pub EndsBy : (List Step → Type 0) → Draft → Result (Unit {0}) LoadFault → Draft → Type 0
 EndsBy reads before (Ok _) after =
     (steps : List Step) × reads steps × (outcome_of (excerpt_in before) steps ≡ Ok (excerpt_in after))
@@ -92,7 +92,7 @@ EndsBy reads before (Err OutOfMemory) after = ⊤
 EndsBy reads before (Err fault) after =
     (steps : List Step) × reads steps × (outcome_of (excerpt_in before) steps ≡ Err fault)
 
--- the count of failed fetches after a load, which ends with the first that fails
+-- the count of failed fetches after a load, which ends with the first failed fetch
 abbrev pub faults_after_load : ℕ → Result (Unit {0}) LoadFault → ℕ
 faults_after_load faults (Err ReadFailed) = next faults
 faults_after_load faults _ = faults

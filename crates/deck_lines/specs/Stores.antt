@@ -1,4 +1,4 @@
--- What contracts see of the lines of a deck as they are stored.
+-- The view of a store of lines.
 use Rattle.std.specs.Prelude.{◌++◌, ℕ, List, [], ◌∷◌, Option, Some, None, slice_get}
 use Rattle.std.specs.Option.{option_and_then}
 use Rattle.def_entry.specs.declared.key.Key.{Key}
@@ -15,16 +15,16 @@ pub record Store : Type 0 where
 abbrev pub no_lines : Store
 no_lines = record { lines = []; names = no_names }
 
--- what the line at a place defines
+-- the definition of the line at a place, if it has one
 abbrev pub definition_at : List DeckLine → ℕ → Option (Key × Entry)
 definition_at lines place = option_and_then entry_in (slice_get lines place)
 
--- a number for the key of a definition
+-- names with a number for the key of a definition
 abbrev pub with_definition : Names → Option (Key × Entry) → Names
 with_definition names None = names
 with_definition names (Some definition) = with_key names definition.0
 
--- a line more at the end
+-- a store with one more line appended
 abbrev pub with_line : Store → DeckLine → Store
 with_line store line =
     record { lines = store.lines ++ line ∷ []; names = with_definition store.names (entry_in line) }

@@ -1,4 +1,4 @@
--- What contracts see of what a line means.
+-- The view of the meaning of a line.
 use Rattle.std.specs.Prelude.{ℕ, List}
 use Rattle.def_entry.specs.Seen.{seen_entry}
 use Rattle.deck_lines.specs.Readings.{Reading, Stands, Defines, Includes, Faulty}

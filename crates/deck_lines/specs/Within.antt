@@ -4,7 +4,7 @@ use Rattle.def_lines.specs.declared.line.Line.{Line}
 use Rattle.deck_lines.specs.Limits.{most_bytes, most_lines, text_len}
 use Rattle.deck_lines.specs.Marks.{with_marks}
 
--- lines and their marks, within the limits
+-- there are as many marks as lines, `bytes` is the total length of the texts, and the lines are within the limits
 pub record IsWithin (lines : List Line) (marks : List Bool) (bytes : ℕ) : Type 0 where
   pub marked : length marks ≡ length lines
   pub total : bytes ≡ text_len (with_marks lines marks)

@@ -1,4 +1,4 @@
-//! What a load has read so far.
+//! The lines and notices that a load has read so far.
 
 ghost use Rattle.std.specs.Prelude.{◌≡◌, ◌++◌, ◌∷◌, [], OnOk, OnErr, false, option_map};
 ghost use Rattle.def_entry.specs.Seen.{seen_entry};
@@ -13,9 +13,9 @@ use crate::store::LineStore;
 use def_entry::{Key, What};
 use def_lines::Line;
 use std::alloc::{AllocError, AllocFailed, Global};
-use units_io::{Text, Texts};
+use units_io::{HashSeed, Text, Texts};
 
-/// Notices, in order.
+/// A list of notices, in order.
 pub type Notices = Texts;
 
 /// Why a load ends early.
@@ -25,7 +25,7 @@ pub enum LoadFault {
     DeckFull,
     /// An included file could not be read.
     ReadFailed,
-    /// Want of memory.
+    /// An allocation failed.
     OutOfMemory,
 }
 
@@ -51,7 +51,7 @@ impl<T: Drop> From<AllocFailed<T>> for LoadFault {
     }
 }
 
-/// The lines and the notices that a load has read so far, behind those that stood before.
+/// The lines and notices that a load has read so far, after those that the draft held before.
 #[derive(Drop)]
 pub struct Draft {
     pub store: LineStore,
@@ -59,17 +59,18 @@ pub struct Draft {
 }
 
 impl Draft {
-    /// No line and no notice.
-    pub fn new(alloc: Global) -> Draft
+    /// Returns a draft without lines and notices. `seed` is the hash seed of its tables of names.
+    pub fn new(alloc: Global, seed: HashSeed) -> Draft
         ensures { result ≡ record { store = no_lines; notices = [] } }
     {
         Draft {
-            store: LineStore::new(alloc),
+            store: LineStore::new(alloc, seed),
             notices: Notices::new(alloc),
         }
     }
 
-    /// Puts a line that has effect at the end, with what it defines.
+    /// Appends a line that has effect, with its definition. Returns `DeckFull` if the line would pass a limit, and
+    /// `OutOfMemory` if an allocation fails.
     pub(crate) fn push_line(
         &mut self,
         alloc: Global,
@@ -89,7 +90,8 @@ impl Draft {
         Ok(())
     }
 
-    /// Puts a line of this file at the end, which stays without effect, and its notice.
+    /// Appends a line of `file` that has no effect, and a notice with `text`. Returns `DeckFull` if the line would pass
+    /// a limit, and `OutOfMemory` if an allocation fails.
     #[tactic(auto, unfolding(crate::specs::Readings::entry_in))]
     pub(crate) fn refuse_line(
         &mut self,
@@ -111,7 +113,7 @@ impl Draft {
         Ok(())
     }
 
-    /// Puts a notice at the end.
+    /// Appends a notice about the line with this number in `file`.
     pub(crate) fn push_notice(
         &mut self,
         alloc: Global,

@@ -2,7 +2,7 @@
 
 use def_entry::Kind;
 
-/// The number of a key: how many keys of its kind had a number before it.
+/// The number of a key: the number of keys of its kind that were numbered before it.
 #[derive(Clone, Copy, Debug, PartialEq, Eq, Drop)]
 pub struct KeyNumber {
     pub kind: Kind,

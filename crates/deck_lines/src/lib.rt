@@ -1,5 +1,5 @@
-//! The lines of a deck: those of a definition file with its includes, each with its mark and what
-//! it defines, and the notices.
+//! The lines of a deck: the lines of a definition file and of the files that it includes, each with its mark and its
+//! definition, and the notices.
 #![tactic(auto)]
 
 mod draft;
@@ -16,4 +16,6 @@ pub use laws::{decks_are_closed, examples_law, first_faults_end_loads};
 pub use line::{Block, BorrowedLine, DeckLine, DeckLines, Ending, MarkedLines, Role};
 pub use load::load_text;
 pub use reading::{Reading, read_line};
-pub use store::{EditedLines, LineStore, MOST_BYTES, MOST_LINES, PutDefinitions, can_exchange};
+pub use store::{
+    EditedLines, LineStore, MOST_BYTES, MOST_LINES, PutDefinitions, Renumbering, can_exchange,
+};

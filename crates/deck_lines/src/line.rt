@@ -1,4 +1,4 @@
-//! The lines of a deck, and its blocks.
+//! The lines and blocks of a deck.
 
 ghost use Rattle.std.specs.Prelude.{◌≡◌, ◌<◌, Some, length, slice_get};
 ghost use Rattle.deck_lines.specs.Blocks as spec;
@@ -7,18 +7,18 @@ ghost use Rattle.deck_lines.specs.Marks.{with_marks};
 use def_lines::Line;
 use units_io::{List, Text};
 
-/// A line of a deck. One with the mark has no effect.
+/// A line of a deck. A line with the mark has no effect.
 #[derive(Drop)]
 pub struct DeckLine {
-    /// The number of its first physical line in its file, from 1, or 0.
+    /// The number of its first physical line in its file, counted from 1, or 0.
     pub number: u32,
-    /// What it says, without blanks at the ends.
+    /// Its text, without blanks at the ends.
     pub text: Text,
-    /// Whether a notice leaves it without effect.
+    /// Whether the line has no effect, as its notice says.
     pub mark: bool,
 }
 
-/// A line of a deck where it stands.
+/// A line of a deck, borrowed.
 #[derive(Clone, Copy)]
 pub struct BorrowedLine<'a> {
     pub number: u32,
@@ -27,7 +27,7 @@ pub struct BorrowedLine<'a> {
 }
 
 impl DeckLine {
-    /// The line, without a copy.
+    /// Borrows the line, without a copy.
     pub fn borrowed(&self) -> BorrowedLine<'_>
         ensures { self.now ≡ record { number = result.number; text = result.text.now; mark = result.mark } }
     {
@@ -42,7 +42,7 @@ impl DeckLine {
 /// Lines of a deck, in order.
 pub type DeckLines = List<DeckLine>;
 
-/// Lines of a deck and their marks, side by side.
+/// Lines of a deck and their marks, in parallel slices.
 #[derive(Clone, Copy)]
 pub struct MarkedLines<'a> {
     pub lines: &'a [Line],
@@ -50,7 +50,7 @@ pub struct MarkedLines<'a> {
 }
 
 impl<'a> MarkedLines<'a> {
-    /// The line at a place.
+    /// Returns the line at `place`.
     pub fn line(self, place: usize) -> BorrowedLine<'a>
         requires each { length self.marks.now ≡ length self.lines.now }
         requires inside { place < length self.lines.now }
@@ -67,18 +67,18 @@ impl<'a> MarkedLines<'a> {
     }
 }
 
-/// Which line closes a block.
+/// The kind of line that closes a block.
 #[derive(Clone, Copy, Debug, PartialEq, Eq)]
 pub enum Ending {
-    /// `!endlocale` does.
+    /// `!endlocale`.
     ByLocale,
-    /// `!endvar` does.
+    /// `!endvar`.
     ByVar,
-    /// `!endutf8` does.
+    /// `!endutf8`.
     ByUtf8,
 }
 
-/// Whether two ends are one.
+/// Reports whether two endings are equal.
 pub(crate) fn same_ending(ending: Ending, other: Ending) -> bool
     ensures { result ≡ spec.same_ending ending other }
 {
@@ -90,18 +90,18 @@ pub(crate) fn same_ending(ending: Ending, other: Ending) -> bool
     )
 }
 
-/// What a line does to the blocks around it.
+/// The effect of a line on the open blocks.
 #[derive(Clone, Copy, Debug, PartialEq, Eq)]
 pub enum Role {
-    /// It opens a block, which this ends.
+    /// It opens a block that this ending closes.
     Opens(Ending),
-    /// It ends such a block.
+    /// It closes a block with this ending.
     Closes(Ending),
     /// It does neither.
     Inside,
 }
 
-/// A block that is open: what closes it, and the number of the line that opened it.
+/// An open block: its ending, and the number of the line that opened it.
 #[derive(Clone, Copy)]
 pub struct Block {
     pub ending: Ending,

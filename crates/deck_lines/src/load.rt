@@ -1,4 +1,4 @@
-//! The deck of a file with the files that it includes.
+//! Loading the deck of a file and of the files that it includes.
 mod blocks;
 mod file;
 mod names;

@@ -1,4 +1,4 @@
-//! What a line means.
+//! The meaning of a line.
 
 ghost use Rattle.std.specs.Prelude.{◌≡◌, ℕ, List, IfOk, true};
 ghost use Rattle.def_lines.specs.Kinds.{kind_of};
@@ -13,19 +13,19 @@ use def_lines::{LineKind, classify};
 use std::alloc::{AllocError, Global};
 use units_io::Text;
 
-/// What a line means.
+/// The meaning of a line.
 pub enum Reading<'a> {
     /// It opens or closes a block, or does neither.
     Stands(Role),
-    /// It defines a key, of which it says this.
+    /// It defines this key.
     Defines(Key, What),
     /// It includes the file of this name.
     Includes(&'a [u8]),
-    /// It has the fault that this text tells.
+    /// It has the fault that this text describes.
     Faulty(Text),
 }
 
-/// What a line means. The only error is want of memory.
+/// Returns the meaning of a line. The only error is running out of memory.
 #[tactic(auto, unfolding(crate::specs::Readings::reading_of, crate::specs::Readings::entry_in))]
 pub fn read_line(alloc: Global, line: &[u8]) -> Result<Reading<'_>, AllocError>
     ensures means { IfOk result (λ reading. seen_reading line.now reading ≡ spec.reading_of line.now) }
@@ -49,14 +49,14 @@ pub fn read_line(alloc: Global, line: &[u8]) -> Result<Reading<'_>, AllocError>
     Ok(Reading::Stands(role))
 }
 
-// A line with the fault that these words tell.
+// Returns the reading of a line with the fault that `words` describe.
 fn faulty(alloc: Global, words: &[u8]) -> Result<Reading<'_>, AllocError>
     ensures { IfOk result (λ reading. (line : List ℕ) → seen_reading line reading ≡ spec.Faulty words.now) }
 {
     Ok(Reading::Faulty(Text::from_bytes(alloc, words)?))
 }
 
-// What a line that should define a key means.
+// Reads a line that should define a key.
 fn read_definition(alloc: Global, line: &[u8]) -> Result<Reading<'_>, AllocError>
     requires { has_entry (kind_of line.now) ≡ true }
     ensures { IfOk result (λ reading. seen_reading line.now reading ≡ spec.of_entry (entry_of line.now)) }

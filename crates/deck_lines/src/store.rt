@@ -12,9 +12,11 @@ mod marked;
 mod name_set;
 mod origins;
 mod reads;
+mod renumbering;
 
 pub use definitions::PutDefinitions;
 pub use edited_lines::EditedLines;
 pub use exchangeable::can_exchange;
 pub use line_list::{MOST_BYTES, MOST_LINES};
 pub use line_store::LineStore;
+pub use renumbering::Renumbering;

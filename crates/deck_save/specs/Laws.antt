@@ -1,4 +1,4 @@
--- What a saved text gives where it is read.
+-- Laws of reading saved texts.
 use Rattle.std.specs.Prelude.{◌≡◌, ◌≤◌, ℕ, List, [], length, true, false, Option, Some, Result, Ok}
 use Rattle.std.specs.List.{list_all}
 use Rattle.units_io.specs.FileMap.{FileMap, file_of, longest_file}
@@ -17,46 +17,47 @@ use Rattle.deck.specs.declared.settings.Settings.{Settings}
 use Rattle.deck_save.specs.Saved.{saved, saved_texts}
 use Rattle.deck_save.specs.SavedLines.{stays}
 
--- a deck within the limits, as every deck is, whose text a file may have
+-- a deck within the limits, as every deck is, whose saved text is not too long for a file
 pub record CanBeSaved (d : Contents) : Type 0 where
   pub within : pass_limit d.lines ≡ false
   pub short : length (saved d) ≤ longest_file
 
--- a deck without a notice and with the definitions of another: their texts, and so the same entry for every key
+-- a loaded deck has no notices and has the definitions of another deck: the same texts, and the same entry for each key
 pub record GivesBack (d loaded : Contents) : Type 0 where
   pub silent : loaded.notices ≡ []
   pub texts : defining loaded ≡ saved_texts d
   pub entries : table loaded ≡ table d
 
--- a load comes to such a deck, under the settings that it is given
+-- a load yields such a deck, with the settings that it is given
 pub record IsGivenBack (d : Contents) (under : Settings) (outcome : Result Contents DeckFault) : Type 0 where
   pub loaded : Contents
   pub is : outcome ≡ Ok loaded
   pub told : loaded.settings ≡ under
   pub back : GivesBack d loaded
 
--- law: a file with the text of a deck gives the deck back, whatever its name, the other files and the settings are
+-- law: loading a file with the saved text of a deck gives the deck back, whatever the name of the file, the other files
+-- and the settings are
 abbrev pub FileLaw : Type 0
 FileLaw = (d : Contents) (files : FileMap) (name : List ℕ) (settings : Settings) → CanBeSaved d
     → file_of files name ≡ Some (saved d) → IsGivenBack d settings (after_load files name settings)
 
--- law: so does the text alone
+-- law: loading the saved text itself gives the deck back
 abbrev pub TextLaw : Type 0
 TextLaw = (d : Contents) (name : List ℕ) (settings : Settings) → CanBeSaved d
     → IsGivenBack d settings (after_text (saved d) name settings)
 
--- law: so does a file of which the files do not tell what it has, where its fetch answers this text
+-- law: loading a file gives the deck back if its fetch returns the saved text, even if the files are not known
 abbrev pub AnswerLaw : Type 0
 AnswerLaw = (d : Contents) (files : Option FileMap) (name : List ℕ) (outcome : Result Excerpt DeckFault) → CanBeSaved d
     → ComesTo files name (lines_alone []) (Ok (saved d)) outcome
     → (read : Excerpt) × (outcome ≡ Ok read)
     × ((settings : Settings) → GivesBack d (record { lines = read.lines; settings = settings; notices = read.notices }))
 
--- law: what was given back has the same text again
+-- law: a deck that was given back has the same saved text again
 abbrev pub AgainLaw : Type 0
 AgainLaw = (d loaded : Contents) → GivesBack d loaded → saved loaded ≡ saved d
 
--- law: a line that defines a key holds no line feed, no carriage return and no `#`
+-- law: a line that defines a key contains no line feed, no carriage return and no `#`
 abbrev pub AcceptedLaw : Type 0
 AcceptedLaw = (line : List ℕ) (k : Key) (e : Entry) → has_entry (kind_of line) ≡ true → entry_of line ≡ Ok (k, e)
     → list_all stays line ≡ true

@@ -1,4 +1,4 @@
--- The text of a file that gives the definitions of a deck back.
+-- The text of a file that has the definitions of a deck.
 use Rattle.std.specs.Prelude.{ℕ, List, length, map, nat_lt, if◌then◌else◌, Result, Ok, Err}
 use Rattle.units_io.specs.FileMap.{longest_file}
 use Rattle.def_lines.specs.Blanks.{trimmed}
@@ -16,6 +16,6 @@ saved_texts d = map trimmed (defining d)
 unfoldable pub saved : Contents → List ℕ
 saved d = saved_lines (saved_texts d)
 
--- the same, unless no file may be so long
+-- the saved text, or `TooLong` if it is too long for a file
 abbrev pub saved_file : Contents → Result (List ℕ) SaveFault
 saved_file d = if nat_lt longest_file (length (saved d)) then Err TooLong else Ok (saved d)

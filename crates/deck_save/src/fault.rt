@@ -1,11 +1,11 @@
-//! Why a deck is not saved.
+//! The errors of saving a deck.
 
 use std::alloc::AllocError;
 
-/// Why the text of a deck was not made.
+/// The reason why the text of a deck was not produced.
 #[derive(Clone, Copy, Debug, PartialEq, Eq)]
 pub enum SaveFault {
-    /// It has more than 16,777,216 bytes, the most of a file.
+    /// The text would have more than 16,777,216 bytes, the maximum length of a file.
     TooLong,
     OutOfMemory,
 }

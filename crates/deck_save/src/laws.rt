@@ -5,7 +5,8 @@ ghost use Rattle.deck_save.specs.Laws.{AcceptedLaw, AgainLaw, AnswerLaw, FileLaw
 
 use def_entry::entry_law;
 
-/// A deck that is loaded from the text of another has no notice and the same definitions, under all settings.
+/// A deck that is loaded from the saved text of another deck has no notices and has the same definitions, whatever its
+/// settings are.
 pub fn saved_decks_are_given_back()
     ensures file { FileLaw }
     ensures text { TextLaw }
@@ -14,12 +15,12 @@ pub fn saved_decks_are_given_back()
     entry_law();
 }
 
-/// A deck that was given back has the same text again.
+/// A deck that was loaded from a saved text has the same saved text again.
 pub fn saved_texts_are_kept()
     ensures { AgainLaw }
 {}
 
-/// A line that defines a key stands on a line of its own as it is: it holds no line feed, no carriage return
+/// A line that defines a key can be saved unchanged on a line of its own: it contains no line feed, no carriage return
 /// and no `#`.
 pub fn accepted_lines_stay()
     ensures { AcceptedLaw }
@@ -27,7 +28,7 @@ pub fn accepted_lines_stay()
     entry_law();
 }
 
-/// A few decks have the texts that were found by hand.
+/// The examples hold: a few decks have the saved texts that were worked out by hand.
 pub fn examples_law()
     ensures { ExamplesLaw }
 {}

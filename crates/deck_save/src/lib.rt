@@ -1,4 +1,4 @@
-//! The definitions of a deck as the text of a file.
+//! Saving the definitions of a deck as the text of a file.
 #![tactic(auto)]
 
 mod fault;

@@ -1,4 +1,4 @@
-//! The text of a deck.
+//! The saved text of a deck.
 
 ghost use Rattle.std.specs.Prelude.{◌≡◌, ◌≤◌, ◌<◌, ◌++◌, List, ℕ, Some, length, slice_get, IfOk, OnOk, MatchOption};
 ghost use Rattle.std.specs.Option.{option_copied, option_to_list};
@@ -17,9 +17,9 @@ use def_lines::trim;
 use std::alloc::{AllocError, Global};
 use units_io::{LONGEST_FILE, Text};
 
-/// The text of a file that gives the definitions of the deck back: the text of each active line that defines a
-/// key, in order, as a line of its own. Behind a text that ends in `\` stand one `\` more and an empty line.
-/// `TooLong` where that is more than 16,777,216 bytes; the only other error is want of memory.
+/// Returns the text of a file that has the definitions of the deck: the text of each active line that defines a key, in
+/// order, on a line of its own. A text that ends in `\` is followed by one more `\` and an empty line. The error is
+/// `TooLong` if this is more than 16,777,216 bytes; the only other error is running out of memory.
 pub fn save_text(alloc: Global, deck: &Deck) -> Result<Text, SaveFault>
     ensures { Gives OutOfMemory (λ (text : List ℕ). text) result (saved_file deck.now) }
 {
@@ -31,8 +31,8 @@ pub fn save_text(alloc: Global, deck: &Deck) -> Result<Text, SaveFault>
     Ok(Text::from(lines))
 }
 
-// How long the lines are that are saved of a deck, by which of its lines are active, or `None` where no file
-// may be so long.
+// Returns the total length in bytes of the saved lines of a deck, given which of its lines are active, or `None` if it
+// is more than the maximum length of a file.
 fn saved_len(deck: &Deck, active: &[bool]) -> Option<usize>
     requires { length active.now ≡ length deck.now.lines }
     ensures { MatchOption result
@@ -50,7 +50,7 @@ fn saved_len(deck: &Deck, active: &[bool]) -> Option<usize>
     Some(len)
 }
 
-// How long the line is that is saved of the one at a place, or 0 where that is not saved.
+// Returns the length in bytes of the saved line for the line at `place`, or 0 if that line is not saved.
 fn len_at(deck: &Deck, active: bool, place: usize) -> usize
     ensures { (line : DeckLine) → slice_get deck.now.lines place ≡ Some line
         → result ≡ length (spec.saved_lines (texts_of active line)) }
@@ -61,7 +61,7 @@ fn len_at(deck: &Deck, active: bool, place: usize) -> usize
     }
 }
 
-// The lines that are saved of a deck, which have so many bytes, by which of its lines are active.
+// Returns the saved lines of a deck, given which of its lines are active. `len` is their total length in bytes.
 fn saved_lines(
     alloc: Global,
     deck: &Deck,
@@ -78,7 +78,7 @@ fn saved_lines(
     Ok(lines)
 }
 
-// Puts the line that is saved of the one at a place behind others.
+// Appends the saved line for the line at `place`, if that line is saved.
 fn put_at(lines: &mut Vec<u8>, deck: &Deck, active: bool, place: usize) -> Result<(), AllocError>
     ensures { OnOk result ((line : DeckLine) → slice_get deck.now.lines place ≡ Some line
         → lines.new.items ≡ lines.old.items ++ spec.saved_lines (texts_of active line)) }
@@ -89,7 +89,7 @@ fn put_at(lines: &mut Vec<u8>, deck: &Deck, active: bool, place: usize) -> Resul
     }
 }
 
-// The text of the line at a place, without blanks at the ends, where it is active and defines a key.
+// Returns the text of the line at `place`, without blanks at the ends, or `None` if it is not active or defines no key.
 fn text_at(deck: &Deck, active: bool, place: usize) -> Option<&[u8]>
     ensures { (line : DeckLine) → slice_get deck.now.lines place ≡ Some line
         → texts_of active line ≡ option_to_list (option_copied result) }
@@ -106,7 +106,7 @@ fn text_at(deck: &Deck, active: bool, place: usize) -> Option<&[u8]>
     Some(trim(line.text.as_bytes()))
 }
 
-// Puts a text as a line behind others.
+// Appends a text as a line.
 fn put_line(lines: &mut Vec<u8>, text: &[u8]) -> Result<(), AllocError>
     ensures { OnOk result (lines.new.items ≡ lines.old.items ++ spec.saved_line text.now) }
 {
@@ -114,14 +114,14 @@ fn put_line(lines: &mut Vec<u8>, text: &[u8]) -> Result<(), AllocError>
     lines.extend_from_slice(line_end(text))
 }
 
-// What ends the line of a text.
+// Returns the bytes that end the line of a text.
 fn line_end(text: &[u8]) -> &'static [u8]
     ensures { result.now ≡ spec.line_end text.now }
 {
     if goes_on(text) { b"\\\n\n" } else { b"\n" }
 }
 
-// Whether the line of a text would go on in the next one.
+// Reports whether the line of a text would continue on the next line.
 fn goes_on(text: &[u8]) -> bool
     ensures { result ≡ ends_with 92 text.now }
 {

@@ -1,4 +1,4 @@
--- Lines that `define` puts at the end.
+-- Lines that `define` appends.
 use Rattle.std.proofs.Common.{◌≡◌, ◌∷◌, ◌-◌, [], ℕ, List, Bool, true, false, cond, reverse, refl, sym, ap, ◌∙◌, Result}
 use Rattle.std.proofs.Common.{Ok, Err}
 use Rattle.std.proofs.lemmas.List.{append-nil, reverse-reverse}
@@ -32,14 +32,14 @@ before_twice bytes =
     ap (λ t. reverse (after_blanks t)) (reverse-reverse (after_blanks (reverse bytes)))
     ∙ ap reverse (after_twice (reverse bytes))
 
--- what is trimmed is not trimmed again
+-- trimming twice is trimming once
 pub trimmed_twice : (bytes : List ℕ) → trimmed (trimmed bytes) ≡ trimmed bytes
 trimmed_twice bytes =
     ap trimmed (sym (append-nil (trimmed bytes))) ∙ trimmed-after_blanks (before_blanks bytes) []
     ∙ ap trimmed (append-nil (before_blanks bytes))
     ∙ ap after_blanks (before_twice bytes)
 
--- a line that is put stands at the end
+-- a line that is accepted is appended
 pub defined_is : (text : List ℕ) (d e : Contents) → after_define text d ≡ Ok e → e ≡ with_line text d
 defined_is text d e h = by_kind (has_entry (kind_of text)) h
   where
@@ -59,7 +59,7 @@ defined_is text d e h = by_kind (has_entry (kind_of text)) h
 abbrev pub contents : List DeckLine → Settings → List (List ℕ) → Contents
 contents lines settings notices = record { lines = lines; settings = settings; notices = notices }
 
--- it is put whatever the notices are
+-- a line is accepted or not whatever the notices are
 pub accepted_as : (text : List ℕ) (lines : List DeckLine) (settings : Settings) (notices others : List (List ℕ))
     (e : Contents)
     → after_define text (contents lines settings notices) ≡ Ok e

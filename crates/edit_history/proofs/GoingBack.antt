@@ -1,4 +1,4 @@
--- Steps that are made, and the steps back.
+-- Steps that were made, and the steps back.
 use Rattle.std.proofs.Common.{◌≡◌, ◌⊎◌, inl, inr, ◌++◌, ◌∷◌, ◌+◌, ◌-◌, ◌≤◌, [], ℕ, List, Bool, true, false, cond}
 use Rattle.std.proofs.Common.{length, take, refl, sym, ap, subst, ◌∙◌, arith, length-append, Option, Some, Result, Ok}
 use Rattle.std.proofs.Common.{Err}
@@ -29,11 +29,12 @@ use Rattle.deck.specs.declared.splice.Splice.{Splice}
 use Rattle.edit_history.specs.Steps.{CanStep, IsLastDefined, after_step, splice_of}
 use Rattle.edit_history.specs.Versions.{Version, deck_of, version_of}
 use Rattle.edit_history.specs.declared.step.Step.{Step}
-use Rattle.edit_history.specs.declared.step.Step.TheVariants.{Define, Undefine, Exchange}
+use Rattle.edit_history.specs.declared.step.Step.TheVariants.{Define, Undefine}
 use Rattle.edit_history.proofs.Defining.{accepted_as, defined_is}
+use Rattle.edit_history.proofs.Exchanges.{exchange_step}
 use Rattle.edit_history.proofs.Stepping.{can_exchange, can_go_back, cut_last, lines_back, put_last, splice}
 
--- a version of these parts
+-- a version with these parts
 abbrev pub version : List DeckLine → Settings → Version
 version lines settings = record { lines = lines; settings = settings }
 
@@ -41,20 +42,20 @@ pub version_by : (lines others : List DeckLine) (settings same : Settings) → l
     → version lines settings ≡ version others same
 version_by lines others settings same e f = λ i. record { lines = e i; settings = f i }
 
--- a step is made, and the step back gives the version before
+-- a step was made, and the step back restores the version before it
 pub record IsMade (s back : Step) (old new : Contents) : Type 0 where
   pub made : new ≡ after_splice (splice_of s (version_of old)) old
   pub can : CanStep back (version_of new)
   pub again : after_step back (version_of new) ≡ version_of old
 
--- lines put in the place of others
+-- an exchange of lines was made
 pub exchanged : InverseLaw → (at cut : ℕ) (put : List DeckLine) (settings : Settings) (undo : Splice) (back : Step)
     (old new : Contents)
     → new ≡ after_splice (splice at cut put settings) old → undo ≡ inverse (splice at cut put settings) old
     → settings ≡ old.settings
-    → back ≡ Exchange undo.at undo.cut undo.put → at + cut ≤ length old.lines → IsClosed old.lines
+    → back ≡ exchange_step undo.at undo.cut undo.put → at + cut ≤ length old.lines → IsClosed old.lines
     → pass_limit old.lines ≡ false
-    → IsMade (Exchange at cut put) back old new
+    → IsMade (exchange_step at cut put) back old new
 exchanged law at cut put settings undo back old new is inverse_is same back_is places closed within = record {
   made = done;
   can = subst (λ b. CanStep b (version_of new)) (sym back_by)
@@ -71,10 +72,10 @@ exchanged law at cut put settings undo back old new is inverse_is same back_is p
     done : new ≡ after_splice s old
     done = is ∙ ap (λ (t : Settings). after_splice (splice at cut put t) old) same
 
-    back_by : back ≡ Exchange at (length put) (lines_from at cut old.lines)
-    back_by = back_is ∙ ap (λ (u : Splice). Exchange u.at u.cut u.put) inverse_is
+    back_by : back ≡ exchange_step at (length put) (lines_from at cut old.lines)
+    back_by = back_is ∙ ap (λ (u : Splice). exchange_step u.at u.cut u.put) inverse_is
 
--- the step back from a line that `define` put at the end
+-- the step back from a line that `define` appended
 module _ (text : List ℕ) (bare : trimmed text ≡ text) (covered : Option ℕ) (old new : Contents)
     (accepted : after_define text old ≡ Ok new)
     (place : covered ≡ place_of_key text old) (closed : IsClosed old.lines) (within : pass_limit old.lines ≡ false)
@@ -118,7 +119,7 @@ module _ (text : List ℕ) (bare : trimmed text ≡ text) (covered : Option ℕ)
       again = undefine_again;
     }
 
--- lines of these kinds define keys
+-- lines of kinds that have an entry are definitions or unit lists
 entry_kinds : (kind : Kind) → has_entry kind ≡ true → (kind ≡ line.Definition) ⊎ (kind ≡ line.UnitList)
 entry_kinds line.Definition h = inl refl
 entry_kinds line.UnitList h = inr refl
@@ -159,7 +160,7 @@ defines text d e h = by_kind (has_entry (kind_of text)) refl h
     by_kind true q g = by_reading (entry_kinds (kind_of text) q) (entry_of text) refl g
     by_kind false q g = cc
 
--- the last line can be taken out that `define` put there
+-- the last line can be removed if `define` appended it
 pub can_take : (uncovered : Option ℕ) (old : Contents) → IsLastDefined uncovered (version_of old)
     → CanUndefine uncovered old
 can_take uncovered old last =
@@ -178,7 +179,7 @@ can_take uncovered old last =
           (sym (ap (λ (v : Version). v.settings) last.is));
     }
 
--- the step back from that
+-- the last line was removed, and the step back appends it again
 pub undefined : (uncovered : Option ℕ) (text : List ℕ) (old new : Contents) → IsLastDefined uncovered (version_of old)
     → new ≡ without_last old
     → IsLastText text old → IsClosed old.lines → pass_limit old.lines ≡ false

@@ -1,6 +1,9 @@
+mod Boxes
 mod Defining
+mod Exchanges
 mod GoingBack
 mod Noting
+mod OneSetting
 mod PartsOfVars
 mod Placed
 mod Stepping

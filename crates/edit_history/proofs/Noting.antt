@@ -1,4 +1,4 @@
--- Edits that are noted.
+-- Edits that the history records.
 use Rattle.std.proofs.Common.{◌≡◌, ◌++◌, ◌∷◌, ◌+◌, ◌-◌, ◌≤◌, [], ℕ, List, Bool, true, false, cond, length, refl, sym}
 use Rattle.std.proofs.Common.{ap, subst, ◌∙◌, arith, append_assoc, Option, Some, Result, Ok, Err}
 use Rattle.std.proofs.lemmas.List.{append-nil}
@@ -24,12 +24,12 @@ use Rattle.edit_history.specs.Histories.{Course, Follows, Lead}
 use Rattle.edit_history.specs.Steps.{CanStep, after_step}
 use Rattle.edit_history.specs.Versions.{version_of}
 use Rattle.edit_history.specs.declared.step.Step.{Step}
-use Rattle.edit_history.specs.declared.step.Step.TheVariants.{Exchange}
+use Rattle.edit_history.proofs.Exchanges.{exchange_step}
 use Rattle.edit_history.proofs.GoingBack.{version_by}
 use Rattle.edit_history.proofs.Placed.{last_within}
 use Rattle.edit_history.proofs.Stepping.{can_exchange, can_go_back, cut_last, lines_back, splice}
 
--- with a step more to the version before, the history is one of the deck after
+-- with one more step, back to the version before, the history belongs to the deck after
 pub follows_noted : (s : Step) (old new : Course) (before after : Contents)
     → new ≡ record { done = s ∷ old.done; undone = [] }
     → CanStep s (version_of after) → after_step s (version_of after) ≡ version_of before → Follows old before
@@ -38,7 +38,7 @@ follows_noted s old new before after is can again f =
     subst (λ h. Follows h after) (sym is)
     (record { back = (can, subst (Lead old.done) (sym again) f.back); forth = tt })
 
--- the lists of a history behind an edit that was noted
+-- a history with these lists
 abbrev course : (done undone : List Step) → Course
 course done undone = record { done = done; undone = undone }
 
@@ -46,25 +46,26 @@ pub course_is : (s : Step) (done undone rest : List Step) → done ≡ s ∷ res
     → course done (reverse undone) ≡ course (s ∷ rest) []
 course_is s done undone rest e f = λ i. course (e i) (reverse (f i))
 
--- a step that can be made and gives the version before
+-- a step that can be made and restores the version before
 pub record LeadsBack (s : Step) (before after : Contents) : Type 0 where
   pub can : CanStep s (version_of after)
   pub again : after_step s (version_of after) ≡ version_of before
 
-same_deck : (d e : Contents) → ◌≡◌ {A = Result Contents DeckFault} (Ok d) (Ok e) → d ≡ e
+-- an outcome gives only one deck
+pub same_deck : (d e : Contents) → ◌≡◌ {A = Result Contents DeckFault} (Ok d) (Ok e) → d ≡ e
 same_deck d e h = cc
 
--- a line taken out, and put back at its place
+-- a line was removed, and the step back puts it in its place
 pub dropped : InverseLaw → (k : Key) (at : ℕ) (put : List DeckLine) (before after : Contents)
     → last_place before.settings before.lines k ≡ Some at
     → after_drop k before ≡ Ok after → put ≡ lines_from at 1 before.lines → IsClosed before.lines
     → pass_limit before.lines ≡ false
-    → LeadsBack (Exchange at 0 put) before after
+    → LeadsBack (exchange_step at 0 put) before after
 dropped law k at put before after last outcome put_is closed within = record {
-  can = subst (λ ls. CanStep (Exchange at 0 ls) (version_of after)) (sym put_is)
+  can = subst (λ ls. CanStep (exchange_step at 0 ls) (version_of after)) (sym put_is)
       (record { splice = can_go_back law s before after is places closed within; right = tt });
   again =
-      ap (λ ls. after_step (Exchange at 0 ls) (version_of after)) put_is
+      ap (λ ls. after_step (exchange_step at 0 ls) (version_of after)) put_is
       ∙ version_by _ before.lines after.settings before.settings (lines_back law s before after is places)
       (ap (λ (d : Contents). d.settings) is);
 }
@@ -78,27 +79,27 @@ dropped law k at put before after last outcome put_is closed within = record {
     places : at + 1 ≤ length before.lines
     places = omega (arith, last_within before.settings before.lines k at last)
 
--- lines put at the end, and cut
+-- lines were appended, and the step back cuts them off
 pub appended : (at cut : ℕ) (put more : List DeckLine) (before after : Contents) → after.lines ≡ before.lines ++ more
     → after.settings ≡ before.settings
     → at ≡ length before.lines → at + cut ≡ length after.lines → put ≡ [] → IsClosed before.lines
     → pass_limit before.lines ≡ false
-    → LeadsBack (Exchange at cut put) before after
+    → LeadsBack (exchange_step at cut put) before after
 appended at cut put more before after lines settings here all none closed within = record {
-  can = subst (λ ls. CanStep (Exchange at cut ls) (version_of after)) (sym none)
+  can = subst (λ ls. CanStep (exchange_step at cut ls) (version_of after)) (sym none)
       (record {
         splice = can_exchange at cut [] after.lines before.lines (omega (arith, all)) gone closed within;
         right = tt;
       });
   again =
-      ap (λ ls. after_step (Exchange at cut ls) (version_of after)) none
+      ap (λ ls. after_step (exchange_step at cut ls) (version_of after)) none
       ∙ version_by _ before.lines after.settings before.settings gone settings;
 }
   where
     gone : exchanged_lines at cut [] after.lines ≡ before.lines
     gone = cut_last at cut before.lines more after.lines lines here all
 
--- a load puts lines behind those that stand
+-- a load appends lines to the present ones
 pub lines_behind : (before after : Excerpt) (reads : List Read) → outcome_of before reads ≡ Ok after
     → (more : List DeckLine) × (after.lines ≡ before.lines ++ more)
 unfolding outcome_of

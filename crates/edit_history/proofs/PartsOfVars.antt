@@ -1,4 +1,4 @@
--- Variables in parts.
+-- Parts of lists of variables.
 use Rattle.std.proofs.Common.{◌≡◌, ◌⊎◌, inl, inr, ◌++◌, ◌∷◌, ◌+◌, ◌-◌, ◌<◌, ◌≤◌, [], zero, suc, ℕ, List, length, take}
 use Rattle.std.proofs.Common.{drop, get_or, slice_get, Some, None, refl, sym, ap, subst, ◌∙◌, arith, append_assoc}
 use Rattle.std.proofs.Common.{drop-drop, take-append-drop, take_all, Bool, true}
@@ -13,13 +13,13 @@ use Rattle.units_io.proofs.Names.{HasNoName-before, with_value-new}
 use Rattle.edit_history.specs.Switching.{changed_vars}
 use Rattle.edit_history.specs.VarsParts.{IsSamePair, pairs_between, with_pairs}
 
--- pairs with two lists of values, one behind the other
+-- setting the pairs of two lists, one after the other, is setting those of both together
 with_pairs-append : (pairs first others : Pairs) → with_pairs (with_pairs pairs first) others
     ≡ with_pairs pairs (first ++ others)
 with_pairs-append pairs [] others = refl
 with_pairs-append pairs (p ∷ first) others = with_pairs-append (with_value pairs p.0 p.1) first others
 
--- pairs of new names are put behind the others
+-- setting pairs with new names appends them
 with_pairs-new : (pairs others : Pairs) → HasDistinctNames (pairs ++ others) → with_pairs pairs others ≡ pairs ++ others
 with_pairs-new pairs [] distinct = sym (append-nil pairs)
 with_pairs-new pairs (p ∷ others) distinct =
@@ -44,14 +44,14 @@ HasDistinctNames-drop zero pairs distinct = distinct
 HasDistinctNames-drop (suc n) [] distinct = tt
 HasDistinctNames-drop (suc n) (p ∷ pairs) distinct = HasDistinctNames-drop n pairs distinct.1
 
--- a part that is copied behind nothing
+-- copying a part into an empty list gives the part
 pub copied_part : (first end : ℕ) (vars : Pairs) → HasDistinctNames vars
     → with_pairs [] (pairs_between first end vars) ≡ pairs_between first end vars
 copied_part first end vars distinct =
     with_pairs-new [] (pairs_between first end vars)
     (HasDistinctNames-take (end - first) (drop first vars) (HasDistinctNames-drop first vars distinct))
 
--- the part of others that differs, in the place of what differs
+-- replacing what differs by the differing part of the others gives the others
 pub part_put : (first cut end : ℕ) (vars others : Pairs) → take first vars ≡ take first others
     → drop cut vars ≡ drop end others → first ≤ end
     → changed_vars first cut (pairs_between first end others) vars ≡ others
@@ -69,11 +69,11 @@ part_put first cut end vars others front back within =
         let there : end ≡ first + (end - first) = omega (arith, within) in
         ap (λ n. drop n others) there ∙ sym (drop-drop (end - first) first others)
 
--- a part from the first pair on
+-- a part that begins at the first pair
 from_start : (end : ℕ) (vars : Pairs) → pairs_between 0 end vars ≡ take end vars
 from_start end vars = let all : end - 0 ≡ end = omega arith in ap (λ n. take n vars) all
 
--- the three parts of changed variables, copied one behind the other
+-- copying the three parts of changed variables, one after another, gives the changed variables
 pub parts_copied : (first end : ℕ) (put vars : Pairs) → HasDistinctNames (changed_vars first end put vars)
     → with_pairs (with_pairs (with_pairs [] (pairs_between 0 first vars)) (pairs_between 0 (length put) put))
     (pairs_between end (length vars) vars)
@@ -91,7 +91,7 @@ parts_copied first end put vars distinct =
     ∙ ap (λ (ps : Pairs). with_pairs [] (take first vars ++ (put ++ ps))) (take_rest vars end)
     ∙ with_pairs-new [] (changed_vars first end put vars) distinct
 
--- the same of lists that are copied one after another
+-- copying the three parts gives the changed variables, for lists and lengths that are equal to these
 pub put_together : (first end put_length length_before : ℕ) (put vars none made more all : Pairs) → none ≡ []
     → made ≡ with_pairs none (pairs_between 0 first vars)
     → put_length ≡ length put → more ≡ with_pairs made (pairs_between 0 put_length put)
@@ -106,7 +106,7 @@ put_together first end put_length length_before put vars none made more all empt
     (front ∙ ap (λ (ps : Pairs). with_pairs ps (pairs_between 0 first vars)) empty))
     ∙ parts_copied first end put vars distinct
 
--- a part by its first pair
+-- a part is its first pair and the rest of the part
 pub between_step : (i end : ℕ) (vars : Pairs) (p : List ℕ × List ℕ) → i < end → slice_get vars i ≡ Some p
     → pairs_between i end vars ≡ p ∷ pairs_between (i + 1) end vars
 between_step i end vars p below is =
@@ -115,7 +115,7 @@ between_step i end vars p below is =
     ∙ ap (λ q. q ∷ drop (i + 1) vars) (get_or_from_slice_get vars i p p is))
     ∙ ap (λ n. take n (p ∷ drop (i + 1) vars)) fewer
 
--- no part is left
+-- the part is empty
 pub none_between : (i end : ℕ) (vars : Pairs) → (end ≤ i) ⊎ (slice_get vars i ≡ None) → pairs_between i end vars ≡ []
 none_between i end vars (inl past) =
     let none : end - i ≡ 0 = omega (arith, past) in ap (λ n. take n (drop i vars)) none
@@ -131,7 +131,7 @@ none_between i end vars (inr none) = ap (take (end - i)) (gone i vars none) ∙ 
     take_none zero = refl
     take_none (suc n) = refl
 
--- two pairs whose names and values are tested
+-- two pairs are equal if tests say that their names and values are
 pub same_pair : (vars others : Pairs) (i j : ℕ) (name value other_name other_value : List ℕ) (names values : Bool)
     → slice_get vars i ≡ Some (name, value) → slice_get others j ≡ Some (other_name, other_value)
     → names ≡ bytes_eq name other_name → names ≡ true → values ≡ bytes_eq value other_value
@@ -144,19 +144,19 @@ same_pair vars others i j name value other_name other_value names values here th
           ∙ ap (λ v. Some (other_name, v)) ((bytes_eq-Decides value other_value).0 (sym valued ∙ also)) ∙ sym there;
     })
 
--- one pair, read with a default
+-- equal pairs are equal when read with a default
 same_read : (vars others : Pairs) (i j : ℕ) (d : List ℕ × List ℕ) → IsSamePair vars i others j
     → get_or vars i d ≡ get_or others j d
 same_read vars others i j d is =
     same_Some _ _ (sym (slice_get-get_or vars i d is.here) ∙ is.same ∙ slice_get-get_or others j d is.there)
 
--- one pair more at the front
+-- an equal pair extends the equal front
 pub front_step : (vars others : Pairs) (i : ℕ) → IsSamePair vars i others i → take i vars ≡ take i others
     → take (i + 1) vars ≡ take (i + 1) others
 front_step vars others i is same =
     take_more_same vars others i ([], []) is.here is.there same (same_read vars others i i ([], []) is)
 
--- and one more at the end
+-- an equal pair extends the equal end
 pub end_step : (vars others : Pairs) (m n : ℕ) → 0 < m → 0 < n → IsSamePair vars (m - 1) others (n - 1)
     → drop m vars ≡ drop n others → drop (m - 1) vars ≡ drop (n - 1) others
 end_step vars others m n some more is same =

@@ -1,4 +1,4 @@
--- The last line in force of a key is one of the lines.
+-- The place of the last line in force of a key is that of one of the lines.
 use Rattle.std.proofs.Common.{◌≡◌, ◌++◌, ◌∷◌, ◌+◌, ◌<◌, ◌≤◌, [], ℕ, List, Bool, true, false, cond, length, reverse}
 use Rattle.std.proofs.Common.{refl, sym, subst, arith, Option, Some, None, option_map}
 use Rattle.std.proofs.lemmas.List.{reverse-append}
@@ -14,7 +14,7 @@ use Rattle.deck.specs.Active.{active_lines}
 use Rattle.deck.specs.Tables.{Definitions, definition_by, definitions, definitions_from, last_place}
 use Rattle.deck.specs.declared.settings.Settings.{Settings}
 
--- each place is below this one
+-- each place is below a limit
 abbrev AreBelow : ℕ → Definitions → Type 0
 AreBelow most [] = ⊤
 AreBelow most (d ∷ ds) = (d.1.0 < most) × AreBelow most ds

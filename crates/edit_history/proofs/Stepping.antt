@@ -1,4 +1,4 @@
--- Lines exchanged and put back.
+-- Exchanges of lines, and back.
 use Rattle.std.proofs.Common.{◌≡◌, ◌++◌, ◌∷◌, ◌+◌, ◌-◌, ◌≤◌, [], ℕ, List, false, length, take, drop, refl, sym, ap}
 use Rattle.std.proofs.Common.{subst, ◌∙◌, arith, length-append, length-take}
 use Rattle.std.proofs.lemmas.List.{append-nil, drop_all}
@@ -12,12 +12,12 @@ use Rattle.deck.specs.Splices.{InverseLaw, after_splice, lines_from}
 use Rattle.deck.specs.declared.settings.Settings.{Settings}
 use Rattle.deck.specs.declared.splice.Splice.{Splice}
 
--- a list up to its length, with more behind it
+-- taking as many items as the first list has gives the first list
 pub take_front : {A : Type 0} (xs ys : List A) → take (length xs) (xs ++ ys) ≡ xs
 take_front [] ys = refl
 take_front (x ∷ xs) ys = ap (λ t. x ∷ t) (take_front xs ys)
 
--- lines put behind all others
+-- an exchange that cuts nothing at the end appends a line
 pub put_last : (n : ℕ) (xs : List DeckLine) (x : DeckLine) → n ≡ length xs
     → exchanged_lines n 0 (x ∷ []) xs ≡ xs ++ x ∷ []
 put_last n xs x e =
@@ -25,21 +25,21 @@ put_last n xs x e =
     ∙ ap (λ t. t ++ (x ∷ drop (length xs + 0) xs)) (sym (ap (take (length xs)) (append-nil xs)) ∙ take_front xs [])
     ∙ ap (λ t. xs ++ (x ∷ t)) (drop_all (length xs + 0) xs (omega arith))
 
--- all lines behind a place taken out
+-- an exchange that cuts everything from a place on leaves the lines before it
 pub cut_last : (at cut : ℕ) (xs ys zs : List DeckLine) → zs ≡ xs ++ ys → at ≡ length xs → at + cut ≡ length zs
     → exchanged_lines at cut [] zs ≡ xs
 cut_last at cut xs ys zs is here all =
     ap (λ t. take at zs ++ t) (drop_all (at + cut) zs (omega (arith, all))) ∙ append-nil (take at zs)
     ∙ ap (λ n. take n zs) here ∙ ap (take (length xs)) is ∙ take_front xs ys
 
--- lines can be exchanged where that gives lines that are closed and within the limits
+-- lines can be exchanged if the result is closed and within the limits
 pub can_exchange : (at cut : ℕ) (put lines given : List DeckLine) → at + cut ≤ length lines
     → exchanged_lines at cut put lines ≡ given →
     IsClosed given → pass_limit given ≡ false → CanExchange at cut put lines
 can_exchange at cut put lines given places is closed within =
     record { places = places; closed = subst IsClosed (sym is) closed; within = ap pass_limit is ∙ within }
 
--- a splice of these parts
+-- a splice with these parts
 abbrev pub splice : ℕ → ℕ → List DeckLine → Settings → Splice
 splice at cut put settings = record { at = at; cut = cut; put = put; settings = settings }
 

@@ -1,4 +1,4 @@
--- Settings that are changed, and changed back.
+-- Changes of settings, and back.
 use Rattle.std.proofs.Common.{◌≡◌, [], ℕ, List, false, sym, ap, subst, ◌∙◌, arith}
 use Rattle.units_io.specs.Named.{HasDistinctNames, Pairs}
 use Rattle.deck_lines.specs.Closed.{IsClosed}
@@ -13,7 +13,7 @@ use Rattle.edit_history.proofs.GoingBack.{IsMade, version_by}
 use Rattle.edit_history.proofs.Noting.{LeadsBack}
 use Rattle.edit_history.proofs.Stepping.{can_exchange}
 
--- settings of these parts
+-- settings with these parts
 abbrev settings_of : List ℕ → Pairs → Settings
 settings_of locale vars = record { locale = locale; vars = vars }
 
@@ -21,7 +21,7 @@ pub settings_by : (locale other : List ℕ) (vars others : Pairs) → locale ≡
     → settings_of locale vars ≡ settings_of other others
 settings_by locale other vars others e f = λ i. record { locale = e i; vars = f i }
 
--- other settings, and the change to those before
+-- after other settings are put in force, the change to the previous ones leads back
 pub switched : (back : SettingsChange) (settings : Settings) (before after : Contents)
     → after ≡ after_switch settings before
     → after_change back settings ≡ before.settings → HasDistinctNames before.settings.vars
@@ -40,7 +40,7 @@ switched back settings before after is gives distinct closed within = record {
     again : after_change back after.settings ≡ before.settings
     again = ap (λ (d : Contents). after_change back d.settings) is ∙ gives
 
--- a step that changes settings, and the step back
+-- a change of settings was made, and the step back is its change back
 pub changed : (change back : SettingsChange) (settings : Settings) (old new : Contents)
     → settings ≡ after_change change old.settings → new ≡ after_switch settings old → LeadsBack (Switch back) old new
     → IsMade (Switch change) (Switch back) old new

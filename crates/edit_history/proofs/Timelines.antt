@@ -1,4 +1,4 @@
--- The calls of a history, by whole versions.
+-- The calls of a history, described by whole versions.
 use Rattle.std.proofs.Common.{◌≡◌, ◌∷◌, inl, inr, [], List, refl, sym, ap, subst, ◌∙◌, Some, None, Ok, Err}
 use Rattle.std.proofs.lemmas.Option.{same_Some}
 use Rattle.deck.specs.Decks.{Contents}
@@ -18,7 +18,7 @@ edit_noted old new before after (s, is, back) =
     let here = version_of after in
     ap (λ h. timeline h here) is ∙ ap (λ v. record { past = v ∷ versions old.done v; present = here; future = [] }) back
 
--- the versions that are left, and those that come to others
+-- the versions of the steps left, and those of the steps that were added
 module _ (steps rest others more : List Step) (before after : Contents)
     (moved : IsMoved steps rest others more before after) where
   abbrev pub here : Version

@@ -1,4 +1,4 @@
--- What the calls of a history do.
+-- The effects of the calls of a history.
 use Rattle.std.specs.Prelude.{◌≡◌, ◌∷◌, ◌⊎◌, [], List, Result, Ok, Err}
 use Rattle.deck.specs.Decks.{Contents}
 use Rattle.deck.specs.Splices.{after_splice}
@@ -12,15 +12,15 @@ use Rattle.edit_history.specs.declared.fault.HistoryFault.{HistoryFault}
 use Rattle.edit_history.specs.declared.fault.HistoryFault.TheVariants.{OutOfMemory}
 use Rattle.edit_history.specs.declared.step.Step.{Step}
 
--- an accepted edit puts a step to the version before it on those done, and nothing is undone any more; one that is
--- refused leaves the history
+-- an accepted edit pushes a step back to the version before it onto the steps done, and nothing is left to redo; a
+-- refused edit leaves the history as it is
 abbrev pub IsNoted : Course → Course → Contents → Contents → Result (Unit {0}) DeckFault → Type 0
 IsNoted old new before after (Ok _) =
     (s : Step) × (new ≡ record { done = s ∷ old.done; undone = [] })
     × (after_step s (version_of after) ≡ version_of before)
 IsNoted old new before after (Err fault) = new ≡ old
 
--- the first of some steps was made, and is gone, and a step back to the version before it stands before others
+-- the first of some steps was made and removed, and a step back to the version before it was put in front of the others
 pub record IsMoved (old rest others more : List Step) (before after : Contents) : Type 0 where
   pub step : Step
   pub back : Step
@@ -29,18 +29,18 @@ pub record IsMoved (old rest others more : List Step) (before after : Contents) 
   pub made : after ≡ after_splice (splice_of step (version_of before)) before
   pub again : after_step back (version_of after) ≡ version_of before
 
--- why no step was made: there is none, or there is one and no memory
+-- the reason why no step was made: there is none, or there is one and memory ran out
 abbrev pub IsRefusal : HistoryFault → List Step → HistoryFault → Type 0
 IsRefusal nothing steps fault =
     ((fault ≡ nothing) × (steps ≡ [])) ⊎ ((fault ≡ OutOfMemory) × (steps ≡ [] → ⊥))
 
--- the last edit that was done is taken back, and what that affects is forgotten; or all is as it was
+-- the last edit done is taken back, and the results that this affects are forgotten; or everything is as before
 abbrev pub IsUndone : HistoryFault → Course → Course → Shown → Shown → Result (Unit {0}) HistoryFault → Type 0
 IsUndone nothing old new before after (Ok _) =
     IsMoved old.done new.done old.undone new.undone before.deck after.deck × IsEdit before after
 IsUndone nothing old new before after (Err fault) =
     (new ≡ old) × (after ≡ before) × IsRefusal nothing old.done fault
 
--- the same history with the lists exchanged
+-- the same history with its two lists swapped
 abbrev pub turned : Course → Course
 turned h = record { done = h.undone; undone = h.done }

@@ -9,8 +9,8 @@ use Rattle.edit_history.specs.Timelines.{Timeline, edited, redone, timeline, und
 use Rattle.edit_history.specs.Versions.{Version, version_of}
 use Rattle.edit_history.specs.declared.fault.HistoryFault.TheVariants.{NothingToRedo, NothingToUndo}
 
--- law: by whole versions, an accepted edit is one of the timeline, and so are an undo and a redo; and there is nothing
--- to undo or redo exactly where the timeline has nothing
+-- law: described by whole versions, an accepted edit, an undo and a redo act on the timeline; and there is nothing to
+-- undo or redo exactly if the timeline has nothing
 pub record TimelineLaw : Type 0 where
   pub edit : (old new : Course) (before after : Contents) → IsNoted old new before after (Ok tt)
       → timeline new (version_of after) ≡ edited (version_of after) (timeline old (version_of before))
@@ -26,15 +26,15 @@ pub record TimelineLaw : Type 0 where
       → IsUndone NothingToRedo (turned old) (turned new) before after (Err NothingToRedo)
       → redone (timeline old (version_of before.deck)) ≡ None
 
--- law: an undo behind an accepted edit gives back the version before it, and all versions before that; a redo behind
--- an undo gives back what that took, and an undo behind a redo
+-- law: an undo after an accepted edit restores the version before it and all versions before that; a redo after an undo
+-- restores the timeline before the undo, and an undo after a redo restores the one before the redo
 pub record BackLaw : Type 0 where
   pub undo : (v : Version) (t : Timeline)
       → undone (edited v t) ≡ Some (record { past = t.past; present = t.present; future = v ∷ [] })
   pub redo : (t u : Timeline) → undone t ≡ Some u → redone u ≡ Some t
   pub again : (t u : Timeline) → redone t ≡ Some u → undone u ≡ Some t
 
--- law: decks of one version have one table, and so every reply to a conversion, a definition, a search or a `?`, each
--- of which is one of the table, is the same
+-- law: decks of one version have one table, and so every reply to a conversion, a definition, a search or a `?` is the
+-- same, because each depends on the table alone
 abbrev pub ReplyLaw : Type 0
 ReplyLaw = (d e : Contents) → version_of d ≡ version_of e → table d ≡ table e

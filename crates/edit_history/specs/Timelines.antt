@@ -1,31 +1,31 @@
--- A history with its deck, as whole versions.
+-- A history and its deck as whole versions.
 use Rattle.std.specs.Prelude.{◌∷◌, [], List, Option, Some, None}
 use Rattle.edit_history.specs.Histories.{Course}
 use Rattle.edit_history.specs.Steps.{after_step}
 use Rattle.edit_history.specs.Versions.{Version}
 use Rattle.edit_history.specs.declared.step.Step.{Step}
 
--- the versions that were before, the last of them first, the one that is, and those that were undone, the one undone
--- last first
+-- the versions before, the last one first; the present version; and the versions that were undone, the one undone last
+-- first
 pub record Timeline : Type 0 where
   pub past : List Version
   pub present : Version
   pub future : List Version
 
--- those that steps give, one after another
+-- the versions that steps give, one after another
 abbrev pub versions : List Step → Version → List Version
 versions [] v = []
 versions (s ∷ steps) v = after_step s v ∷ versions steps (after_step s v)
 
--- those of a history and the present one
+-- the versions of a history, and the present one
 abbrev pub timeline : Course → Version → Timeline
 timeline h v = record { past = versions h.done v; present = v; future = versions h.undone v }
 
--- behind an edit that gives a version
+-- the timeline after an edit that gives a version
 abbrev pub edited : Version → Timeline → Timeline
 edited v t = record { past = t.present ∷ t.past; present = v; future = [] }
 
--- these versions before, and these undone
+-- the timeline after an undo, if these are the versions before
 abbrev pub undone_to : List Version → Timeline → Option Timeline
 undone_to [] t = None
 undone_to (v ∷ past) t = Some (record { past = past; present = v; future = t.present ∷ t.future })
@@ -34,7 +34,7 @@ abbrev pub redone_to : List Version → Timeline → Option Timeline
 redone_to [] t = None
 redone_to (v ∷ future) t = Some (record { past = t.present ∷ t.past; present = v; future = future })
 
--- behind an undo, and behind a redo, where there is something to undo or to redo
+-- the timelines after an undo and after a redo, if there is something to undo or redo
 abbrev pub undone : Timeline → Option Timeline
 undone t = undone_to t.past t
 

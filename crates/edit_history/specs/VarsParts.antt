@@ -1,4 +1,4 @@
--- Parts of variables.
+-- Parts of lists of variables.
 use Rattle.std.specs.Prelude.{◌≡◌, ◌<◌, ◌-◌, ◌∷◌, [], ℕ, length, take, drop, slice_get}
 use Rattle.units_io.specs.Named.{Pairs, with_value}
 
@@ -6,12 +6,12 @@ use Rattle.units_io.specs.Named.{Pairs, with_value}
 abbrev pub pairs_between : (first end : ℕ) → Pairs → Pairs
 pairs_between first end pairs = take (end - first) (drop first pairs)
 
--- pairs with the values of others, one after another
+-- pairs with the values of others set, one after another
 abbrev pub with_pairs : Pairs → Pairs → Pairs
 with_pairs pairs [] = pairs
 with_pairs pairs (p ∷ others) = with_pairs (with_value pairs p.0 p.1) others
 
--- the pair at a place is the one at a place of others
+-- the pair at one place equals the pair at a place of others
 pub record IsSamePair (pairs : Pairs) (i : ℕ) (others : Pairs) (j : ℕ) : Type 0 where
   pub here : i < length pairs
   pub there : j < length others

@@ -4,8 +4,8 @@ use Rattle.deck_lines.specs.declared.line.DeckLine.{DeckLine}
 use Rattle.deck.specs.Decks.{Contents}
 use Rattle.deck.specs.declared.settings.Settings.{Settings}
 
--- what a history gives back of a deck: its lines with their marks, and its settings. Notices are those of the last
--- load or append, which no step changes
+-- what a history restores of a deck: its lines with their marks, and its settings. Notices are those of the last load
+-- or append, and no step changes them
 pub record Version : Type 0 where
   pub lines : List DeckLine
   pub settings : Settings

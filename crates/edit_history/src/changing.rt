@@ -1,4 +1,4 @@
-//! Changes of settings: found, and made.
+//! Finding and applying changes of settings.
 
 ghost use Rattle.std.specs.Prelude.{◌≡◌, IfOk};
 ghost use Rattle.units_io.specs.Named.{HasDistinctNames};
@@ -10,8 +10,8 @@ use deck::Settings;
 use std::alloc::{AllocError, Global};
 use units_io::{Text, Vars};
 
-/// The change that makes some settings of others. It holds the variables from the first that differs up to the last,
-/// and the locale where that differs. The only error is want of memory.
+/// Returns the change that turns the settings `from` into `to`. It holds the variables from the first to the last that
+/// differ, and the locale if that differs. The only error is running out of memory.
 pub fn change_between(
     alloc: Global,
     from: &Settings,
@@ -23,7 +23,7 @@ pub fn change_between(
     let locale = other_locale(alloc, &from.locale, &to.locale)?;
     let first = same_front(&from.vars, &to.vars);
     let ends = differing_ends(&from.vars, &to.vars, first);
-    let mut put = Vars::new(alloc);
+    let mut put = Vars::with_seed(alloc, to.vars.seed());
     copy_pairs(alloc, &mut put, &to.vars, first, ends.in_others)?;
     Ok(SettingsChange {
         locale,
@@ -33,7 +33,7 @@ pub fn change_between(
     })
 }
 
-/// The settings that a change makes of others. The only error is want of memory.
+/// Returns the settings that result from applying a change. The only error is running out of memory.
 pub fn changed_settings(
     alloc: Global,
     settings: &Settings,
@@ -43,7 +43,7 @@ pub fn changed_settings(
     ensures { IfOk result (λ made. made ≡ after_change change.now settings.now) }
 {
     let locale = locale_behind(alloc, &change.locale, &settings.locale)?;
-    let mut vars = Vars::new(alloc);
+    let mut vars = Vars::with_seed(alloc, settings.vars.seed());
     copy_pairs(alloc, &mut vars, &settings.vars, 0, change.first)?;
     copy_pairs(alloc, &mut vars, &change.put, 0, change.put.len())?;
     copy_pairs(
@@ -56,7 +56,7 @@ pub fn changed_settings(
     Ok(Settings { locale, vars })
 }
 
-// The locale, where it is another than one before.
+// Returns the locale `to`, or `None` if it is equal to `from`.
 fn other_locale(alloc: Global, from: &Text, to: &Text) -> Result<Option<Text>, AllocError>
     ensures { IfOk result (λ locale. changed_locale locale from.now ≡ to.now) }
 {
@@ -66,7 +66,7 @@ fn other_locale(alloc: Global, from: &Text, to: &Text) -> Result<Option<Text>, A
     Ok(Some(to.copy(alloc)?))
 }
 
-// The other locale where there is one, or else the locale that was.
+// Returns the other locale if there is one, or else the old locale.
 fn locale_behind(alloc: Global, other: &Option<Text>, locale: &Text) -> Result<Text, AllocError>
     ensures { IfOk result (λ copy. copy ≡ changed_locale other.now locale.now) }
 {

@@ -1,18 +1,18 @@
-//! Why nothing is undone or redone.
+//! The reasons why nothing is undone or redone.
 
 use std::alloc::{AllocError, AllocFailed};
 use thiserror::Error;
 
-/// Why nothing is undone or redone. After each, table and history are as before.
+/// Why nothing was undone or redone. After each error the table and the history are as before.
 #[derive(Clone, Copy, Debug, PartialEq, Eq, Error)]
 pub enum HistoryFault {
-    /// No edit is left that was not undone.
+    /// There is no edit left to undo.
     #[error("nothing to undo")]
     NothingToUndo,
-    /// No edit was undone since the last one.
+    /// No edit was undone since the last edit.
     #[error("nothing to redo")]
     NothingToRedo,
-    /// There is no memory.
+    /// Memory ran out.
     #[error("out of memory")]
     OutOfMemory,
 }

@@ -6,6 +6,7 @@ ghost use Rattle.edit_history.specs.Histories.{Follows};
 ghost use Rattle.edit_history.specs.declared.fault.HistoryFault.TheVariants.{NothingToRedo, NothingToUndo};
 
 mod editing;
+mod setting;
 
 use crate::fault::HistoryFault;
 use crate::making::make_last;
@@ -14,14 +15,14 @@ use live_table::LiveTable;
 use std::alloc::Global;
 use std::marker::Model;
 
-/// The edits of a live table that were done and not undone, and those that were undone since the last edit,
-/// each as the step that takes it back or makes it again. It holds what an edit took out, and never a whole deck.
+/// The history of a live table: the edits that are done, and those undone since the last edit. An edit is stored as the
+/// step that takes it back or makes it again. A history holds what an edit removed, and never a whole deck.
 pub struct History {
     done: Vec<Step>,
     undone: Vec<Step>,
 }
 
-// By hand, so that who drops a history proves nothing of what it holds.
+// Written by hand, so that code that drops a history need not prove anything about its contents.
 impl Drop for History {
     fn drop(self) {
         let History { done: _, undone: _ } = self;
@@ -38,7 +39,7 @@ impl Model for History {
 }
 
 impl History {
-    /// No edit. It takes no memory.
+    /// Returns a history without edits. Allocates no memory.
     pub fn new(alloc: Global) -> History
         ensures { result ≡ record { done = []; undone = [] } }
     {
@@ -48,9 +49,10 @@ impl History {
         }
     }
 
-    /// Takes the last edit back that was done and not undone: the lines with their marks and the settings are
-    /// those before it, the notices stay, and what that affects is forgotten. `NothingToUndo` exactly where there
-    /// is no such edit; the only other error is want of memory. After each, table and history are as before.
+    /// Takes back the last edit that is done. The lines with their marks and the settings are again those before the
+    /// edit, the notices stay, and all results that this affects are forgotten. Returns `NothingToUndo` exactly if
+    /// there is no such edit; the only other error is running out of memory. After an error the table and the history
+    /// are as before.
     pub fn undo(&mut self, alloc: Global, table: &mut LiveTable) -> Result<(), HistoryFault>
         requires { Follows self.old table.old.deck }
         ensures follows { Follows self.new table.new.deck }
@@ -63,8 +65,8 @@ impl History {
         Ok(())
     }
 
-    /// Makes the edit again that was undone last, if no edit was made since, as `undo` takes one back.
-    /// `NothingToRedo` exactly where there is none; the only other error is want of memory.
+    /// Makes the edit again that was undone last, if no edit was made since. It changes the table in the same way as
+    /// `undo`. Returns `NothingToRedo` exactly if there is no such edit; the only other error is running out of memory.
     pub fn redo(&mut self, alloc: Global, table: &mut LiveTable) -> Result<(), HistoryFault>
         requires { Follows self.old table.old.deck }
         ensures follows { Follows self.new table.new.deck }

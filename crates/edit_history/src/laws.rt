@@ -1,18 +1,18 @@
-//! Laws of histories. A function does nothing: its contract is the law.
+//! Laws of histories. The functions do nothing: the contract of each is the law.
 
 ghost use Rattle.edit_history.specs.Laws.{BackLaw, ReplyLaw, TimelineLaw};
 
-/// The calls of a history, by whole versions of the deck.
+/// The calls of a history, described by whole versions of the deck.
 pub fn histories_are_timelines()
     ensures { TimelineLaw }
 {}
 
-/// An undo behind an edit gives back what was, and a redo behind an undo what that took.
+/// An undo after an edit restores the version before it, and a redo after an undo restores what the undo took back.
 pub fn undo_gives_back()
     ensures { BackLaw }
 {}
 
-/// What is asked of the table has one reply in all decks of a version.
+/// The replies of the table are the same in all decks of one version.
 pub fn replies_are_of_versions()
     ensures { ReplyLaw }
 {}

@@ -1,4 +1,4 @@
-//! Steps made of a live table.
+//! Applying steps to a live table.
 
 ghost use Rattle.std.specs.Prelude.{◌≡◌, ◌<◌, OnErr, OnOk, reverse, vec_len};
 ghost use Rattle.live_table.specs.Calls.{IsEdit};
@@ -9,17 +9,23 @@ ghost use Rattle.edit_history.specs.Steps.{CanStep};
 ghost use Rattle.edit_history.specs.Versions.{version_of};
 ghost use Rattle.edit_history.specs.declared.step.Step.TheVariants as step;
 
+mod one_setting;
+
+use self::one_setting::{change_nothing, set, set_locale, unset_last};
+use crate::boxed_change::BoxedChange;
+use crate::boxed_exchange::BoxedExchange;
 use crate::changing::{change_between, changed_settings};
+use crate::line_exchange::LineExchange;
 use crate::settings_change::SettingsChange;
-use crate::stack::{put, take};
+use crate::stack::{make_room, put, take};
 use crate::step::Step;
 use deck::{DeckFault, Settings, Splice, splices_are_undone};
-use deck_lines::DeckLines;
 use live_table::LiveTable;
 use std::alloc::{AllocError, Global};
 use units_io::Text;
 
-/// Makes the last of some steps, and puts the step back on others. A refusal, for want of memory, changes nothing.
+/// Makes the last of `steps`, and pushes the step that takes it back onto `others`. The only error is running out of
+/// memory, which changes nothing.
 pub fn make_last(
     alloc: Global,
     steps: &mut Vec<Step>,
@@ -38,7 +44,7 @@ pub fn make_last(
     ensures same { OnErr result (others.new.items ≡ others.old.items) }
     ensures table { OnErr result (table.new ≡ table.old) }
 {
-    others.reserve(1)?;
+    make_room(others)?;
     match make(alloc, table, take(steps)) {
         Ok(back) => {
             put(others, back);
@@ -51,7 +57,8 @@ pub fn make_last(
     }
 }
 
-// Makes a step, and answers the one back. A refusal, for want of memory, hands it back and changes nothing.
+// Makes a step and returns the step that takes it back. If memory runs out, the error holds the step, and nothing is
+// changed.
 fn make(alloc: Global, table: &mut LiveTable, step: Step) -> Result<Step, Step>
     requires { CanStep step (version_of table.old.deck) }
     ensures { IsStepped step table.old table.new result }
@@ -59,12 +66,16 @@ fn make(alloc: Global, table: &mut LiveTable, step: Step) -> Result<Step, Step>
     match step {
         Step::Define(text) => define(alloc, table, text),
         Step::Undefine(uncovered) => undefine(alloc, table, uncovered),
-        Step::Exchange { at, cut, put } => exchange(alloc, table, at, cut, put),
+        Step::Exchange(change) => exchange(alloc, table, change),
         Step::Switch(change) => switch(alloc, table, change),
+        Step::Set(pair) => set(alloc, table, pair),
+        Step::UnsetLast => unset_last(alloc, table),
+        Step::Locale(locale) => set_locale(alloc, table, locale),
+        Step::Nothing => change_nothing(alloc, table),
     }
 }
 
-// Puts a line that defines a key at the end.
+// Appends a line that defines a key.
 fn define(alloc: Global, table: &mut LiveTable, text: Text) -> Result<Step, Step>
     requires { CanStep (step.Define text) (version_of table.old.deck) }
     ensures { IsStepped (step.Define text) table.old table.new result }
@@ -77,7 +88,7 @@ fn define(alloc: Global, table: &mut LiveTable, text: Text) -> Result<Step, Step
     }
 }
 
-// Takes the last line out, which defines a key.
+// Removes the last line, which defines a key.
 fn undefine(alloc: Global, table: &mut LiveTable, uncovered: Option<usize>) -> Result<Step, Step>
     requires { CanStep (step.Undefine uncovered) (version_of table.old.deck) }
     ensures { IsStepped (step.Undefine uncovered) table.old table.new result }
@@ -89,22 +100,17 @@ fn undefine(alloc: Global, table: &mut LiveTable, uncovered: Option<usize>) -> R
     }
 }
 
-// Puts other lines in the place of some.
-fn exchange(
-    alloc: Global,
-    table: &mut LiveTable,
-    at: usize,
-    cut: usize,
-    put: DeckLines,
-) -> Result<Step, Step>
-    requires { CanStep (step.Exchange at cut put) (version_of table.old.deck) }
-    ensures { IsStepped (step.Exchange at cut put) table.old table.new result }
+// Replaces lines by others. The box is used again for the step back.
+fn exchange(alloc: Global, table: &mut LiveTable, mut boxed: BoxedExchange) -> Result<Step, Step>
+    requires { CanStep (step.Exchange boxed) (version_of table.old.deck) }
+    ensures { IsStepped (step.Exchange boxed) table.old table.new result }
 {
     splices_are_undone();
     table.deck().lines_closed();
     let Ok(settings) = table.deck().settings().copy(alloc) else {
-        return Err(Step::Exchange { at, cut, put });
+        return Err(Step::Exchange(boxed));
     };
+    let LineExchange { at, cut, put } = boxed.replace(LineExchange::none(alloc));
     let change = Splice {
         at,
         cut,
@@ -112,14 +118,20 @@ fn exchange(
         settings,
     };
     match table.splice(alloc, change) {
-        Ok(undo) => Ok(exchange_in(undo)),
-        Err((change, _)) => Err(exchange_in(change)),
+        Ok(undo) => {
+            boxed.replace(exchange_in(undo));
+            Ok(Step::Exchange(boxed))
+        }
+        Err((change, _)) => {
+            boxed.replace(exchange_in(change));
+            Err(Step::Exchange(boxed))
+        }
     }
 }
 
-// The exchange of lines of a splice.
-fn exchange_in(splice: Splice) -> Step
-    ensures { result ≡ step.Exchange splice.at splice.cut splice.put }
+// Returns the exchange of lines in a splice.
+fn exchange_in(splice: Splice) -> LineExchange
+    ensures { result ≡ record { at = splice.at; cut = splice.cut; put = splice.put } }
 {
     let Splice {
         at,
@@ -127,26 +139,29 @@ fn exchange_in(splice: Splice) -> Step
         put,
         settings: _,
     } = splice;
-    Step::Exchange { at, cut, put }
+    LineExchange { at, cut, put }
 }
 
 // Puts other settings in force.
-fn switch(alloc: Global, table: &mut LiveTable, change: SettingsChange) -> Result<Step, Step>
+fn switch(alloc: Global, table: &mut LiveTable, mut change: BoxedChange) -> Result<Step, Step>
     requires { CanStep (step.Switch change) (version_of table.old.deck) }
     ensures { IsStepped (step.Switch change) table.old table.new result }
 {
     table.deck().lines_closed();
-    let Ok(settings) = changed_settings(alloc, table.deck().settings(), &change) else {
+    let Ok(settings) = changed_settings(alloc, table.deck().settings(), change.get()) else {
         return Err(Step::Switch(change));
     };
     match switch_settings(alloc, table, settings) {
-        Ok(back) => Ok(Step::Switch(back)),
+        Ok(back) => {
+            change.replace(back);
+            Ok(Step::Switch(change))
+        }
         Err(_) => Err(Step::Switch(change)),
     }
 }
 
-/// Puts other settings in force, and answers the change that gives back those before. A refusal, for want of memory,
-/// changes nothing.
+/// Puts other settings in force and returns the change that restores the previous ones. The only error is running out
+/// of memory, which changes nothing.
 pub fn switch_settings(
     alloc: Global,
     table: &mut LiveTable,

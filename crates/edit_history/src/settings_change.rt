@@ -1,13 +1,26 @@
 //! Changes of settings.
 
+use std::alloc::Global;
 use units_io::{Text, Vars};
 
-/// Puts another locale in force, if it has one, and other variables in the place of those from `first` up to `end`.
-/// It holds what it puts, and nothing of what stays.
+/// A change of settings: it puts another locale in force, if it has one, and replaces the variables from place `first`
+/// up to `end`, exclusive, by `put`. It holds only what it puts, and nothing that stays.
 #[derive(Drop)]
 pub struct SettingsChange {
     pub locale: Option<Text>,
     pub first: usize,
     pub end: usize,
     pub put: Vars,
+}
+
+impl SettingsChange {
+    /// Returns the change that leaves all settings as they are. Allocates no memory.
+    pub fn none(alloc: Global) -> SettingsChange {
+        SettingsChange {
+            locale: None,
+            first: 0,
+            end: 0,
+            put: Vars::new(alloc),
+        }
+    }
 }

@@ -1,23 +1,31 @@
 //! Steps from one version of a deck to another.
 
-use crate::settings_change::SettingsChange;
-use deck_lines::DeckLines;
+use crate::boxed_change::BoxedChange;
+use crate::boxed_exchange::BoxedExchange;
+use crate::named_value::NamedValue;
 use units_io::Text;
 
-/// A step from one version of a deck to another.
+/// A step from one version of a deck to another. It takes at most five words, besides its texts and lines.
 #[derive(Drop)]
 pub enum Step {
-    /// Puts a line that defines a key at the end.
+    /// Appends a line that defines a key.
     Define(Text),
-    /// Takes the last line out, which defines a key. The last line of that key in force before it has
-    /// this place, if there is one.
+    /// Removes the last line, which defines a key. The payload is the place of the line of that key that was in force
+    /// before, if there was one.
     Undefine(Option<usize>),
-    /// Puts other lines in the place of some, so many from a place on.
-    Exchange {
-        at: usize,
-        cut: usize,
-        put: DeckLines,
-    },
+    /// Replaces lines by others.
+    Exchange(BoxedExchange),
     /// Puts other settings in force.
-    Switch(SettingsChange),
+    Switch(BoxedChange),
+    /// Gives a variable a value.
+    Set(NamedValue),
+    /// Removes the last variable, if there is one.
+    UnsetLast,
+    /// Puts another locale in force.
+    Locale(Text),
+    /// Changes nothing.
+    Nothing,
 }
+
+// A history may have a great many steps.
+const _: () = prove!(size_of::<Step>() <= 40);

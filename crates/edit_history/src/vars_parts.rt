@@ -1,4 +1,4 @@
-//! Parts of variables: those that are the same, and copies.
+//! Parts of lists of variables: comparing and copying them.
 
 ghost use Rattle.std.specs.Prelude.{◌≡◌, ◌≤◌, length, take, drop, OnOk};
 ghost use Rattle.std.specs.Bool.{OnTrue};
@@ -8,14 +8,14 @@ ghost use Rattle.edit_history.specs.VarsParts.{IsSamePair, pairs_between, with_p
 use std::alloc::{AllocError, Global};
 use units_io::{Text, Vars};
 
-/// Where two lists of variables end without the pairs at their ends that are the same.
+/// The ends of two lists of variables, without the equal pairs at their ends.
 #[derive(Drop)]
 pub struct Ends {
     pub in_vars: usize,
     pub in_others: usize,
 }
 
-/// How many pairs at the front are the same in both.
+/// Returns the number of pairs at the front that are equal in both lists.
 pub fn same_front(vars: &Vars, others: &Vars) -> usize
     ensures same { take result vars.now ≡ take result others.now }
     ensures inside { result ≤ length others.now }
@@ -28,7 +28,7 @@ pub fn same_front(vars: &Vars, others: &Vars) -> usize
     vars.len()
 }
 
-/// Where both end without the pairs at their ends that are the same and stand behind so many.
+/// Returns the ends of both lists without the equal pairs at their ends. The first `front` pairs are not compared.
 pub fn differing_ends(vars: &Vars, others: &Vars, front: usize) -> Ends
     requires { front ≤ length others.now }
     ensures same { drop result.in_vars vars.now ≡ drop result.in_others others.now }
@@ -47,8 +47,8 @@ pub fn differing_ends(vars: &Vars, others: &Vars, front: usize) -> Ends
     Ends { in_vars, in_others }
 }
 
-/// Sets copies of the pairs from a place up to another, one after another: behind the pairs of a list that has none of
-/// these names. The only error is want of memory.
+/// Sets copies of the pairs from place `first` up to `end`, exclusive, one after another; in a list that has none of
+/// these names this appends them. The only error is running out of memory.
 pub fn copy_pairs(
     alloc: Global,
     copies: &mut Vars,
@@ -69,7 +69,7 @@ pub fn copy_pairs(
     Ok(())
 }
 
-// Whether the pair at a place is the one at a place of others.
+// Returns whether the pair at place `i` of `vars` equals the pair at place `j` of `others`.
 fn is_same_pair(vars: &Vars, i: usize, others: &Vars, j: usize) -> bool
     ensures { OnTrue result (IsSamePair vars.now i others.now j) }
 {

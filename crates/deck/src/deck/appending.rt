@@ -1,4 +1,4 @@
-//! The deck of a file behind the lines of a deck.
+//! Appending the deck of a file to a deck.
 
 ghost use Rattle.std.specs.Prelude.{◌≡◌, ◌⊎◌, ◌≤◌, [], Some, Ok, Err, true, false, IfOk, IfErr, MatchResult, OnOk};
 ghost use Rattle.std.specs.Prelude.{OnErr};
@@ -25,9 +25,9 @@ use std::mem;
 use units_io::Files;
 
 impl Deck {
-    /// Puts the deck of the file of this name at the end, with the files that it includes, and answers
-    /// the keys whose entry differs afterwards. The refusals are those of `load`, `DeckFull` for the
-    /// whole. After each the deck is as before.
+    /// Appends the deck of the file with this name, and of the files that it includes, and returns the keys whose
+    /// entries change. The errors are those of `load`, with `DeckFull` if the deck as a whole would pass a limit. On an
+    /// error the deck is unchanged.
     pub fn append<F: Files>(
         &mut self,
         alloc: Global,
@@ -60,21 +60,21 @@ impl Deck {
     }
 }
 
-// Last places, and the keys whose entries differ from those at the last places before.
+// The new last places, and the keys whose entries differ from those at the previous last places.
 #[derive(Drop)]
 struct PlaceChanges {
     last: LastPlaces,
     keys: Keys,
 }
 
-// What the deck of a file changes behind whose lines it stands, and the notices of that file.
+// The changes that appending the deck of a file makes, and the notices of that file.
 #[derive(Drop)]
 struct FileEnd {
     changes: PlaceChanges,
     notices: Notices,
 }
 
-// Puts the deck of a file behind the lines of a deck. After a refusal these are as before.
+// Appends the deck of a file to the lines of a deck. On an error the lines are unchanged.
 fn append_file<F: Files>(
     alloc: Global,
     files: &mut F,
@@ -115,18 +115,19 @@ fn append_file<F: Files>(
     }
 }
 
-// A draft of the lines of a store, which are taken out of it.
+// Moves the lines of a store to a new draft.
 fn draft_of(alloc: Global, store: &mut LineStore) -> Draft
     ensures store { result.store ≡ store.old }
     ensures notices { result.notices ≡ [] }
 {
+    let seed = store.seed();
     Draft {
-        store: mem::replace(store, LineStore::new(alloc)),
+        store: mem::replace(store, LineStore::new(alloc, seed)),
         notices: Notices::new(alloc),
     }
 }
 
-// Puts the deck of a file behind the lines in a draft, and finds what that changes.
+// Appends the deck of a file to the lines of a draft, and returns the changes.
 fn load_changes<F: Files>(
     alloc: Global,
     files: &mut F,

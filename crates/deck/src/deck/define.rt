@@ -1,4 +1,4 @@
-//! A line put at the end.
+//! Appending a definition to a deck.
 
 ghost use Rattle.std.specs.Prelude.{◌≡◌, ◌<◌, ◌++◌, ◌∷◌, ◌⊎◌, [], Some, Err, not, false, length, IfOk, IfErr, IfSome, OnErr};
 ghost use Rattle.std.specs.Prelude.{OnOk, option_map};
@@ -38,10 +38,11 @@ struct PlacedEntry<'a> {
 }
 
 impl Deck {
-    /// Puts a line that defines a key at the end, trimmed, with the number 0, and answers the key if
-    /// its entry differs afterwards. `BadLine` where the line is no definition and no unit list, or
-    /// gives no entry; then `DeckFull` where one more line passes a limit. The only other error is
-    /// want of memory. It takes the time of its own line, whatever the size of the deck.
+    /// Appends a line that defines a key, trimmed and with the number 0, and returns the key if its entry changes.
+    ///
+    /// The error is `BadLine` if the line is neither a definition nor a unit list or has no entry, and otherwise
+    /// `DeckFull` if one more line would pass a limit. The only other error is running out of memory. The cost depends
+    /// only on the length of the line, not on the size of the deck.
     pub fn define(&mut self, alloc: Global, line: &[u8]) -> Result<Keys, DeckFault>
         ensures { edit.IsEdit (edit.after_define (trimmed line.now) self.old) self.old self.new result }
     {
@@ -51,7 +52,8 @@ impl Deck {
         }
     }
 
-    /// The same, which also answers the place of the last active line of the key before, if there was one.
+    /// Does the same as `define`, and also returns the place of the previous last active line of the key, if there was
+    /// one.
     pub fn define_over(
         &mut self,
         alloc: Global,
@@ -70,7 +72,7 @@ impl Deck {
         Ok(over)
     }
 
-    // Whether one more line of this text is within the limits.
+    // Reports whether one more line with this text is within the limits.
     fn has_room(&self, text: &[u8]) -> bool
         ensures room { pass_limit (edit.with_line text.now self.now).lines ≡ not result }
         ensures closed { IsClosed self.now.lines }
@@ -78,8 +80,8 @@ impl Deck {
         self.store.has_room(text.len())
     }
 
-    // The keys that a line changes at the end of the deck: its own, unless its entry is the same. Beside them the
-    // place of the last active line of its key before, if there was one, by the same look-up.
+    // Returns the keys that change if a line is appended to the deck: its own key, unless the entry stays the same.
+    // Also returns the place of the previous last active line of the key, if there was one, from the same lookup.
     fn changed_over(
         &self,
         alloc: Global,
@@ -103,7 +105,7 @@ impl Deck {
         Ok((keys, Some(old.place)))
     }
 
-    // `entry` and `place_of` by one look-up.
+    // Returns the results of `entry` and `place_of` from one lookup.
     fn placed_entry(&self, kind: Kind, name: &[u8]) -> Option<PlacedEntry<'_>>
         ensures entry { option_map (λ p. entry_view p.entry) result
             ≡ entry_at (table self.now) (keys.key kind name.now) }
@@ -119,7 +121,7 @@ impl Deck {
         }
     }
 
-    // Puts a line that defines a key at the end.
+    // Appends a line that defines a key. On an error nothing changes.
     fn push_definition(
         &mut self,
         alloc: Global,
@@ -138,7 +140,7 @@ impl Deck {
     }
 }
 
-// A key alone.
+// Returns a list of one key.
 fn key_alone(alloc: Global, key: &Key) -> Result<Keys, AllocError>
     ensures { IfOk result (λ keys. keys ≡ key.now ∷ []) }
 {
@@ -149,7 +151,7 @@ fn key_alone(alloc: Global, key: &Key) -> Result<Keys, AllocError>
     Ok(keys)
 }
 
-// Puts a line that defines a key at the end of the lines, and its place among the last places.
+// Appends a line that defines a key to the lines, and records its place in the last places.
 fn put_definition(
     alloc: Global,
     store: &mut LineStore,
@@ -169,7 +171,7 @@ fn put_definition(
     put_in_room(alloc, store, last, line, definition)
 }
 
-// The same where there is room for the place of one more key.
+// Does the work of `put_definition` if the last places have room for one more key.
 fn put_in_room(
     alloc: Global,
     store: &mut LineStore,
@@ -195,7 +197,7 @@ fn put_in_room(
     Ok(())
 }
 
-// The key of a line and what it says of that, or why an edit by it is refused.
+// Returns the definition of a line, or the reason why an edit with this line is refused.
 fn read_definition(alloc: Global, line: &[u8]) -> Result<(Key, What), DeckFault>
     ensures entry { IfOk result (λ found. entry_in (plain_line 0 line.now) ≡ Some (seen_entry line.now found)) }
     ensures ok { OnOk result ((d : Contents) → edit.after_define line.now d ≡ edit.within (edit.with_line line.now d)) }

@@ -12,15 +12,15 @@ use std::alloc::{AllocError, Global};
 use units_io::Texts;
 
 impl Deck {
-    /// Of each line, whether it is active. The only error is want of memory.
+    /// Returns for each line whether it is active. The only error is running out of memory.
     pub fn active_lines(&self, alloc: Global) -> Result<Vec<bool>, AllocError>
         ensures { IfOk result (λ flags. flags.items ≡ active_lines self.now.settings self.now.lines) }
     {
         active_flags(alloc, &self.store, &self.settings)
     }
 
-    /// The texts of the active lines that define a key, in order. No line is read again. The only error
-    /// is want of memory.
+    /// Returns the texts of the active lines that define a key, in order. No line is parsed again. The only error is
+    /// running out of memory.
     pub fn defining(&self, alloc: Global) -> Result<Texts, AllocError>
         ensures { IfOk result (λ texts. texts ≡ spec.defining self.now) }
     {
@@ -29,7 +29,7 @@ impl Deck {
     }
 }
 
-// The texts of the lines that define a key, of those whose flag is true.
+// Returns the texts of the lines that define a key and whose flag is true.
 fn defining_texts(alloc: Global, store: &LineStore, flags: &[bool]) -> Result<Texts, AllocError>
     requires { length flags.now ≡ length store.now.lines }
     ensures { IfOk result (λ texts. texts
@@ -42,7 +42,7 @@ fn defining_texts(alloc: Global, store: &LineStore, flags: &[bool]) -> Result<Te
     Ok(texts)
 }
 
-// The text of a line behind some texts, where the line is active and defines a key.
+// Appends the text of a line to some texts, if the line is active and defines a key.
 fn push_if_defining(
     alloc: Global,
     texts: &mut Texts,

@@ -1,4 +1,4 @@
-//! The last line of a key taken out.
+//! Removing the last line of a key.
 
 ghost use Rattle.deck.specs.Edits as edit;
 
@@ -9,11 +9,22 @@ use def_entry::{Key, Keys, same_text_law};
 use std::alloc::Global;
 
 impl Deck {
-    /// Takes out the last active line of a key, which uncovers the one before it, and answers the key
-    /// if its entry differs afterwards. `NoSuchKey` where no active line defines it; the only other
-    /// error is want of memory. It goes over the numbers of the lines, and over their texts only if an
-    /// earlier line defines the key.
+    /// Removes the last active line of a key, which uncovers the previous one, and returns the key if its entry
+    /// changes.
+    ///
+    /// The error is `NoSuchKey` if no active line defines the key. The only other error is running out of memory. The
+    /// call goes over the numbers of the lines, and over their texts only if an earlier line defines the key, or once
+    /// in many drops.
     pub fn drop_last(&mut self, alloc: Global, key: &Key) -> Result<Keys, DeckFault>
+        ensures { edit.IsEdit (edit.after_drop key.now self.old) self.old self.new result }
+    {
+        let result = self.take_out_last(alloc, key);
+        self.renumber_if_sparse(alloc);
+        result
+    }
+
+    // Does the work of `drop_last`. The key keeps its number.
+    fn take_out_last(&mut self, alloc: Global, key: &Key) -> Result<Keys, DeckFault>
         ensures { edit.IsEdit (edit.after_drop key.now self.old) self.old self.new result }
     {
         same_text_law();

@@ -12,18 +12,18 @@ use def_entry::{Key, Keys, Kind};
 use std::alloc::{AllocError, Global};
 use units_io::Text;
 
-/// A key whose name is lent.
+/// A key with a borrowed name.
 #[derive(Clone, Copy, Debug, PartialEq, Eq)]
 pub struct BorrowedKey<'a> {
-    /// What it names.
+    /// The kind of the key.
     pub kind: Kind,
-    /// Its name, that of a prefix without its `-`.
+    /// Its name. The name of a prefix does not include its `-`.
     pub name: &'a [u8],
 }
 
 impl Deck {
-    /// All keys that have an entry, each once, in the byte order of their names, and then units,
-    /// prefixes, functions and lists. The only error is want of memory.
+    /// Returns all keys that have an entry, each once, ordered by the bytes of their names, and for equal names with
+    /// units before prefixes, functions and lists. The only error is running out of memory.
     pub fn keys(&self, alloc: Global) -> Result<Keys, AllocError>
         ensures { IfOk result (λ keys. IsWhole (table self.now) keys) }
     {
@@ -31,8 +31,8 @@ impl Deck {
         copied_keys(alloc, placed.as_slice())
     }
 
-    /// The places in `lines`, from 0, of the last active lines of all keys that have an entry, in the
-    /// order of `keys`; `key_at` lends the key of each. The only error is want of memory.
+    /// Returns the places in `lines`, counted from 0, of the last active lines of all keys that have an entry, in the
+    /// order of `keys`; `key_at` borrows the key of each. The only error is running out of memory.
     pub fn key_places(&self, alloc: Global) -> Result<Vec<usize>, AllocError>
         ensures { IfOk result (λ places. IsWhole (table self.now) (keys_there self.now.lines places.items)) }
     {
@@ -41,7 +41,8 @@ impl Deck {
         Ok(places)
     }
 
-    /// The same of those keys alone whose names hold a text: no others are sorted. The only error is want of memory.
+    /// Returns the places of `key_places` for the keys whose names contain a text. Only these keys are sorted. The only
+    /// error is running out of memory.
     pub fn key_places_holding(&self, alloc: Global, text: &[u8]) -> Result<Vec<usize>, AllocError>
         ensures { IfOk result (λ places. keys_there self.now.lines places.items
             ≡ keys_holding text.now (table self.now)) }
@@ -51,8 +52,8 @@ impl Deck {
         Ok(places)
     }
 
-    /// The key that the line at a place in `lines`, from 0, defines, or `None` where it defines none.
-    /// It takes no memory.
+    /// Borrows the key that the line at `place` in `lines`, counted from 0, defines, or returns `None` if it defines
+    /// none. Allocates no memory.
     pub fn key_at(&self, place: usize) -> Option<BorrowedKey<'_>>
         ensures { option_map lent_key result ≡ key_there self.now.lines place }
     {
@@ -69,7 +70,7 @@ impl Deck {
     }
 }
 
-// Keys of their own.
+// Returns copies of keys.
 fn copied_keys(alloc: Global, placed: &[PlacedKey<'_>]) -> Result<Keys, AllocError>
     ensures { IfOk result (λ keys. keys ≡ map placed_key placed.now) }
 {
@@ -80,7 +81,7 @@ fn copied_keys(alloc: Global, placed: &[PlacedKey<'_>]) -> Result<Keys, AllocErr
     Ok(keys)
 }
 
-// Puts a key of its own behind others.
+// Appends a copy of a key to other keys.
 fn push_copy(alloc: Global, keys: &mut Keys, key: &PlacedKey<'_>) -> Result<(), AllocError>
     ensures { OnOk result (keys.new ≡ keys.old ++ placed_key key.now ∷ []) }
 {
@@ -89,7 +90,7 @@ fn push_copy(alloc: Global, keys: &mut Keys, key: &PlacedKey<'_>) -> Result<(), 
     keys.push(alloc, Key { kind, name })
 }
 
-// The places of keys.
+// Returns the places of keys.
 fn places_of(alloc: Global, placed: &[PlacedKey<'_>]) -> Result<Vec<usize>, AllocError>
     ensures { IfOk result (λ places. places.items ≡ map (λ k. k.place) placed.now) }
 {

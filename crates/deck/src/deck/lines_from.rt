@@ -1,4 +1,4 @@
-//! Lines copied out of a deck.
+//! Copying lines out of a deck.
 
 ghost use Rattle.std.specs.Prelude.{◌≡◌, ◌≤◌, ◌+◌, length, IfOk};
 ghost use Rattle.deck_lines.specs.Marks.{with_marks};
@@ -10,8 +10,7 @@ use def_lines::Line;
 use std::alloc::{AllocError, Global};
 
 impl Deck {
-    /// So many lines from a place on, with their marks, in memory of their own. The only error is want
-    /// of memory.
+    /// Returns copies of the `count` lines from `at` on, with their marks. The only error is running out of memory.
     pub fn lines_from(
         &self,
         alloc: Global,
@@ -27,7 +26,7 @@ impl Deck {
     }
 }
 
-// Lines with their marks, in memory of their own.
+// Returns copies of lines with their marks.
 fn copied_lines(alloc: Global, lines: &[Line], marks: &[bool]) -> Result<DeckLines, AllocError>
     requires { length marks.now ≡ length lines.now }
     ensures { IfOk result (λ copy. copy ≡ with_marks lines.now marks.now) }

@@ -1,4 +1,4 @@
-//! Decks of files and of texts.
+//! Loading decks from files and texts.
 
 ghost use Rattle.std.specs.Prelude.{◌≡◌, ◌≤◌, [], Some, true, length, IfOk, IfErr, OnOk};
 ghost use Rattle.units_io.specs.FileMap.{FileMap, longest_file};
@@ -17,9 +17,9 @@ use std::alloc::Global;
 use units_io::Files;
 
 impl Deck {
-    /// The deck of a text of at most 16,777,216 bytes, in which each include is of an absent file. The
-    /// name stands in its notices. `DeckFull` where its lines pass a limit; the only other error is want
-    /// of memory.
+    /// Returns the deck of a text of at most 16,777,216 bytes, in which each include is of an absent file. Its notices
+    /// contain `name`. The error is `DeckFull` if its lines pass a limit; the only other error is running out of
+    /// memory.
     pub fn from_text(
         alloc: Global,
         text: &[u8],
@@ -29,14 +29,16 @@ impl Deck {
         requires { length text.now ≤ longest_file }
         ensures { loading.IsMade (loading.after_text text.now name.now settings) result }
     {
-        let mut draft = Draft::new(alloc);
+        let mut draft = Draft::new(alloc, settings.vars.seed());
         load_text(alloc, &mut NoFiles::new(), &mut draft, name, text)?;
         Ok(Deck::from_parts(alloc, draft.store, settings, draft.notices)?)
     }
 
-    /// The deck of the file of this name, with the files that it includes. `Absent` and `TooLong` as the
-    /// files answer for this name. Else the first in the order of reading is the answer: `ReadFailed` where
-    /// the fetch of a file fails, which the files count, and `DeckFull` where a line has no room.
+    /// Returns the deck of the file with this name and of the files that it includes.
+    ///
+    /// The error is `Absent` or `TooLong` if `files` reports this for the file itself. Otherwise it is the first in the
+    /// order of reading: `ReadFailed` if the fetch of a file fails, which `files` counts, `DeckFull` if a line has no
+    /// room, and `OutOfMemory` if an allocation fails.
     pub fn load<F: Files>(
         alloc: Global,
         files: &mut F,
@@ -52,13 +54,13 @@ impl Deck {
         ensures stores { F.store_faults files.new ≡ F.store_faults files.old }
         ensures counted { F.faults files.new ≡ loading.faults_after_load (F.faults files.old) result }
     {
-        let mut draft = Draft::new(alloc);
+        let mut draft = Draft::new(alloc, settings.vars.seed());
         load_file(alloc, files, &mut draft, name)?;
         Ok(Deck::from_parts(alloc, draft.store, settings, draft.notices)?)
     }
 }
 
-// Puts the deck of the file of this name, with the files that it includes, behind what a draft holds.
+// Appends the deck of the file with this name, and of the files that it includes, to a draft.
 pub(crate) fn load_file<F: Files>(
     alloc: Global,
     files: &mut F,

@@ -1,4 +1,4 @@
-//! Entries near which a caller has been before.
+//! Lookup of entries with a hint for their place.
 
 ghost use Rattle.std.specs.Prelude.{◌≡◌, Some, option_map};
 ghost use Rattle.std.specs.Bool.{OnTrue};
@@ -12,9 +12,10 @@ use deck_lines::{KeyNumber, LineStore};
 use def_entry::{Entry, Kind};
 
 impl Deck {
-    /// `entry`, which finds at once a key whose last active line stands at the place `near`, as it does for who has
-    /// asked for the place before. A key whose line stands elsewhere is looked up. It takes no memory.
-    // Inlined, so that who asks for what an entry says does not pay for its text.
+    /// Returns the same as `entry`. If the last active line of the key is at the place `near`, for example because the
+    /// caller has looked up the place before, the entry is found at once; otherwise the key is looked up. Allocates no
+    /// memory.
+    // Inlined, so that a caller that does not use the text of the entry does not pay for it.
     #[inline(always)]
     pub fn entry_near(&self, near: usize, kind: Kind, name: &[u8]) -> Option<Entry<'_>>
         ensures { option_map entry_view result
@@ -26,7 +27,7 @@ impl Deck {
         self.entry(kind, name)
     }
 
-    // Whether a place is known, by what stands there, to be that of the last active line of a key.
+    // Reports whether the line at `place` defines the key and `place` is the last place of the key.
     fn is_last_place(&self, place: usize, kind: Kind, name: &[u8]) -> bool
         ensures { OnTrue result (tables.last_place self.now.settings self.now.lines (keys.key kind name.now)
             ≡ Some place) }
@@ -41,7 +42,7 @@ impl Deck {
     }
 }
 
-// Whether this is the number of a key.
+// Returns true only if `number` is the number of this key.
 fn is_number_of(store: &LineStore, number: KeyNumber, kind: Kind, name: &[u8]) -> bool
     ensures { OnTrue result (key_at store.now.names number ≡ Some (keys.key kind name.now)) }
 {

@@ -29,8 +29,8 @@ pub(super) struct PlacedKey<'a> {
 }
 
 impl Deck {
-    /// All keys that have an entry, each once, in the byte order of their names, and then units,
-    /// prefixes, functions and lists.
+    /// Returns all keys that have an entry, each once, ordered by the bytes of their names, and for equal names with
+    /// units before prefixes, functions and lists.
     pub(super) fn placed_keys(&self, alloc: Global) -> Result<Vec<PlacedKey<'_>>, AllocError>
         ensures whole { IfOk result (λ keys. IsWhole (table self.now) (map placed_key keys.items)) }
         ensures in_place { IfOk result (λ keys. All (IsInPlace self.now.lines) keys.items) }
@@ -39,7 +39,7 @@ impl Deck {
         Ok(keys)
     }
 
-    /// Those of them whose names hold a text, in the same order. No others are sorted.
+    /// Returns the keys of `placed_keys` whose names contain a text, in the same order. Only these keys are sorted.
     pub(super) fn placed_keys_holding(
         &self,
         alloc: Global,
@@ -59,7 +59,7 @@ impl Deck {
     }
 }
 
-// Puts the keys of a kind that have a last place, and whose names hold the text of a finder, behind some keys.
+// Appends the keys of a kind that have a last place and whose names contain the text of a finder to some keys.
 fn push_placed<'a>(
     keys: &mut Vec<PlacedKey<'a>>,
     store: &'a LineStore,
@@ -80,7 +80,7 @@ fn push_placed<'a>(
     Ok(())
 }
 
-// Puts the key of this number behind some keys, where it has a last place and its name holds the text.
+// Appends the key with this number to some keys, if it has a last place and its name contains the text of the finder.
 fn push_if_placed<'a>(
     keys: &mut Vec<PlacedKey<'a>>,
     store: &'a LineStore,
@@ -108,7 +108,7 @@ fn push_if_placed<'a>(
     Ok(())
 }
 
-// The same keys in order.
+// Sorts the keys.
 fn in_order(mut keys: Vec<PlacedKey<'_>>) -> Vec<PlacedKey<'_>>
     ensures same { IsPermutation keys.entry.items result.items }
     ensures sorted { KeyOrderLaw → IsSortedByKey placed_key key_cmp result.items }
@@ -117,14 +117,14 @@ fn in_order(mut keys: Vec<PlacedKey<'_>>) -> Vec<PlacedKey<'_>>
     keys
 }
 
-// The order of two keys.
+// Compares two keys.
 fn compare(a: &PlacedKey<'_>, b: &PlacedKey<'_>) -> Ordering
     ensures { result ≡ key_cmp (placed_key a.now) (placed_key b.now) }
 {
     a.name.cmp(b.name).then(rank(a.kind).cmp(&rank(b.kind)))
 }
 
-// The place of a kind in the order of kinds.
+// Returns the rank of a kind in the order of kinds.
 fn rank(kind: Kind) -> u8
     ensures { result ≡ kind_number kind }
 {

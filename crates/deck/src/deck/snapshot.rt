@@ -1,4 +1,4 @@
-//! Copies of decks.
+//! Copying decks.
 
 ghost use Rattle.std.specs.Prelude.{◌≡◌, IfOk, Some, option_map, slice_get};
 ghost use Rattle.def_entry.specs.Seen.{seen_entry};
@@ -13,8 +13,8 @@ use std::alloc::{AllocError, Global};
 use units_io::{Text, Texts};
 
 impl Deck {
-    /// An equal deck in memory of its own. No line is read again: what lines say is copied. The only error is
-    /// want of memory.
+    /// Returns a copy of the deck. No line is parsed again: the definitions are copied. The only error is running out
+    /// of memory.
     pub fn snapshot(&self, alloc: Global) -> Result<Deck, AllocError>
         ensures { IfOk result (λ copy. copy ≡ self.now) }
     {
@@ -25,12 +25,12 @@ impl Deck {
     }
 }
 
-// The same lines, with their marks and what they define.
+// Returns a copy of a store: its lines with their marks and definitions.
 fn copied_store(alloc: Global, store: &LineStore) -> Result<LineStore, AllocError>
     ensures { IfOk result (λ copy. copy.lines ≡ store.now.lines) }
 {
     let MarkedLines { lines, marks } = store.marked();
-    let mut copy = LineStore::new(alloc);
+    let mut copy = LineStore::new(alloc, store.seed());
     for place in 0..lines.len() {
         let mark = marks[place];
         let line = &lines[place];
@@ -42,7 +42,7 @@ fn copied_store(alloc: Global, store: &LineStore) -> Result<LineStore, AllocErro
     Ok(copy)
 }
 
-// What the line at a place defines.
+// Returns a copy of the definition of the line at `place`, or `None` if it defines nothing.
 fn copied_definition(
     alloc: Global,
     store: &LineStore,
@@ -66,7 +66,7 @@ fn copied_definition(
     Ok(Some((Key { kind, name }, what)))
 }
 
-// The same texts.
+// Returns copies of texts.
 fn copied_texts(alloc: Global, texts: &Texts) -> Result<Texts, AllocError>
     ensures { IfOk result (λ copy. copy ≡ texts.now) }
 {

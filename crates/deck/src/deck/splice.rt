@@ -1,4 +1,4 @@
-//! Lines replaced by others.
+//! Replacing lines by others.
 
 ghost use Rattle.std.specs.Prelude.{◌≡◌, ◌≤◌, ◌+◌, ◌↔◌, length, map, IfOk, IsTrue};
 ghost use Rattle.deck_lines.specs.Kept.{IsDefined};
@@ -18,8 +18,8 @@ use std::alloc::{AllocError, Global};
 use std::mem;
 
 impl Deck {
-    /// Whether a splice can be made: the lines that it takes out are there, and what comes of it is
-    /// closed and within the limits. The only error is want of memory. It takes one pass over the deck.
+    /// Returns whether a splice can be made: the lines that it removes exist, and the resulting lines are closed and
+    /// within the limits. The only error is running out of memory. Makes one pass over the deck.
     pub fn can_splice(&self, alloc: Global, change: &Splice) -> Result<bool, AllocError>
         ensures { IfOk result (λ can. IsTrue can ↔ splices.CanSplice change.now self.now) }
     {
@@ -27,10 +27,24 @@ impl Deck {
         can_exchange(alloc, &self.store, change.at, change.cut, put)
     }
 
-    /// Puts other lines in the place of some, and other settings in force, and answers the keys whose
-    /// entries differ afterwards, and the splice that gives back what was. The notices stay. The only
-    /// error is want of memory, which hands the splice back. It takes one pass over the deck.
+    /// Replaces lines and settings, and returns the keys whose entries change and the splice that undoes this one. The
+    /// notices stay. The only error is running out of memory; it hands the splice back, and the deck is unchanged.
+    /// Makes one pass over the deck.
     pub fn splice(
+        &mut self,
+        alloc: Global,
+        change: Splice,
+    ) -> Result<(Keys, Splice), (Splice, AllocError)>
+        requires { splices.CanSplice change self.old }
+        ensures { splices.IsSpliced change self.old self.new result }
+    {
+        let result = self.replace_lines(alloc, change);
+        self.renumber_if_sparse(alloc);
+        result
+    }
+
+    // Does the work of `splice`. All keys keep their numbers.
+    fn replace_lines(
         &mut self,
         alloc: Global,
         change: Splice,
@@ -68,8 +82,8 @@ impl Deck {
     }
 }
 
-// What is found of a splice before it is made: what its lines define, the last places afterwards, and
-// the keys whose entries differ.
+// The effects of a splice, computed before it is made: the definitions of its lines, the last places afterwards, and
+// the keys whose entries change.
 #[derive(Drop)]
 struct SpliceChanges {
     definitions: PutDefinitions,
@@ -77,7 +91,7 @@ struct SpliceChanges {
     keys: Keys,
 }
 
-// Finds it, for which keys of the lines to be put get numbers. All else stays.
+// Computes the effects of a splice. Keys of the lines to be put get numbers; nothing else changes.
 fn find_changes(
     alloc: Global,
     store: &mut LineStore,

@@ -1,4 +1,4 @@
-//! Other settings in force.
+//! Replacing the settings.
 
 ghost use Rattle.std.specs.Prelude.{Ok};
 ghost use Rattle.deck.specs.Edits as edit;
@@ -11,8 +11,8 @@ use def_entry::Keys;
 use std::alloc::Global;
 
 impl Deck {
-    /// Puts other settings in force, and answers the keys whose entries differ afterwards. The only
-    /// error is want of memory. It takes one pass over the deck.
+    /// Replaces the settings, and returns the keys whose entries change. The only error is running out of memory; then
+    /// nothing changes. Makes one pass over the deck.
     pub fn switch(&mut self, alloc: Global, settings: Settings) -> Result<Keys, DeckFault>
         ensures { edit.IsEdit (Ok (edit.after_switch settings self.old)) self.old self.new result }
     {

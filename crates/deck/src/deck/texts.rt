@@ -1,4 +1,4 @@
-//! What the active lines say.
+//! The messages of the active lines.
 
 ghost use Rattle.std.specs.Prelude.{◌≡◌, ◌++◌, ◌∷◌, [], IfOk, OnOk, if◌then◌else◌};
 ghost use Rattle.def_lines.specs.Kinds.{kind_of};
@@ -11,7 +11,7 @@ use std::alloc::{AllocError, Global};
 use units_io::{Text, Texts};
 
 impl Deck {
-    /// The texts of the active message lines, in order.
+    /// Returns the texts of the active message lines, in order. The only error is running out of memory.
     pub fn messages(&self, alloc: Global) -> Result<Texts, AllocError>
         ensures { IfOk result (λ texts. texts ≡ spec.messages self.now) }
     {
@@ -26,7 +26,7 @@ impl Deck {
     }
 }
 
-// The message of an active line, behind some texts.
+// Appends the message of a line to some texts, if the line is active and is a message line.
 fn push_message(
     alloc: Global,
     texts: &mut Texts,
@@ -41,7 +41,7 @@ fn push_message(
     }
 }
 
-// A text behind others, where it is to stand there.
+// Appends a text to others if `stands` is true.
 fn push_where(alloc: Global, texts: &mut Texts, stands: bool, text: &[u8]) -> Result<(), AllocError>
     ensures { OnOk result (texts.new ≡ texts.old ++ (if stands then text.now ∷ [] else [])) }
 {

@@ -1,4 +1,4 @@
-//! The last line taken out.
+//! Removing the last line.
 
 ghost use Rattle.std.specs.Prelude.{◌≡◌, IfOk, OnErr};
 ghost use Rattle.deck.specs.Undefining as spec;
@@ -10,11 +10,27 @@ use std::alloc::{AllocError, Global};
 use units_io::Text;
 
 impl Deck {
-    /// Takes the last line out, which defines a key, and answers that key if its entry differs afterwards, and
-    /// the text of the line. `uncovered` is the place of the last active line of the key before it, if there is
-    /// one. The only error is want of memory, which changes nothing. It takes the time of that line and of the
-    /// one that it covered, whatever the size of the deck.
+    /// Removes the last line, which defines a key, and returns that key if its entry changes, and the text of the line.
+    /// `uncovered` is the place of the last active line of the key before it, if there is one.
+    ///
+    /// The only error is running out of memory; then nothing changes. The cost depends on that line and on the line
+    /// that it covered, not on the size of the deck, except that one call in many makes one pass over the deck.
     pub fn undefine(
+        &mut self,
+        alloc: Global,
+        uncovered: Option<usize>,
+    ) -> Result<(Keys, Text), AllocError>
+        requires { spec.CanUndefine uncovered self.old }
+        ensures ok { IfOk result (λ done. spec.IsUndefined self.old self.new done) }
+        ensures err { OnErr result (self.new ≡ self.old) }
+    {
+        let result = self.take_out_line(alloc, uncovered);
+        self.renumber_if_sparse(alloc);
+        result
+    }
+
+    // Does the work of `undefine`. The key keeps its number.
+    fn take_out_line(
         &mut self,
         alloc: Global,
         uncovered: Option<usize>,

@@ -1,4 +1,4 @@
-//! What is around a line of a deck.
+//! The blocks and variables that affect a line of a deck.
 
 ghost use Rattle.std.specs.Prelude.{◌≡◌, ℕ, [], OnOk, IfNone};
 ghost use Rattle.std.specs.Option.{option_copied};
@@ -6,18 +6,19 @@ ghost use Rattle.units_io.specs.Named.{HasNoName, value_of};
 ghost use Rattle.deck_lines.specs.declared.line.DeckLine.{DeckLine};
 ghost use Rattle.deck.specs.Active as spec;
 
+use super::in_force::InForce;
 use def_lines::{LineKind, classify, listed};
 use std::alloc::{AllocError, Global};
 use std::marker::Model;
 use units_io::{Text, Vars};
 
-/// Which blocks around a place hold, how many of them do not, and the variables in force: those of
-/// the settings, and those that lines have put in force.
+/// The state before a line: whether each enclosing block holds, how many of them do not, and the variables that are
+/// set, both those of the settings and those that earlier lines have set.
 #[derive(Drop)]
 pub(crate) struct Surroundings<'a> {
     holds: Vec<bool>,
     failing: usize,
-    base: &'a Vars,
+    base: &'a InForce<'a>,
     set: Vars,
 }
 
@@ -28,32 +29,32 @@ impl<'a> Model for Surroundings<'a> {
 
     ghost Value = { Surroundings };
 
-    ghost view = { λ around. record { holds = reverse around.holds.items; vars = around.base.now ++ around.set } };
+    ghost view = { λ around. record { holds = reverse around.holds.items; vars = around.base.now.vars ++ around.set } };
 
     ghost invariant = { λ around. around.failing ≡ failing_count (reverse around.holds.items) };
 }
 
 impl<'a> Surroundings<'a> {
-    /// At the start of a deck, where these variables are in force.
-    pub(crate) fn start(alloc: Global, vars: &'a Vars) -> Surroundings<'a>
-        ensures { result ≡ record { holds = []; vars = vars.now } }
+    /// Returns the state at the start of a deck, where the variables of these settings are set.
+    pub(crate) fn start(alloc: Global, settings: &'a InForce<'a>) -> Surroundings<'a>
+        ensures { result ≡ record { holds = []; vars = settings.now.vars } }
     {
         Surroundings {
             holds: Vec::new(alloc),
             failing: 0,
-            base: vars,
-            set: Vars::new(alloc),
+            base: settings,
+            set: Vars::with_seed(alloc, settings.seed()),
         }
     }
 
-    /// Whether a line there is active, which takes the same time in any depth.
+    /// Reports whether a line with this mark is active here. The cost does not depend on the depth of the blocks.
     pub(crate) fn is_active(&self, mark: bool) -> bool
         ensures { (line : DeckLine) → line.mark ≡ mark → result ≡ spec.is_active self.now line }
     {
         !mark && self.all_hold()
     }
 
-    /// Goes behind a line.
+    /// Updates the state for a line.
     #[tactic(auto, unfolding(crate::specs::Active::behind_line))]
     pub(crate) fn pass(
         &mut self,
@@ -82,7 +83,7 @@ impl<'a> Surroundings<'a> {
         }
     }
 
-    // Whether all blocks around hold.
+    // Reports whether all enclosing blocks hold.
     #[tactic(auto, using(crate::proofs::Failing::all_hold_by))]
     fn all_hold(&self) -> bool
         ensures { result ≡ spec.all_hold self.now }
@@ -90,7 +91,7 @@ impl<'a> Surroundings<'a> {
         self.failing == 0
     }
 
-    // Into a block.
+    // Enters a block.
     fn enter(&mut self, holds: bool) -> Result<(), AllocError>
         ensures { OnOk result (self.new ≡ spec.in_block holds self.old) }
     {
@@ -101,7 +102,7 @@ impl<'a> Surroundings<'a> {
         Ok(())
     }
 
-    // Out of the innermost block, if there is one.
+    // Leaves the innermost block, if there is one.
     fn leave(&mut self)
         ensures { self.new ≡ spec.out_of_block self.old }
     {
@@ -112,7 +113,7 @@ impl<'a> Surroundings<'a> {
         }
     }
 
-    // The value of a variable that is in force.
+    // Returns the value of a variable, or `None` if it is not set.
     fn value(&self, name: &[u8]) -> Option<&Text>
         ensures value { option_copied result ≡ value_of self.now.vars name.now }
         ensures absent { IfNone result (HasNoName self.now.vars name.now) }
@@ -123,7 +124,7 @@ impl<'a> Surroundings<'a> {
         }
     }
 
-    // Whether the variable is in force and has one of these values.
+    // Reports whether the variable is set and has one of these values.
     fn is_value_listed(&self, name: &[u8], values: &[u8]) -> bool
         ensures { result ≡ spec.is_value_listed values.now (value_of self.now.vars name.now) }
     {
@@ -133,7 +134,7 @@ impl<'a> Surroundings<'a> {
         }
     }
 
-    // Puts a variable in force where all blocks hold and it is not.
+    // Sets a variable if all enclosing blocks hold and it is not set yet.
     fn set(&mut self, alloc: Global, name: &[u8], value: &[u8]) -> Result<(), AllocError>
         ensures { OnOk result (self.new ≡ spec.with_var name.now value.now self.old) }
     {

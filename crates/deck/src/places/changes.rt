@@ -17,7 +17,7 @@ use def_entry::{Entry, Key, Keys, Kind, same_text_law};
 use std::alloc::{AllocError, Global};
 use units_io::Text;
 
-/// The keys whose entries differ between two sets of last places in these lines.
+/// Returns the keys whose entries differ between two sets of last places in these lines.
 pub(crate) fn changed_keys(
     alloc: Global,
     store: &LineStore,
@@ -31,7 +31,7 @@ pub(crate) fn changed_keys(
     keys_between(alloc, &EditedLines::unchanged(store), before, after)
 }
 
-/// The keys whose entries differ between last places before an edit and last places after it.
+/// Returns the keys whose entries differ between the last places before an edit and those after it.
 pub(crate) fn keys_between(
     alloc: Global,
     edited: &EditedLines<'_>,
@@ -52,7 +52,7 @@ pub(crate) fn keys_between(
     Ok(keys)
 }
 
-/// The key of this number, where the entries differ at a place and at another one.
+/// Returns the key with this number if the entries at two places differ, and otherwise an empty list.
 pub(crate) fn changed_key(
     alloc: Global,
     store: &LineStore,
@@ -70,7 +70,7 @@ pub(crate) fn changed_key(
     Ok(keys)
 }
 
-// Those among the keys of a kind, behind some keys.
+// Appends the keys of a kind whose entries differ to some keys.
 fn push_changed(
     alloc: Global,
     keys: &mut Keys,
@@ -97,7 +97,7 @@ fn push_changed(
     Ok(())
 }
 
-// The key of this number, behind some keys, where its entries differ.
+// Appends the key with this number to some keys, if its entries differ.
 fn push_if_changed(
     alloc: Global,
     keys: &mut Keys,
@@ -112,7 +112,8 @@ fn push_if_changed(
     push_between(alloc, keys, edited, n, before.get(n), after.get(n))
 }
 
-// The same of entries at a place before the edit and at one after it.
+// Appends the key with this number to some keys, if the entries at a place before the edit and at a place after it
+// differ.
 fn push_between(
     alloc: Global,
     keys: &mut Keys,
@@ -136,8 +137,8 @@ fn push_between(
     keys.push(alloc, Key { kind, name })
 }
 
-// Whether the entries at a place before the edit and at one after it have other texts, or there is one
-// alone.
+// Reports whether the entries at a place before the edit and at a place after it have different texts, or only one of
+// them exists.
 fn is_changed(edited: &EditedLines<'_>, before: Option<usize>, after: Option<usize>) -> bool
     ensures { result ≡ not (is_same_entry (entry_there edited.now.before before) (entry_there edited.now.after after)) }
 {
@@ -152,7 +153,7 @@ fn is_changed(edited: &EditedLines<'_>, before: Option<usize>, after: Option<usi
     }
 }
 
-// Whether one line stands at both places, so that no text has to be compared.
+// Returns true only if the same line is at both places, so that no text has to be compared.
 fn is_one_line(edited: &EditedLines<'_>, before: Option<usize>, after: Option<usize>) -> bool
     ensures { OnTrue result (entry_there edited.now.after after ≡ entry_there edited.now.before before) }
 {
@@ -162,7 +163,7 @@ fn is_one_line(edited: &EditedLines<'_>, before: Option<usize>, after: Option<us
     }
 }
 
-// The entry at a place, if there is one.
+// Returns the entry at a place, if there is one.
 fn entry_at<'a>(edited: &'a EditedLines<'_>, place: Option<usize>) -> Option<Entry<'a>>
     ensures { option_map entry_view result ≡ entry_there edited.now.after place }
 {

@@ -6,7 +6,7 @@ ghost use Rattle.deck.specs.KindPlaces as spec;
 use std::alloc::{AllocError, Global};
 use std::marker::Model;
 
-/// The places of the keys of one kind, by the numbers of the keys, and how many places there are.
+/// The places of the keys of one kind, indexed by the numbers of the keys, and how many keys have a place.
 #[derive(Drop)]
 pub(crate) struct KindPlaces {
     places: Vec<Option<usize>>,
@@ -25,7 +25,7 @@ impl Model for KindPlaces {
 }
 
 impl KindPlaces {
-    /// No place.
+    /// Returns an empty table of places.
     pub(crate) fn new(alloc: Global) -> KindPlaces
         ensures { result ≡ [] }
     {
@@ -35,7 +35,7 @@ impl KindPlaces {
         }
     }
 
-    /// The place of the key of this number.
+    /// Returns the place of the key with this number, if it has one.
     pub(crate) fn get(&self, number: usize) -> Option<usize>
         ensures { result ≡ spec.place_in self.now number }
     {
@@ -45,14 +45,14 @@ impl KindPlaces {
         }
     }
 
-    /// How many keys have a place.
+    /// Returns the number of keys that have a place.
     pub(crate) fn count(&self) -> usize
         ensures { result ≡ spec.place_count self.now }
     {
         self.count
     }
 
-    /// Makes room for the place of the key of this number. All places stay.
+    /// Makes room for the place of the key with this number. All places stay.
     pub(crate) fn make_room(&mut self, number: usize) -> Result<(), AllocError>
         ensures same { spec.HasSamePlaces self.old self.new }
         ensures ok { OnOk result (number < length self.new) }
@@ -63,7 +63,7 @@ impl KindPlaces {
         Ok(())
     }
 
-    /// Gives the key of this number a place. It takes no memory.
+    /// Sets the place of the key with this number. Allocates no memory.
     pub(crate) fn put(&mut self, number: usize, place: usize)
         requires { number < length self.old }
         ensures { self.new ≡ set self.old number (Some place) }
@@ -74,7 +74,7 @@ impl KindPlaces {
         self.places[number] = Some(place);
     }
 
-    /// Gives the key of this number a place or none. It takes no memory.
+    /// Sets or removes the place of the key with this number. Allocates no memory.
     pub(crate) fn restore(&mut self, number: usize, place: Option<usize>)
         requires { number < length self.old }
         ensures { self.new ≡ set self.old number place }
@@ -85,7 +85,7 @@ impl KindPlaces {
         }
     }
 
-    // Leaves the key of this number without a place.
+    // Removes the place of the key with this number.
     fn forget(&mut self, number: usize)
         requires { number < length self.old }
         ensures { self.new ≡ set self.old number None }

@@ -14,7 +14,7 @@ use deck_lines::{KeyNumber, LineStore};
 use def_entry::Kind;
 use std::alloc::{AllocError, Global};
 
-/// The places of the last active lines of keys, by the numbers of the keys.
+/// The places of the last active lines of keys, indexed by the numbers of the keys.
 #[derive(Drop)]
 pub(crate) struct LastPlaces {
     pub units: KindPlaces,
@@ -24,7 +24,7 @@ pub(crate) struct LastPlaces {
 }
 
 impl LastPlaces {
-    /// No place.
+    /// Returns empty tables of places.
     pub(crate) fn new(alloc: Global) -> LastPlaces
         ensures { (kind : key_kind.Kind) → spec.places_of result kind ≡ [] }
     {
@@ -36,21 +36,21 @@ impl LastPlaces {
         }
     }
 
-    /// The place of the key of this number.
+    /// Returns the place of the key with this number, if it has one.
     pub(crate) fn get(&self, n: KeyNumber) -> Option<usize>
         ensures { result ≡ spec.place_at self.now n }
     {
         self.of_kind(n.kind).get(n.number)
     }
 
-    /// How many keys of a kind have a place.
+    /// Returns the number of keys of a kind that have a place.
     pub(crate) fn count(&self, kind: Kind) -> usize
         ensures { result ≡ kind_spec.place_count (spec.places_of self.now kind) }
     {
         self.of_kind(kind).count()
     }
 
-    /// Makes room for the place of the key of this number. All places stay.
+    /// Makes room for the place of the key with this number. All places stay.
     pub(crate) fn make_room(&mut self, kind: Kind, number: usize) -> Result<(), AllocError>
         ensures same { (k : key_kind.Kind)
             → kind_spec.HasSamePlaces (spec.places_of self.old k) (spec.places_of self.new k) }
@@ -66,7 +66,7 @@ impl LastPlaces {
         }
     }
 
-    /// Gives the key of this number a place. It takes no memory.
+    /// Sets the place of the key with this number. Allocates no memory.
     pub(crate) fn put(&mut self, n: KeyNumber, place: usize)
         requires { n.number < length (spec.places_of self.old n.kind) }
         ensures { (kind : key_kind.Kind) → spec.places_of self.new kind
@@ -82,7 +82,7 @@ impl LastPlaces {
         }
     }
 
-    /// Gives the key of this number a place or none. It takes no memory.
+    /// Sets or removes the place of the key with this number. Allocates no memory.
     pub(crate) fn restore(&mut self, n: KeyNumber, place: Option<usize>)
         requires { n.number < length (spec.places_of self.old n.kind) }
         ensures { (kind : key_kind.Kind) → spec.places_of self.new kind
@@ -98,7 +98,7 @@ impl LastPlaces {
         }
     }
 
-    /// The places when the line at `gap` is gone. It goes over the lines after that line.
+    /// Updates the places for the removal of the line at `gap`. Goes over the lines after that line.
     pub(crate) fn close_gap(&mut self, store: &LineStore, gap: usize)
         requires inside { gap < length store.now.lines }
         requires defined { AreDefined store.now self.old }
@@ -111,7 +111,7 @@ impl LastPlaces {
         }
     }
 
-    // Makes the last place of the key that the line at `place` defines one less if it is `place`.
+    // Decrements the last place of the key that the line at `place` defines, if it is `place`.
     fn move_line_back(&mut self, store: &LineStore, place: usize)
         ensures { (gap : ℕ) (old : places_spec.LastPlaces) → gap < place → AreDefined store.now old
             → spec.IsMovedTo gap place old self.old → spec.IsMovedTo gap (place + 1) old self.new }
@@ -121,7 +121,7 @@ impl LastPlaces {
         }
     }
 
-    // Makes the place of the key of this number one less if it is `place`. All others stay.
+    // Decrements the place of the key with this number, if it is `place`. All other places stay.
     fn move_back(&mut self, n: KeyNumber, place: usize)
         ensures own { spec.place_at self.new n
             ≡ option_map (kind_spec.moved_back place) (spec.place_at self.old n) }
@@ -138,7 +138,7 @@ impl LastPlaces {
         }
     }
 
-    // The places of the keys of a kind.
+    // Returns the places of the keys of a kind.
     fn of_kind(&self, kind: Kind) -> &KindPlaces
         ensures { result.now ≡ spec.places_of self.now kind }
     {

@@ -7,14 +7,14 @@ ghost use Rattle.deck.specs.LastPlaces.{AreLast, HasRoom};
 ghost use Rattle.deck.specs.Tables.{Definitions, definition_by, definitions, definitions_by};
 
 use super::last_places::LastPlaces;
-use crate::force::edited_flags;
+use crate::force::{InForce, edited_flags, flags_in_force};
 use crate::settings::Settings;
 use deck_lines::{EditedLines, LineStore};
 use def_entry::Kind;
 use std::alloc::{AllocError, Global};
 
 impl LastPlaces {
-    /// The place of the last active line of each key, under these settings.
+    /// Returns the place of the last active line of each key under these settings.
     pub(crate) fn under(
         alloc: Global,
         settings: &Settings,
@@ -26,7 +26,20 @@ impl LastPlaces {
         LastPlaces::under_edited(alloc, settings, &EditedLines::unchanged(store))
     }
 
-    /// The same of the lines after an edit.
+    /// Returns the place of the last active line of each key under settings of which one may be changed.
+    pub(crate) fn in_force(
+        alloc: Global,
+        settings: &InForce<'_>,
+        store: &LineStore,
+    ) -> Result<LastPlaces, AllocError>
+        ensures { IfOk result (λ last. AreLast store.now.names (definitions settings.now store.now.lines) last) }
+    {
+        let edited = EditedLines::unchanged(store);
+        let flags = flags_in_force(alloc, &edited, settings)?;
+        LastPlaces::of_edited(alloc, flags.as_slice(), &edited)
+    }
+
+    /// Returns the place of the last active line of each key after an edit, under these settings.
     pub(crate) fn under_edited(
         alloc: Global,
         settings: &Settings,
@@ -38,7 +51,7 @@ impl LastPlaces {
         LastPlaces::of_edited(alloc, flags.as_slice(), edited)
     }
 
-    // The place of the last line of each key among those whose flag is true, after an edit.
+    // Returns the place of the last line of each key after an edit, among the lines whose flag is true.
     fn of_edited(
         alloc: Global,
         flags: &[bool],
@@ -48,14 +61,25 @@ impl LastPlaces {
         ensures { IfOk result (λ last. AreLast edited.now.names (definitions_by flags.now edited.now.after) last) }
     {
         let mut last = with_room(alloc, edited)?;
-        for place in 0..flags.len() {
-            note_line(edited, &mut last, flags[place], place);
-        }
+        last.note_lines(edited, flags);
         Ok(last)
+    }
+
+    /// Sets the place of each key to that of its last line after an edit, among the lines whose flag is true. No key
+    /// may have a place before. Allocates no memory.
+    pub(crate) fn note_lines(&mut self, edited: &EditedLines<'_>, flags: &[bool])
+        requires flags { length flags.now ≡ length edited.now.after }
+        requires room { HasRoom edited.now.names self.old }
+        requires none { AreLast edited.now.names [] self.old }
+        ensures { AreLast edited.now.names (definitions_by flags.now edited.now.after) self.new }
+    {
+        for place in 0..flags.len() {
+            note_line(edited, self, flags[place], place);
+        }
     }
 }
 
-// No places, with room for those of all keys that have a number.
+// Returns last places without a place, with room for all keys that have a number.
 fn with_room(alloc: Global, edited: &EditedLines<'_>) -> Result<LastPlaces, AllocError>
     ensures room { IfOk result (λ last. HasRoom edited.now.names last) }
     ensures none { IfOk result (λ last. AreLast edited.now.names [] last) }
@@ -68,7 +92,7 @@ fn with_room(alloc: Global, edited: &EditedLines<'_>) -> Result<LastPlaces, Allo
     Ok(last)
 }
 
-// Gives the key of a line its place, where the line is active.
+// Sets the place of the key of a line to `place`, if the line is active.
 fn note_line(edited: &EditedLines<'_>, last: &mut LastPlaces, active: bool, place: usize)
     requires { HasRoom edited.now.names last.old }
     ensures room { HasRoom edited.now.names last.new }

@@ -1,4 +1,4 @@
-//! The last place of one key.
+//! The search for the last place of one key.
 
 ghost use Rattle.std.specs.Prelude.{◌≡◌, ◌≤◌, ◌<◌, ◌==◌, ◌&&◌, ◌++◌, Bool, List, Some, false, length, set, take, IfOk};
 ghost use Rattle.def_entry.specs.SameKeys as keys;
@@ -15,8 +15,9 @@ use deck_lines::{KeyNumber, LineStore};
 use def_entry::Kind;
 use std::alloc::{AllocError, Global};
 
-/// The place of the last active line of a key without its last active line, which is at `place`. The texts of the
-/// lines are read only if an earlier line defines the key. The only error is want of memory.
+/// Returns the place of the active line of a key before its last active line, which is at `place`, or `None` if there
+/// is none. The texts of the lines are read only if an earlier line defines the key. The only error is running out of
+/// memory.
 pub(crate) fn uncovered_by(
     alloc: Global,
     store: &LineStore,
@@ -39,8 +40,8 @@ pub(crate) fn uncovered_by(
     Ok(last_of(store, flags.as_slice(), end, n))
 }
 
-// The number of lines up to the last one before `place` that defines the key of this number, active or not. It is 0
-// if there is none.
+// Returns the number of lines up to and including the last line before `place` that defines the key with this number,
+// active or not, or 0 if there is none.
 fn end_of_definitions(store: &LineStore, n: KeyNumber, place: usize) -> usize
     requires { place ≤ length store.now.lines }
     ensures within { result ≤ place }
@@ -56,7 +57,7 @@ fn end_of_definitions(store: &LineStore, n: KeyNumber, place: usize) -> usize
     end
 }
 
-// Whether the line at a place defines the key of this number.
+// Reports whether the line at `place` defines the key with this number.
 fn defines(store: &LineStore, place: usize, n: KeyNumber) -> bool
     ensures numbering { IsNumbering store.now }
     ensures other { (k : key_spec.Key) (active : Bool) (ds : Definitions) → result ≡ false
@@ -69,8 +70,8 @@ fn defines(store: &LineStore, place: usize, n: KeyNumber) -> bool
     }
 }
 
-// The place of the last line of the key of this number among the first lines, so many, whose flag is true. It takes
-// no memory.
+// Returns the place of the last line that defines the key with this number among the first `end` lines whose flag is
+// true. Allocates no memory.
 fn last_of(store: &LineStore, flags: &[bool], end: usize, n: KeyNumber) -> Option<usize>
     requires flags { length flags.now ≡ length store.now.lines }
     requires within { end ≤ length store.now.lines }
@@ -84,7 +85,7 @@ fn last_of(store: &LineStore, flags: &[bool], end: usize, n: KeyNumber) -> Optio
     last
 }
 
-// A place, or one behind it, where the line there is active and defines the key of this number.
+// Returns `place` if the line there is active and defines the key with this number, and otherwise `last`.
 fn later_of(
     store: &LineStore,
     n: KeyNumber,
@@ -107,14 +108,14 @@ fn later_of(
     Some(place)
 }
 
-// Whether two numbers are one.
+// Reports whether two numbers are equal.
 fn is_same_number(m: KeyNumber, n: KeyNumber) -> bool
     ensures { result ≡ (keys.is_same_kind m.kind n.kind && (m.number == n.number)) }
 {
     is_same_kind(m.kind, n.kind) && m.number == n.number
 }
 
-// Whether two kinds are one.
+// Reports whether two kinds are equal.
 fn is_same_kind(kind: Kind, other: Kind) -> bool
     ensures { result ≡ keys.is_same_kind kind other }
 {

@@ -14,7 +14,8 @@ use def_lines::Line;
 use std::alloc::{AllocError, Global};
 use units_io::Text;
 
-/// A line that opens a block, closes one or stands inside of those that are open, the innermost last.
+/// Appends a line that opens a block, closes one, or does neither, and updates the open blocks, innermost last. An end
+/// line that does not close the innermost block has no effect and gets a notice.
 pub(crate) fn push_role_line(
     alloc: Global,
     draft: &mut Draft,
@@ -48,7 +49,7 @@ pub(crate) fn push_role_line(
     }
 }
 
-// Whether this end line closes the innermost block.
+// Reports whether an end line with this ending closes the innermost block, which is the last.
 fn closes_innermost(blocks: &[Block], ending: Ending) -> bool
     ensures { result ≡ spec.closes_innermost ending (reverse blocks.now) }
 {
@@ -58,7 +59,8 @@ fn closes_innermost(blocks: &[Block], ending: Ending) -> bool
     }
 }
 
-/// The end of a file in which these blocks are open, the innermost last.
+/// Appends the end lines that are missing at the end of a file, and their notices. `blocks` are the open blocks,
+/// innermost last.
 pub(crate) fn push_file_end(
     alloc: Global,
     draft: &mut Draft,
@@ -74,7 +76,7 @@ pub(crate) fn push_file_end(
     push_missing_ends(alloc, draft, blocks)
 }
 
-// The notices of the blocks that are not closed.
+// Appends the notices of the blocks that are not closed.
 fn push_unclosed_notices(
     alloc: Global,
     draft: &mut Draft,
@@ -90,7 +92,7 @@ fn push_unclosed_notices(
     Ok(())
 }
 
-// The end lines of the blocks that are not closed, the innermost first.
+// Appends the end lines of the blocks that are not closed, innermost first.
 fn push_missing_ends(
     alloc: Global,
     draft: &mut Draft,
@@ -111,7 +113,7 @@ fn push_missing_ends(
     Ok(())
 }
 
-// The end line of a block.
+// Returns the text of the end line for an ending.
 fn end_line_text(ending: Ending) -> &'static [u8]
     ensures { result.now ≡ end_text ending }
 {

@@ -1,4 +1,4 @@
-//! A file, line after line, with the files that it includes.
+//! Loads a file line by line, with the files that it includes.
 
 ghost use Rattle.std.specs.Prelude.{◌≡◌, ◌++◌, [], ◌≤◌, None, Some, false, length, reverse, OnOk, OnErr};
 ghost use Rattle.units_io.specs.FileMap.{FileMap, longest_file};
@@ -23,15 +23,16 @@ use def_lines::{Cursor, Line};
 use std::alloc::Global;
 use units_io::{FetchFault, Files, Text};
 
-/// How deep files are included below the first one.
+/// The maximum depth of included files below the first file.
 const MOST_DEPTH: u8 = 16;
 
-/// Puts the deck of a file of this name and these bytes behind what a draft holds: its logical lines
-/// other than blank ones, behind each include line the deck of the included file, and the missing end
-/// lines of blocks at the end of each file. The first of these lines that has no room ends it with
-/// `DeckFull`, and the first include line whose fetch fails with `ReadFailed`, which the files count.
-/// After a fault some of the lines may stand behind those before. It takes the memory of the texts of the
-/// files that stand one in another, and of the lines.
+/// Appends the deck of a file with this name and these bytes to a draft: its logical lines except blank ones, after
+/// each include line the deck of the included file, and at the end of each file the missing end lines of its blocks.
+///
+/// The first of these lines that has no room ends the load with `DeckFull`, the first include line whose fetch fails
+/// ends it with `ReadFailed`, which `files` counts, and a failed allocation ends it with `OutOfMemory`. After an error
+/// the draft may hold some of the new lines. The load needs memory for the texts of the files that are open at the same
+/// time, and for the lines.
 #[tactic(auto, unfolding(crate::specs::Includes::deck_of))]
 pub fn load_text<F: Files>(
     alloc: Global,
@@ -53,7 +54,7 @@ pub fn load_text<F: Files>(
     load_file(alloc, files, draft, name, bytes, MOST_DEPTH)
 }
 
-// The deck of a file of this name and these bytes, where so many files may stand one in another below it.
+// Appends the deck of a file with this name and these bytes. Below it, files may be nested up to `depth` deep.
 #[cycle(load)]
 fn load_file<F: Files>(
     alloc: Global,
@@ -81,7 +82,7 @@ fn load_file<F: Files>(
     push_file_end(alloc, draft, name, blocks)
 }
 
-// The next line of a file in which these blocks are open.
+// Appends the next line of a file in which `blocks` are open.
 #[cycle(load)]
 fn load_line<F: Files>(
     alloc: Global,
@@ -121,8 +122,8 @@ fn load_line<F: Files>(
     }
 }
 
-// An include line, and the deck of the file of this name behind it, where so many files may stand one in
-// another, this one included. It is fetched only where its line has room.
+// Appends an include line and then the deck of `file`. From `file` on, files may be nested up to `depth` deep, counting
+// `file`. The file is fetched only if its line has room.
 #[cycle(load)]
 fn load_include<F: Files>(
     alloc: Global,
@@ -162,7 +163,7 @@ fn load_include<F: Files>(
     }
 }
 
-// An include line whose file is not read, and a notice that ends with the name of that file.
+// Appends an include line whose file is not read, and a notice that ends with the name of that file.
 fn put_unread(
     alloc: Global,
     draft: &mut Draft,

@@ -1,4 +1,4 @@
-//! What lines define, by the numbers of keys.
+//! The definitions of lines, by the numbers of keys.
 
 ghost use Rattle.std.specs.Prelude.{◌≡◌, ◌++◌, ◌∷◌, ◌+◌, ◌<◌, [], ℕ, List, Option, Some, length, map, take, drop};
 ghost use Rattle.std.specs.Prelude.{option_map, OnOk, ◌≤◌, vec_capacity, vec_len, IfOk};
@@ -7,53 +7,57 @@ ghost use Rattle.def_entry.specs.Entries as entries;
 ghost use Rattle.def_entry.specs.Seen.{seen_entry};
 ghost use Rattle.def_entry.specs.declared.key.Key as key_spec;
 ghost use Rattle.deck_lines.specs.Kept.{AreDefined, HasRoomFor, IsDefined, keyed_definition, seen_definition};
+ghost use Rattle.deck_lines.specs.Kept.{all_with_numbers, with_number};
 ghost use Rattle.deck_lines.specs.Names.{Names, key_at, no_names};
 ghost use Rattle.deck_lines.specs.NumberedKeys.{names_in};
 ghost use Rattle.deck_lines.specs.Readings.{entry_in};
+ghost use Rattle.deck_lines.specs.Renumberings.{AreNumbers, names_after};
 ghost use Rattle.deck_lines.specs.Stores.{definition_at, with_definition};
 ghost use Rattle.deck_lines.specs.declared.line.DeckLine.{DeckLine};
 
 use super::exchange::exchange;
 use super::key_numbers::KeyNumbers;
 use super::lists;
+use super::renumbering::Renumbering;
 use crate::key_number::KeyNumber;
 use def_entry::{Key, What};
 use std::alloc::{AllocError, Global};
+use units_io::HashSeed;
 
-/// What a line defines: the number of its key, and what it says of that. The text of its entry is part
-/// of the line.
+/// The definition of a line: the number of its key, and the rest of the entry except its text, which is part of the
+/// line.
 #[derive(Drop)]
 pub struct Definition {
     pub key: KeyNumber,
     pub what: What,
 }
 
-/// What lines define, line by line, and the keys that have numbers.
+/// The definition of each line, and the keys that have numbers.
 #[derive(Drop)]
 pub(crate) struct Definitions {
     pub of_lines: Vec<Option<Definition>>,
     pub keys: KeyNumbers,
 }
 
-/// What lines define that are to be put among others.
+/// The definitions of lines that are to be inserted.
 #[derive(Drop)]
 pub struct PutDefinitions {
     pub of_lines: Vec<Option<Definition>>,
 }
 
 impl Definitions {
-    /// No line, and no key has a number.
-    pub(crate) fn new(alloc: Global) -> Definitions
+    /// Returns definitions of no lines, without numbered keys. `seed` is the hash seed of the tables of names.
+    pub(crate) fn new(alloc: Global, seed: HashSeed) -> Definitions
         ensures lines { result.of_lines.items ≡ [] }
         ensures names { names_in result.keys ≡ no_names }
     {
         Definitions {
             of_lines: Vec::new(alloc),
-            keys: KeyNumbers::new(alloc),
+            keys: KeyNumbers::new(alloc, seed),
         }
     }
 
-    /// What the line at a place defines.
+    /// Returns the definition of the line at `place`, or `None` if it defines nothing or there is no such line.
     pub(crate) fn at(&self, place: usize) -> Option<&Definition>
         ensures { (lines : List DeckLine) → AreDefined self.now (map entry_in lines)
             → option_map (seen_definition (names_in self.now.keys)) (option_copied result)
@@ -62,7 +66,7 @@ impl Definitions {
         definition_in(self.of_lines.as_slice(), place)
     }
 
-    /// Makes room for what one more line defines.
+    /// Makes room for the definition of one more line.
     pub(crate) fn reserve_for(&mut self, definition: &Option<(Key, What)>) -> Result<(), AllocError>
         ensures lines { self.new.of_lines.items ≡ self.old.of_lines.items }
         ensures names { names_in self.new.keys ≡ names_in self.old.keys }
@@ -75,8 +79,8 @@ impl Definitions {
         }
     }
 
-    /// Puts what one more line defines at the end, and answers the number of its key, which is the
-    /// next of its kind where it had none. It takes no memory.
+    /// Appends the definition of one more line, and returns the number of its key. A new key gets the next number of
+    /// its kind. Allocates no memory.
     pub(crate) fn put(&mut self, definition: Option<(Key, What)>) -> Option<KeyNumber>
         requires room { HasRoomFor self.old definition }
         ensures lines { (said : List (Option (key_spec.Key × entries.Entry))) (line : List ℕ) → AreDefined self.old said
@@ -100,7 +104,7 @@ impl Definitions {
         }
     }
 
-    /// Keeps what the first lines define, so many.
+    /// Keeps only the definitions of the first `len` lines.
     pub(crate) fn truncate(&mut self, len: usize)
         ensures lines { (said : List (Option (key_spec.Key × entries.Entry))) → AreDefined self.old said
             → AreDefined self.new (take len said) }
@@ -109,7 +113,7 @@ impl Definitions {
         self.of_lines.truncate(len);
     }
 
-    /// Takes out what the line at a place defines.
+    /// Removes the definition of the line at `place`.
     pub(crate) fn remove(&mut self, place: usize)
         requires { place < length self.old.of_lines.items }
         ensures lines { (said : List (Option (key_spec.Key × entries.Entry))) → AreDefined self.old said
@@ -119,8 +123,8 @@ impl Definitions {
         let _ = lists::remove_at(&mut self.of_lines, place);
     }
 
-    /// Makes room for an exchange of so many lines for so many others, and gives an empty vector for
-    /// what goes.
+    /// Makes room for replacing `cut` lines by `put` others, and returns an empty vector for the definitions that are
+    /// removed.
     pub(crate) fn room_for(
         &mut self,
         alloc: Global,
@@ -136,8 +140,7 @@ impl Definitions {
         Vec::with_capacity(alloc, cut)
     }
 
-    /// Puts what other lines define in the place of what some define, from a place on. It takes no
-    /// memory.
+    /// Replaces the definitions of the `cut` lines from `at` on by `put`. Allocates no memory.
     pub(crate) fn exchange(
         &mut self,
         at: usize,
@@ -156,9 +159,42 @@ impl Definitions {
     {
         exchange(&mut self.of_lines, at, cut, &mut put, &mut gone);
     }
+
+    /// Gives new numbers to the keys that lines define, and forgets all other keys. Allocates no memory.
+    pub(crate) fn renumber(&mut self, numbers: Renumbering)
+        requires { length numbers.of_lines.items ≡ length self.old.of_lines.items }
+        ensures lines { (said : List (Option (key_spec.Key × entries.Entry))) → AreDefined self.old said
+            → AreNumbers (names_after numbers) numbers.of_lines.items said → AreDefined self.new said }
+        ensures names { names_in self.new.keys ≡ names_after numbers }
+    {
+        let Renumbering { keys, of_lines } = numbers;
+        set_numbers(self.of_lines.as_mut_slice(), of_lines.as_slice());
+        self.keys = keys;
+    }
 }
 
-/// What the line at a place defines, among what lines define.
+// Gives the key of each definition the number at the same place.
+fn set_numbers(definitions: &mut [Option<Definition>], numbers: &[Option<KeyNumber>])
+    requires { length numbers.now ≡ length definitions.old }
+    ensures { definitions.new ≡ all_with_numbers numbers.now definitions.old }
+{
+    for place in 0..definitions.len() {
+        set_number(&mut definitions[place], numbers[place]);
+    }
+}
+
+// Gives the key of a definition a number, if both are present.
+fn set_number(definition: &mut Option<Definition>, number: Option<KeyNumber>)
+    ensures { definition.new ≡ with_number number definition.old }
+{
+    if let Some(definition) = definition {
+        if let Some(number) = number {
+            definition.key = number;
+        }
+    }
+}
+
+/// Returns the definition at `place`, or `None` if the line there defines nothing or there is no such line.
 pub(crate) fn definition_in(definitions: &[Option<Definition>], place: usize) -> Option<&Definition>
     ensures { (names : Names) (lines : List DeckLine) → IsDefined names definitions.now (map entry_in lines)
         → option_map (seen_definition names) (option_copied result)

@@ -1,4 +1,4 @@
-//! The lines of a store as an edit will leave them.
+//! The lines of a store as they will be after an edit.
 
 ghost use Rattle.std.specs.Prelude.{◌≡◌, ◌≤◌, ◌<◌, ◌+◌, Some, false, length, map, slice_get, option_map};
 ghost use Rattle.std.specs.Bool.{OnTrue};
@@ -21,7 +21,7 @@ use crate::line::{BorrowedLine, DeckLine};
 use def_entry::{Entry, Kind};
 use std::marker::Model;
 
-/// The lines of a store with others in the place of some, before the store is changed.
+/// A view of a store in which some lines are replaced by others, before the store itself is changed.
 #[derive(Drop)]
 pub struct EditedLines<'a> {
     store: &'a LineStore,
@@ -47,7 +47,7 @@ impl<'a> Model for EditedLines<'a> {
 }
 
 impl<'a> EditedLines<'a> {
-    /// The lines of the store as they are.
+    /// Returns a view of the store without a change.
     pub fn unchanged(store: &'a LineStore) -> EditedLines<'a>
         ensures is { result ≡ unedited store.now }
         ensures within { pass_limit store.now.lines ≡ false }
@@ -61,7 +61,7 @@ impl<'a> EditedLines<'a> {
         }
     }
 
-    /// With other lines in the place of some, from a place on.
+    /// Returns a view in which the `cut` lines from `at` on are replaced by `put`.
     pub fn exchanged(
         store: &'a LineStore,
         at: usize,
@@ -86,21 +86,21 @@ impl<'a> EditedLines<'a> {
         }
     }
 
-    /// The lines before the edit.
+    /// Returns a view of the lines before the edit.
     pub fn before(&self) -> EditedLines<'_>
         ensures { result ≡ unedited (store_before self.now) }
     {
         EditedLines::unchanged(self.store)
     }
 
-    /// How many lines there are.
+    /// Returns the number of lines after the edit.
     pub fn len(&self) -> usize
         ensures { result ≡ length self.now.after }
     {
         self.store.marked().lines.len() - self.cut + self.put.len()
     }
 
-    /// The line at a place.
+    /// Returns the line at `place` after the edit.
     pub fn line(&self, place: usize) -> BorrowedLine<'_>
         requires { place < length self.now.after }
         ensures { slice_get self.now.after place
@@ -109,8 +109,7 @@ impl<'a> EditedLines<'a> {
         line_at(self.store, self.at, self.cut, self.put, place)
     }
 
-    /// Whether the line at a place before the edit is left, and stands at this place afterwards. No
-    /// text is read.
+    /// Reports whether the edit keeps the line at place `before` and moves it to place `after`. No text is read.
     pub fn is_left(&self, before: usize, after: usize) -> bool
         ensures { OnTrue result (slice_get self.now.after after ≡ slice_get self.now.before before) }
     {
@@ -121,7 +120,7 @@ impl<'a> EditedLines<'a> {
         }
     }
 
-    /// The entry that the line at a place gives.
+    /// Returns the entry that the line at `place` defines, or `None` if it defines nothing or there is no such line.
     pub fn entry(&self, place: usize) -> Option<Entry<'_>>
         ensures { option_map entry_view result ≡ option_map (λ d. d.1) (definition_at self.now.after place) }
     {
@@ -134,7 +133,8 @@ impl<'a> EditedLines<'a> {
         }
     }
 
-    /// The number of the key that the line at a place defines.
+    /// Returns the number of the key that the line at `place` defines, or `None` if it defines nothing or there is no
+    /// such line.
     pub fn key_number(&self, place: usize) -> Option<KeyNumber>
         ensures number { option_map (key_at self.now.names) result
             ≡ option_map (λ d. Some d.0) (definition_at self.now.after place) }
@@ -146,14 +146,14 @@ impl<'a> EditedLines<'a> {
         }
     }
 
-    /// The name of the key that has this number.
+    /// Returns the name of the key with this number, or `None` if there is no such key.
     pub fn name(&self, n: KeyNumber) -> Option<&[u8]>
         ensures { option_copied result ≡ slice_get (names_of self.now.names n.kind) n.number }
     {
         self.store.name(n)
     }
 
-    /// How many keys of a kind have a number.
+    /// Returns the number of keys of a kind that have a number.
     pub fn name_count(&self, kind: Kind) -> usize
         ensures count { result ≡ length (names_of self.now.names kind) }
         ensures before { IsNumbering (store_before self.now) }
@@ -162,7 +162,7 @@ impl<'a> EditedLines<'a> {
         self.store.name_count(kind)
     }
 
-    // What the line at a place defines.
+    // Returns the definition of the line at `place`, or `None` if it defines nothing or there is no such line.
     fn definition(&self, place: usize) -> Option<&Definition>
         ensures is { option_map (seen_definition self.now.names) (option_copied result)
             ≡ option_map keyed_definition (definition_at self.now.after place) }

@@ -1,9 +1,9 @@
-//! Parts of vectors exchanged in place, with no memory.
+//! Replacement of a part of a vector in place, without an allocation.
 
 ghost use Rattle.std.specs.Prelude.{◌≡◌, ◌++◌, ◌+◌, ◌-◌, ◌≤◌, [], length, take, drop, vec_capacity, vec_len};
 
-/// Puts other items in the place of some, from a place on, which go to an empty vector. It takes no
-/// memory.
+/// Replaces the `cut` items from `at` on by the items of `put`, and moves the replaced items to the empty vector
+/// `gone`. Allocates no memory.
 pub(crate) fn exchange<T: Drop>(
     items: &mut Vec<T>,
     at: usize,
@@ -25,7 +25,7 @@ pub(crate) fn exchange<T: Drop>(
     items.rotate_left(behind);
 }
 
-// Moves the last items to an empty vector with room for them.
+// Moves the last `count` items to an empty vector with room for them.
 fn move_last<T: Drop>(from: &mut Vec<T>, count: usize, to: &mut Vec<T>)
     requires within { count ≤ vec_len from.old }
     requires room { count ≤ vec_capacity to.old }

@@ -1,4 +1,4 @@
-//! Whether lines may be put in the place of others.
+//! The check whether lines may be replaced by others.
 
 ghost use Rattle.std.specs.Prelude.{◌≡◌, ◌≤◌, ◌+◌, ◌↔◌, ℕ, [], Some, None, IfOk, IsTrue, length, reverse};
 ghost use Rattle.std.specs.Prelude.{if◌then◌else◌};
@@ -16,9 +16,9 @@ use crate::line::{DeckLine, Ending, Role, same_ending};
 use def_lines::{LineKind, classify};
 use std::alloc::{AllocError, Global};
 
-/// Whether lines may be put in the place of some, from a place on: there are so many there, and what
-/// comes of it is closed and within the limits. The only error is want of memory. It takes one pass
-/// over the lines.
+/// Returns whether the `cut` lines from `at` on may be replaced by `put`: the store has that many lines there, and the
+/// resulting lines are closed and within the limits. Makes one pass over the lines. The only error is running out of
+/// memory.
 pub fn can_exchange(
     alloc: Global,
     store: &LineStore,
@@ -42,7 +42,7 @@ pub fn can_exchange(
     are_closed_and_small(alloc, store, at, cut, put)
 }
 
-// Whether what comes of it is closed, and its texts are within the limit.
+// Returns whether the resulting lines are closed, and their texts are within the limit.
 fn are_closed_and_small(
     alloc: Global,
     store: &LineStore,
@@ -72,8 +72,8 @@ fn are_closed_and_small(
     Ok(endings.is_empty())
 }
 
-// Goes behind a line, among the ends of the open blocks, the innermost last, unless it closes what is
-// not the innermost.
+// Updates the endings of the open blocks, innermost last, for a line. Returns false if the line is an end line, without
+// the mark, that does not close the innermost block.
 #[tactic(auto, unfolding(crate::specs::Closed::blocks_past))]
 fn pass_line(endings: &mut Vec<Ending>, text: &[u8], mark: bool) -> Result<bool, AllocError>
     ensures { IfOk result (λ passes. (number : ℕ)
@@ -93,7 +93,7 @@ fn pass_line(endings: &mut Vec<Ending>, text: &[u8], mark: bool) -> Result<bool,
     }
 }
 
-// Closes the innermost block, if this is its end.
+// Closes the innermost block, if this is its ending, and returns whether it did.
 fn close_innermost(endings: &mut Vec<Ending>, ending: Ending) -> bool
     ensures { blocks_without ending (reverse endings.old.items)
         ≡ (if result then Some (reverse endings.new.items) else None) }
@@ -104,7 +104,7 @@ fn close_innermost(endings: &mut Vec<Ending>, ending: Ending) -> bool
     }
 }
 
-// What a line does to the blocks around it.
+// Returns the effect of a line on the open blocks.
 fn role_of_line(text: &[u8]) -> Role
     ensures { result ≡ role_of (kind_of text.now) }
 {

@@ -1,4 +1,4 @@
-//! Keys with numbers.
+//! Numbered keys.
 
 ghost use Rattle.std.specs.Prelude.{◌≡◌, ◌<◌, Some, false, length, slice_get, OnOk, MatchOption};
 ghost use Rattle.std.specs.Option.{option_copied};
@@ -10,8 +10,9 @@ use super::name_set::NameSet;
 use crate::key_number::KeyNumber;
 use def_entry::{Key, Kind};
 use std::alloc::{AllocError, Global};
+use units_io::HashSeed;
 
-/// Keys with numbers, kind by kind.
+/// Numbered keys, one table for each kind.
 #[derive(Drop)]
 pub(crate) struct KeyNumbers {
     pub units: NameSet,
@@ -21,19 +22,24 @@ pub(crate) struct KeyNumbers {
 }
 
 impl KeyNumbers {
-    /// No key has a number.
-    pub fn new(alloc: Global) -> KeyNumbers
+    /// Returns empty tables. `seed` is their hash seed.
+    pub fn new(alloc: Global, seed: HashSeed) -> KeyNumbers
         ensures { names_in result ≡ no_names }
     {
         KeyNumbers {
-            units: NameSet::new(alloc),
-            prefixes: NameSet::new(alloc),
-            functions: NameSet::new(alloc),
-            lists: NameSet::new(alloc),
+            units: NameSet::new(alloc, seed),
+            prefixes: NameSet::new(alloc, seed),
+            functions: NameSet::new(alloc, seed),
+            lists: NameSet::new(alloc, seed),
         }
     }
 
-    /// The number of a key.
+    /// Returns the hash seed of the tables.
+    pub fn seed(&self) -> HashSeed {
+        self.units.seed()
+    }
+
+    /// Returns the number of a key, or `None` if it has no number.
     pub fn number_of(&self, kind: Kind, name: &[u8]) -> Option<KeyNumber>
         ensures { MatchOption result
             (is_numbered (names_in self.now) (key kind name.now) ≡ false)
@@ -45,14 +51,14 @@ impl KeyNumbers {
         }
     }
 
-    /// The name of the key that has this number.
+    /// Returns the name of the key with this number, or `None` if there is no such key.
     pub fn name(&self, n: KeyNumber) -> Option<&[u8]>
         ensures { option_copied result ≡ slice_get (names_of (names_in self.now) n.kind) n.number }
     {
         self.of_kind(n.kind).name(n.number)
     }
 
-    /// How many keys of this kind have a number.
+    /// Returns the number of keys of this kind that have a number.
     pub fn count(&self, kind: Kind) -> usize
         ensures { result ≡ length (names_of (names_in self.now) kind) }
     {
@@ -72,8 +78,7 @@ impl KeyNumbers {
         }
     }
 
-    /// Gives a key the next number of its kind, unless it has one, and answers its number. It takes
-    /// no memory.
+    /// Gives a key the next number of its kind, unless it has a number, and returns its number. Allocates no memory.
     pub fn put(&mut self, key: Key) -> KeyNumber
         requires { 0 < spare_of self.old key.kind }
         ensures names { names_in self.new ≡ with_key (names_in self.old) key }
@@ -90,7 +95,7 @@ impl KeyNumbers {
         KeyNumber { kind, number }
     }
 
-    // The names of a kind.
+    // Returns the table of names of a kind.
     fn of_kind(&self, kind: Kind) -> &NameSet
         ensures { result.now.names ≡ names_of (names_in self.now) kind }
     {

@@ -14,13 +14,13 @@ use def_lines::{Line, Lines};
 use std::alloc::{AllocError, AllocFailed, Global};
 use std::marker::Model;
 
-/// How many lines a deck holds.
+/// The maximum number of lines of a deck.
 pub const MOST_LINES: usize = 100_000;
 
-/// How many bytes the texts of the lines of a deck have.
+/// The maximum total number of bytes in the texts of the lines of a deck.
 pub const MOST_BYTES: usize = 67_108_864;
 
-/// Lines and their marks, side by side, within the limits of a deck.
+/// Lines and their marks, in parallel lists, within the limits of a deck.
 #[derive(Drop)]
 pub(crate) struct LineList {
     lines: Lines,
@@ -42,7 +42,7 @@ impl Model for LineList {
 }
 
 impl LineList {
-    /// No line.
+    /// Returns an empty list.
     pub(crate) fn new(alloc: Global) -> LineList
         ensures { result ≡ [] }
     {
@@ -53,14 +53,14 @@ impl LineList {
         }
     }
 
-    /// How many lines there are.
+    /// Returns the number of lines.
     pub(crate) fn len(&self) -> usize
         ensures { result ≡ length self.now }
     {
         self.lines.len()
     }
 
-    /// The lines, without their marks.
+    /// Returns the lines without their marks.
     pub(crate) fn lines(&self) -> &Lines
         ensures lines { result.now ≡ map unmarked self.now }
         ensures within { pass_limit self.now ≡ false }
@@ -68,7 +68,7 @@ impl LineList {
         &self.lines
     }
 
-    /// The lines and their marks.
+    /// Returns the lines and their marks.
     pub(crate) fn marked(&self) -> MarkedLines<'_>
         ensures lines { with_marks result.lines.now result.marks.now ≡ self.now }
         ensures each { length result.marks.now ≡ length result.lines.now }
@@ -80,7 +80,7 @@ impl LineList {
         }
     }
 
-    /// Whether one more line, with a text of this many bytes, is within the limits.
+    /// Reports whether one more line with a text of `len` bytes is within the limits.
     pub(crate) fn has_room(&self, len: usize) -> bool
         ensures { (line : line_spec.DeckLine) → length line.text ≡ len
             → pass_limit (self.now ++ line ∷ []) ≡ not result }
@@ -88,7 +88,7 @@ impl LineList {
         self.lines.len() < MOST_LINES && len <= MOST_BYTES - self.bytes
     }
 
-    /// Puts a line at the end, with its mark. A refusal changes nothing.
+    /// Appends a line with its mark. On an error nothing changes.
     pub(crate) fn push(&mut self, alloc: Global, line: Line, mark: bool) -> Result<(), AllocError>
         requires { pass_limit (self.old ++ with_mark mark line ∷ []) ≡ false }
         ensures ok { OnOk result (self.new ≡ self.old ++ with_mark mark line ∷ []) }
@@ -102,7 +102,7 @@ impl LineList {
         Ok(())
     }
 
-    /// Keeps the first lines alone, so many, or all where there are fewer.
+    /// Keeps only the first `len` lines, or all lines if there are fewer.
     pub(crate) fn truncate(&mut self, len: usize)
         ensures { self.new ≡ take len self.old }
     {
@@ -115,7 +115,7 @@ impl LineList {
         self.marks.truncate(len);
     }
 
-    /// Takes the line at a place out.
+    /// Removes the line at `place`.
     pub(crate) fn remove(&mut self, place: usize)
         requires { place < length self.old }
         ensures { self.new ≡ take place self.old ++ drop (place + 1) self.old }
@@ -125,8 +125,8 @@ impl LineList {
         self.bytes -= line.text.as_bytes().len();
     }
 
-    /// Puts other lines in the place of some, from a place on, and answers those. A refusal hands the
-    /// lines back and changes nothing.
+    /// Replaces the `cut` lines from `at` on by `put`, and returns the replaced lines. If an allocation fails, the
+    /// error hands `put` back and nothing changes.
     pub(crate) fn exchange(
         &mut self,
         alloc: Global,
@@ -148,7 +148,7 @@ impl LineList {
     }
 }
 
-// How many bytes the texts of lines with marks have.
+// Returns the total number of bytes in the texts of lines with marks.
 fn marked_texts_len(lines: &[DeckLine]) -> usize
     requires { text_len lines.now ≤ most_bytes }
     ensures { result ≡ text_len lines.now }
@@ -160,7 +160,7 @@ fn marked_texts_len(lines: &[DeckLine]) -> usize
     len
 }
 
-// How many bytes the texts of lines have.
+// Returns the total number of bytes in the texts of lines.
 fn texts_len(lines: &[Line]) -> usize
     requires { bytes_in lines.now ≤ most_bytes }
     ensures { result ≡ bytes_in lines.now }

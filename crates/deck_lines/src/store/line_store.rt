@@ -9,31 +9,35 @@ ghost use Rattle.def_entry.specs.Views.{entry_view};
 ghost use Rattle.deck_lines.specs.Exchanges.{IsExchanged};
 ghost use Rattle.deck_lines.specs.Kept.{IsDefined, keyed_definition, seen_definition};
 ghost use Rattle.deck_lines.specs.Limits.{most_lines, pass_limit};
+ghost use Rattle.deck_lines.specs.Loads.{with_lines};
 ghost use Rattle.deck_lines.specs.Marks.{unmarked, with_mark, with_marks};
 ghost use Rattle.deck_lines.specs.Names.{IsExtended, is_numbered, key_at, names_of};
 ghost use Rattle.deck_lines.specs.Numbering.{IsNumbering};
 ghost use Rattle.deck_lines.specs.Readings.{entry_in};
+ghost use Rattle.deck_lines.specs.Renumberings.{IsRenumbering};
 ghost use Rattle.deck_lines.specs.Stores.{definition_at, no_lines, with_line};
 ghost use Rattle.deck_lines.specs.declared.line.DeckLine as line_spec;
 
 use super::definitions::{Definition, Definitions, PutDefinitions};
 use super::line_list::LineList;
 use super::reads::read_definitions;
+use super::renumbering::Renumbering;
 use crate::key_number::KeyNumber;
 use crate::line::{DeckLine, DeckLines, MarkedLines};
 use def_entry::{Entry, Key, Kind, What};
 use def_lines::{Line, Lines};
 use std::alloc::{AllocError, AllocFailed, Global};
 use std::marker::Model;
+use units_io::HashSeed;
 
-/// The lines of a deck with their marks and what they define, and the numbers of the keys that they
-/// define or once defined: a key keeps its number when the lines that brought it are gone.
+/// The lines of a deck with their marks and definitions, and the numbers of the keys that they define or once defined:
+/// a key keeps its number after the lines that defined it are removed, until `renumber`.
 pub struct LineStore {
     lines: LineList,
     definitions: Definitions,
 }
 
-// By hand, so that who drops a store proves nothing of what it holds.
+// Written by hand, so that code that drops a store need not prove anything about its fields.
 impl Drop for LineStore {
     fn drop(self) {
         let LineStore {
@@ -57,17 +61,22 @@ impl Model for LineStore {
 }
 
 impl LineStore {
-    /// No lines, and no key has a number.
-    pub fn new(alloc: Global) -> LineStore
+    /// Returns a store without lines and numbered keys. `seed` is the hash seed of its tables of names.
+    pub fn new(alloc: Global, seed: HashSeed) -> LineStore
         ensures { result ≡ no_lines }
     {
         LineStore {
             lines: LineList::new(alloc),
-            definitions: Definitions::new(alloc),
+            definitions: Definitions::new(alloc, seed),
         }
     }
 
-    /// How many lines there are.
+    /// Returns the hash seed of the tables of names.
+    pub fn seed(&self) -> HashSeed {
+        self.definitions.keys.seed()
+    }
+
+    /// Returns the number of lines.
     pub fn len(&self) -> usize
         ensures count { result ≡ length self.now.lines }
         ensures numbering { IsNumbering self.now }
@@ -75,14 +84,14 @@ impl LineStore {
         self.lines.len()
     }
 
-    /// There are no more lines than a deck holds.
+    /// A lemma: the store has at most `MOST_LINES` lines.
     pub fn lines_few(&self)
         ensures { length self.now.lines ≤ most_lines }
     {
         let _ = self.lines();
     }
 
-    /// The lines, without their marks.
+    /// Returns the lines without their marks.
     pub fn lines(&self) -> &Lines
         ensures lines { result.now ≡ map unmarked self.now.lines }
         ensures within { pass_limit self.now.lines ≡ false }
@@ -90,7 +99,7 @@ impl LineStore {
         self.lines.lines()
     }
 
-    /// The lines and their marks, side by side.
+    /// Returns the lines and their marks, in parallel slices.
     pub fn marked(&self) -> MarkedLines<'_>
         ensures lines { with_marks result.lines.now result.marks.now ≡ self.now.lines }
         ensures each { length result.marks.now ≡ length result.lines.now }
@@ -99,7 +108,7 @@ impl LineStore {
         self.lines.marked()
     }
 
-    /// Whether one more line, with a text of this many bytes, is within the limits.
+    /// Reports whether one more line with a text of `len` bytes is within the limits.
     pub fn has_room(&self, len: usize) -> bool
         ensures { (line : line_spec.DeckLine) → length line.text ≡ len
             → pass_limit (self.now.lines ++ line ∷ []) ≡ not result }
@@ -107,8 +116,8 @@ impl LineStore {
         self.lines.has_room(len)
     }
 
-    /// Puts a line at the end, with its mark and what it defines, and answers the number of the key
-    /// that it defines. A refusal changes nothing.
+    /// Appends a line with its mark and its definition, and returns the number of the key that it defines, or `None` if
+    /// it defines nothing. On an error nothing changes.
     pub fn push(
         &mut self,
         alloc: Global,
@@ -128,7 +137,7 @@ impl LineStore {
         Ok(self.definitions.put(definition))
     }
 
-    /// The entry that the line at a place gives.
+    /// Returns the entry that the line at `place` defines, or `None` if it defines nothing or there is no such line.
     pub fn entry(&self, place: usize) -> Option<Entry<'_>>
         ensures { option_map entry_view result ≡ option_map (λ d. d.1) (definition_at self.now.lines place) }
     {
@@ -141,7 +150,8 @@ impl LineStore {
         }
     }
 
-    /// The number of the key that the line at a place defines.
+    /// Returns the number of the key that the line at `place` defines, or `None` if it defines nothing or there is no
+    /// such line.
     pub fn key_number(&self, place: usize) -> Option<KeyNumber>
         ensures number { option_map (key_at self.now.names) result
             ≡ option_map (λ d. Some d.0) (definition_at self.now.lines place) }
@@ -153,7 +163,8 @@ impl LineStore {
         }
     }
 
-    /// The number of a key. Of two keys with one number both are one. It takes no memory.
+    /// Returns the number of a key, or `None` if it has no number. Different keys have different numbers. Allocates no
+    /// memory.
     pub fn number_of(&self, kind: Kind, name: &[u8]) -> Option<KeyNumber>
         ensures number { MatchOption result
             (is_numbered self.now.names (key kind name.now) ≡ false)
@@ -163,14 +174,15 @@ impl LineStore {
         self.definitions.keys.number_of(kind, name)
     }
 
-    /// The name of the key that has this number.
+    /// Returns the name of the key with this number, or `None` if there is no such key.
     pub fn name(&self, n: KeyNumber) -> Option<&[u8]>
         ensures { option_copied result ≡ slice_get (names_of self.now.names n.kind) n.number }
     {
         self.definitions.keys.name(n)
     }
 
-    /// How many keys of a kind have a number: those from 0 on, below this one.
+    /// Returns the number of keys of a kind that have a number. Their numbers are those from 0 to one less than this
+    /// count.
     pub fn name_count(&self, kind: Kind) -> usize
         ensures count { result ≡ length (names_of self.now.names kind) }
         ensures numbering { IsNumbering self.now }
@@ -178,8 +190,27 @@ impl LineStore {
         self.definitions.keys.count(kind)
     }
 
-    /// Keeps the first lines alone, so many, or all where there are fewer. Keys keep their numbers. It
-    /// takes no memory.
+    /// Returns the number of keys of all kinds that have a number.
+    pub fn key_count(&self) -> usize {
+        let keys = &self.definitions.keys;
+        let units_and_prefixes = keys
+            .count(Kind::Unit)
+            .saturating_add(keys.count(Kind::Prefix));
+        let functions_and_lists = keys
+            .count(Kind::Func)
+            .saturating_add(keys.count(Kind::List));
+        units_and_prefixes.saturating_add(functions_and_lists)
+    }
+
+    /// Gives these numbers to the keys that lines define, and forgets all other keys. Allocates no memory.
+    pub fn renumber(&mut self, numbers: Renumbering)
+        requires { IsRenumbering self.old.lines numbers }
+        ensures { self.new ≡ with_lines no_lines self.old.lines }
+    {
+        self.definitions.renumber(numbers);
+    }
+
+    /// Keeps only the first `len` lines, or all lines if there are fewer. Keys keep their numbers. Allocates no memory.
     pub fn truncate(&mut self, len: usize)
         ensures lines { self.new.lines ≡ take len self.old.lines }
         ensures names { self.new.names ≡ self.old.names }
@@ -188,7 +219,7 @@ impl LineStore {
         self.definitions.truncate(len);
     }
 
-    /// Takes the line at a place out. Keys keep their numbers. It takes no memory.
+    /// Removes the line at `place`. Keys keep their numbers. Allocates no memory.
     pub fn remove(&mut self, place: usize)
         requires { place < length self.old.lines }
         ensures lines { self.new.lines ≡ take place self.old.lines ++ drop (place + 1) self.old.lines }
@@ -198,8 +229,8 @@ impl LineStore {
         self.definitions.remove(place);
     }
 
-    /// Reads what lines define that are to be put among the others, and gives their keys numbers. The
-    /// lines of the store and the numbers that keys have stay, after a refusal too.
+    /// Reads the definitions of lines that are to be inserted, and gives numbers to their keys. The lines of the store
+    /// and the existing numbers of keys do not change, even on an error.
     pub fn read(&mut self, alloc: Global, lines: &[DeckLine]) -> Result<PutDefinitions, AllocError>
         ensures lines { self.new.lines ≡ self.old.lines }
         ensures extended { IsExtended self.old.names self.new.names }
@@ -210,7 +241,7 @@ impl LineStore {
         read_definitions(alloc, &mut self.definitions.keys, lines)
     }
 
-    // What the line at a place defines.
+    // Returns the definition of the line at `place`, or `None` if it defines nothing or there is no such line.
     pub(super) fn definition(&self, place: usize) -> Option<&Definition>
         ensures { option_map (seen_definition self.now.names) (option_copied result)
             ≡ option_map keyed_definition (definition_at self.now.lines place) }
@@ -218,8 +249,8 @@ impl LineStore {
         self.definitions.at(place)
     }
 
-    /// Puts other lines in the place of some, from a place on, with what they define, and answers
-    /// those that go. Keys keep their numbers. A refusal hands the lines back and changes nothing.
+    /// Replaces the `cut` lines from `at` on by `put`, whose definitions are `definitions`, and returns the replaced
+    /// lines. Keys keep their numbers. If an allocation fails, the error hands `put` back and nothing changes.
     pub fn exchange(
         &mut self,
         alloc: Global,

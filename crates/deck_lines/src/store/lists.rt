@@ -1,4 +1,4 @@
-//! Lists changed in place, with no memory.
+//! Changes of lists in place, without an allocation.
 
 ghost use Rattle.std.specs.Prelude.{◌≡◌, ◌++◌, ◌∷◌, ◌+◌, ◌<◌, ◌≤◌, [], Some, length, take, drop, slice_get};
 ghost use Rattle.std.specs.Prelude.{vec_capacity, vec_len};
@@ -7,7 +7,7 @@ use std::alloc::Global;
 use std::mem;
 use units_io::List;
 
-/// Keeps the first items alone, so many, or all where there are fewer.
+/// Keeps only the first `len` items, or all items if there are fewer.
 pub(crate) fn truncate<T: Drop>(list: &mut List<T>, alloc: Global, len: usize)
     ensures { list.new ≡ take len list.old }
 {
@@ -16,7 +16,7 @@ pub(crate) fn truncate<T: Drop>(list: &mut List<T>, alloc: Global, len: usize)
     *list = List::from(items);
 }
 
-/// Puts an item at the end of a vector that has room for it.
+/// Appends an item to a vector that has room for it.
 pub(crate) fn put_last<T: Drop>(items: &mut Vec<T>, item: T)
     requires { vec_len items.old + 1 ≤ vec_capacity items.old }
     ensures items { items.new.items ≡ items.old.items ++ item ∷ [] }
@@ -25,7 +25,7 @@ pub(crate) fn put_last<T: Drop>(items: &mut Vec<T>, item: T)
     let _ = items.push(item);
 }
 
-/// Takes the item at a place out.
+/// Removes the item at `place` of a list, and returns it.
 pub(crate) fn remove<T: Drop>(list: &mut List<T>, alloc: Global, place: usize) -> T
     requires { place < length list.old }
     ensures rest { list.new ≡ take place list.old ++ drop (place + 1) list.old }
@@ -37,7 +37,7 @@ pub(crate) fn remove<T: Drop>(list: &mut List<T>, alloc: Global, place: usize) -
     item
 }
 
-/// Takes the item at a place of a vector out.
+/// Removes the item at `place` of a vector, and returns it.
 pub(crate) fn remove_at<T: Drop>(items: &mut Vec<T>, place: usize) -> T
     requires { place < length items.old.items }
     ensures rest { items.new.items ≡ take place items.old.items ++ drop (place + 1) items.old.items }
@@ -46,7 +46,7 @@ pub(crate) fn remove_at<T: Drop>(items: &mut Vec<T>, place: usize) -> T
     items.remove(place)
 }
 
-/// The items of a list, which is empty then.
+/// Returns the items of a list, which is empty afterwards.
 pub(crate) fn take_items<T: Drop>(list: &mut List<T>, alloc: Global) -> Vec<T>
     ensures items { result.items ≡ list.old }
     ensures empty { list.new ≡ [] }

@@ -1,4 +1,4 @@
-//! Lines with their marks exchanged, in vectors side by side.
+//! Replacement of lines and their marks in parallel vectors.
 
 ghost use Rattle.std.specs.Prelude.{◌≡◌, ◌++◌, ◌+◌, ◌≤◌, [], length, map, take, drop, vec_capacity, vec_len, IfOk};
 ghost use Rattle.std.specs.Prelude.{IfErr, OnOk, OnErr};
@@ -11,8 +11,8 @@ use crate::line::{DeckLine, DeckLines};
 use def_lines::{Line, Lines};
 use std::alloc::{AllocError, AllocFailed, Global};
 
-/// Puts other lines with their marks in the place of some, from a place on, and answers those. A
-/// refusal hands the lines back and changes nothing.
+/// Replaces the `cut` lines and marks from `at` on by those of `put`, and returns the replaced lines. If an allocation
+/// fails, the error hands `put` back and nothing changes.
 pub(crate) fn exchange_in_list(
     alloc: Global,
     lines: &mut Lines,
@@ -36,7 +36,7 @@ pub(crate) fn exchange_in_list(
     result
 }
 
-// The same in vectors.
+// Does the work of `exchange_in_list` in vectors.
 fn exchange_marked(
     alloc: Global,
     lines: &mut Vec<Line>,
@@ -106,7 +106,7 @@ fn room_for(
     })
 }
 
-// Takes lines and their marks apart, into empty vectors with room for them.
+// Splits lines with marks into two empty vectors that have room for the lines and the marks.
 fn take_apart(from: DeckLines, lines: &mut Vec<Line>, marks: &mut Vec<bool>)
     requires line_room { length from ≤ vec_capacity lines.old }
     requires mark_room { length from ≤ vec_capacity marks.old }
@@ -125,7 +125,7 @@ fn take_apart(from: DeckLines, lines: &mut Vec<Line>, marks: &mut Vec<bool>)
     marks.reverse();
 }
 
-// Puts lines and their marks together, into an empty vector with room for them.
+// Joins lines and their marks in an empty vector with room for them.
 fn put_together(mut lines: Vec<Line>, mut marks: Vec<bool>, into: &mut Vec<DeckLine>)
     requires each { length marks.items ≡ length lines.items }
     requires room { length lines.items ≤ vec_capacity into.old }

@@ -1,4 +1,4 @@
-//! Names with numbers.
+//! Numbered names.
 
 ghost use Rattle.std.specs.Prelude.{◌≡◌, ◌<◌, [], Some, false, length, slice_get, MatchOption, OnOk};
 ghost use Rattle.std.specs.List.{list_any};
@@ -9,50 +9,65 @@ ghost use Rattle.deck_lines.specs.Names.{with_name};
 use indexmap::IndexSet;
 use std::alloc::{AllocError, Global};
 use std::marker::Model;
+use units_io::HashSeed;
 
-/// Names, each with the number of names that came before it.
+/// A set of names. Each name is numbered by how many names were added before it.
 #[derive(Drop)]
 pub(crate) struct NameSet {
-    names: IndexSet<Vec<u8>>,
+    names: IndexSet<Vec<u8>, HashSeed>,
+    // An upper bound of the lengths of the names. Each front of a word is looked up as a prefix: a front that is longer
+    // than all prefixes need not be hashed, so that a long word costs no more than its length.
+    longest: usize,
 }
 
 impl Model for NameSet {
     ghost use Rattle.std.specs.Prelude.{map};
     ghost use Rattle.indexmap.specs.IndexSet.{spare};
-    ghost use Rattle.deck_lines.specs.NumberedNames.{NumberedNames};
+    ghost use Rattle.deck_lines.specs.NumberedNames.{AreUpTo, NumberedNames};
 
     ghost Value = { NumberedNames };
 
     ghost view = { λ s. record { names = map (λ name. name.items) s.names.keys; spare = spare s.names } };
+
+    ghost invariant = { λ s. AreUpTo s.longest (map (λ name. name.items) s.names.keys) };
 }
 
 impl NameSet {
-    /// No name.
-    pub fn new(alloc: Global) -> NameSet
+    /// Returns an empty set. `seed` is the hash seed of its table.
+    pub fn new(alloc: Global, seed: HashSeed) -> NameSet
         ensures { result.names ≡ [] }
     {
         NameSet {
-            names: IndexSet::new(alloc),
+            names: IndexSet::with_hasher(alloc, seed),
+            longest: 0,
         }
     }
 
-    /// How many names there are.
+    /// Returns the hash seed of the table.
+    pub fn seed(&self) -> HashSeed {
+        *self.names.hasher()
+    }
+
+    /// Returns the number of names.
     pub fn len(&self) -> usize
         ensures { result ≡ length self.now.names }
     {
         self.names.len()
     }
 
-    /// The number of a name.
+    /// Returns the number of a name, or `None` if the set does not have it.
     pub fn number_of(&self, name: &[u8]) -> Option<usize>
         ensures { MatchOption result
             (list_any (bytes_eq name.now) self.now.names ≡ false)
             (λ number. slice_get self.now.names number ≡ Some name.now) }
     {
+        if self.longest < name.len() {
+            return None;
+        }
         self.names.get_index_of(name)
     }
 
-    /// The name of a number.
+    /// Returns the name with this number, or `None` if there is no such name.
     pub fn name(&self, number: usize) -> Option<&[u8]>
         ensures { option_copied result ≡ slice_get self.now.names number }
     {
@@ -70,12 +85,13 @@ impl NameSet {
         self.names.reserve(1)
     }
 
-    /// Gives a name the next number, unless it has one, and answers its number. It takes no memory.
+    /// Gives a name the next number, unless it has a number, and returns its number. Allocates no memory.
     pub fn put(&mut self, name: Vec<u8>) -> usize
         requires { 0 < self.old.spare }
         ensures names { self.new.names ≡ with_name name.items self.old.names }
         ensures number { slice_get self.new.names result ≡ Some name.items }
     {
+        self.longest = self.longest.max(name.len());
         match self.names.insert_full(name) {
             Ok((number, _)) => number,
             Err(_) => unreachable!(),

@@ -1,4 +1,4 @@
-//! Where lines come from that stand among others after an exchange.
+//! The origin of each line after an exchange.
 
 ghost use Rattle.std.specs.Prelude.{◌≡◌, ◌≤◌, ◌<◌, ◌+◌, List, Some, length, slice_get};
 ghost use Rattle.deck_lines.specs.Origins.{exchanged_lines, line_from};
@@ -7,19 +7,19 @@ ghost use Rattle.deck_lines.specs.declared.line.DeckLine as line_spec;
 use super::line_store::LineStore;
 use crate::line::{BorrowedLine, DeckLine};
 
-/// Where a line comes from.
+/// The origin of a line after an exchange.
 #[derive(Clone, Copy)]
 pub(crate) enum Origin {
-    /// It stood at this place before.
+    /// It was at this place of the store before.
     Stored(usize),
-    /// It is at this place among those that were put.
+    /// It is at this place among the inserted lines.
     Put(usize),
-    /// There is no line.
+    /// The place is past the last line.
     Past,
 }
 
-/// Where the line at a place comes from, of so many lines, when so many others were put in the place
-/// of some from a place on.
+/// Returns the origin of the line at `place` after the `cut` lines from `at` on, of `count` lines, were replaced by
+/// `put` others.
 pub(crate) fn origin_of(count: usize, at: usize, cut: usize, put: usize, place: usize) -> Origin
     requires { at + cut ≤ count }
     ensures { (lines others : List line_spec.DeckLine) → length lines ≡ count → length others ≡ put
@@ -39,7 +39,7 @@ pub(crate) fn origin_of(count: usize, at: usize, cut: usize, put: usize, place: 
     Origin::Stored(at + cut + past_put)
 }
 
-/// The line at a place, when lines are put in the place of some from a place on.
+/// Returns the line at `place` as if the `cut` lines from `at` on were replaced by `put`.
 pub(crate) fn line_at<'a>(
     store: &'a LineStore,
     at: usize,

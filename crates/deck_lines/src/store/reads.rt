@@ -1,4 +1,4 @@
-//! What lines define that are to be put into a store.
+//! Reads the definitions of lines that are to be put into a store.
 
 ghost use Rattle.std.specs.Prelude.{◌≡◌, Some, map, option_map, IfOk};
 ghost use Rattle.def_entry.specs.Views.{what_view};
@@ -14,7 +14,8 @@ use crate::reading::{Reading, read_line};
 use def_entry::{Key, What};
 use std::alloc::{AllocError, Global};
 
-/// What lines define, by the numbers of their keys, which are given where there are none.
+/// Returns the definitions of lines. Keys without a number get the next number of their kind. The only error is running
+/// out of memory.
 pub(crate) fn read_definitions(
     alloc: Global,
     keys: &mut KeyNumbers,
@@ -34,7 +35,7 @@ pub(crate) fn read_definitions(
     })
 }
 
-// What a line defines.
+// Returns the definition of a line, or `None` if it defines nothing.
 #[tactic(auto, unfolding(crate::specs::Readings::entry_in))]
 fn definition_of(
     alloc: Global,
@@ -57,7 +58,7 @@ fn definition_of(
     }
 }
 
-// A definition by the number of its key.
+// Returns a definition with the number of its key. A key without a number gets the next number of its kind.
 fn number_definition(keys: &mut KeyNumbers, key: Key, what: What) -> Result<Definition, AllocError>
     ensures extended { IsExtended (names_in keys.old) (names_in keys.new) }
     ensures unique { IsOneToOne (names_in keys.old) → IsOneToOne (names_in keys.new) }

@@ -1,4 +1,4 @@
-//! Edits that are noted.
+//! Edits that the history records.
 
 ghost use Rattle.std.specs.Prelude.{◌≡◌, true, Ok, Some, IfErr, MatchResult, OnErr, OnOk};
 ghost use Rattle.units_io.specs.FileMap.{FileMap};
@@ -11,7 +11,11 @@ ghost use Rattle.edit_history.specs.Calls as calls;
 ghost use Rattle.edit_history.specs.Histories.{Follows};
 
 use super::History;
+use crate::boxed_change::BoxedChange;
+use crate::boxed_exchange::BoxedExchange;
+use crate::line_exchange::LineExchange;
 use crate::making::switch_settings;
+use crate::settings_change::SettingsChange;
 use crate::stack;
 use crate::step::Step;
 use deck::{DeckFault, Settings, splices_are_undone};
@@ -22,9 +26,9 @@ use std::alloc::Global;
 use units_io::Files;
 
 impl History {
-    /// Puts a line that defines a key at the end of the deck, as `LiveTable::define`, and notes it. Nothing is
-    /// undone any more then. The refusals are those of `LiveTable::define`, after which table and history are as
-    /// before. It takes the time of its own line, whatever the size of the deck.
+    /// Appends a line that defines a key to the deck, like `LiveTable::define`, and records the edit. Edits that were
+    /// undone can no longer be redone. Fails like `LiveTable::define`; after an error the table and the history are as
+    /// before. The time depends on the line and not on the size of the deck.
     pub fn define(
         &mut self,
         alloc: Global,
@@ -37,7 +41,7 @@ impl History {
             table.old table.new result }
         ensures noted { calls.IsNoted self.old self.new table.old.deck table.new.deck result }
     {
-        self.done.reserve(1)?;
+        stack::make_room(&mut self.done)?;
         table.deck().lines_closed();
         let uncovered = table.define_over(alloc, line)?;
         stack::put(&mut self.done, Step::Undefine(uncovered));
@@ -45,8 +49,8 @@ impl History {
         Ok(())
     }
 
-    /// Takes out the last active line of a key, as `LiveTable::drop_last`, and notes it. The refusals are those of
-    /// `LiveTable::drop_last`, after which table and history are as before.
+    /// Removes the last active line of a key, like `LiveTable::drop_last`, and records the edit. Fails like
+    /// `LiveTable::drop_last`; after an error the table and the history are as before.
     pub fn drop_last(
         &mut self,
         alloc: Global,
@@ -59,20 +63,21 @@ impl History {
         ensures noted { calls.IsNoted self.old self.new table.old.deck table.new.deck result }
     {
         splices_are_undone();
-        self.done.reserve(1)?;
+        stack::make_room(&mut self.done)?;
         table.deck().lines_closed();
         let Some(at) = table.deck().last_place(key) else {
             return Err(DeckFault::NoSuchKey);
         };
         let put = table.deck().lines_from(alloc, at, 1)?;
+        let step = BoxedExchange::new(alloc, LineExchange { at, cut: 0, put })?;
         table.drop_last(alloc, key)?;
-        stack::put(&mut self.done, Step::Exchange { at, cut: 0, put });
+        stack::put(&mut self.done, Step::Exchange(step));
         self.undone.clear();
         Ok(())
     }
 
-    /// Puts other settings in force, as `LiveTable::switch`, and notes it. The only error is want of memory, after
-    /// which table and history are as before.
+    /// Puts other settings in force, like `LiveTable::switch`, and records the edit. The only error is running out of
+    /// memory; the table and the history are then as before.
     pub fn switch(
         &mut self,
         alloc: Global,
@@ -84,18 +89,20 @@ impl History {
         ensures edit { edit.IsEditOf (Ok (deck_edit.after_switch settings table.old.deck)) table.old table.new result }
         ensures noted { calls.IsNoted self.old self.new table.old.deck table.new.deck result }
     {
-        self.done.reserve(1)?;
+        stack::make_room(&mut self.done)?;
         table.deck().lines_closed();
+        let mut step = BoxedChange::new(alloc, SettingsChange::none(alloc))?;
         let Ok(back) = switch_settings(alloc, table, settings) else {
             return Err(DeckFault::OutOfMemory);
         };
-        stack::put(&mut self.done, Step::Switch(back));
+        step.replace(back);
+        stack::put(&mut self.done, Step::Switch(step));
         self.undone.clear();
         Ok(())
     }
 
-    /// Puts the deck of a file at the end, as `LiveTable::append`, and notes it. The refusals are those of
-    /// `LiveTable::append`, after which table and history are as before.
+    /// Appends the deck of a file, like `LiveTable::append`, and records the edit. Fails like `LiveTable::append`;
+    /// after an error the table and the history are as before.
     pub fn append<F: Files>(
         &mut self,
         alloc: Global,
@@ -120,12 +127,14 @@ impl History {
         ensures counted { F.faults files.new ≡ loading.faults_after_load (F.faults files.old) result }
         ensures noted { calls.IsNoted self.old self.new table.old.deck table.new.deck result }
     {
-        self.done.reserve(1)?;
+        stack::make_room(&mut self.done)?;
+        let mut step = BoxedExchange::new(alloc, LineExchange::none(alloc))?;
         let at = table.deck().lines().len();
         table.append(alloc, files, name)?;
         let cut = table.deck().lines().len() - at;
         let put = DeckLines::new(alloc);
-        stack::put(&mut self.done, Step::Exchange { at, cut, put });
+        step.replace(LineExchange { at, cut, put });
+        stack::put(&mut self.done, Step::Exchange(step));
         self.undone.clear();
         Ok(())
     }

@@ -15,7 +15,8 @@ returns-clause-gives c =
     let to = c.args.to.now.vars in
     settings_by _ c.args.to.now.locale _ to c.in_ok-locale.ensures
     (ap (λ (ps : Pairs). changed_vars first cut ps from)
-    (c.in_ok-copy_pairs.ensures ∙ ap (λ (ps : Pairs). with_pairs ps (pairs_between first end to)) c.new-put.ensures
+    (c.in_ok-copy_pairs.ensures ∙ ap (λ (ps : Pairs). with_pairs ps (pairs_between first end to))
+    c.with_seed-put.ensures
     ∙ copied_part first end to c.differing_ends-ends.ensures.distinct)
     ∙ part_put first cut end from to c.same_front-first.ensures.same c.differing_ends-ends.ensures.same
     c.differing_ends-ends.ensures.behind)

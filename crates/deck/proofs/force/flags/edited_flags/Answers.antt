@@ -1,38 +1,10 @@
-use Rattle.std.proofs.Common.{◌++◌, ◌∷◌, ◌+◌, [], List, drop, refl, sym, ap, ◌∙◌, arith}
-use Rattle.std.proofs.lemmas.List.{append-nil, drop_all}
-use Rattle.deck_lines.specs.declared.line.DeckLine.{DeckLine}
-use Rattle.deck.specs.Active.{Surroundings, activity, is_active}
-use Rattle.deck_lines.proofs.Finding.{drop_found}
-use Rattle.deck.proofs.Marking.{activity_step}
+use Rattle.std.proofs.Common.{◌≡◌, subst}
+use Rattle.std.specs.Prelude.{IfOk}
+use Rattle.deck.specs.Active.{active_lines}
+use Rattle.deck.specs.declared.settings.Settings.{Settings}
 use Rattle.deck.proofs.force.flags.edited_flags.Goals as goal
-
-pub line-line-requires : goal.line-line-requires
-line-line-requires c = omega (arith, c.loop-place-test.true, c.len-place-end.ensures)
-
-pub loop-place-preserved : goal.loop-place-preserved
-loop-place-preserved c =
-    let locale = c.as_bytes-locale.result.now in
-    let lines : List DeckLine = c.args.edited.now.after in
-    let line : DeckLine =
-    record {
-      number = c.line-line.result.number;
-      text = c.line-line.result.text.now;
-      mark =
-          c.line-line.result.mark;
-    } in
-    let rest : List DeckLine = drop (c.loop-place.place + 1) lines in
-    ap (λ fs. fs ++ activity locale c.pass.new.self rest)
-    (c.in_ok-push.ensures.items
-    ∙ ap (λ a. c.loop-place.flags.items ++ a ∷ []) (c.is_active-active.ensures line refl))
-    ∙ ap (λ (s : Surroundings). (c.loop-place.flags.items ++ is_active c.loop-place.around line ∷ [])
-    ++ activity locale s rest) (c.in_ok-pass.ensures line.number)
-    ∙ activity_step locale c.loop-place.around (drop c.loop-place.place lines) rest c.loop-place.flags.items _ line
-    (drop_found lines c.loop-place.place line c.line-line.ensures) c.loop-place.invariant
 
 pub returns : goal.returns
 returns c =
-    let lines : List DeckLine = c.args.edited.now.after in
-    sym (append-nil c.loop-place.flags.items)
-    ∙ ap (λ ls. c.loop-place.flags.items ++ activity c.as_bytes-locale.result.now c.loop-place.around ls)
-    (sym (drop_all c.loop-place.place lines (omega (arith, c.loop-place-test.false, c.len-place-end.ensures))))
-    ∙ c.loop-place.invariant
+    subst (λ (s : Settings). IfOk c.flags_in_force.result
+    (λ flags. flags.items ≡ active_lines s c.args.edited.now.after)) c.of.ensures c.flags_in_force.ensures

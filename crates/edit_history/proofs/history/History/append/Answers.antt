@@ -1,4 +1,4 @@
-use Rattle.std.proofs.Common.{◌≡◌, ◌∷◌, ◌+◌, ◌-◌, false, length, length-append, ap, subst, ◌∙◌, arith}
+use Rattle.std.proofs.Common.{◌≡◌, ◌∷◌, ◌+◌, ◌-◌, false, length, length-append, sym, ap, subst, ◌∙◌, arith}
 use Rattle.std.specs.Prelude.{map, reverse}
 use Rattle.std.proofs.lemmas.List.{length-map}
 use Rattle.deck_lines.specs.Closed.{IsClosed}
@@ -7,7 +7,7 @@ use Rattle.deck_lines.specs.Marks.{unmarked}
 use Rattle.deck.specs.Decks.{Contents}
 use Rattle.edit_history.specs.Histories.{Course}
 use Rattle.edit_history.specs.declared.step.Step.TheVariants.{Exchange}
-use Rattle.edit_history.proofs.Noting.{appended, appended_behind, course_is, follows_noted}
+use Rattle.edit_history.proofs.Noting.{LeadsBack, appended, appended_behind, course_is, follows_noted}
 use Rattle.edit_history.proofs.history.History.append.Goals as goal
 
 pub overflow_sub-cut : goal.overflow_sub-cut
@@ -34,13 +34,15 @@ returns-clause-follows g c =
     ∙ ap (λ (d : Contents). length (map unmarked d.lines)) c.deck-2.ensures.deck ∙ length-map new.lines unmarked in
     let cut : c.len-at.result + (c.len.result - c.len-at.result) ≡ length new.lines =
     omega (arith, before, after, ap length more.1, length-append old.lines more.0) in
-    let s = Exchange c.len-at.result (c.len.result - c.len-at.result) c.new-put.result in
-    let back = appended c.len-at.result (c.len.result - c.len-at.result) c.new-put.result more.0 old new more.1
+    let s = Exchange c.replace.new.self in
+    let back = subst (λ t. LeadsBack t old new) (sym (ap Exchange c.replace.ensures.after))
+    (appended c.len-at.result (c.len.result - c.len-at.result) c.new-put.result more.0 old new more.1
     c.append.ensures.settings before cut c.new-put.ensures
     (subst (λ (d : Contents). IsClosed d.lines) c.deck.ensures.deck c.lines.ensures.closed)
-    (subst (λ (d : Contents). pass_limit d.lines ≡ false) c.deck.ensures.deck c.lines.ensures.within) in
+    (subst (λ (d : Contents). pass_limit d.lines ≡ false) c.deck.ensures.deck c.lines.ensures.within)) in
     let is = course_is s (reverse c.put.new.steps.items) c.clear.new.self.items c.args.self.now.done
-    (c.put.ensures ∙ ap (λ xs. s ∷ reverse xs) c.reserve.ensures.items ∙ ap (λ (h : Course). s ∷ h.done) c.self.view_is)
+    (c.put.ensures ∙ ap (λ xs. s ∷ reverse xs) c.make_room.ensures.items
+    ∙ ap (λ (h : Course). s ∷ h.done) c.self.view_is)
     c.clear.ensures.items in
     follows_noted s c.args.self.now _ old new is back.can back.again c.requires
 
@@ -56,12 +58,14 @@ returns-clause-noted g c =
     ∙ ap (λ (d : Contents). length (map unmarked d.lines)) c.deck-2.ensures.deck ∙ length-map new.lines unmarked in
     let cut : c.len-at.result + (c.len.result - c.len-at.result) ≡ length new.lines =
     omega (arith, before, after, ap length more.1, length-append old.lines more.0) in
-    let s = Exchange c.len-at.result (c.len.result - c.len-at.result) c.new-put.result in
-    let back = appended c.len-at.result (c.len.result - c.len-at.result) c.new-put.result more.0 old new more.1
+    let s = Exchange c.replace.new.self in
+    let back = subst (λ t. LeadsBack t old new) (sym (ap Exchange c.replace.ensures.after))
+    (appended c.len-at.result (c.len.result - c.len-at.result) c.new-put.result more.0 old new more.1
     c.append.ensures.settings before cut c.new-put.ensures
     (subst (λ (d : Contents). IsClosed d.lines) c.deck.ensures.deck c.lines.ensures.closed)
-    (subst (λ (d : Contents). pass_limit d.lines ≡ false) c.deck.ensures.deck c.lines.ensures.within) in
+    (subst (λ (d : Contents). pass_limit d.lines ≡ false) c.deck.ensures.deck c.lines.ensures.within)) in
     let is = course_is s (reverse c.put.new.steps.items) c.clear.new.self.items c.args.self.now.done
-    (c.put.ensures ∙ ap (λ xs. s ∷ reverse xs) c.reserve.ensures.items ∙ ap (λ (h : Course). s ∷ h.done) c.self.view_is)
+    (c.put.ensures ∙ ap (λ xs. s ∷ reverse xs) c.make_room.ensures.items
+    ∙ ap (λ (h : Course). s ∷ h.done) c.self.view_is)
     c.clear.ensures.items in
     (s, is, back.again)

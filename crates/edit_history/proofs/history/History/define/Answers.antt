@@ -21,7 +21,8 @@ returns-clause-follows c =
     let within = subst (λ (d : Contents). pass_limit d.lines ≡ false) c.deck.ensures.deck c.lines_closed.ensures.within
     in
     let is = course_is s (reverse c.put.new.steps.items) c.clear.new.self.items c.args.self.now.done
-    (c.put.ensures ∙ ap (λ xs. s ∷ reverse xs) c.reserve.ensures.items ∙ ap (λ (h : Course). s ∷ h.done) c.self.view_is)
+    (c.put.ensures ∙ ap (λ xs. s ∷ reverse xs) c.make_room.ensures.items
+    ∙ ap (λ (h : Course). s ∷ h.done) c.self.view_is)
     c.clear.ensures.items in
     follows_noted s c.args.self.now _ old new is
     (can_undefine text (trimmed_twice c.args.line.now) c.in_ok-uncovered.uncovered old new c.in_ok-uncovered.ensures.0
@@ -40,7 +41,8 @@ returns-clause-noted c =
     let within = subst (λ (d : Contents). pass_limit d.lines ≡ false) c.deck.ensures.deck c.lines_closed.ensures.within
     in
     let is = course_is s (reverse c.put.new.steps.items) c.clear.new.self.items c.args.self.now.done
-    (c.put.ensures ∙ ap (λ xs. s ∷ reverse xs) c.reserve.ensures.items ∙ ap (λ (h : Course). s ∷ h.done) c.self.view_is)
+    (c.put.ensures ∙ ap (λ xs. s ∷ reverse xs) c.make_room.ensures.items
+    ∙ ap (λ (h : Course). s ∷ h.done) c.self.view_is)
     c.clear.ensures.items in (
       s,
       is,

@@ -1,35 +1,41 @@
-use Rattle.std.proofs.Common.{◌≡◌, ◌∷◌, false, ap, subst, ◌∙◌}
+use Rattle.std.proofs.Common.{◌≡◌, ◌∷◌, false, sym, ap, subst, ◌∙◌}
 use Rattle.std.specs.Prelude.{reverse}
 use Rattle.deck_lines.specs.Closed.{IsClosed}
 use Rattle.deck_lines.specs.Limits.{pass_limit}
 use Rattle.deck.specs.Decks.{Contents}
 use Rattle.edit_history.specs.Histories.{Course}
 use Rattle.edit_history.specs.declared.step.Step.TheVariants.{Switch}
-use Rattle.edit_history.proofs.Noting.{course_is, follows_noted}
+use Rattle.edit_history.proofs.Noting.{LeadsBack, course_is, follows_noted}
 use Rattle.edit_history.proofs.Switched.{switched}
 use Rattle.edit_history.proofs.history.History.switch.Goals as goal
 
 pub returns-clause-follows : goal.returns-clause-follows
 returns-clause-follows c =
-    let s = Switch c.in-Ok.back in
-    let back = switched c.in-Ok.back c.args.settings c.args.table.now.deck c.switch_settings.new.table.deck
+    let s = Switch c.replace.new.self in
+    let back = subst (λ t. LeadsBack t c.args.table.now.deck c.switch_settings.new.table.deck)
+    (sym (ap Switch c.replace.ensures.after))
+    (switched c.in-Ok.back c.args.settings c.args.table.now.deck c.switch_settings.new.table.deck
     c.in-Ok.ensures.0 c.in-Ok.ensures.1 c.in-Ok.ensures.2
     (subst (λ (d : Contents). IsClosed d.lines) c.deck.ensures.deck c.lines_closed.ensures.closed)
-    (subst (λ (d : Contents). pass_limit d.lines ≡ false) c.deck.ensures.deck c.lines_closed.ensures.within) in
+    (subst (λ (d : Contents). pass_limit d.lines ≡ false) c.deck.ensures.deck c.lines_closed.ensures.within)) in
     let is = course_is s (reverse c.put.new.steps.items) c.clear.new.self.items c.args.self.now.done
-    (c.put.ensures ∙ ap (λ xs. s ∷ reverse xs) c.reserve.ensures.items ∙ ap (λ (h : Course). s ∷ h.done) c.self.view_is)
+    (c.put.ensures ∙ ap (λ xs. s ∷ reverse xs) c.make_room.ensures.items
+    ∙ ap (λ (h : Course). s ∷ h.done) c.self.view_is)
     c.clear.ensures.items in
     follows_noted s c.args.self.now _ c.args.table.now.deck c.switch_settings.new.table.deck is back.can back.again
     c.requires
 
 pub returns-clause-noted : goal.returns-clause-noted
 returns-clause-noted c =
-    let s = Switch c.in-Ok.back in
-    let back = switched c.in-Ok.back c.args.settings c.args.table.now.deck c.switch_settings.new.table.deck
+    let s = Switch c.replace.new.self in
+    let back = subst (λ t. LeadsBack t c.args.table.now.deck c.switch_settings.new.table.deck)
+    (sym (ap Switch c.replace.ensures.after))
+    (switched c.in-Ok.back c.args.settings c.args.table.now.deck c.switch_settings.new.table.deck
     c.in-Ok.ensures.0 c.in-Ok.ensures.1 c.in-Ok.ensures.2
     (subst (λ (d : Contents). IsClosed d.lines) c.deck.ensures.deck c.lines_closed.ensures.closed)
-    (subst (λ (d : Contents). pass_limit d.lines ≡ false) c.deck.ensures.deck c.lines_closed.ensures.within) in
+    (subst (λ (d : Contents). pass_limit d.lines ≡ false) c.deck.ensures.deck c.lines_closed.ensures.within)) in
     let is = course_is s (reverse c.put.new.steps.items) c.clear.new.self.items c.args.self.now.done
-    (c.put.ensures ∙ ap (λ xs. s ∷ reverse xs) c.reserve.ensures.items ∙ ap (λ (h : Course). s ∷ h.done) c.self.view_is)
+    (c.put.ensures ∙ ap (λ xs. s ∷ reverse xs) c.make_room.ensures.items
+    ∙ ap (λ (h : Course). s ∷ h.done) c.self.view_is)
     c.clear.ensures.items in
     (s, is, back.again)

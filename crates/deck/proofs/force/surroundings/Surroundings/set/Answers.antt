@@ -14,5 +14,5 @@ push-requires c =
     let lacks : HasNoName c.args.self.now.vars c.args.name.now =
     if_absent c.value.result (sym c.is_some.ensures ∙ c.if-is_some.false) c.value.ensures.absent in
     subst (HasNoName c.self.inside.set) (sym c.in_ok-name.ensures)
-    (no_name_second c.self.inside.base.now c.self.inside.set c.args.name.now
+    (no_name_second c.self.inside.base.now.vars c.self.inside.set c.args.name.now
     (subst (λ (s : Surroundings). HasNoName s.vars c.args.name.now) (sym c.self.view_is) lacks))

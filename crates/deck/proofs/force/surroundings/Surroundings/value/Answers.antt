@@ -7,14 +7,14 @@ use Rattle.deck.proofs.force.surroundings.Surroundings.value.Goals as goal
 
 pub returns-in-Some-clause-value : goal.returns-in-Some-clause-value
 returns-in-Some-clause-value c =
-    sym (value_first c.self.inside.base.now c.self.inside.set c.args.name.now c.in-Some.value.now
+    sym (value_first c.self.inside.base.now.vars c.self.inside.set c.args.name.now c.in-Some.value.now
     (sym c.in-Some.ensures.value))
     ∙ ap (λ (s : Surroundings). value_of s.vars c.args.name.now) c.self.view_is
 
 pub returns-in-None-clause-value : goal.returns-in-None-clause-value
 returns-in-None-clause-value c =
     c.value-in-None.ensures.value
-    ∙ sym (value_second c.self.inside.base.now c.self.inside.set c.args.name.now (sym c.in-None.ensures.value))
+    ∙ sym (value_second c.self.inside.base.now.vars c.self.inside.set c.args.name.now (sym c.in-None.ensures.value))
     ∙ ap (λ (s : Surroundings). value_of s.vars c.args.name.now) c.self.view_is
 
 if_none : {A : Type 0} (o : Option A) {P Q : Type 0} → IfNone o P → (P → Q) → IfNone o Q
@@ -25,4 +25,4 @@ pub returns-in-None-clause-absent : goal.returns-in-None-clause-absent
 returns-in-None-clause-absent c =
     if_none c.value-in-None.result c.value-in-None.ensures.absent
     (λ h. subst (λ (s : Surroundings). HasNoName s.vars c.args.name.now) c.self.view_is
-    (no_name_both c.self.inside.base.now c.self.inside.set c.args.name.now c.in-None.ensures.absent h))
+    (no_name_both c.self.inside.base.now.vars c.self.inside.set c.args.name.now c.in-None.ensures.absent h))

@@ -1,7 +1,13 @@
-use Rattle.std.proofs.Common.{ap}
-use Rattle.deck_lines.specs.NumberedNames.{NumberedNames}
-use Rattle.deck_lines.proofs.Numbering.{number_seen}
+use Rattle.std.proofs.Common.{ap, subst}
+use Rattle.deck_lines.specs.NumberedNames.{AreUpTo, NumberedNames}
+use Rattle.deck_lines.proofs.Numbering.{longer_is_absent, number_seen}
 use Rattle.deck_lines.proofs.store.name_set.NameSet.number_of.Goals as goal
+
+pub returns-then-self-name : goal.returns-then-self-name
+returns-then-self-name c =
+    longer_is_absent c.args.name.now c.self.inside.longest _
+    (subst (AreUpTo c.self.inside.longest) (ap (λ (s : NumberedNames). s.names) c.self.view_is) c.self.invariant)
+    c.if-self-name.true
 
 pub returns : goal.returns
 returns c =

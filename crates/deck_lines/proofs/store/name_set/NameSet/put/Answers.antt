@@ -1,9 +1,9 @@
-use Rattle.std.proofs.Common.{ap, ◌∙◌, sym, slice_get, map}
+use Rattle.std.proofs.Common.{ap, ◌∙◌, sym, subst, slice_get, map, rules}
 use Rattle.std.specs.List.{position_or_len}
 use Rattle.std.specs.Str.{bytes_eq}
 use Rattle.deck_lines.specs.Names.{with_name}
-use Rattle.deck_lines.specs.NumberedNames.{NumberedNames}
-use Rattle.deck_lines.proofs.Numbering.{place_seen, put_at, put_seen}
+use Rattle.deck_lines.specs.NumberedNames.{AreUpTo, NumberedNames}
+use Rattle.deck_lines.proofs.Numbering.{AreUpTo-more, AreUpTo-with_name, place_seen, put_at, put_seen}
 use Rattle.deck_lines.proofs.store.name_set.NameSet.put.Goals as goal
 
 pub returns-clause-names : goal.returns-clause-names
@@ -22,3 +22,12 @@ returns-clause-number c =
     (ap (map (λ name. name.items)) c.in-Ok.ensures.keys
     ∙ put_seen (λ name. name.items) c.args.name c.self.inside.names.keys)
     ∙ put_at c.args.name.items (map (λ name. name.items) c.self.inside.names.keys)
+
+pub invariant_of-self : goal.invariant_of-self
+invariant_of-self c =
+    let names = map (λ name. name.items) c.self.inside.names.keys in
+    subst (AreUpTo c.max-self-inside.result)
+    (sym (ap (map (λ name. name.items)) c.in-Ok.ensures.keys
+    ∙ put_seen (λ name. name.items) c.args.name c.self.inside.names.keys))
+    (AreUpTo-with_name c.max-self-inside.result c.args.name.items names (search rules)
+    (AreUpTo-more c.self.inside.longest c.max-self-inside.result names (search rules) c.self.invariant))

@@ -1,0 +1,47 @@
+-- Last places by new numbers of keys.
+use Rattle.std.proofs.Common.{◌≡◌, [], Bool, List, ap, length, subst, sym, ◌∙◌}
+use Rattle.deck_lines.specs.Closed.{IsClosed}
+use Rattle.deck_lines.specs.Edited.{Edited, unedited}
+use Rattle.deck_lines.specs.Loads.{with_definitions, with_lines}
+use Rattle.deck_lines.specs.Names.{Names, no_names}
+use Rattle.deck_lines.specs.Stores.{Store, no_lines}
+use Rattle.deck.specs.Active.{active_lines}
+use Rattle.deck.specs.LastPlaces.{AreLast, HasRoom, IsIndexed}
+use Rattle.deck.specs.Tables.{definitions, definitions_by}
+use Rattle.deck.specs.declared.places.last_places.LastPlaces.{LastPlaces}
+use Rattle.deck.specs.declared.settings.Settings.{Settings}
+use Rattle.deck.proofs.Marking.{length-activity}
+
+module _ (store new : Store) (names : Names) (edited : Edited)
+    (numbers : names ≡ with_definitions no_names store.lines) (put : new ≡ with_lines no_lines store.lines)
+    (view : edited ≡ unedited new) where
+  names_are : edited.names ≡ names
+  names_are = ap (λ (e : Edited). e.names) view ∙ ap (λ (s : Store). s.names) put ∙ sym numbers
+
+  lines_are : edited.after ≡ store.lines
+  lines_are = ap (λ (e : Edited). e.after) view ∙ ap (λ (s : Store). s.lines) put
+
+  -- the room for the new numbers
+  pub room_there : (last : LastPlaces) → HasRoom names last → HasRoom edited.names last
+  room_there last room = subst (λ n. HasRoom n last) (sym names_are) room
+
+  -- where no key has a place yet
+  pub none_there : (last : LastPlaces) → AreLast names [] last → AreLast edited.names [] last
+  none_there last none = subst (λ n. AreLast n [] last) (sym names_are) none
+
+  module _ (settings : Settings) (flags : List Bool) (active : flags ≡ active_lines settings store.lines) where
+    -- a flag for each line
+    pub flags_long : length flags ≡ length edited.after
+    flags_long = ap length active ∙ length-activity _ _ store.lines ∙ sym (ap length lines_are)
+
+    -- the last places of the keys by the new numbers
+    pub indexed_again : (last : LastPlaces) → IsClosed store.lines
+        → AreLast edited.names (definitions_by flags edited.after) last → IsIndexed new settings last
+    unfolding definitions
+    indexed_again last closed are = record {
+      closed = subst IsClosed (sym (ap (λ (s : Store). s.lines) put)) closed;
+      places =
+          subst (λ (e : Edited). AreLast e.names (definitions_by (active_lines settings e.after) e.after) last) view
+          (subst (λ fs. AreLast edited.names (definitions_by fs edited.after) last)
+          (active ∙ sym (ap (active_lines settings) lines_are)) are);
+    }

@@ -1,0 +1,52 @@
+use Rattle.std.proofs.Common.{◌≡◌, ◌++◌, ◌∷◌, ◌-◌, [], List, length, take, ap, ◌∙◌, arith, length-append}
+use Rattle.deck_lines.specs.declared.line.DeckLine.{DeckLine}
+use Rattle.deck_lines.proofs.Keeping.{marks_len}
+use Rattle.deck.specs.Decks.{Contents}
+use Rattle.deck.specs.Undefining.{without_last}
+use Rattle.deck.proofs.LastLine.{changed_undefined, indexed_undefined, room_undefined}
+use Rattle.deck.proofs.Undefining.{last_at, last_text}
+use Rattle.deck.proofs.deck.Deck.take_out_line.Goals as goal
+
+pub line-requires-clause-inside : goal.line-requires-clause-inside
+line-requires-clause-inside c =
+    let lines : c.self.inside.store.lines ≡ c.requires.front ++ c.requires.line ∷ [] =
+    ap (λ (d : Contents). d.lines) c.self.view_is ∙ c.requires.lines in
+    let last : c.len-place.result - 1 ≡ length c.requires.front = last_at c.self.inside.store.lines c.requires.front
+    c.requires.line c.len-place.result lines c.len-place.ensures.count in
+    omega (
+      arith,
+      ap length lines,
+      c.len-place.ensures.count,
+      ap length c.marked.ensures.lines,
+      last,
+      marks_len c.marked.result.lines.now c.marked.result.marks.now c.marked.ensures.each,
+      length-append c.requires.front (c.requires.line ∷ []),
+    )
+
+pub restore-requires : goal.restore-requires
+restore-requires c =
+    room_undefined c.self.inside.settings c.self.inside.store c.self.inside.notices _ c.self.view_is c.args.uncovered
+    c.requires c.len-place.result c.len-place.ensures.count c.len-place.ensures.numbering c.self.inside.last
+    c.self.invariant c.in-Some.number c.in-Some.ensures.number
+
+pub invariant_of-self : goal.invariant_of-self
+invariant_of-self c =
+    indexed_undefined c.self.inside.settings c.self.inside.store c.self.inside.notices _ c.self.view_is
+    c.args.uncovered c.requires c.len-place.result c.len-place.ensures.count c.len-place.ensures.numbering
+    c.self.inside.last c.self.invariant c.in-Some.number c.in-Some.ensures.number c.restore.new.self
+    c.truncate.new.self c.truncate.ensures.lines c.truncate.ensures.names c.restore.ensures
+
+pub returns-clause-ok : goal.returns-clause-ok
+returns-clause-ok c = (
+  ap (λ (ls : List DeckLine).
+      record { lines = ls; settings = c.self.inside.settings; notices = c.self.inside.notices })
+      (c.truncate.ensures.lines ∙ ap (λ n. take (n - 1) c.self.inside.store.lines) c.len-place.ensures.count)
+      ∙ ap without_last c.self.view_is,
+  changed_undefined c.self.inside.settings c.self.inside.store c.self.inside.notices _ c.self.view_is
+      c.args.uncovered c.requires c.len-place.result c.len-place.ensures.count c.len-place.ensures.numbering
+      c.self.inside.last c.self.invariant c.in-Some.number c.in-Some.ensures.number c.same_text_law.ensures
+      c.truncate.new.self.lines c.in_ok-keys.keys c.truncate.ensures.lines c.in_ok-keys.ensures,
+  λ front line is. last_text c.self.inside.store.lines _ c.len-place.result _ c.in_ok-text.text c.marked.ensures.lines
+      c.len-place.ensures.count c.line.ensures c.in_ok-text.ensures front line
+      (ap (λ (d : Contents). d.lines) c.self.view_is ∙ is),
+)

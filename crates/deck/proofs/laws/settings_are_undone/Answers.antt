@@ -1,0 +1,5 @@
+use Rattle.deck.proofs.SettingChanges.{known_variable, last_variable, new_variable, same_variable}
+use Rattle.deck.proofs.laws.settings_are_undone.Goals as goal
+
+pub returns : goal.returns
+returns c = record { same = same_variable; known = known_variable; new = new_variable; last = last_variable }
